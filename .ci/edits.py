@@ -1,0 +1,44 @@
+"""Each must-fail edit was refused because a fact fails, and docs/MUST-FAIL.md has a line for it.
+
+Reads the logs that `rt ci` leaves in target/must-fail/CRATE/EDIT/. Exits with 1 and says which edit is at fault.
+"""
+
+import pathlib
+import re
+import sys
+
+ROOT = pathlib.Path(__file__).resolve().parent.parent
+UNFIT = re.compile(r"has no `Need-[^`]*` that can be named from here")
+
+
+def first_error(log):
+    """The first line of a log that reports an error."""
+    for line in log.read_text(encoding="utf-8", errors="replace").splitlines():
+        if "error" in line:
+            return line
+    return None
+
+
+def faults():
+    table = (ROOT / "docs" / "MUST-FAIL.md").read_text(encoding="utf-8")
+    for edit in sorted((ROOT / "crates").glob("*/must-fail/*.edit")):
+        crate, name = edit.parent.parent.name, edit.stem
+        if f"| {crate} | {name} |" not in table:
+            yield f"{crate}/{name}: docs/MUST-FAIL.md has no line for it"
+        logs = sorted((ROOT / "target" / "must-fail" / crate / name).glob("*log*")) \
+            + sorted((ROOT / "target" / "must-fail" / crate / name).glob(".log"))
+        if not logs:
+            yield f"{crate}/{name}: no log"
+            continue
+        error = first_error(logs[0])
+        if error is None:
+            yield f"{crate}/{name}: its log has no error"
+        elif UNFIT.search(error):
+            yield f"{crate}/{name}: only unfits the proof: {error}"
+
+
+if __name__ == "__main__":
+    found = list(faults())
+    for fault in found:
+        print(fault)
+    sys.exit(1 if found else 0)

@@ -1,0 +1,10 @@
+pub mod Answers
+pub mod Scans
+pub mod Rules
+pub mod Steps
+pub mod Trees
+pub mod TreePins
+pub mod Derives
+pub mod Plain
+pub mod WellFormed
+pub mod Pins

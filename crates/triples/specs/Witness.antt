@@ -1,0 +1,39 @@
+-- Witnesses: rows of indices from (0,0,0) to (1,1,1), each the successor of the one before; refusal 15.
+-- Source: document 01, "Triples, certificate, witness" and "Causes of refusal". Assumes nothing.
+use Prim.Native.Nat.{ℕ, suc}
+use mathlib.Core.Path.{_≡_}
+use mathlib.Core.List.{List, [], _∷_}
+use lib.Dec.{eqb}
+use Rattle.grammar.specs.Limits.{Limits}
+use Rattle.grammar.specs.Grammar.{Grammar}
+use Rattle.grammar.specs.Refusal.{Answer, done, refused, refuseUnless, andThen, witnessWrong}
+use Rattle.grammar.specs.TableCheck.{checkTable}
+use Rattle.automaton.specs.Items.{states}
+use Rattle.automaton.specs.Position.{position}
+use Rattle.triples.specs.Successor.{Successor}
+use Rattle.triples.specs.Index.{index}
+use Rattle.triples.specs.Smallest.{isElement, successors}
+
+module _ (L : Limits) (G : Grammar) where
+  -- the row leads on from (f, p, q) to (1,1,1), each entry the index of a successor of the triple before
+  pub data LeadsOn : ℕ → ℕ → ℕ → List ℕ → Type 0 where
+    ends : LeadsOn 1 1 1 []
+    goes : {f p q g p′ q′ j : ℕ} {is : List ℕ} → Successor (position L G) f p q g p′ q′ → j ≡ index (states G) g p′ q′ → LeadsOn g p′ q′ is
+        → LeadsOn f p q (j ∷ is)
+
+  -- a witness: a row of indices from (0,0,0) to (1,1,1), each the successor of the one before
+  pub data Witness : List ℕ → Type 0 where
+    begins : {i : ℕ} {is : List ℕ} → i ≡ index (states G) 0 0 0 → LeadsOn 0 0 0 is → Witness (i ∷ is)
+
+  -- 15 at the first entry that is no successor of the one before; at the row's length if only the end fails
+  unfoldable pub checkOn : ℕ → ℕ → List ℕ → Answer Unit
+  checkOn i place [] = refuseUnless witnessWrong place (eqb i (index (states G) 1 1 1)) (done tt)
+  checkOn i place (j ∷ is) = refuseUnless witnessWrong place (isElement j (successors L G i)) (checkOn j (suc place) is)
+
+  unfoldable pub checkRow : List ℕ → Answer Unit
+  checkRow [] = refused witnessWrong 0
+  checkRow (i ∷ is) = refuseUnless witnessWrong 0 (eqb i (index (states G) 0 0 0)) (checkOn i 1 is)
+
+-- the witness check: table faults first
+unfoldable pub checkWitness : Limits → ℕ → ℕ → List ℕ → List ℕ → Answer Unit
+checkWitness L t n table row = andThen (checkTable L t n table) (λ G. checkRow L G row)

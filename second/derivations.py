@@ -1,0 +1,43 @@
+"""Which rules the derivation trees of document 01, "Tables", apply."""
+
+from typing import List
+
+from tables import START, Grammar, Rule
+
+CODES = 256  # "A symbol is one byte."
+
+
+def nonterminals_of(rule: Rule) -> List[int]:
+    """The nonterminals of the right side, each of which "has a child"."""
+    return [code for code in rule.right if code >= START]
+
+
+def productive(grammar: Grammar) -> List[bool]:
+    """By code: whether a finite subtree has this nonterminal at its root."""
+    known = [False] * CODES
+    changed = True
+    while changed:
+        changed = False
+        for rule in grammar.rules:
+            if not known[rule.left] and all(known[c] for c in nonterminals_of(rule)):
+                known[rule.left] = changed = True
+    return known
+
+
+def used_rules(grammar: Grammar) -> List[bool]:
+    """By rule: whether some tree applies it, and so some sentence uses it."""
+    finite = productive(grammar)
+    complete = [all(finite[c] for c in nonterminals_of(r)) for r in grammar.rules]
+    reached = [False] * CODES
+    waiting = [START]
+    reached[START] = True
+    while waiting:
+        left = waiting.pop()
+        for rule, whole in zip(grammar.rules, complete):
+            if rule.left != left or not whole:
+                continue
+            for code in nonterminals_of(rule):
+                if not reached[code]:
+                    reached[code] = True
+                    waiting.append(code)
+    return [whole and reached[r.left] for r, whole in zip(grammar.rules, complete)]

@@ -1,0 +1,519 @@
+"""Test inputs for the table check, and this program's answers to them.
+
+    table_cases.py cases FILE                writes the inputs
+    table_cases.py answers CASES OUT COUNTS  answers them and counts the reasons
+
+A case is t and n (8 bytes each), the table's length (4 bytes), all little
+endian, then the table. The inputs depend on the seed alone.
+"""
+
+import random
+import struct
+import sys
+from typing import Callable, Iterator, List, Sequence, Tuple
+
+from table_reasons import REASONS, reasons_of
+from tables import (
+    FIXED_STATES, MAX_LENGTH, MAX_RULES, MAX_STATES,
+    START, Refusal, check_table,
+)
+
+SEED = 1
+FEWEST = 50                    # cases that each reason must have
+MAX_TABLE = 65536              # bytes of one table
+CASE_HEADER = struct.Struct("<QQI")
+LAST = 2 ** 64 - 1             # largest t or n
+
+Case = Tuple[int, int, bytes]
+Rule = Tuple[int, bytes]       # left code and right codes
+Rng = random.Random
+
+S, A, B = START, START + 1, START + 2
+a, b = 1, 2
+
+# Document 01, "Grammars on file": t, n and the rules.
+FIGURES: List[Tuple[int, int, List[Rule]]] = [
+    (0, 1, []),
+    (0, 1, [(S, bytes([]))]),
+    (1, 1, [(S, bytes([a]))]),
+    (1, 1, [(S, bytes([S, a])), (S, bytes([a]))]),
+    (2, 1, [(S, bytes([a, S, b])), (S, bytes([]))]),
+    (0, 1, [(S, bytes([S]))]),
+    (1, 1, [(S, bytes([S])), (S, bytes([a]))]),
+    (1, 1, [(S, bytes([a, S, a])), (S, bytes([a]))]),
+    (0, 3, [(S, bytes([A])), (S, bytes([B])), (A, b""), (B, b"")]),
+    (1, 3, [(S, bytes([A])), (S, bytes([B])), (A, bytes([A, a, a])),
+            (A, bytes([a])), (B, bytes([a, a]))]),
+]
+
+
+# Building blocks.
+
+def encode(rules: Sequence[Rule]) -> bytes:
+    """The table of these rules, end to end."""
+    return b"".join(bytes([left, len(right)]) + right for left, right in rules)
+
+
+def random_bytes(rng: Rng, count: int) -> bytes:
+    return bytes(rng.randrange(256) for _ in range(count))
+
+
+def random_code(rng: Rng, t: int, n: int) -> int:
+    """A declared symbol, of either kind alike."""
+    if t > 0 and rng.randrange(2) == 0:
+        return 1 + rng.randrange(t)
+    return START + rng.randrange(n)
+
+
+def random_rule(rng: Rng, t: int, n: int, k: int) -> Rule:
+    left = START + rng.randrange(n)
+    return left, bytes(random_code(rng, t, n) for _ in range(k))
+
+
+def random_rules(rng: Rng, t: int, n: int, lengths: Sequence[int]) -> List[Rule]:
+    """Unequal rules of these lengths; one that stays equal is left out."""
+    rules: List[Rule] = []
+    for k in lengths:
+        for _ in range(60):
+            rule = random_rule(rng, t, n, k)
+            if rule not in rules:
+                rules.append(rule)
+                break
+    return rules
+
+
+def random_lengths(rng: Rng, count: int, states: int) -> List[int]:
+    """The lengths of `count` rules that have Q = `states` together."""
+    lengths = [0] * count
+    for _ in range(states - FIXED_STATES - count):
+        place = rng.randrange(count)
+        while lengths[place] == MAX_LENGTH:
+            place = rng.randrange(count)
+        lengths[place] += 1
+    return lengths
+
+
+def small_grammar(rng: Rng, most: int) -> Tuple[int, int, List[Rule]]:
+    """A good grammar of at most `most` rules and few symbols."""
+    t, n = rng.randrange(5), 1 + rng.randrange(5)
+    lengths = [rng.randrange(5) for _ in range(rng.randrange(most + 1))]
+    return t, n, random_rules(rng, t, n, lengths)
+
+
+def large_grammar(rng: Rng, count: int, states: int) -> Tuple[int, int, List[Rule]]:
+    """A grammar of `count` rules and Q = `states`, with many symbols."""
+    t, n = 60 + rng.randrange(67), 90 + rng.randrange(37)
+    return t, n, random_rules(rng, t, n, random_lengths(rng, count, states))
+
+
+def bad_left(rng: Rng, t: int, n: int) -> int:
+    """A left code that is no declared nonterminal, often one at an edge."""
+    edges = [0, 1, t, START - 1, START + n, 255]
+    if rng.randrange(2) == 0:
+        return rng.choice(edges)
+    if rng.randrange(2) == 0:
+        return rng.randrange(START)
+    return START + n + rng.randrange(128 - n)
+
+
+def bad_code(rng: Rng, t: int, n: int) -> int:
+    """An undeclared code: zero, past t or past 127+n; needs t below 127."""
+    kind = rng.randrange(3)
+    if kind == 0:
+        return 0
+    if kind == 1:
+        return t + 1 + rng.choice([0, rng.randrange(127 - t), 126 - t])
+    return START + n + rng.choice([0, rng.randrange(128 - n), 127 - n])
+
+
+# Groups of cases.
+
+def figures(rng: Rng) -> Iterator[Case]:
+    """Document 01's grammars, also with one symbol too few and with more."""
+    for t, n, rules in FIGURES:
+        for more_t in (-1, 0, 1, 126):
+            for more_n in (-1, 0, 1, 124):
+                if t + more_t >= 0:
+                    yield t + more_t, n + more_n, encode(rules)
+
+
+def ranges(rng: Rng) -> Iterator[Case]:
+    """t and n at and past their limits, also where fewer bits would hide it."""
+    ts = [0, 1, 2, 64, 126, 127, 128, 129, 255, 256, 257, 2 ** 16 + 1,
+          2 ** 31, 2 ** 32, 2 ** 32 + 1, 2 ** 63, 2 ** 63 + 127, LAST - 1, LAST]
+    ns = ts + [127 + 256, 2 ** 32 + 127, LAST - 126, LAST - 127]
+    good, bad = encode(FIGURES[2][2]), bytes([S, 13])
+    for t in ts:
+        for n in ns:
+            yield t, n, b""
+            yield t, n, rng.choice([good, bytes([S, 0]), bytes([S, 1, S])])
+            yield t, n, rng.choice([bad, bytes([0]), good + good, bytes([S, 1, 0])])
+
+
+def edge_codes(rng: Rng) -> Iterator[Case]:
+    """Every code as left code and as right code, at the limits of t and n."""
+    for t in (0, 1, 126, 127):
+        for n in (1, 126, 127):
+            for code in (0, 1, 2, 126, 127, 128, 129, 253, 254, 255):
+                yield t, n, bytes([code, 0])
+                yield t, n, bytes([S, 1, code])
+                yield t, n, bytes([S, 0, S, 2, S, code])
+
+
+def lengths_of_rules(rng: Rng) -> Iterator[Case]:
+    """Each k with its body empty, one short, whole and one too long."""
+    for k in list(range(18)) + [31, 63, 64, 127, 128, 129, 200, 254, 255]:
+        for front in (b"", encode([(A, bytes([a, S]))])):
+            for body in (0, k - 1, k, k + 1):
+                codes = bytes(random_code(rng, 1, 2) for _ in range(body))
+                yield 1, 2, front + bytes([S, k]) + codes
+    for _ in range(80):
+        t, n = rng.randrange(4), 1 + rng.randrange(4)
+        rules = random_rules(rng, t, n, [MAX_LENGTH] * (1 + rng.randrange(19)))
+        yield t, n, encode(rules)
+
+
+def short_tables(rng: Rng) -> Iterator[Case]:
+    """All tables of few bytes over few codes."""
+    for codes, longest in (((0, 1, 2, 128, 129), 4), ((0, 1, 12, 13, 127, 128, 255), 3)):
+        tables = [b""]
+        for _ in range(longest):
+            for table in tables:
+                yield 1, 1, table
+            tables = [table + bytes([code]) for table in tables for code in codes]
+        for table in tables:
+            yield 1, 1, table
+
+
+def good_grammars(rng: Rng) -> Iterator[Case]:
+    """Random good tables, small and middling, with the fewest symbols or more."""
+    for _ in range(450):
+        t, n, rules = small_grammar(rng, 8)
+        yield t, n, encode(rules)
+    for _ in range(250):
+        t, n = rng.randrange(128), 1 + rng.randrange(127)
+        lengths = [rng.randrange(6) for _ in range(rng.randrange(60))]
+        yield t, n, encode(random_rules(rng, t, n, lengths))
+
+
+def unused_rules(rng: Rng) -> Iterator[Case]:
+    """Rules that no sentence uses: no rule of S, no finite tree, never opened."""
+    for _ in range(40):
+        t, n, rules = small_grammar(rng, 5)
+        other = START + n
+        yield t, n + 1, encode([(other, right) for _, right in rules[:1]])
+        yield t, n + 1, encode(rules + [(other, bytes([other]))])
+        yield t, n + 1, encode([(other, b"")] + rules)
+        yield t, n + 1, encode(rules + [(S, bytes([other, S]))])
+
+
+def many_rules(rng: Rng) -> Iterator[Case]:
+    """98 to 103 rules, and all kinds of bytes after the 100th."""
+    for count in (98, 99, 100, 101, 102, 103):
+        for _ in range(14):
+            t, n, rules = large_grammar(rng, count, 110 + rng.randrange(147))
+            yield t, n, encode(rules)
+        yield 127, 1, encode([(S, bytes([1 + i])) for i in range(count)])
+        yield 0, 127, encode([(START + i, b"") for i in range(count)])
+    for _ in range(25):
+        t, n, rules = large_grammar(rng, MAX_RULES, 200 + rng.randrange(57))
+        table = encode(rules)
+        yield t, n, table
+        yield t, n, table + bytes([rng.choice([0, 1, 13, S, 255])])
+        yield t, n, table + bytes([S, rng.choice([0, 1, 12, 13, 255])])
+        yield t, n, encode(rules[:-1] + [rng.choice(rules[:-1])])
+        yield t, n, table + encode([rng.choice(rules)])
+        yield t, n, table + random_bytes(rng, 3 + rng.randrange(40))
+
+
+def many_states(rng: Rng) -> Iterator[Case]:
+    """Q from just under 256 to just past it, then more rules."""
+    for states in list(range(251, 262)) + [256, 256, 257, 257, 268]:
+        for _ in range(12):
+            t, n, rules = large_grammar(rng, 21 + rng.randrange(80), states)
+            yield t, n, encode(rules)
+    for _ in range(60):
+        t, n, rules = large_grammar(rng, 21 + rng.randrange(78), MAX_STATES)
+        table = encode(rules)
+        more = random_rule(rng, t, n, rng.randrange(4))
+        yield t, n, table + encode([more])
+        yield t, n, table + encode([more]) + random_bytes(rng, 5)
+    for _ in range(40):
+        t, n = rng.randrange(128), 1 + rng.randrange(127)
+        lengths = [rng.randrange(13) for _ in range(60)]
+        yield t, n, encode(random_rules(rng, t, n, lengths))
+
+
+def equal_rules(rng: Rng) -> Iterator[Case]:
+    """A rule again at any later place, and rules that are equal but for one byte."""
+    for _ in range(220):
+        t, n, rules = small_grammar(rng, 7)
+        t += 1
+        rules = rules or [(S, b"")]
+        first = rng.randrange(len(rules))
+        later = first + 1 + rng.choice([0, rng.randrange(len(rules) - first)])
+        yield t, n, encode(rules[:later] + [rules[first]] + rules[later:])
+        near = almost(rng, t, n, rules[first])
+        yield t, n, encode(rules[:later] + [near] + rules[later:])
+
+
+def almost(rng: Rng, t: int, n: int, rule: Rule) -> Rule:
+    """A rule that differs by its left code, one code more or less, or one code."""
+    left, right = rule
+    kind = rng.randrange(5)
+    if kind == 0:
+        return START + rng.randrange(n), right
+    if kind == 1:
+        return left, right + bytes([random_code(rng, t, n)])
+    if kind == 2:
+        return left, right[:-1]
+    if kind == 3:
+        return left, right[:-1] + bytes([random_code(rng, t, n)])
+    return left, bytes([random_code(rng, t, n)]) + right[1:]
+
+
+def several_faults(rng: Rng) -> Iterator[Case]:
+    """A last rule with every choice of faults, after few, 100 or full rules."""
+    for _ in range(9):
+        for faults in range(64):
+            for base in range(3):
+                t, n, rules = base_grammar(rng, base)
+                table = encode(rules) + faulty_rule(rng, t, n, rules, faults)
+                if rng.randrange(3) == 0:
+                    table += faulty_rule(rng, t, n, rules, rng.randrange(64))
+                yield t, n, table
+
+
+def base_grammar(rng: Rng, base: int) -> Tuple[int, int, List[Rule]]:
+    """A good grammar: small, of 100 rules, or of nearly or exactly Q = 256."""
+    if base == 0:
+        return small_grammar(rng, 4)
+    if base == 1:
+        return large_grammar(rng, MAX_RULES, 150 + rng.randrange(107))
+    return large_grammar(rng, 22 + rng.randrange(70), 250 + rng.randrange(7))
+
+
+def faulty_rule(rng: Rng, t: int, n: int, earlier: Sequence[Rule], faults: int) -> bytes:
+    """The bytes of a rule with a fault for each bit of `faults`."""
+    left, right = random_rule(rng, t, n, rng.randrange(13))
+    if faults & 1 and earlier:
+        left, right = rng.choice(earlier)
+    if faults & 2:
+        left = bad_left(rng, t, n)
+    codes = list(right)
+    if faults & 4:
+        while len(codes) <= MAX_LENGTH + rng.randrange(6):
+            codes.append(random_code(rng, t, n))
+    if faults & 8 and codes:
+        codes[rng.randrange(len(codes))] = bad_code(rng, t, n)
+    rule = bytes([left, len(codes)] + codes)
+    if faults & 16:
+        rule = rule[:2 + rng.randrange(max(1, len(codes)))]
+    return rule[:1] if faults & 32 and rng.randrange(2) == 0 else rule
+
+
+def late_faults(rng: Rng) -> Iterator[Case]:
+    """A last rule that passes Q = 256 and is short, undeclared or equal as well."""
+    for _ in range(45):
+        for faults in (1, 8, 16, 24):
+            t, n, rules = large_grammar(rng, 22 + rng.randrange(70), MAX_STATES - 1)
+            yield t, n, encode(rules) + faulty_rule(rng, t, n, rules, faults)
+
+
+def faults_in_two_rules(rng: Rng) -> Iterator[Case]:
+    """A fault in one rule and another in a later one, good rules between."""
+    for first in (0, 1, 2, 4, 8):
+        for second in (1, 2, 4, 8, 16, 32):
+            for _ in range(14):
+                t, n, rules = base_grammar(rng, rng.choice([0, 0, 2]))
+                between = random_rules(rng, t, n, [rng.randrange(3)])
+                yield t, n, (
+                    encode(rules) + faulty_rule(rng, t, n, rules, first)
+                    + encode(between) + faulty_rule(rng, t, n, rules, second))
+
+
+def prefixes(rng: Rng) -> Iterator[Case]:
+    """Every prefix of some tables."""
+    grammars = FIGURES + [small_grammar(rng, 12), large_grammar(rng, 30, 120)]
+    grammars += [large_grammar(rng, MAX_RULES, MAX_STATES)]
+    for t, n, rules in grammars:
+        table = encode(rules)
+        for end in range(len(table) + 1):
+            yield t, n, table[:end]
+
+
+def replaced_bytes(rng: Rng) -> Iterator[Case]:
+    """Every byte of some tables replaced by several values."""
+    large = large_grammar(rng, MAX_RULES, MAX_STATES)
+    for t, n, rules in FIGURES + [small_grammar(rng, 12)]:
+        values = [0, 1, 2, t, t + 1, 12, 13, 127, 128, 127 + n, 128 + n, 255]
+        yield from replaced(t, n, encode(rules), values)
+    t, n, rules = large
+    yield from replaced(t, n, encode(rules), [0, 1 + rng.randrange(12), t + 1, START])
+
+
+def replaced(t: int, n: int, table: bytes, values: Sequence[int]) -> Iterator[Case]:
+    for place in range(len(table)):
+        for value in values:
+            yield t, n, table[:place] + bytes([value]) + table[place + 1:]
+
+
+def damaged(rng: Rng) -> Iterator[Case]:
+    """Good tables with bytes put in, taken out, swapped, or a symbol undeclared."""
+    for _ in range(650):
+        t, n, rules = small_grammar(rng, 10)
+        table = encode(rules)
+        for _ in range(1 + rng.randrange(2)):
+            table = damage(rng, table)
+        yield t, n, table
+    for _ in range(200):
+        t, n, rules = small_grammar(rng, 10)
+        yield max(0, t - rng.randrange(2)), n - rng.randrange(2), encode(rules)
+
+
+def damage(rng: Rng, table: bytes) -> bytes:
+    """One byte or stretch of the table changed."""
+    place = rng.randrange(len(table) + 1)
+    kind = rng.randrange(5)
+    if kind == 0:
+        return table[:place] + random_bytes(rng, 1) + table[place:]
+    if kind == 1:
+        return table[:place] + table[place + 1:]
+    if kind == 2:
+        return table[:place]
+    if kind == 3:
+        return table[place:] + table[:place]
+    return table[:place] + table[place:place + 4] + table[place:]
+
+
+def noise(rng: Rng) -> Iterator[Case]:
+    """Random bytes, plain ones and ones that look like rules more often."""
+    likely = [0, 0, 0, 1, 1, 1, 2, 2, 3, 12, 13, 127, S, S, S, S, A, A, B, 255]
+    for _ in range(250):
+        t, n = rng.randrange(130), rng.randrange(130)
+        yield t, n, random_bytes(rng, rng.randrange(60))
+    for _ in range(700):
+        t, n = rng.randrange(4), 1 + rng.randrange(3)
+        count = rng.randrange(24)
+        yield t, n, bytes(rng.choice(likely) for _ in range(count))
+    for _ in range(60):
+        yield rng.getrandbits(64), rng.getrandbits(64), random_bytes(rng, 8)
+
+
+def long_tables(rng: Rng) -> Iterator[Case]:
+    """Tables up to the largest size; all of them are refused."""
+    for size in (4096, 65535, MAX_TABLE):
+        yield 127, 127, random_bytes(rng, size)
+        yield 127, 127, bytes([S, 0] * size)[:size]
+        yield 127, 127, bytes([START]) * size
+        yield 128, 127, bytes(size)
+        for count in (21, 60, 99, MAX_RULES):
+            t, n, rules = large_grammar(rng, count, MAX_STATES)
+            yield t, n, (encode(rules) + random_bytes(rng, size))[:size]
+
+
+GROUPS: List[Callable[[Rng], Iterator[Case]]] = [
+    figures, ranges, edge_codes, lengths_of_rules, short_tables, good_grammars,
+    unused_rules, many_rules, many_states, equal_rules, several_faults,
+    late_faults, faults_in_two_rules, prefixes, replaced_bytes, damaged, noise, long_tables,
+]
+
+
+def all_cases() -> Iterator[Case]:
+    """Every group's cases, each group with a generator of its own; none twice."""
+    seen = set()
+    for number, group in enumerate(GROUPS):
+        for case in group(random.Random(SEED * 1000 + number)):
+            if case not in seen:
+                seen.add(case)
+                yield case
+
+
+# Files.
+
+def encode_case(t: int, n: int, table: bytes) -> bytes:
+    """One case of the file of inputs."""
+    assert len(table) <= MAX_TABLE
+    return CASE_HEADER.pack(t, n, len(table)) + table
+
+
+def decode_cases(data: bytes) -> Iterator[Case]:
+    """The cases of a file of inputs; ValueError if it is cut or wrong."""
+    place = 0
+    while place < len(data):
+        if len(data) - place < CASE_HEADER.size:
+            raise ValueError("the file ends inside a case")
+        t, n, size = CASE_HEADER.unpack_from(data, place)
+        place += CASE_HEADER.size
+        if size > MAX_TABLE or len(data) - place < size:
+            raise ValueError("a table is too long, or the file ends inside it")
+        yield t, n, data[place:place + size]
+        place += size
+
+
+def numbers(values: Sequence[int]) -> str:
+    return ",".join(str(value) for value in values)
+
+
+def answer(t: int, n: int, table: bytes) -> str:
+    """The line of one case, without its byte 10."""
+    result = check_table(t, n, table)
+    if isinstance(result, Refusal):
+        return "refused=%d at=%d" % (result.cause, result.position)
+    return "passed states=%d offsets=%s lefts=%s lengths=%s codes=%s" % (
+        result.states,
+        numbers([rule.offset for rule in result.rules]),
+        numbers([rule.left for rule in result.rules]),
+        numbers([len(rule.right) for rule in result.rules]),
+        numbers([code for rule in result.rules for code in rule.right]),
+    )
+
+
+def write_lines(path: str, lines: Sequence[str]) -> None:
+    """The lines, each ended by byte 10."""
+    with open(path, "wb") as file:
+        file.write("".join(line + "\n" for line in lines).encode("ascii"))
+
+
+def write_cases(path: str) -> None:
+    """The verb `cases`."""
+    with open(path, "wb") as file:
+        for case in all_cases():
+            file.write(encode_case(*case))
+
+
+def count_reasons(cases: Sequence[Case]) -> List[int]:
+    """How many cases meet each of REASONS, in their order."""
+    counts = {name: 0 for name in REASONS}
+    for case in cases:
+        for name in reasons_of(*case):
+            counts[name] += 1
+    return [counts[name] for name in REASONS]
+
+
+def write_answers(cases_path: str, out_path: str, counts_path: str) -> List[str]:
+    """The verb `answers`; gives the reasons that too few cases meet."""
+    with open(cases_path, "rb") as file:
+        cases = list(decode_cases(file.read()))
+    write_lines(out_path, [answer(*case) for case in cases])
+    counts = list(zip(REASONS, count_reasons(cases)))
+    lines = ["%s %d" % pair for pair in counts]
+    write_lines(counts_path, lines + ["cases %d" % len(cases)])
+    return [name for name, count in counts if count < FEWEST]
+
+
+def main(words: Sequence[str]) -> int:
+    if len(words) == 2 and words[0] == "cases":
+        write_cases(words[1])
+        return 0
+    if len(words) == 4 and words[0] == "answers":
+        rare = write_answers(*words[1:])
+        for name in rare:
+            print("fewer than %d cases: %s" % (FEWEST, name), file=sys.stderr)
+        return 1 if rare else 0
+    print(__doc__, file=sys.stderr)
+    return 2
+
+
+if __name__ == "__main__":
+    sys.exit(main(sys.argv[1:]))

@@ -1,0 +1,126 @@
+"""The table check of document 01: "Tables" and refusals 1 to 8, "Table order".
+
+`check_table` takes t, n and a table, and answers a Grammar or a Refusal.
+"""
+
+from typing import List, NamedTuple, Optional, Sequence, Tuple, Union
+
+# The limits of document 01.
+MAX_TERMINALS = 127       # "Terminals are 1 to t, t from 0 to 127"
+MAX_NONTERMINALS = 127    # "n from 1 to 127"
+START = 128               # "Nonterminals are 128 to 127+n [...] 128 is the start S"
+MAX_LENGTH = 12           # "length k (0 to 12)"
+MAX_RULES = 100           # "numbered from 1, at most 100"
+MAX_STATES = 256          # "Q is 4 plus the sum of (k+1), at most 256"
+FIXED_STATES = 4          # states 0 to 3, which belong to no stored rule
+HEADER = 2                # left code and length, in front of the k codes
+
+# The causes of refusal, by document 01's numbers.
+OUT_OF_RANGE = 1          # "t or n outside its range"
+TABLE_ENDS = 2            # "table ends inside a rule"
+BAD_LEFT = 3              # "left code no declared nonterminal"
+TOO_LONG = 4              # "k above 12"
+BAD_RIGHT = 5             # "right code undeclared"
+EQUAL_RULE = 6            # "rule equals an earlier one"
+TOO_MANY_RULES = 7        # "a 101st rule"
+TOO_MANY_STATES = 8       # "Q would pass 256"
+
+
+class Rule(NamedTuple):
+    """A stored rule: "left code, length k (0 to 12), k codes", k as len(right)."""
+
+    offset: int
+    left: int
+    right: bytes
+
+
+class Grammar(NamedTuple):
+    """A checked grammar; `states` is Q, `rules` lacks rule 0, "not stored"."""
+
+    terminals: int
+    nonterminals: int
+    rules: Tuple[Rule, ...]
+    states: int
+
+
+class Refusal(NamedTuple):
+    """A cause's number and what the table of causes has "returned"."""
+
+    cause: int
+    position: int
+
+
+def is_terminal(code: int, t: int) -> bool:
+    """Whether "Terminals are 1 to t" has this code; 0 is never one."""
+    return 1 <= code <= t
+
+
+def is_nonterminal(code: int, n: int) -> bool:
+    """Whether "Nonterminals are 128 to 127+n" has this code; 255 is never one."""
+    return START <= code < START + n
+
+
+def in_range(t: int, n: int) -> bool:
+    """Not cause 1: "t from 0 to 127" and "n from 1 to 127"."""
+    return 0 <= t <= MAX_TERMINALS and 1 <= n <= MAX_NONTERMINALS
+
+
+def undeclared_place(t: int, n: int, right: bytes) -> Optional[int]:
+    """The place, from 0, of the first code that is neither kind of symbol."""
+    for place, code in enumerate(right):
+        if not is_terminal(code, t) and not is_nonterminal(code, n):
+            return place
+    return None
+
+
+def has_equal(rules: Sequence[Rule], left: int, right: bytes) -> bool:
+    """Whether a "rule equals an earlier one" in left code, length and codes."""
+    return any(rule.left == left and rule.right == right for rule in rules)
+
+
+def check_rule(
+    t: int, n: int, table: bytes, offset: int, earlier: Sequence[Rule], states: int
+) -> Union[Rule, Refusal]:
+    """The rule at `offset`, or its first fault.
+
+    "for each rule 7, 2 (under two bytes left), 3, 4, 2 (body short), 5, 6, 8".
+    `earlier` are the rules before it and `states` is their Q.
+    """
+    if len(earlier) == MAX_RULES:
+        return Refusal(TOO_MANY_RULES, offset)
+    if len(table) - offset < HEADER:
+        return Refusal(TABLE_ENDS, offset)
+    left, k = table[offset], table[offset + 1]
+    if not is_nonterminal(left, n):
+        return Refusal(BAD_LEFT, offset)
+    if k > MAX_LENGTH:
+        return Refusal(TOO_LONG, offset)
+    body = offset + HEADER
+    right = table[body:body + k]
+    if len(right) < k:
+        return Refusal(TABLE_ENDS, offset)
+    place = undeclared_place(t, n, right)
+    if place is not None:
+        return Refusal(BAD_RIGHT, body + place)
+    if has_equal(earlier, left, right):
+        return Refusal(EQUAL_RULE, offset)
+    if states + k + 1 > MAX_STATES:
+        return Refusal(TOO_MANY_STATES, offset)
+    return Rule(offset, left, right)
+
+
+def check_table(t: int, n: int, table: bytes) -> Union[Grammar, Refusal]:
+    """The whole check: "1; then for each rule [...]"; "Rules lie end to end"."""
+    if not in_range(t, n):
+        return Refusal(OUT_OF_RANGE, 0)
+    rules: List[Rule] = []
+    states = FIXED_STATES
+    offset = 0
+    while offset < len(table):
+        rule = check_rule(t, n, table, offset, rules, states)
+        if isinstance(rule, Refusal):
+            return rule
+        rules.append(rule)
+        states += len(rule.right) + 1
+        offset += HEADER + len(rule.right)
+    return Grammar(t, n, tuple(rules), states)

@@ -1,0 +1,124 @@
+"""Tests of the case file, the answer lines and the sorting by reasons."""
+
+import hashlib
+import unittest
+
+from derivations import used_rules
+from table_cases import all_cases, answer, decode_cases, encode_case
+from table_reasons import reasons_of
+from tables import check_table
+
+# SHA-256 of the file of cases.
+DIGEST = "da26daf59c83b30fc8eef4572ff2b8a5d9b50027ca9a8f9a9aeb122b10d20c12"
+
+S, A, B = 128, 129, 130
+a = 1
+FULL = b"".join(bytes([S, 12] + [1 + i] * 12) for i in range(19)) + bytes([S, 4] + [a] * 4)
+HUNDRED = b"".join(bytes([S, 1, 1 + i]) for i in range(100))
+
+
+class FileTest(unittest.TestCase):
+    def test_the_cases_are_these_bytes(self):
+        digest = hashlib.sha256()
+        for case in all_cases():
+            digest.update(encode_case(*case))
+        self.assertEqual(digest.hexdigest(), DIGEST)
+
+    def test_layout_of_a_case(self):
+        data = encode_case(2 ** 64 - 1, 258, b"\x80\x00")
+        self.assertEqual(
+            data, b"\xff" * 8 + b"\x02\x01" + bytes(6) + b"\x02\0\0\0" + b"\x80\x00")
+        self.assertEqual(
+            list(decode_cases(data + encode_case(0, 1, b""))),
+            [(2 ** 64 - 1, 258, b"\x80\x00"), (0, 1, b"")])
+
+    def test_a_cut_file_is_refused(self):
+        data = encode_case(1, 1, b"\x80\x00")
+        for end in range(1, len(data)):
+            with self.assertRaises(ValueError):
+                list(decode_cases(data[:end]))
+
+    def test_answer_lines(self):
+        self.assertEqual(
+            answer(1, 2, bytes([S, 2, A, a, A, 0])),
+            "passed states=8 offsets=0,4 lefts=128,129 lengths=2,0 codes=129,1")
+        self.assertEqual(
+            answer(0, 1, b""), "passed states=4 offsets= lefts= lengths= codes=")
+        self.assertEqual(answer(0, 1, bytes([S, 1, a])), "refused=5 at=2")
+
+
+class UsedRulesTest(unittest.TestCase):
+    def used(self, t, n, data):
+        return used_rules(check_table(t, n, data))
+
+    def test_used(self):
+        self.assertEqual(self.used(1, 1, bytes([S, 1, S, S, 1, a])), [True, True])
+        self.assertEqual(self.used(0, 2, bytes([A, 0, S, 1, A])), [True, True])
+
+    def test_no_finite_tree(self):
+        self.assertEqual(self.used(0, 1, bytes([S, 1, S])), [False])
+        self.assertEqual(
+            self.used(0, 2, bytes([S, 0, S, 1, A, A, 1, A])), [True, False, False])
+
+    def test_never_opened(self):
+        self.assertEqual(self.used(0, 2, bytes([S, 0, A, 0])), [True, False])
+        self.assertEqual(self.used(0, 2, bytes([A, 0])), [False])
+
+    def test_opened_only_beside_what_has_no_tree(self):
+        rules = bytes([S, 0, S, 2, A, B, A, 0])
+        self.assertEqual(self.used(0, 3, rules), [True, False, False])
+
+
+class ReasonsTest(unittest.TestCase):
+    def reasons(self, t, n, data, *names):
+        self.assertEqual(reasons_of(t, n, data), list(names))
+
+    def test_passed(self):
+        self.reasons(0, 1, b"", "passed", "passed-no-rules")
+        self.reasons(19, 1, FULL, "passed", "passed-k-of-12", "passed-256-states",
+                     "passed-every-rule-used")
+        self.reasons(100, 1, HUNDRED, "passed", "passed-100-rules",
+                     "passed-every-rule-used")
+        self.reasons(0, 1, bytes([S, 1, S]), "passed", "passed-a-rule-no-sentence-uses")
+
+    def test_1(self):
+        self.reasons(128, 1, b"", "1-t-too-large")
+        self.reasons(0, 0, b"", "1-n-of-0")
+        self.reasons(0, 128, bytes([S, 0]), "1-n-too-large")
+        self.reasons(128, 0, bytes([S]), "1-both-t-and-n", "order-1-before-a-faulty-table")
+
+    def test_2_and_3_and_4(self):
+        self.reasons(0, 1, bytes([S]), "2-under-two-bytes")
+        self.reasons(0, 1, bytes([S, 1]), "2-body-short")
+        self.reasons(0, 1, bytes([127, 0]), "3-below-the-nonterminals")
+        self.reasons(0, 1, bytes([A, 0]), "3-above-the-declared")
+        self.reasons(0, 1, bytes([S, 13] + [S] * 13), "4-k-of-13")
+        self.reasons(0, 1, bytes([S, 14] + [S] * 14), "4-k-above-13")
+
+    def test_5_and_6(self):
+        self.reasons(0, 1, bytes([S, 0, S, 2, S, 0]), "5-zero")
+        self.reasons(0, 1, bytes([S, 1, a]), "5-terminal-undeclared")
+        self.reasons(0, 1, bytes([S, 1, A]), "5-nonterminal-undeclared")
+        self.reasons(0, 1, bytes([S, 0, S, 0]), "6-next-to-the-earlier-rule")
+        self.reasons(0, 1, bytes([S, 0, S, 1, S, S, 0]), "6-further-away")
+
+    def test_7_and_8(self):
+        self.reasons(100, 1, HUNDRED + bytes([S, 0]), "7-whole-rule")
+        self.reasons(100, 1, HUNDRED + bytes([S, 1]), "7-body-short",
+                     "order-7-before-2-body-short")
+        self.reasons(100, 1, HUNDRED + bytes([S]), "7-stray-byte",
+                     "order-7-before-2-under-two-bytes")
+        self.reasons(19, 1, FULL + bytes([S, 0]), "8-by-one-state")
+        self.reasons(19, 1, FULL + bytes([S, 1, S]), "8-by-more")
+
+    def test_faults_that_the_order_hides(self):
+        self.reasons(0, 1, bytes([A, 13]), "3-above-the-declared",
+                     "order-3-before-4", "order-3-before-2-body-short")
+        self.reasons(19, 1, FULL + bytes([S, 4] + [a] * 4),
+                     "6-next-to-the-earlier-rule", "order-6-before-8")
+        self.reasons(0, 1, bytes([S, 1, 0, A]), "5-zero",
+                     "order-5-before-2-to-5-of-a-later-rule")
+
+
+if __name__ == "__main__":
+    unittest.main()
