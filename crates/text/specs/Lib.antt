@@ -1,0 +1,7 @@
+pub mod Pieces
+pub mod Names
+pub mod Keys
+pub mod Read
+pub mod Rules
+pub mod Print
+pub mod Promise
