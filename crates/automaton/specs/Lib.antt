@@ -1,4 +1,4 @@
 pub mod Automaton
-pub mod Strings
 pub mod Items
 pub mod Position
+pub mod Strings

@@ -1,4 +1,4 @@
--- The position automaton of a grammar: its states are the items.
+-- The position automaton of a grammar: its states are numbers, 0, 1 and those of the items.
 -- Source: document 01, "States and moves", the list of moves; document 000, chapter 4, example 4.7.
 -- Where document 01 departs from 000: state 0 opens rule 0 and state 3 closes it; all rules have moves, also useless ones.
 -- Assumes nothing.

@@ -63,7 +63,7 @@ module _ (L : Limits) (G : Grammar) where
       back = o .back;
     },
     λ j s. let b : Before L G (rule L G j .left) p = subst (λ x. Before L G x p) (sym (s .1)) dot in
-      (base L G j, opens-rule (s .0) b refl, first j (s .0) (inr (s .0, (p, b, refl)))),
+        (base L G j, opens-rule (s .0) b refl, first j (s .0) (inr (s .0, (p, b, refl)))),
   )
     where
       split : getD (rule L G i .right) (o .place) 0 ∷ drop (suc (o .place)) (rule L G i .right) ≡ x ∷ α

@@ -3,7 +3,7 @@ use mathlib.Core.Path.{_≡_, refl, ap, ap₂, sym, _∙_}
 use Prim.Native.Nat.{ℕ, zero, suc, _+_, _*_, _/_, _%_, _≤_, _<_}
 use native.Mathlib.Omega.{arith}
 use native.Mathlib.Nat.{mul-le-mul-right, suc-mul, mul-add-div-right, mul-add-mod-self-right, div-eq-of-lt, mod-eq-of-lt, add-mul, mul-assoc, div-div-eq-div-mul, div-add-mod', mod-lt, div-lt-iff-lt-mul, mul-le-mul}
-use Rattle.triples.specs.Index.{index, indices, layerOf, leftOf, rightOf}
+use Rattle.triples.specs.Index.{index, tripleCount, layerOf, leftOf, rightOf}
 
 -- digit by digit
 pub horner : (Q f p q : ℕ) → index Q f p q ≡ (f * Q + p) * Q + q
@@ -13,7 +13,7 @@ pair-lt : (m n a b : ℕ) → a < m → b < n → a * n + b < m * n
 pair-lt m n a b h k = omega (arith, mul-le-mul-right n h, suc-mul a n)
 
 -- an index is below 2Q²
-pub index-below : (Q f p q : ℕ) → f < 2 → p < Q → q < Q → index Q f p q < indices Q
+pub index-below : (Q f p q : ℕ) → f < 2 → p < Q → q < Q → index Q f p q < tripleCount Q
 index-below Q f p q hf hp hq =
     let h = pair-lt (2 * Q) Q (f * Q + p) q (pair-lt 2 Q f p hf hp) hq in
     omega (arith, h, horner Q f p q, mul-assoc 2 Q Q)
@@ -50,7 +50,7 @@ pub record Digits (Q i : ℕ) : Type 0 where
   pub right : rightOf Q i < Q
   pub whole : index Q (layerOf Q i) (leftOf Q i) (rightOf Q i) ≡ i
 
-pub digits : (Q i : ℕ) → 0 < Q → i < indices Q → Digits Q i
+pub digits : (Q i : ℕ) → 0 < Q → i < tripleCount Q → Digits Q i
 digits Q i h l =
     let two : i / Q / Q ≡ layerOf Q i = div-div-eq-div-mul i Q Q in
     let square : 0 < Q * Q = mul-le-mul {n₁ = 1} {m₁ = 1} h h in
@@ -59,7 +59,7 @@ digits Q i h l =
       left = mod-lt (i / Q) h;
       right = mod-lt i h;
       whole =
-        horner Q (layerOf Q i) (leftOf Q i) (rightOf Q i)
-        ∙ ap (λ (z : ℕ). (z * Q + i / Q % Q) * Q + i % Q) (sym two)
-        ∙ ap (λ (z : ℕ). z * Q + i % Q) (div-add-mod' (i / Q) Q) ∙ div-add-mod' i Q;
+          horner Q (layerOf Q i) (leftOf Q i) (rightOf Q i)
+          ∙ ap (λ (z : ℕ). (z * Q + i / Q % Q) * Q + i % Q) (sym two)
+          ∙ ap (λ (z : ℕ). z * Q + i % Q) (div-add-mod' (i / Q) Q) ∙ div-add-mod' i Q;
     }

@@ -1,5 +1,5 @@
-pub mod Successor
 pub mod Index
+pub mod Successor
 pub mod Records
 pub mod Smallest
 pub mod Certificate

@@ -1,9 +1,9 @@
 -- The moves of the position automaton as lists, and the step records of a triple in their order.
 -- Source: document 01, "States and moves" and "Triples, certificate, witness" ("each step record says for either side what moved").
 -- One record for each choice of moves; records that lead back to the triple itself stand first, left before right, then the
--- others in ascending order of the next index.
+-- others in ascending order of the next index. The code 0, which is no symbol's, stands for no symbol.
 -- Assumes nothing.
-use Prim.Native.Nat.{ℕ, zero, suc, _+_, _-_}
+use Prim.Native.Nat.{ℕ, zero, suc, _+_}
 use mathlib.Core.Bool.{Bool, true, false, not, _&&_}
 use mathlib.Core.List.{List, [], _∷_, _++_, map}
 use lib.Dec.{eqb, leb, ltb}
@@ -39,11 +39,11 @@ rulesOf b i p [] = []
 rulesOf b i p (r ∷ rs) = when (eqb (r .left) b) ((i, p) ∷ []) ++ rulesOf b (i + 1) (p + length (r .right) + 1) rs
 
 -- number and left code of the rule that ends in state e, as a list of at most one
-unfoldable pub endings : ℕ → ℕ → ℕ → List Rule → List (ℕ × ℕ)
-endings e i p [] = []
-endings e i p (r ∷ rs) = when (eqb (p + length (r .right)) e) ((i, r .left) ∷ []) ++ endings e (i + 1) (p + length (r .right) + 1) rs
+unfoldable pub completed : ℕ → ℕ → ℕ → List Rule → List (ℕ × ℕ)
+completed e i p [] = []
+completed e i p (r ∷ rs) = when (eqb (p + length (r .right)) e) ((i, r .left) ∷ []) ++ completed e (i + 1) (p + length (r .right) + 1) rs
 
--- the states just past a b, where the codes ahead are those from a state on
+-- the states just past a b, where the codes are those ahead of state p and of the states after it
 unfoldable pub past : ℕ → ℕ → List ℕ → List ℕ
 past b p [] = []
 past b p (x ∷ xs) = when (eqb x b) ((p + 1) ∷ []) ++ past b (p + 1) xs
@@ -67,45 +67,55 @@ module _ (L : Limits) (G : Grammar) where
   openings p = when (eqb p 0) ((0, 2) ∷ []) ++ rulesOf (ahead p) 1 4 (G .rules)
 
   unfoldable pub closings : ℕ → List (ℕ × ℕ)
-  closings p = when (eqb p 3) ((0, 1) ∷ []) ++ each (endings p 1 4 (G .rules)) (λ e. map (λ q. (e .0, q)) (past (e .1) 0 aheadRow))
+  closings p = when (eqb p 3) ((0, 1) ∷ []) ++ each (completed p 1 4 (G .rules)) (λ e. map (λ q. (e .0, q)) (past (e .1) 0 aheadRow))
 
-  -- the choices of moves, line by line as the successors are defined
-  unfoldable pub opened : ℕ → ℕ → ℕ → List Step
-  opened f p q =
-      map (λ m. step f (m .1) q (Opening (m .0)) Still) (openings p) ++ map (λ m. step f p (m .1) Still (Opening (m .0))) (openings q)
+  -- the index of a step's next triple
+  abbrev pub nextIndex : Step → ℕ
+  nextIndex s = index (states G) (s .layer) (s .left) (s .right)
 
-  unfoldable pub closed : ℕ → ℕ → List Step
-  closed p q =
-      map (λ m. step 1 (m .1) q (Closing (m .0)) Still) (closings p) ++ map (λ m. step 1 p (m .1) Still (Closing (m .0))) (closings q)
+  -- one side moves alone, by an opening or a closing, and the other stays
+  unfoldable pub leftAlone : ℕ → ℕ → (ℕ → Move) → List (ℕ × ℕ) → List Step
+  leftAlone f q kind moves = map (λ m. step f (m .1) q (kind (m .0)) Still) moves
 
-  unfoldable pub shifted : ℕ → Bool → ℕ → ℕ → List Step
-  shifted f allowed p q =
-      when (allowed && (leb 1 (ahead p) && eqb (ahead p) (ahead q))) (step f (suc p) (suc q) (Symbol (ahead p)) (Symbol (ahead p)) ∷ [])
+  unfoldable pub rightAlone : ℕ → ℕ → (ℕ → Move) → List (ℕ × ℕ) → List Step
+  rightAlone f p kind moves = map (λ m. step f p (m .1) Still (kind (m .0))) moves
 
-  unfoldable pub parted : ℕ → ℕ → List Step
-  parted p q =
+  -- both shift the same symbol
+  unfoldable pub bothShift : ℕ → ℕ → ℕ → List Step
+  bothShift f p q =
+      when (leb 1 (ahead p) && eqb (ahead p) (ahead q)) (step f (suc p) (suc q) (Symbol (ahead p)) (Symbol (ahead p)) ∷ [])
+
+  -- both close, unequal rules
+  unfoldable pub bothClose : ℕ → ℕ → List Step
+  bothClose p q =
       each (closings p) (λ m. each (closings q) (λ n.
       when (not (eqb (m .0) (n .0))) (step 1 (m .1) (n .1) (Closing (m .0)) (Closing (n .0)) ∷ [])))
-      ++ when (terminalAhead q) (map (λ m. step 1 (m .1) q (Closing (m .0)) Still) (closings p))
-      ++ when (terminalAhead p) (map (λ n. step 1 p (n .1) Still (Closing (n .0))) (closings q))
 
+  -- the choices of moves in layer 0 and in layer 1
   unfoldable pub choices : ℕ → ℕ → ℕ → List Step
-  choices zero p q = opened 0 p q ++ shifted 0 true p q ++ parted p q
-  choices (suc zero) p q = opened 1 p q ++ closed p q ++ shifted 1 (terminalAhead p) p q
+  choices zero p q =
+      leftAlone 0 q (λ i. Opening i) (openings p) ++ rightAlone 0 p (λ i. Opening i) (openings q) ++ bothShift 0 p q
+      ++ bothClose p q
+      ++ when (terminalAhead q) (leftAlone 1 q (λ i. Closing i) (closings p))
+      ++ when (terminalAhead p) (rightAlone 1 p (λ i. Closing i) (closings q))
+  choices (suc zero) p q =
+      leftAlone 1 q (λ i. Opening i) (openings p) ++ leftAlone 1 q (λ i. Closing i) (closings p)
+      ++ rightAlone 1 p (λ i. Opening i) (openings q) ++ rightAlone 1 p (λ i. Closing i) (closings q)
+      ++ when (terminalAhead p) (bothShift 1 p q)
   choices (suc (suc f)) p q = []
 
-  -- records that lead back come first, then those with the lower next index
-  abbrev pub key : ℕ → ℕ → ℕ → Step → ℕ
-  key f p q s = choose (eqb (s .layer) f && (eqb (s .left) p && eqb (s .right) q)) 0 (suc (index (states G) (s .layer) (s .left) (s .right)))
+  -- by this key records that lead back to index i come first, then the others by their next index
+  abbrev pub key : ℕ → Step → ℕ
+  key i s = choose (eqb (nextIndex s) i) 0 (suc (nextIndex s))
 
-  unfoldable pub insert : ℕ → ℕ → ℕ → Step → List Step → List Step
-  insert f p q s [] = s ∷ []
-  insert f p q s (t ∷ ts) = choose (leb (key f p q s) (key f p q t)) (s ∷ t ∷ ts) (t ∷ insert f p q s ts)
+  unfoldable pub insert : ℕ → Step → List Step → List Step
+  insert i s [] = s ∷ []
+  insert i s (t ∷ ts) = choose (leb (key i s) (key i t)) (s ∷ t ∷ ts) (t ∷ insert i s ts)
 
-  unfoldable pub ordered : ℕ → ℕ → ℕ → List Step → List Step
-  ordered f p q [] = []
-  ordered f p q (s ∷ ss) = insert f p q s (ordered f p q ss)
+  unfoldable pub ordered : ℕ → List Step → List Step
+  ordered i [] = []
+  ordered i (s ∷ ss) = insert i s (ordered i ss)
 
   -- the step records of a triple; a triple out of range has none
   unfoldable pub records : ℕ → ℕ → ℕ → List Step
-  records f p q = when (ltb p (states G) && ltb q (states G)) (ordered f p q (choices f p q))
+  records f p q = when (ltb p (states G) && ltb q (states G)) (ordered (index (states G) f p q) (choices f p q))

@@ -1,4 +1,4 @@
--- The smallest closed set that holds (0,0,0), computed: the list that breadth-first search makes of its indices.
+-- The smallest closed set that holds (0,0,0), computed: the list that breadth-first search makes of the indices of what is reached.
 -- Source: document 01, "Triples, certificate, witness" ("the search writes the smallest such set"). Assumes nothing.
 use Prim.Native.Nat.{ℕ, zero, suc}
 use mathlib.Core.Bool.{Bool, true, false, _||_}
@@ -9,9 +9,8 @@ use Rattle.grammar.specs.Basics.{choose}
 use Rattle.grammar.specs.Limits.{Limits}
 use Rattle.grammar.specs.Grammar.{Grammar}
 use Rattle.automaton.specs.Items.{states}
-use Rattle.triples.specs.Index.{index, indices, layerOf, leftOf, rightOf}
-use Rattle.triples.specs.Records.{records}
-use Rattle.triples.specs.declared.Step.{Step}
+use Rattle.triples.specs.Index.{tripleCount, layerOf, leftOf, rightOf}
+use Rattle.triples.specs.Records.{nextIndex, records}
 
 -- the test of membership
 unfoldable pub isElement : ℕ → List ℕ → Bool
@@ -34,18 +33,14 @@ explore successors (suc m) place queue =
     choose (leb (length queue) place) queue further
 
 module _ (L : Limits) (G : Grammar) where
-  -- the index of a step's next triple
-  abbrev pub nextIndex : Step → ℕ
-  nextIndex s = index (states G) (s .layer) (s .left) (s .right)
-
   -- the indices of the successors of an index, in the order of the step records
   unfoldable pub successors : ℕ → List ℕ
   successors i =
-      map nextIndex (records L G (layerOf (states G) i) (leftOf (states G) i) (rightOf (states G) i))
+      map (nextIndex L G) (records L G (layerOf (states G) i) (leftOf (states G) i) (rightOf (states G) i))
 
   -- the smallest closed set, from (0,0,0) on
   unfoldable pub smallest : List ℕ
-  smallest = explore successors (indices (states G)) 0 (0 ∷ [])
+  smallest = explore successors (tripleCount (states G)) 0 (0 ∷ [])
 
   -- the number of triples that it holds
   abbrev pub size : ℕ

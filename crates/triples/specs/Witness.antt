@@ -2,8 +2,10 @@
 -- Source: document 01, "Triples, certificate, witness" and "Causes of refusal". Assumes nothing.
 use Prim.Native.Nat.{ℕ, suc}
 use mathlib.Core.Path.{_≡_}
-use mathlib.Core.List.{List, [], _∷_}
-use lib.Dec.{eqb}
+use mathlib.Core.Bool.{_&&_}
+use mathlib.Core.List.{List, [], _∷_, map}
+use lib.Dec.{eqb, ltb}
+use Rattle.grammar.specs.Basics.{choose}
 use Rattle.grammar.specs.Limits.{Limits}
 use Rattle.grammar.specs.Grammar.{Grammar}
 use Rattle.grammar.specs.Refusal.{Answer, done, refused, refuseUnless, andThen, witnessWrong}
@@ -11,7 +13,7 @@ use Rattle.grammar.specs.TableCheck.{checkTable}
 use Rattle.automaton.specs.Items.{states}
 use Rattle.automaton.specs.Position.{position}
 use Rattle.triples.specs.Successor.{Successor}
-use Rattle.triples.specs.Index.{index}
+use Rattle.triples.specs.Index.{index, tripleCount}
 use Rattle.triples.specs.Smallest.{isElement, successors}
 
 module _ (L : Limits) (G : Grammar) where
@@ -25,11 +27,12 @@ module _ (L : Limits) (G : Grammar) where
   pub data Witness : List ℕ → Type 0 where
     begins : {i : ℕ} {is : List ℕ} → i ≡ index (states G) 0 0 0 → LeadsOn 0 0 0 is → Witness (i ∷ is)
 
-  -- 15 at the first entry that is no successor of the one before; at the row's length if only the end fails
+  -- 15 at the first entry that is no successor of the one before, which is i; at the row's length if only the end fails
   unfoldable pub checkOn : ℕ → ℕ → List ℕ → Answer Unit
   checkOn i place [] = refuseUnless witnessWrong place (eqb i (index (states G) 1 1 1)) (done tt)
   checkOn i place (j ∷ is) = refuseUnless witnessWrong place (isElement j (successors L G i)) (checkOn j (suc place) is)
 
+  -- the first entry is (0,0,0); an empty row is wrong at 0
   unfoldable pub checkRow : List ℕ → Answer Unit
   checkRow [] = refused witnessWrong 0
   checkRow (i ∷ is) = refuseUnless witnessWrong 0 (eqb i (index (states G) 0 0 0)) (checkOn i 1 is)
@@ -37,3 +40,12 @@ module _ (L : Limits) (G : Grammar) where
 -- the witness check: table faults first
 unfoldable pub checkWitness : Limits → ℕ → ℕ → List ℕ → List ℕ → Answer Unit
 checkWitness L t n table row = andThen (checkTable L t n table) (λ G. checkRow L G row)
+
+-- a record (layer, left, right) of a lent list as an index: one with a layer above 1 or a state of Q or more is a wrong entry,
+-- as 2Q² is
+abbrev pub entryOf : ℕ → ℕ × ℕ × ℕ → ℕ
+entryOf Q e = choose (ltb (e .0) 2 && (ltb (e .1) Q && ltb (e .2) Q)) (index Q (e .0) (e .1) (e .2)) (tripleCount Q)
+
+-- the witness check over such a list answers alike
+unfoldable pub checkWitnessRecords : Limits → ℕ → ℕ → List ℕ → List (ℕ × ℕ × ℕ) → Answer Unit
+checkWitnessRecords L t n table entries = andThen (checkTable L t n table) (λ G. checkRow L G (map (entryOf (states G)) entries))
