@@ -1,6 +1,6 @@
 """Each must-fail edit was refused because a fact fails, and docs/MUST-FAIL.md has a line for it.
 
-Reads the logs that `rt ci` leaves in target/must-fail/CRATE/EDIT/. Exits with 1 and says which edit is at fault.
+Reads the logs that `rt ci` leaves in target/must-fail/CRATE/EDIT.out. Exits with 1 and says which edit is at fault.
 """
 
 import pathlib
@@ -25,12 +25,11 @@ def faults():
         crate, name = edit.parent.parent.name, edit.stem
         if f"| {crate} | {name} |" not in table:
             yield f"{crate}/{name}: docs/MUST-FAIL.md has no line for it"
-        logs = sorted((ROOT / "target" / "must-fail" / crate / name).glob("*log*")) \
-            + sorted((ROOT / "target" / "must-fail" / crate / name).glob(".log"))
-        if not logs:
+        log = ROOT / "target" / "must-fail" / crate / f"{name}.out"
+        if not log.exists():
             yield f"{crate}/{name}: no log"
             continue
-        error = first_error(logs[0])
+        error = first_error(log)
         if error is None:
             yield f"{crate}/{name}: its log has no error"
         elif UNFIT.search(error):
