@@ -1,6 +1,6 @@
 """Each must-fail edit was refused because a fact fails, and docs/MUST-FAIL.md has a line for it.
 
-Reads the logs that `rt ci` leaves in target/must-fail/CRATE/EDIT.out. Exits with 1 and says which edit is at fault.
+Reads the logs that `rt ci` leaves in target/must-fail/CRATE/EDIT/.log. Exits with 1 and says which edit is at fault.
 """
 
 import pathlib
@@ -25,7 +25,7 @@ def faults():
         crate, name = edit.parent.parent.name, edit.stem
         if f"| {crate} | {name} |" not in table:
             yield f"{crate}/{name}: docs/MUST-FAIL.md has no line for it"
-        log = ROOT / "target" / "must-fail" / crate / f"{name}.out"
+        log = ROOT / "target" / "must-fail" / crate / name / ".log"
         if not log.exists():
             yield f"{crate}/{name}: no log"
             continue
