@@ -1,10 +1,10 @@
+pub mod Pins
+pub mod TreePins
 pub mod Answers
 pub mod Scans
+pub mod Plain
 pub mod Rules
 pub mod Steps
-pub mod Trees
-pub mod TreePins
-pub mod Derives
-pub mod Plain
 pub mod WellFormed
-pub mod Pins
+pub mod Trees
+pub mod Derives
