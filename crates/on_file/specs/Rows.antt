@@ -1,0 +1,84 @@
+-- The grammars on file: one table of rows, each with a claim. proofs/Rows.antt has the one theorem, that every row says true.
+-- Source: document 01, "Grammars on file", the rows marked P and the certificate of S → a. The claims are about the table check's
+-- definition, parting strings, the smallest set and trees. Assumes nothing.
+use Prim.Native.Nat.{ℕ}
+use mathlib.Core.Path.{_≡_}
+use mathlib.Core.List.{List, [], _∷_}
+use Rattle.grammar.specs.Basics.{Mem}
+use Rattle.grammar.specs.Limits.{limits}
+use Rattle.grammar.specs.Grammar.{Grammar}
+use Rattle.grammar.specs.Refusal.{done}
+use Rattle.grammar.specs.TableCheck.{checkTable}
+use Rattle.grammar.specs.Tree.{HasTwoTrees}
+use Rattle.automaton.specs.Items.{states}
+use Rattle.automaton.specs.Position.{position}
+use Rattle.automaton.specs.Strings.{Potential, Unambiguous}
+use Rattle.triples.specs.Smallest.{size}
+use Rattle.triples.specs.Certificate.{SmallestCertificate}
+
+-- what is claimed of a grammar
+pub data Claim : Type 0 where
+  -- unambiguous, with this size
+  unambiguous : ℕ → Claim
+  -- the same, and these bytes are the smallest certificate
+  certified : ℕ → List ℕ → Claim
+  potential : Claim
+  -- potential, though no sentence has two trees
+  potentialOnly : Claim
+
+-- t, n, the table, Q and the claim
+pub record Row : Type 0 where
+  pub terminals : ℕ
+  pub nonterminals : ℕ
+  pub table : List ℕ
+  pub states : ℕ
+  pub claim : Claim
+
+-- the claim is true of the grammar
+unfoldable pub Claimed : Grammar → Claim → Type 0
+Claimed G (unambiguous n) = Unambiguous (position limits G) × (size limits G ≡ n)
+Claimed G (certified n bytes) = Unambiguous (position limits G) × (size limits G ≡ n) × SmallestCertificate limits G bytes
+Claimed G potential = Potential (position limits G)
+Claimed G potentialOnly = Potential (position limits G) × ((w : List ℕ) → ¬ HasTwoTrees limits G w)
+
+-- the row says true: its table passes with a grammar of which Q and the claim are true
+pub record Says (r : Row) : Type 0 where
+  pub grammar : Grammar
+  pub passes : checkTable limits (r .terminals) (r .nonterminals) (r .table) ≡ done grammar
+  pub count : states grammar ≡ r .states
+  pub claimed : Claimed grammar (r .claim)
+
+-- the rows marked P, in their order; a is 1, b is 2, S is 128, A is 129, B is 130
+unfoldable pub rows : List Row
+rows =
+    -- none
+    record { terminals = 0; nonterminals = 1; table = []; states = 4; claim = unambiguous 5 }
+    -- S → (empty)
+    ∷ record { terminals = 0; nonterminals = 1; table = 128 ∷ 0 ∷ []; states = 5; claim = unambiguous 10 }
+    -- S → a
+    ∷ record {
+      terminals = 1;
+      nonterminals = 1;
+      table = 128 ∷ 1 ∷ 1 ∷ [];
+      states = 6;
+      claim = certified 11 (0x15 ∷ 0x50 ∷ 0x21 ∷ 0x15 ∷ 0x08 ∷ 0x00 ∷ 0x00 ∷ 0x00 ∷ 0x00 ∷ []);
+    }
+    -- S → S a; S → a
+    ∷ record { terminals = 1; nonterminals = 1; table = 128 ∷ 2 ∷ 128 ∷ 1 ∷ 128 ∷ 1 ∷ 1 ∷ []; states = 9; claim = unambiguous 24 }
+    -- S → a S b; S → (empty)
+    ∷ record { terminals = 2; nonterminals = 1; table = 128 ∷ 3 ∷ 1 ∷ 128 ∷ 2 ∷ 128 ∷ 0 ∷ []; states = 9; claim = unambiguous 30 }
+    -- S → S
+    ∷ record { terminals = 0; nonterminals = 1; table = 128 ∷ 1 ∷ 128 ∷ []; states = 6; claim = potential }
+    -- S → S; S → a
+    ∷ record { terminals = 1; nonterminals = 1; table = 128 ∷ 1 ∷ 128 ∷ 128 ∷ 1 ∷ 1 ∷ []; states = 8; claim = potential }
+    -- S → a S a; S → a
+    ∷ record { terminals = 1; nonterminals = 1; table = 128 ∷ 3 ∷ 1 ∷ 128 ∷ 1 ∷ 128 ∷ 1 ∷ 1 ∷ []; states = 10; claim = potentialOnly }
+    -- S → A; S → B; A → ; B →
+    ∷ record {
+      terminals = 0;
+      nonterminals = 3;
+      table = 128 ∷ 1 ∷ 129 ∷ 128 ∷ 1 ∷ 130 ∷ 129 ∷ 0 ∷ 130 ∷ 0 ∷ [];
+      states = 10;
+      claim = potential;
+    }
+    ∷ []

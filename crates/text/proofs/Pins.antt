@@ -1,0 +1,300 @@
+-- Small closed cases of the definitions at document 01's limits, and at small ones where a number is large: texts with their
+-- sources, each refusal of the reader and the writer with its position, and the order of the refusals.
+-- An edit of a definition in specs/ fails here.
+-- Assumes nothing.
+use mathlib.Core.Path.{_≡_, refl}
+use mathlib.Core.Bool.{true, false}
+use mathlib.Core.List.{List, [], _∷_, map}
+use mathlib.Core.Option.{none, some}
+use Prim.Native.Nat.{ℕ}
+use Prim.Native.Char.{code}
+use lib.ListN.{replicate}
+use Prim.Native.String.{String, [] as empty, _∷_ as _then_}
+use Rattle.grammar.specs.Limits.{Limits, limits}
+use Rattle.grammar.specs.Grammar.{Rule, stateCount}
+use Rattle.grammar.specs.Table.{encode}
+use Rattle.grammar.specs.Refusal.{Answer, done, refused, refuseUnless, andThen}
+use Rattle.grammar.specs.TableCheck.{sameCodes, isAmong, declaredFront, readRule, nextRule, checkFrom, checkTable}
+use Rattle.text.specs.Pieces.{splitOn, ledBy, join, endedBy}
+use Rattle.text.specs.Names.{isNameByte, all, any, isName, folded, sameName, hasDouble, place}
+use Rattle.text.specs.Keys.{keyTable, keyLengths, key, valueOf}
+use Rattle.text.specs.Read.{Source, refuseNone, namesOf, declaration, bodyOf, sidesOf, numberOf, isKnown}
+use Rattle.text.specs.Read.{codeOf, symbolOf, ruleOf, ruleLine, ruleLines, wholeLine, readLines, readText}
+use Rattle.text.specs.Rules.{admit, checkText, readInto}
+use Rattle.text.specs.Print.{printLine, nameOf, printRule, printed, nameAt, gather, firstDouble, writeInto}
+use Rattle.text.specs.Promise.{startsFrom, nameStarts, nameLengths}
+
+-- the bytes of an ASCII text
+bytes : String → List ℕ
+bytes empty = []
+bytes (c then s) = code c ∷ bytes s
+
+abbrev rule : ℕ → List ℕ → Rule
+rule x w = record { left = x; right = w }
+
+abbrev source : List String → List String → List Rule → Source
+source ts ns rules = record { terminals = map bytes ts; nonterminals = map bytes ns; rules = rules }
+
+-- 2 terminals, 3 nonterminals from code 10 on, 1 code on the right, 1 rule, 6 states, 45 bytes
+abbrev small : Limits
+small = record {
+  maxTerminals = 2;
+  nonterminalBase = 10;
+  maxNonterminals = 3;
+  maxLength = 1;
+  maxRules = 1;
+  maxStates = 6;
+  maxText = 45;
+}
+
+-- the same with room for 2 rules and a long text
+abbrev roomy : Limits
+roomy = record {
+  maxTerminals = 2;
+  nonterminalBase = 10;
+  maxNonterminals = 3;
+  maxLength = 1;
+  maxRules = 2;
+  maxStates = 6;
+  maxText = 200;
+}
+
+-- to unfold one of these is to unfold all that it uses
+read : String → Answer Source
+unfolding bytes readText readLines wholeLine ruleLines ruleLine ruleOf codeOf isKnown numberOf place sidesOf bodyOf
+    declaration namesOf refuseNone valueOf key keyTable keyLengths hasDouble sameName folded isName any all isNameByte
+    splitOn refuseUnless andThen
+read text = readText limits (bytes text)
+
+readSmall : String → Answer Source
+unfolding read
+readSmall text = readText small (bytes text)
+
+check : Limits → String → Answer Source
+unfolding read checkText admit isAmong sameCodes stateCount
+check L text = checkText L (bytes text)
+
+into : ℕ → ℕ → ℕ → String → Answer Source
+unfolding check readInto encode
+into entries starts lengths text = readInto limits entries starts lengths (bytes text)
+
+print : Source → List ℕ
+unfolding bytes printed printRule nameOf symbolOf printLine endedBy join ledBy key keyTable keyLengths
+print s = printed limits s
+
+write : ℕ → ℕ → List ℕ → String → List ℕ → List ℕ → ℕ → Answer (List ℕ)
+unfolding print writeInto gather nameAt firstDouble refuseNone isName isNameByte all any sameName folded refuseUnless
+    andThen checkTable checkFrom nextRule readRule declaredFront isAmong sameCodes stateCount encode
+write t n table lent starts lengths room = writeInto limits t n table (bytes lent) starts lengths room
+
+-- ---- names
+
+-- letters, digits and the hyphen, and the bytes beside them
+name-bytes : (map isNameByte (96 ∷ 97 ∷ 122 ∷ 123 ∷ []) ≡ false ∷ true ∷ true ∷ false ∷ [])
+    × (map isNameByte (64 ∷ 65 ∷ 90 ∷ 91 ∷ []) ≡ false ∷ true ∷ true ∷ false ∷ [])
+    × (map isNameByte (47 ∷ 48 ∷ 57 ∷ 58 ∷ []) ≡ false ∷ true ∷ true ∷ false ∷ [])
+    × (map isNameByte (44 ∷ 45 ∷ 46 ∷ 95 ∷ []) ≡ false ∷ true ∷ false ∷ false ∷ [])
+unfolding isNameByte
+name-bytes = (refl, refl, refl, refl)
+
+-- 0, 1, 15 and 16 bytes
+name-lengths : (isName [] ≡ false)
+    × (isName (bytes "a") ≡ true)
+    × (isName (bytes "a-z-A-Z-0-9-abc") ≡ true)
+    × (isName (bytes "a-z-A-Z-0-9-abcd") ≡ false)
+unfolding bytes isName all isNameByte
+name-lengths = (refl, refl, refl, refl)
+
+-- a name is not the same as its front, nor as one of another case
+names-differ : (sameName (bytes "a") (bytes "a") ≡ true)
+    × (sameName (bytes "a") (bytes "ab") ≡ false)
+    × (sameName (bytes "ab") (bytes "a") ≡ false)
+    × (sameName (bytes "ab") (bytes "aB") ≡ false)
+unfolding bytes sameName folded
+names-differ = (refl, refl, refl, refl)
+
+-- ---- what texts say, and how sources are printed
+
+-- S → a; S without rules; an empty right side; two of each kind, and names that differ in one bit
+texts : (read "terminals=a\nnonterminals=S\nrule=S: a\n" ≡ done (source ("a" ∷ []) ("S" ∷ []) (rule 128 (1 ∷ []) ∷ [])))
+    × (read "terminals=\nnonterminals=S\n" ≡ done (source [] ("S" ∷ []) []))
+    × (read "terminals=\nnonterminals=S\nrule=S:\n" ≡ done (source [] ("S" ∷ []) (rule 128 [] ∷ [])))
+    × (read "terminals=a,A\nnonterminals=S,s\nrule=S: s A\nrule=s: a S\n"
+    ≡ done (source ("a" ∷ "A" ∷ []) ("S" ∷ "s" ∷ []) (rule 128 (129 ∷ 2 ∷ []) ∷ rule 129 (1 ∷ 128 ∷ []) ∷ [])))
+unfolding read
+texts = (refl, refl, refl, refl)
+
+-- the same printed
+prints : (print (source ("a" ∷ []) ("S" ∷ []) (rule 128 (1 ∷ []) ∷ [])) ≡ bytes "terminals=a\nnonterminals=S\nrule=S: a\n")
+    × (print (source [] ("S" ∷ []) []) ≡ bytes "terminals=\nnonterminals=S\n")
+    × (print (source [] ("S" ∷ []) (rule 128 [] ∷ [])) ≡ bytes "terminals=\nnonterminals=S\nrule=S:\n")
+    × (print (source ("a" ∷ "A" ∷ []) ("S" ∷ "s" ∷ []) (rule 128 (129 ∷ 2 ∷ []) ∷ rule 129 (1 ∷ 128 ∷ []) ∷ []))
+    ≡ bytes "terminals=a,A\nnonterminals=S,s\nrule=S: s A\nrule=s: a S\n")
+unfolding print
+prints = (refl, refl, refl, refl)
+
+-- the names' starts and lengths; none for no terminals
+spans : (nameStarts (source ("a" ∷ "bc" ∷ []) ("S" ∷ "T" ∷ []) []) ≡ 10 ∷ 12 ∷ 28 ∷ 30 ∷ [])
+    × (nameStarts (source [] ("S" ∷ []) []) ≡ 24 ∷ [])
+    × (nameLengths (bytes "a" ∷ bytes "bc" ∷ bytes "S" ∷ bytes "T" ∷ []) ≡ 1 ∷ 2 ∷ 1 ∷ 1 ∷ [])
+unfolding bytes nameStarts startsFrom nameLengths printLine join ledBy key keyTable keyLengths
+spans = (refl, refl, refl)
+
+-- ---- the reader's refusals
+
+-- 16 at a line that is missing, unended or blank, wherever it stands
+cause-16-lines : (read "" ≡ refused 16 1)
+    × (read "terminals=a" ≡ refused 16 1)
+    × (read "terminals=a\n" ≡ refused 16 2)
+    × (read "terminals=a\nnonterminals=S" ≡ refused 16 2)
+    × (read "terminals=a\nnonterminals=S\nrule=S: a" ≡ refused 16 3)
+    × (read "terminals=a\nnonterminals=S\n\n" ≡ refused 16 3)
+    × (read "terminals=a\nnonterminals=S\n\nrule=S: a\n" ≡ refused 16 3)
+    × (read "terminals=a\nnonterminals=S\nrule=S: a\n\n" ≡ refused 16 4)
+    × (read "\nnonterminals=S\n" ≡ refused 16 1)
+unfolding read
+cause-16-lines = (refl, refl, refl, refl, refl, refl, refl, refl, refl)
+
+-- 16 at a line with another key, in another order, or without an equals sign
+cause-16-keys : (read "terminal=a\nnonterminals=S\n" ≡ refused 16 1)
+    × (read "nonterminals=S\nterminals=a\n" ≡ refused 16 1)
+    × (read "terminals\nnonterminals=S\n" ≡ refused 16 1)
+    × (read " terminals=a\nnonterminals=S\n" ≡ refused 16 1)
+    × (read "terminals=a\nterminals=S\n" ≡ refused 16 2)
+    × (read "terminals=a\nnonterminals=S\nrules=S: a\n" ≡ refused 16 3)
+    × (read "terminals=a\nnonterminals=S\nterminals=b\n" ≡ refused 16 3)
+unfolding read
+cause-16-keys = (refl, refl, refl, refl, refl, refl, refl)
+
+-- 16 at a list with an empty or malformed name
+cause-16-names : (read "terminals=a,\nnonterminals=S\n" ≡ refused 16 1)
+    × (read "terminals=,a\nnonterminals=S\n" ≡ refused 16 1)
+    × (read "terminals=a, b\nnonterminals=S\n" ≡ refused 16 1)
+    × (read "terminals=a_b\nnonterminals=S\n" ≡ refused 16 1)
+    × (read "terminals=a\r\nnonterminals=S\n" ≡ refused 16 1)
+    × (read "terminals=a\nnonterminals=S,,T\n" ≡ refused 16 2)
+    × (read "terminals=a\nnonterminals=abcdefghijklmnop\n" ≡ refused 16 2)
+unfolding read
+cause-16-names = (refl, refl, refl, refl, refl, refl, refl)
+
+-- 16 at a rule without or with two colons, without a space before a name, with a space at the end or two in a row, with a
+-- malformed name on the left or on the right
+cause-16-rules : (read "terminals=a\nnonterminals=S\nrule=S\n" ≡ refused 16 3)
+    × (read "terminals=a\nnonterminals=S\nrule=S: a:\n" ≡ refused 16 3)
+    × (read "terminals=a\nnonterminals=S\nrule=S:a\n" ≡ refused 16 3)
+    × (read "terminals=a\nnonterminals=S\nrule=S: a \n" ≡ refused 16 3)
+    × (read "terminals=a\nnonterminals=S\nrule=S: a  a\n" ≡ refused 16 3)
+    × (read "terminals=a\nnonterminals=S\nrule=S: \n" ≡ refused 16 3)
+    × (read "terminals=a\nnonterminals=S\nrule=: a\n" ≡ refused 16 3)
+    × (read "terminals=a\nnonterminals=S\nrule=S : a\n" ≡ refused 16 3)
+    × (read "terminals=a\nnonterminals=S\nrule=S: a\nrule=S: _\n" ≡ refused 16 4)
+unfolding read
+cause-16-rules = (refl, refl, refl, refl, refl, refl, refl, refl, refl)
+
+-- 18 at the line that declares a name again
+cause-18 : (read "terminals=a,b,a\nnonterminals=S\n" ≡ refused 18 1)
+    × (read "terminals=a\nnonterminals=S,S\n" ≡ refused 18 2)
+    × (read "terminals=a,b\nnonterminals=S,b\n" ≡ refused 18 2)
+unfolding read
+cause-18 = (refl, refl, refl)
+
+-- 1 at the line with no nonterminal or with too many names
+cause-1 : (read "terminals=a\nnonterminals=\n" ≡ refused 1 2)
+    × (readSmall "terminals=a,b,c\nnonterminals=S\n" ≡ refused 1 1)
+    × (readSmall "terminals=\nnonterminals=S,T,U,V\n" ≡ refused 1 2)
+    × (readSmall "terminals=a,b\nnonterminals=S,T,U\n" ≡ done (source ("a" ∷ "b" ∷ []) ("S" ∷ "T" ∷ "U" ∷ []) []))
+unfolding readSmall
+cause-1 = (refl, refl, refl, refl)
+
+-- 17 at a rule with an unknown name, or a terminal's on the left; case counts
+cause-17 : (read "terminals=a\nnonterminals=S\nrule=S: b\n" ≡ refused 17 3)
+    × (read "terminals=a\nnonterminals=S\nrule=T: a\n" ≡ refused 17 3)
+    × (read "terminals=a\nnonterminals=S\nrule=a: a\n" ≡ refused 17 3)
+    × (read "terminals=a\nnonterminals=S\nrule=S: A\n" ≡ refused 17 3)
+    × (read "terminals=a\nnonterminals=S\nrule=S: a\nrule=S: aa\n" ≡ refused 17 4)
+unfolding read
+cause-17 = (refl, refl, refl, refl, refl)
+
+-- 4 at a rule of 13 names, not of 12
+cause-4 : (read "terminals=a\nnonterminals=S\nrule=S: a a a a a a a a a a a a a\n" ≡ refused 4 3)
+    × (read "terminals=a\nnonterminals=S\nrule=S: a a a a a a a a a a a a\n"
+    ≡ done (source ("a" ∷ []) ("S" ∷ []) (rule 128 (replicate 12 1) ∷ [])))
+unfolding read
+cause-4 = (refl, refl)
+
+-- 16 at line 0 for a text of 46 bytes, not of 45
+too-long : (readSmall "terminals=a\nnonterminals=S\nrule=S: aaaaaaaaa\n" ≡ refused 17 3)
+    × (readSmall "terminals=a\nnonterminals=S\nrule=S: aaaaaaaaaa\n" ≡ refused 16 0)
+unfolding readSmall
+too-long = (refl, refl)
+
+-- in a line 16 before 18 before 1, and 16 before 17 before 4; the first line with a fault counts
+reader-order : (read "terminals=a,a,_\nnonterminals=S\n" ≡ refused 16 1)
+    × (readSmall "terminals=a,b,a\nnonterminals=S\n" ≡ refused 18 1)
+    × (read "terminals=a\nnonterminals=S\nrule=T: b _\n" ≡ refused 16 3)
+    × (read "terminals=a\nnonterminals=S\nrule=S: a a a a a a a a a a a a b\n" ≡ refused 17 3)
+    × (read "terminals=a,a\nnonterminals=\nrule\n" ≡ refused 18 1)
+    × (read "terminals=a\nnonterminals=\nrule\n" ≡ refused 1 2)
+    × (read "terminals=a\nnonterminals=S\nrule=S: b\nrule" ≡ refused 17 3)
+unfolding readSmall
+reader-order = (refl, refl, refl, refl, refl, refl, refl)
+
+-- 7, 6 and 8 at the rule's offset in the table, in this order, and after all lines
+rules-order : (check small "terminals=a\nnonterminals=S\nrule=S:\nrule=S:\n" ≡ refused 7 2)
+    × (check roomy "terminals=a\nnonterminals=S\nrule=S: a\nrule=S: a\n" ≡ refused 6 3)
+    × (check roomy "terminals=a\nnonterminals=S\nrule=S:\nrule=S: a\n" ≡ refused 8 2)
+    × (check roomy "terminals=a\nnonterminals=S\nrule=S: a\n" ≡ done (source ("a" ∷ []) ("S" ∷ []) (rule 10 (1 ∷ []) ∷ [])))
+    × (check limits "terminals=a\nnonterminals=S\nrule=S: a\nrule=S:\nrule=S: a\n" ≡ refused 6 5)
+    × (check limits "terminals=a\nnonterminals=S\nrule=S: a\nrule=S: a\nrule=S: b\n" ≡ refused 17 5)
+unfolding check
+rules-order = (refl, refl, refl, refl, refl, refl)
+
+-- 14 at 0 where a lent row is short of 3 entries, 2 starts or 2 lengths, and after all else
+cause-14 : (into 3 2 2 "terminals=a\nnonterminals=S\nrule=S: a\n" ≡ done (source ("a" ∷ []) ("S" ∷ []) (rule 128 (1 ∷ []) ∷ [])))
+    × (into 2 2 2 "terminals=a\nnonterminals=S\nrule=S: a\n" ≡ refused 14 0)
+    × (into 3 1 2 "terminals=a\nnonterminals=S\nrule=S: a\n" ≡ refused 14 0)
+    × (into 3 2 1 "terminals=a\nnonterminals=S\nrule=S: a\n" ≡ refused 14 0)
+    × (into 0 0 0 "terminals=a\nnonterminals=S\nrule=S: a\nrule=S: a\n" ≡ refused 6 3)
+unfolding into
+cause-14 = (refl, refl, refl, refl, refl)
+
+-- ---- the writer
+
+-- names lent in any order, with room for 37 bytes; in 36 it is 14 at 0
+writes : (write 1 1 (128 ∷ 1 ∷ 1 ∷ []) "Sa" (1 ∷ 0 ∷ []) (1 ∷ 1 ∷ []) 37
+    ≡ done (bytes "terminals=a\nnonterminals=S\nrule=S: a\n"))
+    × (write 1 1 (128 ∷ 1 ∷ 1 ∷ []) "Sa" (1 ∷ 0 ∷ []) (1 ∷ 1 ∷ []) 36 ≡ refused 14 0)
+    × (write 0 1 [] "S" (0 ∷ 9 ∷ []) (1 ∷ 9 ∷ []) 100 ≡ done (bytes "terminals=\nnonterminals=S\n"))
+unfolding write
+writes = (refl, refl, refl)
+
+-- a name needs an entry in both rows, and its bytes
+lent-names : (nameAt (bytes "abc") (1 ∷ []) (2 ∷ []) 0 ≡ some (bytes "bc"))
+    × (nameAt (bytes "abc") [] (2 ∷ []) 0 ≡ none)
+    × (nameAt (bytes "abc") (1 ∷ []) [] 0 ≡ none)
+    × (nameAt (bytes "abc") (2 ∷ []) (2 ∷ []) 0 ≡ none)
+unfolding bytes nameAt
+lent-names = (refl, refl, refl, refl)
+
+-- 16 at the symbol without a start, without a length, past the bytes, or with a malformed name
+writer-16 : (write 1 1 [] "aS" (0 ∷ []) (1 ∷ 1 ∷ []) 100 ≡ refused 16 1)
+    × (write 1 1 [] "aS" (0 ∷ 1 ∷ []) (1 ∷ []) 100 ≡ refused 16 1)
+    × (write 1 1 [] "aS" (0 ∷ 1 ∷ []) (1 ∷ 2 ∷ []) 100 ≡ refused 16 1)
+    × (write 1 1 [] "_S" (0 ∷ 1 ∷ []) (1 ∷ 1 ∷ []) 100 ≡ refused 16 0)
+    × (write 1 1 [] "aS" (0 ∷ 1 ∷ []) (0 ∷ 1 ∷ []) 100 ≡ refused 16 0)
+unfolding write
+writer-16 = (refl, refl, refl, refl, refl)
+
+-- 18 at the lowest symbol whose name an earlier one has
+writer-18 : (write 2 2 [] "ab" (0 ∷ 1 ∷ 0 ∷ 1 ∷ []) (1 ∷ 1 ∷ 1 ∷ 1 ∷ []) 100 ≡ refused 18 2)
+    × (write 1 2 [] "ab" (1 ∷ 0 ∷ 0 ∷ []) (1 ∷ 1 ∷ 1 ∷ []) 100 ≡ refused 18 2)
+unfolding write
+writer-18 = (refl, refl)
+
+-- table faults before 16 before 18 before 14
+writer-order : (write 1 0 [] "" [] [] 0 ≡ refused 1 0)
+    × (write 1 1 (128 ∷ 1 ∷ 2 ∷ []) "" [] [] 0 ≡ refused 5 2)
+    × (write 2 1 [] "a_" (0 ∷ 0 ∷ 1 ∷ []) (1 ∷ 1 ∷ 1 ∷ []) 0 ≡ refused 16 2)
+    × (write 1 1 [] "a" (0 ∷ 0 ∷ []) (1 ∷ 1 ∷ []) 0 ≡ refused 18 1)
+unfolding write
+writer-order = (refl, refl, refl, refl)
