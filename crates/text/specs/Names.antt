@@ -1,9 +1,9 @@
 -- Names: which are well formed, which are the same, which are declared twice.
--- Source: document 01, "Grammar text". Names are compared by `folded` bytes alone, so that another comparison is another `folded`.
+-- Source: document 01, "Grammar text". Names are compared byte for byte; `folded` is the one place that says so.
 -- Assumes nothing.
 use Prim.Native.Nat.{ℕ, suc}
 use mathlib.Core.Bool.{Bool, true, false, _&&_, _||_}
-use mathlib.Core.List.{List, [], _∷_, _++_}
+use mathlib.Core.List.{List, [], _∷_}
 use lib.Dec.{eqb, leb}
 use lib.ListN.{length}
 use Rattle.grammar.specs.Basics.{choose}
@@ -29,7 +29,7 @@ any test (x ∷ xs) = test x || any test xs
 unfoldable pub isName : List ℕ → Bool
 isName s = within 1 15 (length s) && all isNameByte s
 
--- what of a byte counts where names are compared
+-- what of a byte counts where names are compared: all of it, a and A are two names
 unfoldable pub folded : ℕ → ℕ
 folded b = b
 

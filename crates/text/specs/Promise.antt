@@ -8,7 +8,7 @@ use Rattle.grammar.specs.Limits.{limits}
 use Rattle.grammar.specs.Grammar.{stateCount}
 use Rattle.grammar.specs.Table.{encode}
 use Rattle.grammar.specs.Refusal.{Answer, done, refused}
-use Rattle.text.specs.Pieces.{join}
+use Rattle.text.specs.Pieces.{comma, join}
 use Rattle.text.specs.Keys.{key}
 use Rattle.text.specs.Read.{Source, symbolNames}
 use Rattle.text.specs.Rules.{readInto}
@@ -22,16 +22,17 @@ use Rattle.text.specs.declared.TextWritten.the-variants.{Written, Refuse
 abbrev pub over : List ℕ → List ℕ → List ℕ
 over front old = front ++ drop (length front) old
 
--- the starts of names that stand one byte apart, the first at a place of the text
+-- the starts of names with one byte between them, the first starting at `at`
 unfoldable pub startsFrom : ℕ → List (List ℕ) → List ℕ
 startsFrom at [] = []
 startsFrom at (x ∷ xs) = at ∷ startsFrom (at + length x + 1) xs
 
--- each name's start in the text, in the order of symbol numbers, and its length
+-- each name's start in the text, in the order of symbol numbers, and its length: a text that is read is the printed text of what it
+-- says (print-read), so the names tell where they stand
 unfoldable pub nameStarts : Source → List ℕ
 nameStarts s =
     startsFrom (length (key 0) + 1) (s .terminals)
-    ++ startsFrom (length (printLine 0 (join 44 (s .terminals))) + 1 + (length (key 1) + 1)) (s .nonterminals)
+    ++ startsFrom (length (printLine 0 (join comma (s .terminals))) + 1 + (length (key 1) + 1)) (s .nonterminals)
 
 unfoldable pub nameLengths : List (List ℕ) → List ℕ
 nameLengths [] = []

@@ -30,9 +30,9 @@ held-reached L G C K (next r s) = K .step (held-reached L G C K r) s
 
 module _ (L : Limits) (G : Grammar) (four : 4 ≤ states G)
     (exact : (f p q : ℕ) → f < 2 → p < states G → q < states G → (j : ℕ)
-      → Mem j (successors L G (index (states G) f p q)) ↔ ((g p′ q′ : ℕ) × (j ≡ index (states G) g p′ q′) × Successor (position L G) f p q g p′ q′))
+    → Mem j (successors L G (index (states G) f p q)) ↔ ((g p′ q′ : ℕ) × (j ≡ index (states G) g p′ q′) × Successor (position L G) f p q g p′ q′))
     (inside : (f p q g p′ q′ : ℕ) → f < 2 → p < states G → q < states G → Successor (position L G) f p q g p′ q′
-      → (g < 2) × (p′ < states G) × (q′ < states G)) where
+    → (g < 2) × (p′ < states G) × (q′ < states G)) where
   some : 0 < tripleCount (states G)
   some = let h = mul-le-mul {n₁ = 4} {m₁ = 4} four four in omega (arith, h)
 
@@ -99,9 +99,9 @@ module _ (L : Limits) (G : Grammar) (four : 4 ≤ states G)
   reached-exactly f p q hf hp hq = (
     λ r. listed-all r .listed,
     λ m. let x = indexed-all (index (states G) f p q) m in
-      let l = listed-all (x .reached) in
-      let e = index-injective (states G) f p q (x .f) (x .p) (x .q) hp hq (l .left) (l .right) (x .same) in
-      same-triple (sym (e .0)) (sym (e .1)) (sym (e .2)) (x .reached),
+        let l = listed-all (x .reached) in
+        let e = index-injective (states G) f p q (x .f) (x .p) (x .q) hp hq (l .left) (l .right) (x .same) in
+        same-triple (sym (e .0)) (sym (e .1)) (sym (e .2)) (x .reached),
   )
     where
       same-triple : {f p q g r s : ℕ} → g ≡ f → r ≡ p → s ≡ q → Reached (position L G) g r s → Reached (position L G) f p q

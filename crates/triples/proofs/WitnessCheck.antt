@@ -23,9 +23,9 @@ use Rattle.triples.proofs.Explore.{is-element}
 
 module _ (L : Limits) (G : Grammar) (four : 4 ≤ states G)
     (exact : (f p q : ℕ) → f < 2 → p < states G → q < states G → (j : ℕ)
-      → Mem j (successors L G (index (states G) f p q)) ↔ ((g p′ q′ : ℕ) × (j ≡ index (states G) g p′ q′) × Successor (position L G) f p q g p′ q′))
+    → Mem j (successors L G (index (states G) f p q)) ↔ ((g p′ q′ : ℕ) × (j ≡ index (states G) g p′ q′) × Successor (position L G) f p q g p′ q′))
     (inside : (f p q g p′ q′ : ℕ) → f < 2 → p < states G → q < states G → Successor (position L G) f p q g p′ q′
-      → (g < 2) × (p′ < states G) × (q′ < states G)) where
+    → (g < 2) × (p′ < states G) × (q′ < states G)) where
   on-leads : (is : List ℕ) (f p q place : ℕ) → f < 2 → p < states G → q < states G
       → checkOn L G (index (states G) f p q) place is ≡ done tt → LeadsOn L G f p q is
   unfolding checkOn
@@ -40,7 +40,7 @@ module _ (L : Limits) (G : Grammar) (four : 4 ≤ states G)
       let x = exact f p q hf hp hq j .0 (is-element j (successors L G (index Q f p q)) .0 (a .0)) in
       let r = inside f p q (x .0) (x .1) (x .2) hf hp hq (x .4) in
       goes (x .4) (x .3) (on-leads is (x .0) (x .1) (x .2) (suc place) (r .0) (r .1) (r .2)
-        (subst (λ i. checkOn L G i (suc place) is ≡ done tt) (x .3) (a .1)))
+      (subst (λ i. checkOn L G i (suc place) is ≡ done tt) (x .3) (a .1)))
 
   leads-on : {f p q : ℕ} {is : List ℕ} (place : ℕ) → f < 2 → p < states G → q < states G → LeadsOn L G f p q is
       → checkOn L G (index (states G) f p q) place is ≡ done tt
