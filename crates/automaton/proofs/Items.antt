@@ -97,17 +97,18 @@ module _ (L : Limits) (G : Grammar) where
   before-below {x} {p} b =
       item-below {i = b .number} {d = suc (b .place)} (record { rule = b .item .rule; dot = b .inside; state = omega (arith, b .item .state) })
 
-  start-below : 4 ≤ states G
-  start-below = omega (arith, base-end, base-rule L G (suc (length (G .rules))) (omega arith))
+  -- there are at least the 4 states of a grammar without rules
+  pub states-four : 4 ≤ states G
+  states-four = omega (arith, base-end, base-rule L G (suc (length (G .rules))) (omega arith))
 
   -- moves stay below Q
   pub opens-below : {i p q : ℕ} → Opens L G i p q → (p < states G) × (q < states G)
-  opens-below (opens-start e f g) = (omega (arith, start-below), omega (arith, start-below))
+  opens-below (opens-start e f g) = (omega (arith, states-four), omega (arith, states-four))
   opens-below {i} (opens-rule r b e) =
       (omega (arith, before-below b), omega (arith, item-below {p = base L G i} {i = i} {d = 0} (record { rule = r .1; dot = omega arith; state = omega arith })))
 
   pub closes-below : {i p q : ℕ} → Closes L G i p q → (p < states G) × (q < states G)
-  closes-below (closes-start e f g) = (omega (arith, start-below), omega (arith, start-below))
+  closes-below (closes-start e f g) = (omega (arith, states-four), omega (arith, states-four))
   closes-below {i} (closes-rule r e b f) =
       (omega (arith, item-below {p = base L G i + lengthOf L G i} {i = i} {d = lengthOf L G i} (record { rule = r .1; dot = omega arith; state = refl })), omega (arith, before-below b))
 

@@ -1,14 +1,16 @@
--- Elements of a list: the parts and the places where they stand, and how many a list without doubles has.
--- Assumes nothing.
-use mathlib.Core.Path.{_≡_, refl, ap, sym, subst}
+-- Membership and doubles in lists. Assumes nothing.
+use mathlib.Core.Path.{_≡_, refl, sym, subst, ap}
 use mathlib.Core.Logic.{_⊎_, inl, inr, _↔_}
-use mathlib.Core.List.{List, [], _∷_, _++_}
+use mathlib.Core.List.{List, [], _∷_, _++_, map}
 use Prim.Native.Nat.{ℕ, zero, suc, _≤_, _<_}
 use native.Mathlib.Omega.{arith}
 use native.Mathlib.Nat.{eq-or-lt-of-le, le-of-suc-le-suc}
 use lib.ListN.{length, getD}
 use Rattle.grammar.specs.Basics.{Mem, here, there, Distinct, none, more}
 use Rattle.grammar.proofs.Plain.{mem-cases}
+use mathlib.Core.Bool.{Bool, true, false}
+use Rattle.grammar.proofs.Answers.{no-bool}
+use Rattle.triples.specs.Records.{when, each}
 
 -- the empty list has no element
 pub no-element : {A : Type 0} {a : A} → Mem a [] → ⊥
@@ -100,3 +102,93 @@ below-mem (suc n) i h = go (eq-or-lt-of-le (le-of-suc-le-suc h)) (below-mem n i)
 -- numbers below n without doubles are at most n
 pub distinct-below : (n : ℕ) (l : List ℕ) → Distinct l → ((i : ℕ) → Mem i l → i < n) → length l ≤ n
 distinct-below n l d h = omega (arith, distinct-length (below n) d (λ i m. below-mem n i (h i m)), below-length n)
+
+
+-- an element stands first or further on
+pub first-or : {A : Type 0} {a b : A} {l : List A} → Mem a (b ∷ l) → (a ≡ b) ⊎ Mem a l
+first-or here = inl refl
+first-or (there m) = inr m
+
+-- what is equal to an element is one
+pub element-as : {A : Type 0} {a b : A} {l : List A} → a ≡ b → Mem b l → Mem a l
+element-as {A} {a} {b} {l} e m = subst (λ c. Mem c l) (sym e) m
+
+-- the element of a list of one element
+pub only-one : {A : Type 0} {a b : A} → Mem a (b ∷ []) → a ≡ b
+only-one here = refl
+only-one (there m) = absurd (no-element m)
+
+-- what is equal to the element of such a list is in it
+pub one-only : {A : Type 0} {a b : A} → a ≡ b → Mem a (b ∷ [])
+one-only e = element-as e here
+
+-- the elements of a list under a test
+pub under-test : {A : Type 0} {a : A} (b : Bool) (l : List A) → Mem a (when b l) ↔ ((b ≡ true) × Mem a l)
+under-test {A} {a} true l = (λ h. (refl, h), λ h. h .1)
+under-test {A} {a} false l = (λ h. absurd (no-element h), λ h. no-bool (sym (h .0)))
+
+in-each : {A B : Type 0} {a : A} {b : B} {l : List A} (f : A → List B) → Mem a l → Mem b (f a) → Mem b (each l f)
+unfolding each
+in-each f (here {l = l}) k = mem-left (each l f) k
+in-each f (there {b = c} h) k = mem-right (f c) (in-each f h k)
+
+each-in : {A B : Type 0} {b : B} (l : List A) (f : A → List B) → Mem b (each l f) → (a : A) × Mem a l × Mem b (f a)
+unfolding each
+each-in [] f h = absurd (no-element h)
+each-in (a ∷ l) f h = elim (mem-either (f a) (each l f) h) [
+  | inl k ↦ (a, here, k)
+  | inr k ↦ let r = each-in l f k in (r .0, there (r .1), r .2)
+]
+
+-- the elements of what f gives for each element
+pub of-each : {A B : Type 0} {b : B} (l : List A) (f : A → List B) → Mem b (each l f) ↔ ((a : A) × Mem a l × Mem b (f a))
+of-each l f = (each-in l f, λ r. in-each f (r .1) (r .2))
+
+in-map : {A B : Type 0} {a : A} {b : B} {l : List A} (f : A → B) → Mem a l → b ≡ f a → Mem b (map f l)
+in-map f here e = element-as e here
+in-map f (there m) e = there (in-map f m e)
+
+map-in : {A B : Type 0} {b : B} (l : List A) (f : A → B) → Mem b (map f l) → (a : A) × Mem a l × (b ≡ f a)
+map-in [] f h = absurd (no-element h)
+map-in (a ∷ l) f h = elim (first-or h) [
+  | inl e ↦ (a, here, e)
+  | inr k ↦ let r = map-in l f k in (r .0, there (r .1), r .2)
+]
+
+-- the elements of an image
+pub of-map : {A B : Type 0} {b : B} (l : List A) (f : A → B) → Mem b (map f l) ↔ ((a : A) × Mem a l × (b ≡ f a))
+of-map l f = (map-in l f, λ r. in-map f (r .1) (r .2))
+
+-- a list of one element has no doubles
+pub distinct-one : {A : Type 0} (a : A) → Distinct (a ∷ [])
+distinct-one a = more (λ m. no-element m) none
+
+-- two lists without doubles and without a common element
+pub distinct-append : {A : Type 0} (l m : List A) → Distinct l → Distinct m → ((a : A) → Mem a l → Mem a m → ⊥)
+    → Distinct (l ++ m)
+distinct-append [] m none e n = e
+distinct-append (a ∷ l) m (more new d) e n =
+    more {a = a} {l = l ++ m} (λ h. elim (mem-either l m h) [ inl k ↦ new k | inr k ↦ n a here k ])
+    (distinct-append l m d e (λ b h k. n b (there h) k))
+
+-- under a test
+pub distinct-when : {A : Type 0} (b : Bool) (l : List A) → Distinct l → Distinct (when b l)
+distinct-when true l d = d
+distinct-when false l d = none
+
+-- the lists that f gives, if each has no doubles and no two have a common element
+pub distinct-each : {A B : Type 0} (l : List A) (f : A → List B) → Distinct l → ((a : A) → Mem a l → Distinct (f a))
+    → ((a c : A) (b : B) → Mem a l → Mem c l → Mem b (f a) → Mem b (f c) → a ≡ c) → Distinct (each l f)
+unfolding each
+distinct-each [] f none e n = none
+distinct-each (a ∷ l) f (more new d) e n =
+    distinct-append (f a) (each l f) (e a here)
+    (distinct-each l f d (λ c m. e c (there m)) (λ c z b h k. n c z b (there h) (there k)))
+    (λ b h k. let o = each-in l f k in new (element-as (n a (o .0) b here (there (o .1)) h (o .2)) (o .1)))
+
+-- the image under a function that keeps elements apart
+pub distinct-map : {A B : Type 0} (l : List A) (f : A → B) → Distinct l → ((a c : A) → f a ≡ f c → a ≡ c) → Distinct (map f l)
+distinct-map [] f none n = none
+distinct-map (a ∷ l) f (more new d) n =
+    more (λ m. let o = map-in l f m in new (element-as (n a (o .0) (o .2)) (o .1))) (distinct-map l f d n)
+
