@@ -8,3 +8,4 @@ pub mod Steps
 pub mod WellFormed
 pub mod Trees
 pub mod Derives
+pub mod Palindromes

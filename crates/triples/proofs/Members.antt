@@ -103,7 +103,6 @@ below-mem (suc n) i h = go (eq-or-lt-of-le (le-of-suc-le-suc h)) (below-mem n i)
 pub distinct-below : (n : ℕ) (l : List ℕ) → Distinct l → ((i : ℕ) → Mem i l → i < n) → length l ≤ n
 distinct-below n l d h = omega (arith, distinct-length (below n) d (λ i m. below-mem n i (h i m)), below-length n)
 
-
 -- an element stands first or further on
 pub first-or : {A : Type 0} {a b : A} {l : List A} → Mem a (b ∷ l) → (a ≡ b) ⊎ Mem a l
 first-or here = inl refl
@@ -191,4 +190,3 @@ pub distinct-map : {A B : Type 0} (l : List A) (f : A → B) → Distinct l → 
 distinct-map [] f none n = none
 distinct-map (a ∷ l) f (more new d) n =
     more (λ m. let o = map-in l f m in new (element-as (n a (o .0) (o .2)) (o .1))) (distinct-map l f d n)
-

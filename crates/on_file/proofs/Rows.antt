@@ -1,0 +1,144 @@
+-- Every row of the grammars on file says true: one test, which the checker computes over the whole table, and a lemma from the test
+-- to the claim of a row. Assumes nothing.
+use Prim.Native.Nat.{ℕ, _+_, _≤_, _<_}
+use mathlib.Core.Path.{_≡_, refl, ap, subst, sym, _∙_}
+use mathlib.Core.Logic.{_↔_}
+use mathlib.Core.Bool.{Bool, true, false, not, _&&_}
+use mathlib.Core.List.{List, [], _∷_}
+use native.Mathlib.Omega.{arith}
+use lib.Dec.{eqb}
+use lib.ListN.{length}
+use borrow.Author.Tests.{eqb-true, not-true}
+use Rattle.grammar.specs.Basics.{Mem, here, there}
+use Rattle.grammar.specs.Limits.{limits}
+use Rattle.grammar.specs.Grammar.{Grammar, stateCount, WellFormed}
+use Rattle.grammar.specs.Table.{encode, decodeUpTo, decode}
+use Rattle.grammar.specs.Refusal.{Answer, done, refused, refuseUnless, andThen}
+use Rattle.grammar.specs.TableCheck.{sameCodes, isAmong, declaredFront, readRule, nextRule, checkFrom, checkTable}
+use Rattle.grammar.specs.Tree.{HasTwoTrees}
+use Rattle.grammar.proofs.Answers.{no-bool, and-both}
+use Rattle.grammar.proofs.Plain.{same-codes}
+use Rattle.grammar.proofs.Rules.{decode-encode}
+use Rattle.grammar.proofs.Steps.{grammarOf}
+use Rattle.grammar.proofs.WellFormed.{takes-only, room}
+use Rattle.grammar.proofs.Palindromes.{palindromes, palindromes-one}
+use Rattle.automaton.specs.Items.{states}
+use Rattle.automaton.specs.Position.{position}
+use Rattle.automaton.specs.Strings.{Potential, Unambiguous}
+use Rattle.automaton.proofs.Items.{states-four}
+use Rattle.triples.specs.Index.{index}
+use Rattle.triples.specs.Records.{each, aheads, rulesOf, completed, past, aheadRow, openings, closings, leftAlone, rightAlone, bothShift, bothClose, choices, insert, ordered, records}
+use Rattle.triples.specs.Smallest.{isElement, push, pushAll, explore, successors, smallest, size}
+use Rattle.triples.specs.Certificate.{SmallestCertificate, bitsFrom, bytesFrom, certificateOf}
+use Rattle.triples.proofs.Explore.{is-element, not-element}
+use Rattle.triples.proofs.Laws.{reached-exactly, smallest-certificate}
+use Rattle.parting.proofs.Position.{potential-reached}
+use Rattle.on_file.specs.Rows.{Claim, unambiguous, certified, potential, potentialOnly, Row, Claimed, Says, rows}
+
+-- the table passes
+passes : Answer Grammar → Bool
+passes (done G) = true
+passes (refused cause at) = false
+
+abbrev grammar : Row → Grammar
+grammar r = grammarOf (r .terminals) (r .nonterminals) (decode (r .table))
+
+-- the claim's test: whether (1,1,1) is in the smallest set, its size, its certificate
+claimTest : Grammar → List ℕ → Claim → Bool
+claimTest G table (unambiguous n) = not (isElement (index (states G) 1 1 1) (smallest limits G)) && eqb (size limits G) n
+claimTest G table (certified n bytes) =
+    not (isElement (index (states G) 1 1 1) (smallest limits G)) && (eqb (size limits G) n && sameCodes (certificateOf (states G) (smallest limits G)) bytes)
+claimTest G table potential = isElement (index (states G) 1 1 1) (smallest limits G)
+claimTest G table potentialOnly =
+    isElement (index (states G) 1 1 1) (smallest limits G)
+    && (eqb (G .terminals) 1 && (eqb (G .nonterminals) 1 && sameCodes table (encode (palindromes .rules))))
+
+rowTest : Row → Bool
+rowTest r =
+    passes (checkTable limits (r .terminals) (r .nonterminals) (r .table))
+    && (eqb (states (grammar r)) (r .states) && claimTest (grammar r) (r .table) (r .claim))
+
+everyTest : List Row → Bool
+everyTest [] = true
+everyTest (r ∷ rs) = rowTest r && everyTest rs
+
+-- a table that passes has the grammar of its decoding
+passed : (t n : ℕ) (table : List ℕ) → passes (checkTable limits t n table) ≡ true → checkTable limits t n table ≡ done (grammarOf t n (decode table))
+unfolding passes
+passed t n table e = go (checkTable limits t n table) refl e
+  where
+    go : (o : Answer Grammar) → checkTable limits t n table ≡ o → passes o ≡ true → checkTable limits t n table ≡ done (grammarOf t n (decode table))
+    go (done G) q p =
+        let T = takes-only limits room t n table G q in
+        let d : decode table ≡ G .rules = ap decode (T .table) ∙ decode-encode (G .rules) in
+        q ∙ ap done (λ i. record { terminals = T .terminals i; nonterminals = T .nonterminals i; rules = sym d i })
+    go (refused c p) q e = no-bool (sym e)
+
+-- the verdict, from the smallest set
+module _ (G : Grammar) (W : WellFormed limits G) where
+  potential-listed : Potential (position limits G) ↔ Mem (index (states G) 1 1 1) (smallest limits G)
+  potential-listed =
+      let four = states-four limits G in
+      let r = reached-exactly limits G W (omega arith) 1 1 1 (omega arith) (omega arith) (omega arith) in
+      let p = potential-reached limits G W (omega arith) in
+      (λ s. r .0 (p .0 s), λ m. p .1 (r .1 m))
+
+  not-listed : not (isElement (index (states G) 1 1 1) (smallest limits G)) ≡ true → Mem (index (states G) 1 1 1) (smallest limits G) → ⊥
+  not-listed e = not-element (index (states G) 1 1 1) (smallest limits G) .0 (not-true (isElement (index (states G) 1 1 1) (smallest limits G)) e)
+
+  lone : not (isElement (index (states G) 1 1 1) (smallest limits G)) ≡ true → Unambiguous (position limits G)
+  lone e s = not-listed e (potential-listed .0 s)
+
+  parted : isElement (index (states G) 1 1 1) (smallest limits G) ≡ true → Potential (position limits G)
+  parted e = potential-listed .1 (is-element (index (states G) 1 1 1) (smallest limits G) .0 e)
+
+  claimed : (table : List ℕ) (c : Claim) → G .rules ≡ decode table → claimTest G table c ≡ true → Claimed G c
+  unfolding claimTest Claimed
+  claimed table (unambiguous n) d e =
+      let a = and-both (not (isElement (index (states G) 1 1 1) (smallest limits G))) (eqb (size limits G) n) e in
+      (lone (a .0), eqb-true (size limits G) n (a .1))
+  claimed table (certified n bytes) d e =
+      let a = and-both (not (isElement (index (states G) 1 1 1) (smallest limits G))) _ e in
+      let b = and-both (eqb (size limits G) n) (sameCodes (certificateOf (states G) (smallest limits G)) bytes) (a .1) in
+      let s = smallest-certificate limits G W (omega arith) (not-listed (a .0)) in
+      (lone (a .0), eqb-true (size limits G) n (b .0), subst (SmallestCertificate limits G) (same-codes (certificateOf (states G) (smallest limits G)) bytes .0 (b .1)) s)
+  claimed table potential d e = parted e
+  claimed table potentialOnly d e =
+      let a = and-both (isElement (index (states G) 1 1 1) (smallest limits G)) _ e in
+      let b = and-both (eqb (G .terminals) 1) _ (a .1) in
+      let c = and-both (eqb (G .nonterminals) 1) (sameCodes table (encode (palindromes .rules))) (b .1) in
+      let x : G .rules ≡ palindromes .rules = d ∙ ap decode (same-codes table (encode (palindromes .rules)) .0 (c .1)) ∙ decode-encode (palindromes .rules) in
+      let p : palindromes ≡ G = λ i. record {
+        terminals = sym (eqb-true (G .terminals) 1 (b .0)) i;
+        nonterminals = sym (eqb-true (G .nonterminals) 1 (c .0)) i;
+        rules = sym x i;
+      } in
+      (parted (a .0), subst (λ (G : Grammar). (w : List ℕ) → ¬ HasTwoTrees limits G w) p palindromes-one)
+
+row-says : (r : Row) → rowTest r ≡ true → Says r
+unfolding rowTest
+row-says r e =
+    let a = and-both (passes (checkTable limits (r .terminals) (r .nonterminals) (r .table))) _ e in
+    let b = and-both (eqb (states (grammar r)) (r .states)) (claimTest (grammar r) (r .table) (r .claim)) (a .1) in
+    let p = passed (r .terminals) (r .nonterminals) (r .table) (a .0) in
+    record {
+      grammar = grammar r;
+      passes = p;
+      count = eqb-true (states (grammar r)) (r .states) (b .0);
+      claimed = claimed (grammar r) (takes-only limits room (r .terminals) (r .nonterminals) (r .table) (grammar r) p .wellFormed) (r .table) (r .claim) refl (b .1);
+    }
+
+every-says : {r : Row} (rs : List Row) → everyTest rs ≡ true → Mem r rs → Says r
+unfolding everyTest
+every-says (s ∷ rs) e here = row-says s (and-both (rowTest s) (everyTest rs) e .0)
+every-says (s ∷ rs) e (there m) = every-says rs (and-both (rowTest s) (everyTest rs) e .1) m
+
+computed : everyTest rows ≡ true
+unfolding everyTest rowTest claimTest passes rows checkTable checkFrom nextRule readRule declaredFront isAmong sameCodes refuseUnless andThen decodeUpTo stateCount encode
+    each aheads rulesOf completed past aheadRow openings closings leftAlone rightAlone bothShift bothClose choices insert ordered records
+    isElement push pushAll explore successors smallest bitsFrom bytesFrom
+computed = refl
+
+-- every row says true
+pub every-row : (r : Row) → Mem r rows → Says r
+every-row r m = every-says rows computed m
