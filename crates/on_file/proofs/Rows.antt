@@ -30,8 +30,8 @@ use Rattle.triples.specs.Index.{index}
 use Rattle.triples.specs.Records.{each, aheads, rulesOf, completed, past, aheadRow, openings, closings, leftAlone, rightAlone, bothShift, bothClose, choices, insert, ordered, records}
 use Rattle.triples.specs.Smallest.{isElement, push, pushAll, explore, successors, smallest, size}
 use Rattle.triples.specs.Certificate.{SmallestCertificate, bitsFrom, bytesFrom, certificateOf}
-use Rattle.triples.proofs.Explore.{is-element, not-element}
-use Rattle.triples.proofs.Laws.{reached-exactly, smallest-certificate}
+use Rattle.triple_laws.proofs.Explore.{is-element, not-element}
+use Rattle.triple_laws.proofs.Laws.{reached-exactly, smallest-certificate}
 use Rattle.parting.proofs.Position.{potential-reached}
 use Rattle.on_file.specs.Rows.{Claim, unambiguous, certified, potential, potentialOnly, Row, Claimed, Says, rows}
 

@@ -12,20 +12,20 @@ use Rattle.grammar.specs.Limits.{Limits}
 use Rattle.grammar.specs.Grammar.{Grammar, WellFormed}
 use Rattle.automaton.specs.Items.{states}
 use Rattle.automaton.specs.Position.{Shifts, shifts, position}
 use Rattle.triples.specs.Index.{index}
 use Rattle.triples.specs.Successor.{StepTo, open-left, open-right, shift-both, part-both, part-left, part-right}
 use Rattle.triples.specs.Successor.{close-left, close-right, read-both}
 use Rattle.triples.specs.Records.{step, nextIndex, key, choices, records}
 use Rattle.triples.specs.declared.Move.{Move}
 use Rattle.triples.specs.declared.Move.the-variants.{Opening, Closing, Symbol, Still}
 use Rattle.triples.specs.declared.Step.{Step}
 use Rattle.triples.proofs.Index.{index-injective}
-use Rattle.triples.proofs.Pairs.{Pairs, Rising, pairs-map, pairs-join, one-order}
-use Rattle.triples.proofs.Order.{ordered-keeps, records-ascend}
-use Rattle.triples.proofs.Records.{records-are, steps-in-range, records-exact}
-use Rattle.triples.proofs.Classes.{one-opening, one-closing, opens-no-close}
-use Rattle.triples.proofs.RecordDoubles.{kind, rankOf, choices-ascend, records-distinct}
-use Rattle.triples.proofs.Single.{key-back, key-other, step-path, one-record}
+use Rattle.triple_laws.proofs.Pairs.{Pairs, Rising, pairs-map, pairs-join, one-order}
+use Rattle.triple_laws.proofs.Order.{ordered-keeps, records-ascend}
+use Rattle.triple_laws.proofs.Records.{records-are, steps-in-range, records-exact}
+use Rattle.triple_laws.proofs.Classes.{one-opening, one-closing, opens-no-close}
+use Rattle.triple_laws.proofs.RecordDoubles.{kind, rankOf, choices-ascend, records-distinct}
+use Rattle.triple_laws.proofs.Single.{key-back, key-other, step-path, one-record}
 
 -- 0 if the left side moves, else 1
 abbrev pub side : Step → ℕ

@@ -16,12 +16,12 @@ use Rattle.grammar.specs.Refusal.{Answer, done, refuseUnless}
 use Rattle.grammar.proofs.Answers.{no-bool, unless-holds, unless-done}
 use Rattle.automaton.specs.Items.{states}
 use Rattle.automaton.specs.Position.{position}
 use Rattle.triples.specs.Index.{index, tripleCount, layerOf, leftOf, rightOf}
 use Rattle.triples.specs.Successor.{Successor, Acceptable}
 use Rattle.triples.specs.Smallest.{successors}
 use Rattle.triples.specs.Certificate.{byteCount, bit, Holds, Certificate, AcceptableCertificate, lowest, isSet, areSet, lowestSpare, lowestLacking, checkBytes}
 use Rattle.triples.proofs.Index.{index-below, digits}
-use Rattle.triples.proofs.Lowest.{lowest-is, lowest-none, set-bit, bit-set, clear-bit, bit-clear, are-set, set-all}
+use Rattle.triple_laws.proofs.Lowest.{lowest-is, lowest-none, set-bit, bit-set, clear-bit, bit-clear, are-set, set-all}
 
 -- as many bytes as hold the bits have no bits fewer
 pub bits-fit : (n : ℕ) → n ≤ 8 * ((n + 7) / 8)

@@ -15,15 +15,15 @@ use Rattle.grammar.specs.Grammar.{Grammar, WellFormed}
 use Rattle.grammar.proofs.Answers.{and-both, both-and}
 use Rattle.grammar.proofs.Plain.{is-terminal}
 use Rattle.automaton.specs.Position.{Closes, Shifts, position}
 use Rattle.triples.specs.Successor.{StepTo, open-left, open-right, shift-both, part-both, part-left, part-right}
 use Rattle.triples.specs.Successor.{close-left, close-right, read-both}
 use Rattle.triples.specs.Records.{when, each, step, ahead, terminalAhead, openings, closings, leftAlone, rightAlone}
 use Rattle.triples.specs.Records.{bothShift, bothClose, choices}
 use Rattle.triples.specs.declared.Move.{Move}
 use Rattle.triples.specs.declared.Move.the-variants.{Opening, Closing, Symbol, Still}
 use Rattle.triples.specs.declared.Step.{Step}
-use Rattle.triples.proofs.Members.{only-one, one-only, mem-left, mem-right, mem-either, under-test, of-each, of-map}
-use Rattle.triples.proofs.Moves.{opening-listed, closing-listed, shift-ahead, terminal-ahead}
+use Rattle.triple_laws.proofs.Members.{only-one, one-only, mem-left, mem-right, mem-either, under-test, of-each, of-map}
+use Rattle.triple_laws.proofs.Moves.{opening-listed, closing-listed, shift-ahead, terminal-ahead}
 
 -- five lists, and six, one after the other
 of-five : {A : Type 0} {x : A} (a b c d e : List A)

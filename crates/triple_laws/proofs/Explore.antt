@@ -15,9 +15,9 @@ use Rattle.grammar.specs.Basics.{choose, Mem, here, there, Distinct, none, more
 use Rattle.grammar.proofs.Answers.{no-bool}
 use Rattle.grammar.proofs.Plain.{mem-cases}
 use Rattle.grammar.proofs.WellFormed.{distinct-snoc}
 use Rattle.triples.specs.Smallest.{isElement, push, pushAll, explore}
-use Rattle.triples.proofs.Members.{no-element, mem-left, mem-right, mem-either, mem-place, place-mem}
-use Rattle.triples.proofs.Members.{distinct-same, distinct-below}
+use Rattle.triple_laws.proofs.Members.{no-element, mem-left, mem-right, mem-either, mem-place, place-mem}
+use Rattle.triple_laws.proofs.Members.{distinct-same, distinct-below}
 
 -- i is reached from 0 by successors
 pub data ReachedFrom (successors : ℕ → List ℕ) : ℕ → Type 0 where

@@ -15,8 +15,8 @@ use Rattle.grammar.specs.Limits.{Limits}
 use Rattle.grammar.specs.Grammar.{Rule, Grammar, rule}
 use Rattle.automaton.specs.Items.{lengthOf, base}
 use Rattle.automaton.proofs.Items.{base-apart}
 use Rattle.triples.specs.Records.{when, aheads, rulesOf, completed, past}
-use Rattle.triples.proofs.Members.{no-element, only-one, one-only, mem-left, mem-right, mem-either, under-test}
+use Rattle.triple_laws.proofs.Members.{no-element, only-one, one-only, mem-left, mem-right, mem-either, under-test}
 
 -- the element past the one in the middle
 beyond : {A : Type 0} (xs : List A) (x : A) (ys : List A) (d : A) (k : ℕ)

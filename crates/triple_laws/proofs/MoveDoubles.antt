@@ -10,10 +10,10 @@ use Rattle.grammar.specs.Basics.{Mem, Distinct, none}
 use Rattle.grammar.specs.Limits.{Limits}
 use Rattle.grammar.specs.Grammar.{Rule, Grammar, rule}
 use Rattle.automaton.specs.Items.{base}
 use Rattle.triples.specs.Records.{when, each, rulesOf, completed, past, aheadRow, ahead, openings, closings}
-use Rattle.triples.proofs.Members.{only-one, under-test, of-each, of-map}
-use Rattle.triples.proofs.Members.{distinct-one, distinct-append, distinct-when, distinct-each, distinct-map}
-use Rattle.triples.proofs.Rows.{Run, run-rules, base-next, length-as, rules-out, ends-out, past-out, pasts}
+use Rattle.triple_laws.proofs.Members.{only-one, under-test, of-each, of-map}
+use Rattle.triple_laws.proofs.Members.{distinct-one, distinct-append, distinct-when, distinct-each, distinct-map}
+use Rattle.triple_laws.proofs.Rows.{Run, run-rules, base-next, length-as, rules-out, ends-out, past-out, pasts}
 
 past-distinct : (b p : ℕ) (xs : List ℕ) → Distinct (past b p xs)
 unfolding past

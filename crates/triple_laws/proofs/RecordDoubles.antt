@@ -11,18 +11,18 @@ use Rattle.grammar.specs.Basics.{Mem, Distinct, none}
 use Rattle.grammar.specs.Limits.{Limits}
 use Rattle.grammar.specs.Grammar.{Grammar}
 use Rattle.automaton.specs.Items.{states}
 use Rattle.triples.specs.Index.{index}
 use Rattle.triples.specs.Records.{when, each, step, ahead, terminalAhead, openings, closings}
 use Rattle.triples.specs.Records.{leftAlone, rightAlone, bothShift, bothClose, choices, ordered, records}
 use Rattle.triples.specs.declared.Move.{Move}
 use Rattle.triples.specs.declared.Move.the-variants.{Opening, Closing, Symbol, Still}
 use Rattle.triples.specs.declared.Step.{Step}
-use Rattle.triples.proofs.Members.{only-one, mem-either, under-test, of-each}
-use Rattle.triples.proofs.Members.{distinct-one, distinct-append, distinct-when, distinct-each, distinct-map}
-use Rattle.triples.proofs.MoveDoubles.{openings-distinct, closings-distinct}
-use Rattle.triples.proofs.Pairs.{Ascending, pairs-none, pairs-append, pairs-all}
-use Rattle.triples.proofs.Order.{ordered-distinct}
-use Rattle.triples.proofs.Choices.{closesBoth, left-alone, right-alone, opensLeft, opensRight, closesLeft, closesRight}
+use Rattle.triple_laws.proofs.Members.{only-one, mem-either, under-test, of-each}
+use Rattle.triple_laws.proofs.Members.{distinct-one, distinct-append, distinct-when, distinct-each, distinct-map}
+use Rattle.triple_laws.proofs.MoveDoubles.{openings-distinct, closings-distinct}
+use Rattle.triple_laws.proofs.Pairs.{Ascending, pairs-none, pairs-append, pairs-all}
+use Rattle.triple_laws.proofs.Order.{ordered-distinct}
+use Rattle.triple_laws.proofs.Choices.{closesBoth, left-alone, right-alone, opensLeft, opensRight, closesLeft, closesRight}
 
 -- a number for each kind of move
 abbrev pub kind : ℕ → ℕ → ℕ → ℕ → Move → ℕ

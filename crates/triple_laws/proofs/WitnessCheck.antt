@@ -14,12 +14,12 @@ use Rattle.grammar.specs.Refusal.{Answer, done, refused}
 use Rattle.grammar.proofs.Answers.{no-answer, unless-holds, unless-done}
 use Rattle.automaton.specs.Items.{states}
 use Rattle.automaton.specs.Position.{position}
 use Rattle.triples.specs.Index.{index}
 use Rattle.triples.specs.Successor.{Successor}
 use Rattle.triples.specs.Smallest.{isElement, successors}
 use Rattle.triples.specs.Witness.{LeadsOn, ends, goes, Witness, begins, checkOn, checkRow}
 use Rattle.triples.proofs.Index.{index-injective}
-use Rattle.triples.proofs.Explore.{is-element}
+use Rattle.triple_laws.proofs.Explore.{is-element}
 
 module _ (L : Limits) (G : Grammar) (four : 4 ≤ states G)
     (exact : (f p q : ℕ) → f < 2 → p < states G → q < states G → (j : ℕ)

@@ -12,15 +12,15 @@ use Rattle.grammar.specs.Refusal.{done}
 use Rattle.automaton.specs.Items.{states}
 use Rattle.automaton.specs.Position.{position}
 use Rattle.automaton.proofs.Items.{states-four}
 use Rattle.triples.specs.Index.{index, tripleCount}
 use Rattle.triples.specs.Successor.{Successor, Reached}
 use Rattle.triples.specs.Smallest.{smallest, size}
 use Rattle.triples.specs.Certificate.{AcceptableCertificate, SmallestCertificate, certificateOf, checkBytes}
 use Rattle.triples.specs.Witness.{Witness, checkRow}
-use Rattle.triples.proofs.Records.{steps-in-range, successors-exact}
-use Rattle.triples.proofs.CertificateCheck as certificate
-use Rattle.triples.proofs.WitnessCheck as witness
-use Rattle.triples.proofs.SmallestSet as set
+use Rattle.triple_laws.proofs.Records.{steps-in-range, successors-exact}
+use Rattle.triple_laws.proofs.CertificateCheck as certificate
+use Rattle.triple_laws.proofs.WitnessCheck as witness
+use Rattle.triple_laws.proofs.SmallestSet as set
 
 module _ (L : Limits) (G : Grammar) (W : WellFormed L G) (apart : L .maxTerminals < L .nonterminalBase) where
   inside : (f p q g p′ q′ : ℕ) → f < 2 → p < states G → q < states G → Successor (position L G) f p q g p′ q′

@@ -15,18 +15,18 @@ use Rattle.grammar.proofs.Answers.{both-and}
 use Rattle.automaton.specs.Items.{states}
 use Rattle.automaton.specs.Position.{opens-start, position}
 use Rattle.automaton.proofs.Items.{opens-below, closes-below, shifts-below}
 use Rattle.triples.specs.Index.{index, tripleCount, layerOf, leftOf, rightOf}
 use Rattle.triples.specs.Successor.{Successor, StepTo, open-left, open-right, shift-both, part-both, part-left}
 use Rattle.triples.specs.Successor.{part-right}
 use Rattle.triples.specs.Successor.{close-left, close-right, read-both}
 use Rattle.triples.specs.Records.{when, step, nextIndex, choices, ordered, records}
 use Rattle.triples.specs.Smallest.{successors}
 use Rattle.triples.specs.declared.Move.{Move}
 use Rattle.triples.specs.declared.Step.{Step}
 use Rattle.triples.proofs.Index.{index-below, layer-of, left-of, right-of, digits}
-use Rattle.triples.proofs.Members.{of-map}
-use Rattle.triples.proofs.Order.{of-ordered}
-use Rattle.triples.proofs.Choices.{choices-exact}
+use Rattle.triple_laws.proofs.Members.{of-map}
+use Rattle.triple_laws.proofs.Order.{of-ordered}
+use Rattle.triple_laws.proofs.Choices.{choices-exact}
 
 module _ (L : Limits) (G : Grammar) where
   -- in range the step records are the choices, in order

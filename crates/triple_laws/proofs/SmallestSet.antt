@@ -14,19 +14,15 @@ use Rattle.grammar.specs.Grammar.{Grammar}
 use Rattle.grammar.proofs.Answers.{no-bool}
 use Rattle.automaton.specs.Items.{states}
 use Rattle.automaton.specs.Position.{position}
 use Rattle.triples.specs.Index.{index, tripleCount, layerOf, leftOf, rightOf}
 use Rattle.triples.specs.Successor.{Successor, Reached, origin, next, Closed, Acceptable}
 use Rattle.triples.specs.Smallest.{isElement, successors, smallest, size}
 use Rattle.triples.specs.Certificate.{byteCount, bit, Holds, AcceptableCertificate, SmallestCertificate, certificateOf}
 use Rattle.triples.proofs.Index.{index-below, index-injective, digits}
-use Rattle.triples.proofs.Explore.{is-element, not-element, explore-start, explore-closed, explore-least, explore-distinct, explore-below, explore-cardinal}
-use Rattle.triples.proofs.CertificateCheck.{bits-fit, index-zero}
-use Rattle.triples.proofs.CertificateOf.{bytes-length, certificate-bit}
-
--- whatever is reached is held by every closed set
-pub held-reached : (L : Limits) (G : Grammar) (C : ℕ → ℕ → ℕ → Type 0) → Closed (position L G) C → {f p q : ℕ} → Reached (position L G) f p q → C f p q
-held-reached L G C K origin = K .holds
-held-reached L G C K (next r s) = K .step (held-reached L G C K r) s
+use Rattle.triples.proofs.Reached.{reached-held}
+use Rattle.triple_laws.proofs.Explore.{is-element, not-element, explore-start, explore-closed, explore-least, explore-distinct, explore-below, explore-cardinal}
+use Rattle.triple_laws.proofs.CertificateCheck.{bits-fit, index-zero}
+use Rattle.triple_laws.proofs.CertificateOf.{bytes-length, certificate-bit}
 
 module _ (L : Limits) (G : Grammar) (four : 4 ≤ states G)
     (exact : (f p q : ℕ) → f < 2 → p < states G → q < states G → (j : ℕ)
@@ -161,10 +157,10 @@ module _ (L : Limits) (G : Grammar) (four : 4 ≤ states G)
         lacks = λ h. lacks (holds-listed h .listed);
       };
     };
-    least = λ other A f p q h. held-reached L G (Holds (states G) other) (A .acceptable .closed) (reached-exactly f p q (h .layer) (h .left) (h .right) .1 (holds-listed h .listed));
+    least = λ other A f p q h. reached-held (position L G) (A .acceptable .closed) (reached-exactly f p q (h .layer) (h .left) (h .right) .1 (holds-listed h .listed));
   }
 
   -- an acceptable certificate shows that the smallest set lacks (1,1,1)
   pub acceptable-lacks : (bytes : List ℕ) → AcceptableCertificate L G bytes → Mem (index (states G) 1 1 1) (smallest L G) → ⊥
   acceptable-lacks bytes A m =
-      A .acceptable .lacks (held-reached L G (Holds (states G) bytes) (A .acceptable .closed) (reached-exactly 1 1 1 (omega arith) (omega arith) (omega arith) .1 m))
+      A .acceptable .lacks (reached-held (position L G) (A .acceptable .closed) (reached-exactly 1 1 1 (omega arith) (omega arith) (omega arith) .1 m))

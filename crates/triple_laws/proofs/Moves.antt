@@ -19,13 +19,13 @@ use Rattle.automaton.specs.Items.{lengthOf, base, Before}
 use Rattle.automaton.specs.Position.{Opens, opens-start, opens-rule, Closes, closes-start, closes-rule, Shifts, shifts}
 use Rattle.automaton.specs.Position.{position}
 use Rattle.automaton.proofs.Items.{base-low}
 use Rattle.triples.specs.Successor.{BeforeTerminal}
 use Rattle.triples.specs.Records.{when, each, aheads, rulesOf, completed, past, aheadRow, ahead, terminalAhead, openings}
 use Rattle.triples.specs.Records.{closings}
-use Rattle.triples.proofs.Members.{only-one, one-only, place-mem, mem-left, mem-right, mem-either, under-test, of-each}
-use Rattle.triples.proofs.Members.{of-map}
-use Rattle.triples.proofs.Rows.{run-rules, run-zero, item-ahead, ahead-item, rules-out, rules-in, ends-out, ends-in}
-use Rattle.triples.proofs.Rows.{past-out, past-in, pasts}
+use Rattle.triple_laws.proofs.Members.{only-one, one-only, place-mem, mem-left, mem-right, mem-either, under-test, of-each}
+use Rattle.triple_laws.proofs.Members.{of-map}
+use Rattle.triple_laws.proofs.Rows.{run-rules, run-zero, item-ahead, ahead-item, rules-out, rules-in, ends-out, ends-in}
+use Rattle.triple_laws.proofs.Rows.{past-out, past-in, pasts}
 
 module _ (L : Limits) (G : Grammar) where
   ahead-to : (x p : ℕ) → 1 ≤ x → ahead L G p ≡ x → Before L G x p

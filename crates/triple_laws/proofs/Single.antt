@@ -15,20 +15,20 @@ use Rattle.grammar.specs.Limits.{Limits}
 use Rattle.grammar.specs.Grammar.{Grammar, WellFormed}
 use Rattle.automaton.specs.Items.{states}
 use Rattle.automaton.specs.Position.{Closes, Shifts, shifts, position}
 use Rattle.triples.specs.Index.{index}
 use Rattle.triples.specs.Successor.{BeforeTerminal, StepTo, open-left, open-right, shift-both, part-both, part-left}
 use Rattle.triples.specs.Successor.{part-right}
 use Rattle.triples.specs.Successor.{close-left, close-right, read-both}
 use Rattle.triples.specs.Records.{nextIndex, key, records}
 use Rattle.triples.specs.declared.Move.{Move}
 use Rattle.triples.specs.declared.Move.the-variants.{Opening, Closing, Symbol}
 use Rattle.triples.specs.declared.Step.{Step}
 use Rattle.triples.proofs.Index.{index-injective}
-use Rattle.triples.proofs.Pairs.{Pairs, pairs-join}
-use Rattle.triples.proofs.Order.{records-ascend}
-use Rattle.triples.proofs.RecordDoubles.{records-distinct}
-use Rattle.triples.proofs.Records.{steps-in-range, records-exact}
-use Rattle.triples.proofs.Classes.{one-symbol, one-opening, one-closing, opens-no-close, before-no-close}
+use Rattle.triple_laws.proofs.Pairs.{Pairs, pairs-join}
+use Rattle.triple_laws.proofs.Order.{records-ascend}
+use Rattle.triple_laws.proofs.RecordDoubles.{records-distinct}
+use Rattle.triple_laws.proofs.Records.{steps-in-range, records-exact}
+use Rattle.triple_laws.proofs.Classes.{one-symbol, one-opening, one-closing, opens-no-close, before-no-close}
 
 -- records with equal fields are equal
 pub step-path : {s t : Step} → s .layer ≡ t .layer → s .left ≡ t .left → s .right ≡ t .right → s .«on_left» ≡ t .«on_left»

@@ -7,7 +7,7 @@ use mathlib.Core.Logic.{_⊎_, inl, inr, _↔_}
 use native.Mathlib.Omega.{arith}
 use lib.ListN.{length, getD}
 use Rattle.grammar.specs.Basics.{Mem, here, there, Distinct, none, more}
-use Rattle.triples.proofs.Members.{no-element, first-or, element-as, place-mem, mem-either}
+use Rattle.triple_laws.proofs.Members.{no-element, first-or, element-as, place-mem, mem-either}
 
 -- every element stands in R to each later one
 pub data Pairs {A : Type 0} (R : A → A → Type 0) : List A → Type 0 where

@@ -12,11 +12,11 @@ use Rattle.grammar.specs.Basics.{choose, Mem, here, there, Distinct, none, more
 use Rattle.grammar.specs.Limits.{Limits}
 use Rattle.grammar.specs.Grammar.{Grammar}
 use Rattle.automaton.specs.Items.{states}
 use Rattle.triples.specs.Index.{index}
 use Rattle.triples.specs.Records.{when, choices, key, insert, ordered, records}
 use Rattle.triples.specs.declared.Step.{Step}
-use Rattle.triples.proofs.Members.{no-element, first-or, one-only}
-use Rattle.triples.proofs.Pairs.{Pairs, pairs-none, pairs-more, Ascending}
+use Rattle.triple_laws.proofs.Members.{no-element, first-or, one-only}
+use Rattle.triple_laws.proofs.Pairs.{Pairs, pairs-none, pairs-more, Ascending}
 
 module _ (L : Limits) (G : Grammar) where
   insert-out : (i : ℕ) (a s : Step) (l : List Step) → Mem a (insert L G i s l) → (a ≡ s) ⊎ Mem a l

@@ -1,0 +1,375 @@
+-- Small closed cases of the definitions at document 01's limits: the grammars on file and five others with their sizes, step
+-- records written out, bits, certificates and witnesses with each refusal.
+-- An edit of a move, of the order of the records, of a bit or of a check in specs/ fails here.
+-- Assumes nothing.
+use mathlib.Core.Path.{_≡_, refl}
+use mathlib.Core.Bool.{Bool, true, false}
+use mathlib.Core.List.{List, [], _∷_, _++_}
+use Prim.Native.Nat.{ℕ}
+use lib.ListN.{length, replicate}
+use Rattle.grammar.specs.Limits.{limits}
+use Rattle.grammar.specs.Grammar.{Grammar, stateCount}
+use Rattle.grammar.specs.Table.{decodeUpTo, decode}
+use Rattle.grammar.specs.Refusal.{Answer, done, refused, refuseUnless, andThen}
+use Rattle.grammar.specs.TableCheck.{sameCodes, isAmong, declaredFront, readRule, nextRule, checkFrom, checkTable}
+use Rattle.automaton.specs.Items.{states}
+use Rattle.triples.specs.declared.Move.the-variants.{Opening, Closing, Symbol, Still}
+use Rattle.triples.specs.declared.Step.{Step}
+use Rattle.triples.specs.Index.{index, tripleCount, layerOf, leftOf, rightOf}
+use Rattle.triples.specs.Records.{each, aheads, rulesOf, completed, past, step, aheadRow, openings, closings}
+use Rattle.triples.specs.Records.{leftAlone, rightAlone, bothShift, bothClose, choices, insert, ordered, records}
+use Rattle.triples.specs.Smallest.{isElement, push, pushAll, explore, successors, smallest}
+use Rattle.triples.specs.Certificate.{byteCount, bit, bitsFrom, bytesFrom, certificateOf}
+use Rattle.triples.specs.Certificate.{lowest, areSet, checkBytes, checkCertificate}
+use Rattle.triples.specs.Witness.{checkOn, checkRow, checkWitness, entryOf, checkWitnessRecords}
+
+-- t, n and a table; its grammar
+record Tables : Type 0 where
+  terminals : ℕ
+  nonterminals : ℕ
+  table : List ℕ
+
+abbrev tables : ℕ → ℕ → List ℕ → Tables
+tables t n table = record { terminals = t; nonterminals = n; table = table }
+
+abbrev grammar : Tables → Grammar
+grammar s = record { terminals = s .terminals; nonterminals = s .nonterminals; rules = decode (s .table) }
+
+-- to unfold one of these is to unfold all that it uses
+opened : Tables → ℕ → List (ℕ × ℕ)
+unfolding decodeUpTo aheads rulesOf aheadRow openings
+opened s p = openings limits (grammar s) p
+
+closed : Tables → ℕ → List (ℕ × ℕ)
+unfolding decodeUpTo each aheads completed past aheadRow closings
+closed s p = closings limits (grammar s) p
+
+steps : Tables → ℕ → ℕ → ℕ → List Step
+unfolding opened closed stateCount leftAlone rightAlone bothShift bothClose choices insert ordered records
+steps s f p q = records limits (grammar s) f p q
+
+reached : Tables → List ℕ
+unfolding steps isElement push pushAll explore successors smallest
+reached s = smallest limits (grammar s)
+
+-- Q, the size, and whether (1,1,1) is reached
+figures : Tables → ℕ × ℕ × Bool
+unfolding reached
+figures s =
+    let Q = states (grammar s) in
+    let l = reached s in
+    (Q, length l, isElement (index Q 1 1 1) l)
+
+certificate : Tables → List ℕ
+unfolding reached bitsFrom bytesFrom
+certificate s = certificateOf (states (grammar s)) (reached s)
+
+-- the table check, the certificate check and the witness check
+checkRules : Tables → Answer Grammar
+unfolding decodeUpTo stateCount sameCodes isAmong declaredFront readRule nextRule checkFrom checkTable refuseUnless andThen
+checkRules s = checkTable limits (s .terminals) (s .nonterminals) (s .table)
+
+checkBits : Tables → List ℕ → Answer Unit
+unfolding checkRules certificate lowest areSet checkBytes checkCertificate
+checkBits s bytes = checkCertificate limits (s .terminals) (s .nonterminals) (s .table) bytes
+
+checkPath : Tables → List ℕ → Answer Unit
+unfolding checkBits checkOn checkRow checkWitness
+checkPath s row = checkWitness limits (s .terminals) (s .nonterminals) (s .table) row
+
+checkEntries : Tables → List (ℕ × ℕ × ℕ) → Answer Unit
+unfolding checkPath checkWitnessRecords
+checkEntries s entries = checkWitnessRecords limits (s .terminals) (s .nonterminals) (s .table) entries
+
+-- no rule
+abbrev bare : Tables
+bare = tables 0 1 []
+
+-- S →
+abbrev empty : Tables
+empty = tables 0 1 (128 ∷ 0 ∷ [])
+
+-- S → a
+abbrev single : Tables
+single = tables 1 1 (128 ∷ 1 ∷ 1 ∷ [])
+
+-- S → S a; S → a
+abbrev leftward : Tables
+leftward = tables 1 1 (128 ∷ 2 ∷ 128 ∷ 1 ∷ 128 ∷ 1 ∷ 1 ∷ [])
+
+-- S → a S b; S →
+abbrev nested : Tables
+nested = tables 2 1 (128 ∷ 3 ∷ 1 ∷ 128 ∷ 2 ∷ 128 ∷ 0 ∷ [])
+
+-- S → S
+abbrev circle : Tables
+circle = tables 0 1 (128 ∷ 1 ∷ 128 ∷ [])
+
+-- S → S; S → a
+abbrev circular : Tables
+circular = tables 1 1 (128 ∷ 1 ∷ 128 ∷ 128 ∷ 1 ∷ 1 ∷ [])
+
+-- S → a S a; S → a
+abbrev palindromes : Tables
+palindromes = tables 1 1 (128 ∷ 3 ∷ 1 ∷ 128 ∷ 1 ∷ 128 ∷ 1 ∷ 1 ∷ [])
+
+-- S → A; S → B; A → ; B →
+abbrev twice : Tables
+twice = tables 0 3 (128 ∷ 1 ∷ 129 ∷ 128 ∷ 1 ∷ 130 ∷ 129 ∷ 0 ∷ 130 ∷ 0 ∷ [])
+
+-- S → A; S → B; A → A a a; A → a; B → a a
+abbrev counted : Tables
+counted = tables 1 3 (128 ∷ 1 ∷ 129 ∷ 128 ∷ 1 ∷ 130 ∷ 129 ∷ 3 ∷ 129 ∷ 1 ∷ 1 ∷ 129 ∷ 1 ∷ 1 ∷ 130 ∷ 2 ∷ 1 ∷ 1 ∷ [])
+
+-- without a sentence: S → a S, S → S S; S → A a, A → S; S → S S
+abbrev endless : Tables
+endless = tables 1 1 (128 ∷ 2 ∷ 1 ∷ 128 ∷ 128 ∷ 2 ∷ 128 ∷ 128 ∷ [])
+
+abbrev mutually : Tables
+mutually = tables 1 2 (128 ∷ 2 ∷ 129 ∷ 1 ∷ 129 ∷ 1 ∷ 128 ∷ [])
+
+abbrev doubled : Tables
+doubled = tables 0 1 (128 ∷ 2 ∷ 128 ∷ 128 ∷ [])
+
+-- S → a; S → S S
+abbrev pairs : Tables
+pairs = tables 1 1 (128 ∷ 1 ∷ 1 ∷ 128 ∷ 2 ∷ 128 ∷ 128 ∷ [])
+
+-- S → A b; S → A B; A → a; B → b
+abbrev either : Tables
+either = tables 2 3 (128 ∷ 2 ∷ 129 ∷ 2 ∷ 128 ∷ 2 ∷ 129 ∷ 130 ∷ 129 ∷ 1 ∷ 1 ∷ 130 ∷ 1 ∷ 2 ∷ [])
+
+-- all pass the table check, with the grammar that is taken here
+all-pass : (checkRules bare ≡ done (grammar bare)) × (checkRules empty ≡ done (grammar empty))
+    × (checkRules single ≡ done (grammar single)) × (checkRules leftward ≡ done (grammar leftward))
+    × (checkRules nested ≡ done (grammar nested)) × (checkRules circle ≡ done (grammar circle))
+    × (checkRules circular ≡ done (grammar circular)) × (checkRules palindromes ≡ done (grammar palindromes))
+    × (checkRules twice ≡ done (grammar twice)) × (checkRules counted ≡ done (grammar counted))
+    × (checkRules endless ≡ done (grammar endless)) × (checkRules mutually ≡ done (grammar mutually))
+    × (checkRules doubled ≡ done (grammar doubled)) × (checkRules pairs ≡ done (grammar pairs))
+    × (checkRules either ≡ done (grammar either))
+unfolding checkRules
+all-pass = (refl, refl, refl, refl, refl, refl, refl, refl, refl, refl, refl, refl, refl, refl, refl)
+
+-- a state opens each rule of the nonterminal ahead; a rule's end closes to every item past its nonterminal
+moves : (opened either 0 ≡ (0, 2) ∷ [])
+    × (opened either 1 ≡ [])
+    × (opened either 2 ≡ (1, 4) ∷ (2, 7) ∷ [])
+    × (opened either 3 ≡ [])
+    × (opened either 4 ≡ (3, 10) ∷ [])
+    × (opened either 5 ≡ [])
+    × (opened either 8 ≡ (4, 12) ∷ [])
+    × (closed either 0 ≡ [])
+    × (closed either 1 ≡ [])
+    × (closed either 2 ≡ [])
+    × (closed either 3 ≡ (0, 1) ∷ [])
+    × (closed either 6 ≡ (1, 3) ∷ [])
+    × (closed either 11 ≡ (3, 5) ∷ (3, 8) ∷ [])
+    × (closed either 13 ≡ (4, 9) ∷ [])
+unfolding opened closed
+moves = (refl, refl, refl, refl, refl, refl, refl, refl, refl, refl, refl, refl, refl, refl)
+
+-- (0,0,0): each side opens 0; (1,1,1): nothing
+ends : (steps circle 0 0 0 ≡ step 0 0 2 Still (Opening 0) ∷ step 0 2 0 (Opening 0) Still ∷ []) × (steps circle 1 1 1 ≡ [])
+unfolding steps
+ends = (refl, refl)
+
+-- out of range: a state of Q, a layer above 1
+out-of-range : (steps circle 0 6 0 ≡ []) × (steps circle 0 0 6 ≡ []) × (steps circle 2 0 0 ≡ []) × (steps circle 2 5 4 ≡ [])
+unfolding steps
+out-of-range = (refl, refl, refl, refl)
+
+-- records that lead back come first, left before right: two openings; a closing and an opening; two closings
+back-first : (steps circle 0 4 4
+    ≡ step 0 4 4 (Opening 1) Still ∷ step 0 4 4 Still (Opening 1) ∷ step 0 5 5 (Symbol 128) (Symbol 128) ∷ [])
+    × (steps circle 1 5 4
+    ≡ step 1 5 4 (Closing 1) Still ∷ step 1 5 4 Still (Opening 1) ∷ step 1 3 4 (Closing 1) Still ∷ [])
+    × (steps circle 1 5 5
+    ≡ step 1 5 5 (Closing 1) Still ∷ step 1 5 5 Still (Closing 1)
+    ∷ step 1 3 5 (Closing 1) Still ∷ step 1 5 3 Still (Closing 1) ∷ [])
+unfolding steps
+back-first = (refl, refl, refl)
+
+-- equal closings do not part; unequal ones do, both moving
+closings-part : (steps circle 0 5 5 ≡ [])
+    × (steps circle 0 5 3 ≡ step 1 3 1 (Closing 1) (Closing 0) ∷ step 1 5 1 (Closing 1) (Closing 0) ∷ [])
+    × (steps twice 0 8 9 ≡ step 1 5 7 (Closing 3) (Closing 4) ∷ [])
+unfolding steps
+closings-part = (refl, refl, refl)
+
+-- a closing parts beside a terminal, which stays, and not beside a nonterminal, which opens
+closing-beside : (steps leftward 0 3 5 ≡ step 1 1 5 (Closing 0) Still ∷ [])
+    × (steps leftward 0 5 3 ≡ step 1 5 1 Still (Closing 0) ∷ [])
+    × (steps leftward 0 8 7 ≡ step 1 3 7 (Closing 2) Still ∷ step 1 5 7 (Closing 2) Still ∷ [])
+    × (steps endless 0 6 8 ≡ step 0 6 4 Still (Opening 1) ∷ step 0 6 7 Still (Opening 2) ∷ [])
+unfolding steps
+closing-beside = (refl, refl, refl, refl)
+
+-- an opening beside a terminal does not part
+opening-beside : (steps leftward 0 4 7 ≡ step 0 4 7 (Opening 1) Still ∷ step 0 7 7 (Opening 2) Still ∷ [])
+    × (steps leftward 0 7 4 ≡ step 0 7 4 Still (Opening 1) ∷ step 0 7 7 Still (Opening 2) ∷ [])
+unfolding steps
+opening-beside = (refl, refl)
+
+-- before one nonterminal: both shift it in layer 0, neither in layer 1
+nonterminal-shifts : (steps endless 0 5 8
+    ≡ step 0 4 8 (Opening 1) Still ∷ step 0 5 4 Still (Opening 1) ∷ step 0 5 7 Still (Opening 2)
+    ∷ step 0 6 9 (Symbol 128) (Symbol 128) ∷ step 0 7 8 (Opening 2) Still ∷ [])
+    × (steps endless 1 5 8
+    ≡ step 1 4 8 (Opening 1) Still ∷ step 1 5 4 Still (Opening 1) ∷ step 1 5 7 Still (Opening 2)
+    ∷ step 1 7 8 (Opening 2) Still ∷ [])
+unfolding steps
+nonterminal-shifts = (refl, refl)
+
+-- before one terminal both shift it in either layer; before unequal symbols neither shifts
+terminal-shifts : (steps leftward 0 5 7 ≡ step 0 6 8 (Symbol 1) (Symbol 1) ∷ [])
+    × (steps leftward 1 5 7 ≡ step 1 6 8 (Symbol 1) (Symbol 1) ∷ [])
+    × (steps nested 0 4 6 ≡ [])
+    × (steps nested 1 4 6 ≡ [])
+unfolding steps
+terminal-shifts = (refl, refl, refl, refl)
+
+-- document 01's rows that are unambiguous
+unambiguous-rows : (figures bare ≡ (4, 5, false))
+    × (figures empty ≡ (5, 10, false))
+    × (figures single ≡ (6, 11, false))
+    × (figures leftward ≡ (9, 24, false))
+    × (figures nested ≡ (9, 30, false))
+    × (figures counted ≡ (17, 82, false))
+unfolding figures
+unambiguous-rows = (refl, refl, refl, refl, refl, refl)
+
+-- its rows that are potential
+potential-rows : (figures circle ≡ (6, 18, true))
+    × (figures circular ≡ (8, 26, true))
+    × (figures palindromes ≡ (10, 79, true))
+    × (figures twice ≡ (10, 53, true))
+unfolding figures
+potential-rows = (refl, refl, refl, refl)
+
+-- other grammars
+other-rows : (figures endless ≡ (10, 66, false))
+    × (figures mutually ≡ (9, 24, false))
+    × (figures doubled ≡ (7, 22, false))
+    × (figures pairs ≡ (9, 85, true))
+    × (figures either ≡ (14, 49, true))
+unfolding figures
+other-rows = (refl, refl, refl, refl, refl)
+
+-- indices, their number and their bytes
+indices : (index 6 1 1 1 ≡ 43) × (index 6 0 5 4 ≡ 34) × (index 256 1 255 255 ≡ 131071)
+    × (layerOf 6 43 ≡ 1) × (leftOf 6 43 ≡ 1) × (rightOf 6 43 ≡ 1)
+    × (layerOf 6 34 ≡ 0) × (leftOf 6 34 ≡ 5) × (rightOf 6 34 ≡ 4)
+    × (tripleCount 6 ≡ 72) × (tripleCount 9 ≡ 162) × (byteCount 6 ≡ 9) × (byteCount 9 ≡ 21) × (byteCount 10 ≡ 25)
+indices = (refl, refl, refl, refl, refl, refl, refl, refl, refl, refl, refl, refl, refl, refl)
+
+-- bit 0 is the lowest of byte 0, bit 7 its highest, bit 8 the lowest of byte 1; a bit past the bytes is 0
+bits : (bit (1 ∷ 0 ∷ []) 0 ≡ 1) × (bit (1 ∷ 0 ∷ []) 7 ≡ 0) × (bit (1 ∷ 0 ∷ []) 8 ≡ 0)
+    × (bit (128 ∷ 2 ∷ []) 0 ≡ 0) × (bit (128 ∷ 2 ∷ []) 7 ≡ 1) × (bit (128 ∷ 2 ∷ []) 8 ≡ 0) × (bit (128 ∷ 2 ∷ []) 9 ≡ 1)
+    × (bit (0 ∷ 1 ∷ []) 0 ≡ 0) × (bit (0 ∷ 1 ∷ []) 7 ≡ 0) × (bit (0 ∷ 1 ∷ []) 8 ≡ 1) × (bit (0 ∷ 1 ∷ []) 16 ≡ 0)
+bits = (refl, refl, refl, refl, refl, refl, refl, refl, refl, refl, refl)
+
+-- the bytes of some indices
+bytes-of : (certificateOf 2 (0 ∷ 3 ∷ []) ≡ 9 ∷ []) × (certificateOf 3 (7 ∷ 8 ∷ 17 ∷ 17 ∷ []) ≡ 128 ∷ 1 ∷ 2 ∷ [])
+unfolding isElement bitsFrom bytesFrom
+bytes-of = (refl, refl)
+
+abbrev single-bytes : List ℕ
+single-bytes = 0x15 ∷ 0x50 ∷ 0x21 ∷ 0x15 ∷ 0x08 ∷ 0 ∷ 0 ∷ 0 ∷ 0 ∷ []
+
+-- of S → S a; S → a all bytes but the last, which has two bits and six past them
+abbrev leftward-front : List ℕ
+leftward-front =
+    0x95 ∷ 0 ∷ 0x54 ∷ 0x42 ∷ 0x51 ∷ 0x09 ∷ 0x05 ∷ 0x90 ∷ 0x4a ∷ 0 ∷ 0x01 ∷ 0x80 ∷ 0 ∷ 0 ∷ 0 ∷ 0x80 ∷ 0 ∷ 0 ∷ 0 ∷ 0 ∷ []
+
+-- the smallest certificates
+smallest-bytes : (certificate single ≡ single-bytes) × (certificate leftward ≡ leftward-front ++ (0 ∷ []))
+unfolding certificate
+smallest-bytes = (refl, refl)
+
+-- of the other unambiguous rows the smallest certificate passes; of a potential one it has (1,1,1)
+smallest-cases : (checkBits bare (certificate bare) ≡ done tt)
+    × (checkBits empty (certificate empty) ≡ done tt)
+    × (checkBits nested (certificate nested) ≡ done tt)
+    × (checkBits counted (certificate counted) ≡ done tt)
+    × (checkBits circle (certificate circle) ≡ refused 12 43)
+    × (checkBits twice (certificate twice) ≡ refused 12 111)
+unfolding checkBits
+smallest-cases = (refl, refl, refl, refl, refl, refl)
+
+-- document 01's cases for S → a: the right one; its first eight bytes, one byte more, no byte; all 0; all 0xFF; only bit 0
+single-cases : (checkBits single single-bytes ≡ done tt)
+    × (checkBits single (0x15 ∷ 0x50 ∷ 0x21 ∷ 0x15 ∷ 0x08 ∷ 0 ∷ 0 ∷ 0 ∷ []) ≡ refused 9 0)
+    × (checkBits single (single-bytes ++ (0 ∷ [])) ≡ refused 9 0)
+    × (checkBits single [] ≡ refused 9 0)
+    × (checkBits single (replicate 9 0) ≡ refused 11 0)
+    × (checkBits single (replicate 9 0xff) ≡ refused 12 43)
+    × (checkBits single (1 ∷ replicate 8 0) ≡ refused 13 0)
+unfolding checkBits
+single-cases = (refl, refl, refl, refl, refl, refl, refl)
+
+-- a larger one: with (1,1,4), which has no successor; with (1,3,4) and without its successor (1,1,4), at (1,3,4)
+larger-cases : (checkBits single (0x15 ∷ 0x50 ∷ 0x21 ∷ 0x15 ∷ 0x08 ∷ 0x40 ∷ 0 ∷ 0 ∷ 0 ∷ []) ≡ done tt)
+    × (checkBits single (0x15 ∷ 0x50 ∷ 0x21 ∷ 0x15 ∷ 0x08 ∷ 0 ∷ 0 ∷ 0x04 ∷ 0 ∷ []) ≡ refused 13 58)
+unfolding checkBits
+larger-cases = (refl, refl)
+
+-- a smaller one: without (0,4,4), at the lower of the two that lack it; without (0,5,5), at (0,4,4)
+smaller-cases : (checkBits single (0x15 ∷ 0x50 ∷ 0x21 ∷ 0x05 ∷ 0x08 ∷ 0 ∷ 0 ∷ 0 ∷ 0 ∷ []) ≡ refused 13 16)
+    × (checkBits single (0x15 ∷ 0x50 ∷ 0x21 ∷ 0x15 ∷ 0 ∷ 0 ∷ 0 ∷ 0 ∷ 0 ∷ []) ≡ refused 13 28)
+unfolding checkBits
+smaller-cases = (refl, refl)
+
+-- Q of 9: the right one; bit 162, the last bit, the lower of two past 2Q²; bit 161 is a triple's
+spare-cases : (checkBits leftward (leftward-front ++ (0 ∷ [])) ≡ done tt)
+    × (checkBits leftward (leftward-front ++ (0x04 ∷ [])) ≡ refused 10 162)
+    × (checkBits leftward (leftward-front ++ (0x80 ∷ [])) ≡ refused 10 167)
+    × (checkBits leftward (leftward-front ++ (0x90 ∷ [])) ≡ refused 10 164)
+    × (checkBits leftward (leftward-front ++ (0x02 ∷ [])) ≡ refused 13 161)
+unfolding checkBits
+spare-cases = (refl, refl, refl, refl, refl)
+
+-- the order, each refusal before the next: a table fault, 9, 10, 11, 12, 13
+certificate-order : (checkBits (tables 128 1 []) [] ≡ refused 1 0)
+    × (checkBits (tables 1 1 (128 ∷ [])) [] ≡ refused 2 0)
+    × (checkBits leftward (replicate 22 0xff) ≡ refused 9 0)
+    × (checkBits leftward (replicate 20 0 ++ (0x04 ∷ [])) ≡ refused 10 162)
+    × (checkBits single (0 ∷ 0 ∷ 0 ∷ 0 ∷ 0 ∷ 0x08 ∷ 0 ∷ 0 ∷ 0 ∷ []) ≡ refused 11 0)
+    × (checkBits single (1 ∷ 0 ∷ 0 ∷ 0 ∷ 0 ∷ 0x08 ∷ 0 ∷ 0 ∷ 0 ∷ []) ≡ refused 12 43)
+unfolding checkBits
+certificate-order = (refl, refl, refl, refl, refl, refl)
+
+-- of S → S: (0,0,0), (0,2,0), (0,2,2), (0,4,2), (0,5,3), (1,3,1), (1,1,1); with (0,4,2) twice
+right-paths : (checkPath circle (0 ∷ 12 ∷ 14 ∷ 26 ∷ 33 ∷ 55 ∷ 43 ∷ []) ≡ done tt)
+    × (checkPath circle (0 ∷ 12 ∷ 14 ∷ 26 ∷ 26 ∷ 33 ∷ 55 ∷ 43 ∷ []) ≡ done tt)
+unfolding checkPath
+right-paths = (refl, refl)
+
+-- no entry; another first entry, alone and before a right rest; another entry in the middle, one of 2Q²; the end cut off, all
+-- but the first cut off; an entry after (1,1,1); a table fault first
+wrong-paths : (checkPath circle [] ≡ refused 15 0)
+    × (checkPath circle (43 ∷ []) ≡ refused 15 0)
+    × (checkPath circle (12 ∷ 14 ∷ 26 ∷ 33 ∷ 55 ∷ 43 ∷ []) ≡ refused 15 0)
+    × (checkPath circle (0 ∷ 12 ∷ 14 ∷ 33 ∷ 55 ∷ 43 ∷ []) ≡ refused 15 3)
+    × (checkPath circle (0 ∷ 12 ∷ 72 ∷ 26 ∷ 33 ∷ 55 ∷ 43 ∷ []) ≡ refused 15 2)
+    × (checkPath circle (0 ∷ 12 ∷ 14 ∷ 26 ∷ 33 ∷ 55 ∷ []) ≡ refused 15 6)
+    × (checkPath circle (0 ∷ []) ≡ refused 15 1)
+    × (checkPath circle (0 ∷ 12 ∷ 14 ∷ 26 ∷ 33 ∷ 55 ∷ 43 ∷ 43 ∷ []) ≡ refused 15 7)
+    × (checkPath (tables 0 0 []) [] ≡ refused 1 0)
+unfolding checkPath
+wrong-paths = (refl, refl, refl, refl, refl, refl, refl, refl, refl)
+
+-- a record's index; 72, that is 2Q², for a layer above 1 and a state of Q or more
+entries : (entryOf 6 (0, 5, 4) ≡ 34) × (entryOf 6 (1, 1, 1) ≡ 43)
+    × (entryOf 6 (2, 0, 0) ≡ 72) × (entryOf 6 (3, 1, 0) ≡ 72) × (entryOf 6 (0, 6, 0) ≡ 72) × (entryOf 6 (1, 0, 7) ≡ 72)
+entries = (refl, refl, refl, refl, refl, refl)
+
+-- the same of records: a right row; for (0,2,0) the record (0,1,6), for (1,1,1) the record (0,7,1), of equal index; a layer of 2
+record-paths :
+    (checkEntries circle ((0, 0, 0) ∷ (0, 2, 0) ∷ (0, 2, 2) ∷ (0, 4, 2) ∷ (0, 5, 3) ∷ (1, 3, 1) ∷ (1, 1, 1) ∷ []) ≡ done tt)
+    × (checkEntries circle ((0, 0, 0) ∷ (0, 1, 6) ∷ (0, 2, 2) ∷ (0, 4, 2) ∷ (0, 5, 3) ∷ (1, 3, 1) ∷ (1, 1, 1) ∷ []) ≡ refused 15 1)
+    × (checkEntries circle ((0, 0, 0) ∷ (0, 2, 0) ∷ (0, 2, 2) ∷ (0, 4, 2) ∷ (0, 5, 3) ∷ (1, 3, 1) ∷ (0, 7, 1) ∷ []) ≡ refused 15 6)
+    × (checkEntries circle ((0, 0, 0) ∷ (2, 2, 0) ∷ []) ≡ refused 15 1)
+    × (checkEntries circle [] ≡ refused 15 0)
+unfolding checkEntries
+record-paths = (refl, refl, refl, refl, refl)
