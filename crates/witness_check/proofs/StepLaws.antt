@@ -38,24 +38,24 @@ pub pass-last : (ahead : List ℕ) (p q u v : ℕ) → u ≡ p + 1 → v ≡ q +
 pass-last ahead p q u v e f h = simp (eq-eqb u (p + 1) e, eq-eqb v (q + 1) f, le-leb 1 (getD ahead p 0) h)
 
 module _ (L : Limits) (G : Grammar) (ahead number member target : List ℕ) (t m : ℕ) (R : RowsSay L G ahead number member target t m) where
-  passes : (p q u v : ℕ) → passBoth ahead p q u v ≡ true
+  passes : (p q u v : ℕ) → p < states G → q < states G → passBoth ahead p q u v ≡ true
       → (x : ℕ) × Shifts L G x p u × Shifts L G x q v × (getD ahead p 0 ≡ x)
-  passes p q u v e =
+  passes p q u v hp hq e =
       let a = and-both (eqb u (p + 1) && eqb v (q + 1)) _ e in
       let b = and-both (eqb u (p + 1)) (eqb v (q + 1)) (a .0) in
       let c = and-both (leb 1 (getD ahead p 0)) _ (a .1) in
       let h : 1 ≤ getD ahead p 0 = leb-true 1 (getD ahead p 0) (c .0) in
       let s : getD ahead p 0 ≡ getD ahead q 0 = eqb-true (getD ahead p 0) (getD ahead q 0) (c .1) in (
         getD ahead p 0,
-        R .shifts (getD ahead p 0) p u .1 (refl, h, eqb-true u (p + 1) (b .0)),
-        R .shifts (getD ahead p 0) q v .1 (sym s, h, eqb-true v (q + 1) (b .1)),
+        R .shifts (getD ahead p 0) p u hp .1 (refl, h, eqb-true u (p + 1) (b .0)),
+        R .shifts (getD ahead p 0) q v hq .1 (sym s, h, eqb-true v (q + 1) (b .1)),
         refl,
       )
 
-  passed : (x p q u v : ℕ) → Shifts L G x p u → Shifts L G x q v → passBoth ahead p q u v ≡ true
-  passed x p q u v a b =
-      let c = R .shifts x p u .0 a in
-      let d = R .shifts x q v .0 b in
+  passed : (x p q u v : ℕ) → p < states G → q < states G → Shifts L G x p u → Shifts L G x q v → passBoth ahead p q u v ≡ true
+  passed x p q u v hp hq a b =
+      let c = R .shifts x p u hp .0 a in
+      let d = R .shifts x q v hq .0 b in
       both-and (eqb u (p + 1) && eqb v (q + 1)) _
       (both-and (eqb u (p + 1)) (eqb v (q + 1)) (eq-eqb u (p + 1) (c .2)) (eq-eqb v (q + 1) (d .2)))
       (both-and (leb 1 (getD ahead p 0)) _ (le-leb 1 (getD ahead p 0) (omega (arith, c .0, c .1))) (eq-eqb (getD ahead p 0) (getD ahead q 0) (c .0 ∙ sym (d .0))))
@@ -74,7 +74,7 @@ module _ (L : Limits) (G : Grammar) (ahead number member target : List ℕ) (t m
             let b = and-both (eqb u p) (opensTo member target m q v) a in
             let o = R .opens q v hq hv .0 (b .1) in
             subst (λ u. Successor (position L G) 0 p q 0 u v) (sym (eqb-true u p (b .0))) (Still, Opening (o .0), open-right (o .1))
-        | inr a ↦ let s = passes p q u v a in (Symbol (s .0), Symbol (s .0), shift-both (s .1) (s .2))
+        | inr a ↦ let s = passes p q u v hp hq a in (Symbol (s .0), Symbol (s .0), shift-both (s .1) (s .2))
       ]
     ]
 
@@ -94,12 +94,12 @@ module _ (L : Limits) (G : Grammar) (ahead number member target : List ℕ) (t m
             let b = and-both (eqb v q) _ a in
             let d = and-both (closesTo member target m p u) (reads ahead t q) (b .1) in
             let o = R .closes p u hp hu .0 (d .0) in
-            subst (λ v. Successor (position L G) 0 p q 1 u v) (sym (eqb-true v q (b .0))) (Closing (o .0), Still, part-left (o .1) (R .terminal q .0 (d .1)))
+            subst (λ v. Successor (position L G) 0 p q 1 u v) (sym (eqb-true v q (b .0))) (Closing (o .0), Still, part-left (o .1) (R .terminal q hq .0 (d .1)))
         | inr a ↦
             let b = and-both (eqb u p) _ a in
             let d = and-both (closesTo member target m q v) (reads ahead t p) (b .1) in
             let o = R .closes q v hq hv .0 (d .0) in
-            subst (λ u. Successor (position L G) 0 p q 1 u v) (sym (eqb-true u p (b .0))) (Still, Closing (o .0), part-right (o .1) (R .terminal p .0 (d .1)))
+            subst (λ u. Successor (position L G) 0 p q 1 u v) (sym (eqb-true u p (b .0))) (Still, Closing (o .0), part-right (o .1) (R .terminal p hp .0 (d .1)))
       ]
     ]
 
@@ -122,9 +122,9 @@ module _ (L : Limits) (G : Grammar) (ahead number member target : List ℕ) (t m
             ])
         | inr a ↦
             let b = and-both (reads ahead t p) _ a in
-            let s = passes p q u v (b .1) in
-            let r = R .terminal p .0 (b .0) in
-            let x = R .shifts (r .0) p (r .2 .0) .0 (r .2 .1) in
+            let s = passes p q u v hp hq (b .1) in
+            let r = R .terminal p hp .0 (b .0) in
+            let x = R .shifts (r .0) p (r .2 .0) hp .0 (r .2 .1) in
             (Symbol (s .0), Symbol (s .0), read-both (subst (position L G .Terminal) (sym (x .0) ∙ s .3) (r .1)) (s .1) (s .2))
       ]
     ]
@@ -143,7 +143,7 @@ module _ (L : Limits) (G : Grammar) (ahead number member target : List ℕ) (t m
       (left-or (eqb p p && opensTo member target m q v) _ (both-and (eqb p p) _ (same p) (R .opens q v hq hv .1 (i, o))))
   step-stays {p} {q} {u} {v} hp hq hu hv (l, r, shift-both {x = x} a b) =
       right-or (eqb v q && opensTo member target m p u) _
-      (right-or (eqb u p && opensTo member target m q v) _ (passed x p q u v a b))
+      (right-or (eqb u p && opensTo member target m q v) _ (passed x p q u v hp hq a b))
 
   pub step-parts : {p q u v : ℕ} → p < states G → q < states G → u < states G → v < states G → Successor (position L G) 0 p q 1 u v
       → parts ahead number member target t m p q u v ≡ true
@@ -156,11 +156,11 @@ module _ (L : Limits) (G : Grammar) (ahead number member target : List ℕ) (t m
   step-parts {p} {q} {u} hp hq hu hv (l, r, part-left {i = i} a b) =
       right-or (partsBoth number member target m p q u q) _
       (left-or (partsBeside ahead member target t m p u q q) (partsBeside ahead member target t m q q p u)
-      (both-and (eqb q q) _ (same q) (both-and (closesTo member target m p u) _ (R .closes p u hp hu .1 (i, a)) (R .terminal q .1 b))))
+      (both-and (eqb q q) _ (same q) (both-and (closesTo member target m p u) _ (R .closes p u hp hu .1 (i, a)) (R .terminal q hq .1 b))))
   step-parts {p} {q} {v = v} hp hq hu hv (l, r, part-right {i = i} a b) =
       right-or (partsBoth number member target m p q p v) _
       (right-or (partsBeside ahead member target t m p p q v) (partsBeside ahead member target t m q v p p)
-      (both-and (eqb p p) _ (same p) (both-and (closesTo member target m q v) _ (R .closes q v hq hv .1 (i, a)) (R .terminal p .1 b))))
+      (both-and (eqb p p) _ (same p) (both-and (closesTo member target m q v) _ (R .closes q v hq hv .1 (i, a)) (R .terminal p hp .1 b))))
 
   pub step-follows : {p q u v : ℕ} → p < states G → q < states G → u < states G → v < states G → Successor (position L G) 1 p q 1 u v
       → follows ahead member target t p q u v ≡ true
@@ -178,7 +178,7 @@ module _ (L : Limits) (G : Grammar) (ahead number member target : List ℕ) (t m
   step-follows {p} {q} {u} {v} hp hq hu hv (l, r, read-both {a = x} k a b) =
       right-or (eqb v q && leadsTo member target p u) _
       (right-or (eqb u p && leadsTo member target q v) _
-      (both-and (reads ahead t p) _ (R .terminal p .1 (x, k, (u, a))) (passed x p q u v a b)))
+      (both-and (reads ahead t p) _ (R .terminal p hp .1 (x, k, (u, a))) (passed x p q u v hp hq a b)))
 
   -- nothing leads back to layer 0
   no-return : {p q u v : ℕ} {l r : Move} → StepTo (position L G) 1 p q 0 u v l r → ⊥

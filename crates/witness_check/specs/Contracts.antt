@@ -7,6 +7,8 @@ use mathlib.Core.List.{List}
 use lib.ListN.{getD}
 use Rattle.grammar.specs.Limits.{Limits, limits}
 use Rattle.grammar.specs.Grammar.{Grammar, WellFormed}
+use Rattle.grammar.specs.Record.{recordOf}
+use Rattle.grammar.specs.declared.CheckedGrammar.{CheckedGrammar}
 use Rattle.automaton.specs.Items.{states}
 use Rattle.automaton.specs.Position.{Opens, Closes, Shifts, position}
 use Rattle.triples.specs.Index.{layerOf, leftOf, rightOf}
@@ -40,8 +42,8 @@ pub record RowsSay (L : Limits) (G : Grammar) (ahead number member target : List
   pub moves : (p u : ℕ) → p < states G → u < states G
       → (leadsTo member target p u ≡ true) ↔ (((i : ℕ) × Opens L G i p u) ⊎ ((i : ℕ) × Closes L G i p u))
   pub closing : (i p u : ℕ) → Closes L G i p u → getD number p 0 ≡ i
-  pub shifts : (x p u : ℕ) → Shifts L G x p u ↔ ((getD ahead p 0 ≡ x) × (1 ≤ x) × (u ≡ p + 1))
-  pub terminal : (p : ℕ) → (reads ahead t p ≡ true) ↔ BeforeTerminal (position L G) p
+  pub shifts : (x p u : ℕ) → p < states G → Shifts L G x p u ↔ ((getD ahead p 0 ≡ x) × (1 ≤ x) × (u ≡ p + 1))
+  pub terminal : (p : ℕ) → p < states G → (reads ahead t p ≡ true) ↔ BeforeTerminal (position L G) p
 
 -- the rows are those of a well-formed grammar with Q states
 pub record Ready (G : Grammar) (ahead number member target : List ℕ) (t m Q : ℕ) : Type 0 where
@@ -53,3 +55,7 @@ pub record Ready (G : Grammar) (ahead number member target : List ℕ) (t m Q : 
 abbrev pub Walked : List ℕ → List ℕ → List ℕ → List ℕ → ℕ → ℕ → ℕ → List ℕ → CheckVerdict → Type 0
 Walked ahead number member target t m Q row r =
     (G : Grammar) → Ready G ahead number member target t m Q → r ≡ checkVerdict (checkRow limits G row)
+
+-- the same for the record of a well-formed grammar
+abbrev pub RowChecked : CheckedGrammar → List ℕ → CheckVerdict → Type 0
+RowChecked g row r = (G : Grammar) → WellFormed limits G → g ≡ recordOf G → r ≡ checkVerdict (checkRow limits G row)

@@ -2,16 +2,17 @@
 // crate moves: of each state the code ahead of its dot, its rule's number, the class that it moves by, the class that leads to it.
 ghost use mathlib.Core.Path.{_≡_};
 ghost use Prim.Native.Nat.{ℕ, _*_, _≤_, _<_};
-ghost use lib.ListN.{length};
 ghost use Rattle.grammar.specs.Limits.{limits};
-ghost use Rattle.grammar.specs.Grammar.{Grammar};
-ghost use Rattle.triples.specs.Index.{tripleCount, layerOf, leftOf, rightOf};
 ghost use Rattle.triples.specs.Verdict.{checkVerdict};
-ghost use Rattle.triples.specs.Witness.{checkRow};
+ghost use Rattle.triples.specs.Witness.{checkWitness};
 ghost use Rattle.witness_check.specs.StepTest.{leadsTo, opensTo, closesTo, reads, passBoth, leadsBeside, opensBeside, stays, partsBoth, partsBeside, parts, follows, isStep};
-ghost use Rattle.witness_check.specs.Contracts.{States, tripleOf, stepAt, Walked};
+ghost use Rattle.witness_check.specs.Contracts.{States, tripleOf, stepAt, Walked, RowChecked};
+ghost use Rattle.moves.specs.Tables.{IsRecord};
+use grammar::CheckedGrammar;
 use grammar::MAX_STATES;
+use grammar::TableVerdict;
 use grammar::WITNESS_WRONG;
+use moves::CLASSES;
 use triples::CheckVerdict;
 
 // A layer and two states.
@@ -357,4 +358,47 @@ fn walk<'a>(
         return CheckVerdict::Refused(WITNESS_WRONG, place);
     }
     CheckVerdict::Accepted
+}
+
+// Builds the rows of a checked grammar and walks along the row of indices.
+fn check_row(g: CheckedGrammar, row: &[u32]) -> CheckVerdict
+    requires { ⌜ IsRecord g ⌝ }
+    ensures { λ r. ⌜ RowChecked g (now (row .entry)) r ⌝ }
+{
+    let mut ahead = [0u16; MAX_STATES];
+    let mut number = [0u16; MAX_STATES];
+    let mut member = [0u16; MAX_STATES];
+    let mut target = [0u16; MAX_STATES];
+    let mut first = [0u16; CLASSES];
+    let mut targets = [0u16; MAX_STATES];
+    moves::build(
+        g,
+        &mut ahead,
+        &mut number,
+        &mut member,
+        &mut target,
+        &mut first,
+        &mut targets,
+    );
+    let t = g.terminals;
+    let m = g.nonterminals + 1;
+    let q = g.states;
+    walk(&ahead, &number, &member, &target, t, m, q, row)
+}
+
+// The witness check: table faults first, then 15 at the first wrong entry, or at the row's length if only the end fails.
+pub fn check_witness(t: usize, n: usize, table: &[u8], row: &[u32]) -> CheckVerdict
+    ensures { λ r. ⌜ r ≡ checkVerdict (checkWitness limits t n (now (table .entry)) (now (row .entry))) ⌝ }
+{
+    let checked = table_check::check_table(t, n, table);
+    let verdict = checked.verdict;
+    match verdict {
+        TableVerdict::Refused(cause, at) => {
+            return CheckVerdict::Refused(cause, at);
+        }
+        TableVerdict::Passed => {
+            let g = checked.grammar;
+            return check_row(g, row);
+        }
+    }
 }

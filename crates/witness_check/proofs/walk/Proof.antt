@@ -47,7 +47,7 @@ told c =
 
 -- src/lib.rt:336:9
 returns : tie.Need-returns Inv-loop μ-loop
-returns c = 
+returns c =
     let a = c .before .before .args in λ G R. ap checkVerdict (walk-empty G (a .ahead .now) (a .number .now) (a .member .now) (a .target .now) (a .t) (a .m) (a .q) R (a .row .now) (c .if1 .taken))
 
 -- src/lib.rt:338:8
@@ -56,7 +56,7 @@ shared-slice-read-if2 c = search needs
 
 -- src/lib.rt:339:9
 returns-2 : tie.Need-returns-2 Inv-loop μ-loop
-returns-2 c = 
+returns-2 c =
     let a = c .before .before .before .before .args in λ G R. ap checkVerdict (walk-first G (a .ahead .now) (a .number .now) (a .member .now) (a .target .now) (a .t) (a .m) (a .q) R (a .row .now) (c .before .before .if1 .left) (c .if2 .taken))
 
 -- src/lib.rt:341:18
@@ -69,9 +69,8 @@ mul-count c = omega (arith, square (c .before .before .before .before .args .q) 
 
 -- src/lib.rt:345:5
 loop-holds : tie.Need-loop-holds Inv-loop μ-loop
-loop-holds c = 
-    let a = c .before .before .before .before .args in
-    (
+loop-holds c =
+    let a = c .before .before .before .before .args in (
       omega arith,
       nonempty (a .row .now) (c .before .before .if1 .left),
       omega (arith, square (a .q) (c .before .before .before .before .pre .0) (c .before .before .before .before .pre .1)),
@@ -92,7 +91,7 @@ wide-requires c κs = search needs
 
 -- src/lib.rt:348:13
 returns-3 : tie.Need-returns-3 Inv-loop μ-loop
-returns-3 c = 
+returns-3 c =
     let a = c .before .before .before .before .before .before .before .before .before .args in
     let l = c .before .before .before .before .loop in
     λ G R. ap checkVerdict (walk-beyond G (a .ahead .now) (a .number .now) (a .member .now) (a .target .now) (a .t) (a .m) (a .q) R (a .row .now) (l .last) (l .place) (c .before .before .before .loop-test .taken) (l .inv .2) (omega (arith, c .if3 .taken, c .before .wide .ensures)) ∙ l .inv .3 G R)
@@ -103,11 +102,11 @@ is-successor-requires c κs = (omega (arith, c .before .before .before .before .
 
 -- src/lib.rt:351:13
 returns-4 : tie.Need-returns-4 Inv-loop μ-loop
-returns-4 c = 
+returns-4 c =
     let a = c .before .before .before .before .before .before .before .before .before .before .before .args in
     let l = c .before .before .before .before .before .before .loop in
     λ G R. ap checkVerdict (walk-wrong G (a .ahead .now) (a .number .now) (a .member .now) (a .target .now) (a .t) (a .m) (a .q) R (a .row .now) (l .last) (l .place) (c .before .before .before .before .before .loop-test .taken) (l .inv .2) (omega (arith, c .before .before .if3 .left, c .before .before .before .wide .ensures))
-      (told (c .before) ∙ not-true (c .before .is-successor .result) (c .if4 .taken)) ∙ l .inv .3 G R)
+    (told (c .before) ∙ not-true (c .before .is-successor .result) (c .if4 .taken)) ∙ l .inv .3 G R)
 
 -- src/lib.rt:354:9
 add-place : tie.Need-add-place Inv-loop μ-loop
@@ -119,16 +118,15 @@ loop-less c = search needs
 
 -- src/lib.rt:345:5
 loop-again : tie.Need-loop-again Inv-loop μ-loop
-loop-again c = 
+loop-again c =
     let a = c .before .before .before .before .before .before .before .before .before .before .before .args in
     let l = c .before .before .before .before .before .before .loop in
-    let w = c .before .before .before .wide .ensures in
-    (
+    let w = c .before .before .before .wide .ensures in (
       omega arith,
       omega arith,
       omega (arith, c .before .before .if3 .left),
       λ G R. ap (λ (i : ℕ). checkOn limits G i (l .place + 1) (drop (l .place + 1) (a .row .now))) w
-        ∙ walk-more G (a .ahead .now) (a .number .now) (a .member .now) (a .target .now) (a .t) (a .m) (a .q) R (a .row .now) (l .last) (l .place) (c .before .before .before .before .before .loop-test .taken) (l .inv .2) (omega (arith, c .before .before .if3 .left, w))
+          ∙ walk-more G (a .ahead .now) (a .number .now) (a .member .now) (a .target .now) (a .t) (a .m) (a .q) R (a .row .now) (l .last) (l .place) (c .before .before .before .before .before .loop-test .taken) (l .inv .2) (omega (arith, c .before .before .if3 .left, w))
           (told (c .before) ∙ not-false (c .before .is-successor .result) (c .if4 .left)) ∙ l .inv .3 G R,
     )
 
@@ -142,14 +140,14 @@ add-if5-2 c = omega (arith, square (c .before .before .before .before .before .b
 
 -- src/lib.rt:357:9
 returns-5 : tie.Need-returns-5 Inv-loop μ-loop
-returns-5 c = 
+returns-5 c =
     let a = c .before .before .before .before .before .before .before .args in
     let l = c .before .before .loop in
     λ G R. ap checkVerdict (walk-short G (a .ahead .now) (a .number .now) (a .member .now) (a .target .now) (a .t) (a .m) (a .q) R (a .row .now) (l .last) (l .place) (c .before .loop-test .left) (c .if5 .taken) ∙ l .inv .3 G R)
 
 -- src/lib.rt:322:1
 returns-6 : tie.Need-returns-6 Inv-loop μ-loop
-returns-6 c = 
+returns-6 c =
     let a = c .before .before .before .before .before .before .before .args in
     let l = c .before .before .loop in
     λ G R. ap checkVerdict (walk-ends G (a .ahead .now) (a .number .now) (a .member .now) (a .target .now) (a .t) (a .m) (a .q) R (a .row .now) (l .last) (l .place) (c .before .loop-test .left) (c .if5 .left) ∙ l .inv .3 G R)
