@@ -2,7 +2,10 @@ pub mod Places
 pub mod Lines
 pub mod Links
 pub mod Moves
-pub mod Chains
-pub mod Writes
-pub mod Built
 pub mod Pins
+pub mod Chains
+pub mod Segments
+pub mod Laying
+pub mod Writes
+pub mod Columns
+pub mod Built

@@ -46,12 +46,20 @@ unfolding lineStates lineBase
 at-every [] p h = absurd (omega arith)
 at-every (r ∷ rs) p h = go (ltb p (suc (length (r .right)))) refl (λ h. at-every rs (p - suc (length (r .right))) h)
   where
-    go : (b : Bool) → ltb p (suc (length (r .right))) ≡ b → (p - suc (length (r .right)) < lineStates rs → At rs (p - suc (length (r .right)))) → At (r ∷ rs) p
-    go true e again = record { k = 0; d = p; rule = omega arith; inside = omega (arith, ltb-true p (suc (length (r .right))) e); state = omega arith }
+    go : (b : Bool) → ltb p (suc (length (r .right))) ≡ b
+        → (p - suc (length (r .right)) < lineStates rs → At rs (p - suc (length (r .right)))) → At (r ∷ rs) p
+    go true e again =
+        record { k = 0; d = p; rule = omega arith; inside = omega (arith, ltb-true p (suc (length (r .right))) e); state = omega arith }
     go false e again =
         let o = ltb-false p (suc (length (r .right))) e in
         let a = again (omega arith) in
-        record { k = suc (a .k); d = a .d; rule = omega (arith, a .rule); inside = a .inside; state = omega (arith, a .state) }
+        record {
+          k = suc (a .k);
+          d = a .d;
+          rule = omega (arith, a .rule);
+          inside = a .inside;
+          state = omega (arith, a .state);
+        }
 
 pub state-below : (ls : List Rule) (k d : ℕ) → k < length ls → d ≤ length (right ls k) → lineBase ls k + d < lineStates ls
 unfolding lineStates lineBase
@@ -81,11 +89,13 @@ unfolding rowFrom lineBase
 row-at f full j [] k d h i = absurd (omega arith)
 row-at f full j (r ∷ rs) zero d h i =
     ap (λ (n : ℕ). getD (f j r ++ rowFrom f (j + 1) rs) n 0) (zero-add d)
-    ∙ List·getD-append (f j r) (rowFrom f (j + 1) rs) 0 d (omega (arith, full j r)) ∙ ap (λ (n : ℕ). getD (f n r) d 0) (sym (add-zero j))
+    ∙ List·getD-append (f j r) (rowFrom f (j + 1) rs) 0 d (omega (arith, full j r))
+    ∙ ap (λ (n : ℕ). getD (f n r) d 0) (sym (add-zero j))
 row-at f full j (r ∷ rs) (suc k) d h i =
     let e : suc (length (r .right)) + lineBase rs k + d ≡ length (f j r) + (lineBase rs k + d) = omega (arith, full j r) in
     let n : j + 1 + k ≡ j + suc k = omega arith in
-    ap (λ (n : ℕ). getD (f j r ++ rowFrom f (j + 1) rs) n 0) e ∙ getD-append-add (f j r) (rowFrom f (j + 1) rs) (lineBase rs k + d) 0
+    ap (λ (n : ℕ). getD (f j r ++ rowFrom f (j + 1) rs) n 0) e
+    ∙ getD-append-add (f j r) (rowFrom f (j + 1) rs) (lineBase rs k + d) 0
     ∙ row-at f full (j + 1) rs k d (omega arith) i ∙ ap (λ (n : ℕ). getD (f n (line rs k)) d 0) n
 
 getD-map : (f : ℕ → ℕ) (l : List ℕ) (n : ℕ) → n < length l → getD (map f l) n 0 ≡ f (getD l n 0)
@@ -110,10 +120,12 @@ pub number-full : Full numberLine
 number-full k r = length-replicate (length (r .right) + 1) (k - 1) ∙ omega arith
 
 -- of line k the number is k - 1
-pub number-at : (ls : List Rule) (k d : ℕ) → k < length ls → d ≤ length (right ls k) → getD (rowFrom numberLine 0 ls) (lineBase ls k + d) 0 ≡ k - 1
+pub number-at : (ls : List Rule) (k d : ℕ) → k < length ls → d ≤ length (right ls k)
+    → getD (rowFrom numberLine 0 ls) (lineBase ls k + d) 0 ≡ k - 1
 number-at ls k d h i =
     let e : 0 + k ≡ k = omega arith in
-    row-at numberLine number-full 0 ls k d h i ∙ getD-replicate (length (right ls k) + 1) d (0 + k - 1) 0 (omega arith) ∙ ap (λ (n : ℕ). n - 1) e
+    row-at numberLine number-full 0 ls k d h i ∙ getD-replicate (length (right ls k) + 1) d (0 + k - 1) 0 (omega arith)
+    ∙ ap (λ (n : ℕ). n - 1) e
 
 module _ (L : Limits) (m : ℕ) where
   pub member-full : Full (memberLine L m)
@@ -139,7 +151,8 @@ module _ (L : Limits) (m : ℕ) where
         ∙ List·getD-append (map (classOf L m (2 * m)) (right ls k)) (classOf L 0 (2 * m) (left ls k) ∷ []) 0 d (omega (arith, length-map (right ls k) (classOf L m (2 * m))))
         ∙ getD-map (classOf L m (2 * m)) (right ls k) d i
 
-    pub member-end : (k : ℕ) → k < length ls → getD members (lineBase ls k + length (right ls k)) 0 ≡ classOf L 0 (2 * m) (left ls k)
+    pub member-end : (k : ℕ) → k < length ls
+        → getD members (lineBase ls k + length (right ls k)) 0 ≡ classOf L 0 (2 * m) (left ls k)
     member-end k h =
         let e = length-map (right ls k) (classOf L m (2 * m)) in
         row-at (memberLine L m) member-full 0 ls k (length (right ls k)) h (omega arith)
@@ -148,8 +161,12 @@ module _ (L : Limits) (m : ℕ) where
 
     -- dot 0: the opening of the left side; just past a symbol: its closing
     pub target-start : (k : ℕ) → k < length ls → getD targets (lineBase ls k) 0 ≡ classOf L m (2 * m + 1) (left ls k)
-    target-start k h = ap (λ (n : ℕ). getD targets n 0) (sym (add-zero (lineBase ls k))) ∙ row-at (targetLine L m) target-full 0 ls k 0 h (omega arith)
+    target-start k h =
+        ap (λ (n : ℕ). getD targets n 0) (sym (add-zero (lineBase ls k)))
+        ∙ row-at (targetLine L m) target-full 0 ls k 0 h (omega arith)
 
     pub target-past : (k d : ℕ) → k < length ls → d < length (right ls k)
         → getD targets (lineBase ls k + suc d) 0 ≡ classOf L 0 (2 * m + 1) (getD (right ls k) d 0)
-    target-past k d h i = row-at (targetLine L m) target-full 0 ls k (suc d) h (omega arith) ∙ getD-map (classOf L 0 (2 * m + 1)) (right ls k) d i
+    target-past k d h i =
+        row-at (targetLine L m) target-full 0 ls k (suc d) h (omega arith)
+        ∙ getD-map (classOf L 0 (2 * m + 1)) (right ls k) d i

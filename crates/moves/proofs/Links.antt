@@ -48,7 +48,8 @@ module _ (L : Limits) (G : Grammar) where
   pub same-base : (i : ℕ) → i ≤ suc (length (G .rules)) → lineBase (lines L G) (suc i) ≡ base L G i
   unfolding lines base lineBase
   same-base zero h = refl
-  same-base (suc i) h = base-next (lines L G) (suc i) (omega arith) ∙ omega (arith, same-base i (omega arith), ap length (same-right i))
+  same-base (suc i) h =
+      base-next (lines L G) (suc i) (omega arith) ∙ omega (arith, same-base i (omega arith), ap length (same-right i))
 
 module _ (L : Limits) (G : Grammar) (w : WellFormed L G) (apart : L .maxTerminals < L .nonterminalBase) where
   rule-in : (i : ℕ) → IsRule G i → Mem (rule L G i) (G .rules)
@@ -69,13 +70,15 @@ module _ (L : Limits) (G : Grammar) (w : WellFormed L G) (apart : L .maxTerminal
       ⊎-elim (λ t. omega (arith, t .1, w .terminals)) (λ t. t .1)
       (w .codes r (place-mem (G .rules) i (record { left = 0; right = [] }) h) (getD (r .right) d 0) (place-mem (r .right) d 0 k))
 
-  pub line-left : (k : ℕ) → k < length (lines L G) → left (lines L G) k < L .nonterminalBase + kinds L G
+  pub line-left : (k : ℕ) → k < length (lines L G) → left (lines L G) k < L .nonterminalBase + kinds G
   unfolding lines
   line-left zero h = omega arith
   line-left (suc zero) h = omega arith
-  line-left (suc (suc k)) h = omega (arith, left-known (suc k) (omega arith, omega arith) .1, same-left L G (suc k) (omega arith))
+  line-left (suc (suc k)) h =
+      omega (arith, left-known (suc k) (omega arith, omega arith) .1, same-left L G (suc k) (omega arith))
 
-  pub line-right : (k d : ℕ) → k < length (lines L G) → d < length (right (lines L G) k) → getD (right (lines L G) k) d 0 < L .nonterminalBase + kinds L G
+  pub line-right : (k d : ℕ) → k < length (lines L G) → d < length (right (lines L G) k)
+      → getD (right (lines L G) k) d 0 < L .nonterminalBase + kinds G
   unfolding lines
   line-right zero zero h i = omega arith
   line-right zero (suc d) h i = absurd (omega arith)
@@ -83,7 +86,8 @@ module _ (L : Limits) (G : Grammar) (w : WellFormed L G) (apart : L .maxTerminal
       omega (arith, right-below k d (omega arith) (rw (same-right L G k) at i), ap (λ (r : List ℕ). getD r d 0) (same-right L G k))
 
   -- a rule's left side ahead is a symbol that links
-  before-link : {i r : ℕ} → IsRule G i → (b : Before L G (rule L G i .left) r) → Link L (lines L G) (suc (b .number)) (b .place) (suc i)
+  before-link : {i r : ℕ} → IsRule G i → (b : Before L G (rule L G i .left) r)
+      → Link L (lines L G) (suc (b .number)) (b .place) (suc i)
   unfolding lines
   before-link {i} h b = record {
     rule = omega (arith, b .item .rule);
@@ -94,11 +98,13 @@ module _ (L : Limits) (G : Grammar) (w : WellFormed L G) (apart : L .maxTerminal
   }
 
   before-base : {x r : ℕ} (b : Before L G x r) → r ≡ lineBase (lines L G) (suc (b .number)) + b .place
-  before-base b = b .item .state ∙ ap (λ (n : ℕ). n + b .place) (sym (same-base L G (b .number) (omega (arith, b .item .rule))))
+  before-base b =
+      b .item .state ∙ ap (λ (n : ℕ). n + b .place) (sym (same-base L G (b .number) (omega (arith, b .item .rule))))
 
   start-link : Link L (lines L G) 0 0 1
   unfolding lines
-  start-link = record { rule = omega arith; inside = omega arith; called = omega arith; symbol = refl; nonterminal = omega arith }
+  start-link =
+      record { rule = omega arith; inside = omega arith; called = omega arith; symbol = refl; nonterminal = omega arith }
 
   -- an opening by lines
   pub opens-link : {i p t : ℕ} → Opens L G i p t
@@ -130,7 +136,8 @@ module _ (L : Limits) (G : Grammar) (w : WellFormed L G) (apart : L .maxTerminal
   )
 
   -- the symbol that links to a rule stands before an item's dot
-  link-before : (k d i r : ℕ) → Link L (lines L G) (suc k) d (suc (suc i)) → r ≡ lineBase (lines L G) (suc k) + d → Before L G (rule L G (suc i) .left) r
+  link-before : (k d i r : ℕ) → Link L (lines L G) (suc k) d (suc (suc i)) → r ≡ lineBase (lines L G) (suc k) + d
+      → Before L G (rule L G (suc i) .left) r
   unfolding lines
   link-before k d i r l e =
       let h : d < lengthOf L G k = rw (same-right L G k) at (l .inside) in
@@ -162,7 +169,8 @@ module _ (L : Limits) (G : Grammar) (w : WellFormed L G) (apart : L .maxTerminal
       absurd (omega (arith, left-known (suc i) (omega arith, omega (arith, l .called)) .1, same-left L G (suc i) (omega arith), l .symbol))
   no-rule (suc d) i l = absurd (omega (arith, l .inside))
 
-  pub link-opens : (k d i p t : ℕ) → Link L (lines L G) k d i → p ≡ lineBase (lines L G) k + d → t ≡ lineBase (lines L G) i → (j : ℕ) × Opens L G j p t
+  pub link-opens : (k d i p t : ℕ) → Link L (lines L G) k d i → p ≡ lineBase (lines L G) k + d → t ≡ lineBase (lines L G) i
+      → (j : ℕ) × Opens L G j p t
   unfolding lines lineBase
   link-opens k d zero p t l e f = no-link k d l
   link-opens zero zero (suc zero) p t l e f = (0, opens-start refl e f)
@@ -173,7 +181,8 @@ module _ (L : Limits) (G : Grammar) (w : WellFormed L G) (apart : L .maxTerminal
       let h : suc i ≤ length (G .rules) = omega (arith, l .called) in
       (suc i, opens-rule (omega arith, h) (link-before k d i p l e) (f ∙ same-base L G (suc i) (omega arith)))
 
-  pub link-closes : (k d i p t : ℕ) → Link L (lines L G) k d i → p ≡ lineBase (lines L G) i + length (right (lines L G) i) → t ≡ lineBase (lines L G) k + suc d
+  pub link-closes : (k d i p t : ℕ) → Link L (lines L G) k d i → p ≡ lineBase (lines L G) i + length (right (lines L G) i)
+      → t ≡ lineBase (lines L G) k + suc d
       → (j : ℕ) × Closes L G j p t
   unfolding lines lineBase
   link-closes k d zero p t l e f = no-link k d l
@@ -185,6 +194,7 @@ module _ (L : Limits) (G : Grammar) (w : WellFormed L G) (apart : L .maxTerminal
       let h : suc i ≤ length (G .rules) = omega (arith, l .called) in
       let n = lineBase (lines L G) (suc k) + d in (
         suc i,
-        closes-rule {r = n} (omega arith, h) (e ∙ omega (arith, same-base L G (suc i) (omega arith), ap length (same-right L G (suc i))))
+        closes-rule {r =
+            n} (omega arith, h) (e ∙ omega (arith, same-base L G (suc i) (omega arith), ap length (same-right L G (suc i))))
             (link-before k d i n l refl) (omega arith),
       )

@@ -23,11 +23,11 @@ module _ (L : Limits) (G : Grammar) where
   -- the rows have an entry for each state
   pub member-length : length (memberRow L G) ≡ states G
   unfolding memberRow
-  member-length = row-length (memberLine L (kinds L G)) (member-full L (kinds L G)) 0 (lines L G) ∙ lines-states L G
+  member-length = row-length (memberLine L (kinds G)) (member-full L (kinds G)) 0 (lines L G) ∙ lines-states L G
 
   pub target-length : length (targetRow L G) ≡ states G
   unfolding targetRow
-  target-length = row-length (targetLine L (kinds L G)) (target-full L (kinds L G)) 0 (lines L G) ∙ lines-states L G
+  target-length = row-length (targetLine L (kinds G)) (target-full L (kinds G)) 0 (lines L G) ∙ lines-states L G
 
   pub number-length : length (numberRow L G) ≡ states G
   unfolding numberRow
@@ -81,42 +81,44 @@ small-class L m x a e hx ha he = elim (coded L a e x) [ known h q ↦ omega arit
 module _ (L : Limits) (G : Grammar) (w : WellFormed L G) (apart : L .maxTerminals < L .nonterminalBase) where
   -- the classes that a link joins
   link-member-open : (k d i p : ℕ) → Link L (lines L G) k d i → p ≡ lineBase (lines L G) k + d
-      → memberClass L G p ≡ left (lines L G) i - L .nonterminalBase + kinds L G
+      → memberClass L G p ≡ left (lines L G) i - L .nonterminalBase + kinds G
   unfolding memberRow
   link-member-open k d i p l e =
-      ap (λ (n : ℕ). memberClass L G n) e ∙ member-inside L (kinds L G) (lines L G) k d (l .rule) (l .inside)
-      ∙ ap (classOf L (kinds L G) (2 * kinds L G)) (l .symbol) ∙ known-class L (kinds L G) (2 * kinds L G) (left (lines L G) i) (l .nonterminal)
+      ap (λ (n : ℕ). memberClass L G n) e ∙ member-inside L (kinds G) (lines L G) k d (l .rule) (l .inside)
+      ∙ ap (classOf L (kinds G) (2 * kinds G)) (l .symbol)
+      ∙ known-class L (kinds G) (2 * kinds G) (left (lines L G) i) (l .nonterminal)
 
   link-target-open : (k d i t : ℕ) → Link L (lines L G) k d i → t ≡ lineBase (lines L G) i
-      → targetClass L G t ≡ left (lines L G) i - L .nonterminalBase + kinds L G
+      → targetClass L G t ≡ left (lines L G) i - L .nonterminalBase + kinds G
   unfolding targetRow
   link-target-open k d i t l e =
-      ap (λ (n : ℕ). targetClass L G n) e ∙ target-start L (kinds L G) (lines L G) i (l .called)
-      ∙ known-class L (kinds L G) (2 * kinds L G + 1) (left (lines L G) i) (l .nonterminal)
+      ap (λ (n : ℕ). targetClass L G n) e ∙ target-start L (kinds G) (lines L G) i (l .called)
+      ∙ known-class L (kinds G) (2 * kinds G + 1) (left (lines L G) i) (l .nonterminal)
 
   link-member-close : (k d i p : ℕ) → Link L (lines L G) k d i → p ≡ lineBase (lines L G) i + length (right (lines L G) i)
       → memberClass L G p ≡ left (lines L G) i - L .nonterminalBase + 0
   unfolding memberRow
   link-member-close k d i p l e =
-      ap (λ (n : ℕ). memberClass L G n) e ∙ member-end L (kinds L G) (lines L G) i (l .called)
-      ∙ known-class L 0 (2 * kinds L G) (left (lines L G) i) (l .nonterminal)
+      ap (λ (n : ℕ). memberClass L G n) e ∙ member-end L (kinds G) (lines L G) i (l .called)
+      ∙ known-class L 0 (2 * kinds G) (left (lines L G) i) (l .nonterminal)
 
   link-target-close : (k d i t : ℕ) → Link L (lines L G) k d i → t ≡ lineBase (lines L G) k + suc d
       → targetClass L G t ≡ left (lines L G) i - L .nonterminalBase + 0
   unfolding targetRow
   link-target-close k d i t l e =
-      ap (λ (n : ℕ). targetClass L G n) e ∙ target-past L (kinds L G) (lines L G) k d (l .rule) (l .inside)
-      ∙ ap (classOf L 0 (2 * kinds L G + 1)) (l .symbol) ∙ known-class L 0 (2 * kinds L G + 1) (left (lines L G) i) (l .nonterminal)
+      ap (λ (n : ℕ). targetClass L G n) e ∙ target-past L (kinds G) (lines L G) k d (l .rule) (l .inside)
+      ∙ ap (classOf L 0 (2 * kinds G + 1)) (l .symbol)
+      ∙ known-class L 0 (2 * kinds G + 1) (left (lines L G) i) (l .nonterminal)
 
   -- an opening class is from m to below 2m, a closing class below m
-  pub opens-class : {i p t : ℕ} → Opens L G i p t → (kinds L G ≤ memberClass L G p) × (memberClass L G p < 2 * kinds L G)
+  pub opens-class : {i p t : ℕ} → Opens L G i p t → (kinds G ≤ memberClass L G p) × (memberClass L G p < 2 * kinds G)
   opens-class {i} {p} {t} o =
       let l = opens-link L G w apart o in
       let c = link-member-open (l .0) (l .1) (suc i) p (l .2) (l .3) in
       let b = line-left L G w apart (suc i) (l .2 .called) in
       (omega arith, omega (arith, l .2 .nonterminal))
 
-  pub closes-class : {i p t : ℕ} → Closes L G i p t → memberClass L G p < kinds L G
+  pub closes-class : {i p t : ℕ} → Closes L G i p t → memberClass L G p < kinds G
   closes-class {i} {p} {t} o =
       let l = closes-link L G w apart o in
       let c = link-member-close (l .0) (l .1) (suc i) p (l .2) (l .3) in
@@ -144,14 +146,16 @@ module _ (L : Limits) (G : Grammar) (w : WellFormed L G) (apart : L .maxTerminal
   abbrev Moves : ℕ → ℕ → Type 0
   Moves p t = ((i : ℕ) × Opens L G i p t) ⊎ ((i : ℕ) × Closes L G i p t)
 
-  met : (k d i : ℕ) → k < length (lines L G) → d ≤ length (right (lines L G) k) → i < length (lines L G) → (e : ℕ) → e ≤ length (right (lines L G) i)
+  met : (k d i : ℕ) → k < length (lines L G) → d ≤ length (right (lines L G) k) → i < length (lines L G) → (e : ℕ)
+      → e ≤ length (right (lines L G) i)
       → memberClass L G (lineBase (lines L G) k + d) ≡ targetClass L G (lineBase (lines L G) i + e)
       → Moves (lineBase (lines L G) k + d) (lineBase (lines L G) i + e)
   unfolding memberRow targetRow
   met k d i hk hd hi zero he q =
       let ls = lines L G in
-      let m = kinds L G in
-      let b : targetClass L G (lineBase ls i + 0) ≡ classOf L m (2 * m + 1) (left ls i) = ap (λ (n : ℕ). targetClass L G n) (add-zero (lineBase ls i)) ∙ target-start L m ls i hi in
+      let m = kinds G in
+      let b : targetClass L G (lineBase ls i + 0) ≡ classOf L m (2 * m + 1) (left ls i) =
+      ap (λ (n : ℕ). targetClass L G n) (add-zero (lineBase ls i)) ∙ target-start L m ls i hi in
       elim (eq-or-lt-of-le hd) [
         | inl s ↦ absurd (differ L m (left ls k) (left ls i) 0 m (line-left L G w apart k hk) (line-left L G w apart i hi) (omega arith) (omega arith) (λ u v hu hv f. omega arith)
             (sym (member-end L m ls k hk) ∙ ap (λ (n : ℕ). memberClass L G (lineBase ls k + n)) (sym s) ∙ q ∙ b))
@@ -163,7 +167,7 @@ module _ (L : Limits) (G : Grammar) (w : WellFormed L G) (apart : L .maxTerminal
       ]
   met k d i hk hd hi (suc e) he q =
       let ls = lines L G in
-      let m = kinds L G in
+      let m = kinds G in
       let b = target-past L m ls i e hi (omega arith) in
       elim (eq-or-lt-of-le hd) [
         | inl s ↦
@@ -191,13 +195,16 @@ module _ (L : Limits) (G : Grammar) (w : WellFormed L G) (apart : L .maxTerminal
       from : Moves p t → memberClass L G p ≡ targetClass L G t
       from (inl o) =
           let l = opens-link L G w apart (o .1) in
-          link-member-open (l .0) (l .1) (suc (o .0)) p (l .2) (l .3) ∙ sym (link-target-open (l .0) (l .1) (suc (o .0)) t (l .2) (l .4))
+          link-member-open (l .0) (l .1) (suc (o .0)) p (l .2) (l .3)
+          ∙ sym (link-target-open (l .0) (l .1) (suc (o .0)) t (l .2) (l .4))
       from (inr o) =
           let l = closes-link L G w apart (o .1) in
-          link-member-close (l .0) (l .1) (suc (o .0)) p (l .2) (l .3) ∙ sym (link-target-close (l .0) (l .1) (suc (o .0)) t (l .2) (l .4))
+          link-member-close (l .0) (l .1) (suc (o .0)) p (l .2) (l .3)
+          ∙ sym (link-target-close (l .0) (l .1) (suc (o .0)) t (l .2) (l .4))
 
   -- the targets of p are exactly the states to which it moves alone
-  pub targets-exactly : (p t : ℕ) → p < states G → Mem t (targets L G p) ↔ (((i : ℕ) × Opens L G i p t) ⊎ ((i : ℕ) × Closes L G i p t))
+  pub targets-exactly : (p t : ℕ) → p < states G
+      → Mem t (targets L G p) ↔ (((i : ℕ) × Opens L G i p t) ⊎ ((i : ℕ) × Closes L G i p t))
   targets-exactly p t h = (to, from)
     where
       to : Mem t (targets L G p) → Moves p t
@@ -215,31 +222,32 @@ module _ (L : Limits) (G : Grammar) (w : WellFormed L G) (apart : L .maxTerminal
           (omega (arith, below o, target-length L G), sym (member-target p t h (below o) .1 o))
 
   -- classes of members are at most 2m, classes of targets at most 2m + 1
-  pub member-most : (p : ℕ) → p < states G → memberClass L G p ≤ 2 * kinds L G
+  pub member-most : (p : ℕ) → p < states G → memberClass L G p ≤ 2 * kinds G
   unfolding memberRow
   member-most p h =
       let a = at-every (lines L G) p (omega (arith, lines-states L G)) in
-      subst (λ (n : ℕ). memberClass L G n ≤ 2 * kinds L G) (sym (a .state)) (go (a .k) (a .d) (a .rule) (eq-or-lt-of-le (a .inside)))
+      subst (λ (n : ℕ). memberClass L G n ≤ 2 * kinds G) (sym (a .state)) (go (a .k) (a .d) (a .rule) (eq-or-lt-of-le (a .inside)))
     where
       go : (k d : ℕ) → k < length (lines L G) → (d ≡ length (right (lines L G) k)) ⊎ (d < length (right (lines L G) k))
-          → memberClass L G (lineBase (lines L G) k + d) ≤ 2 * kinds L G
+          → memberClass L G (lineBase (lines L G) k + d) ≤ 2 * kinds G
       go k d h (inl e) =
-          rw (e, member-end L (kinds L G) (lines L G) k h)
-          (small-class L (kinds L G) (left (lines L G) k) 0 (2 * kinds L G) (line-left L G w apart k h) (omega arith) (omega arith))
+          rw (e, member-end L (kinds G) (lines L G) k h)
+          (small-class L (kinds G) (left (lines L G) k) 0 (2 * kinds G) (line-left L G w apart k h) (omega arith) (omega arith))
       go k d h (inr i) =
-          rw (member-inside L (kinds L G) (lines L G) k d h i)
-          (small-class L (kinds L G) (getD (right (lines L G) k) d 0) (kinds L G) (2 * kinds L G) (line-right L G w apart k d h i) (omega arith) (omega arith))
+          rw (member-inside L (kinds G) (lines L G) k d h i)
+          (small-class L (kinds G) (getD (right (lines L G) k) d 0) (kinds G) (2 * kinds G) (line-right L G w apart k d h i) (omega arith) (omega arith))
 
-  pub target-most : (t : ℕ) → t < states G → targetClass L G t ≤ 2 * kinds L G + 1
+  pub target-most : (t : ℕ) → t < states G → targetClass L G t ≤ 2 * kinds G + 1
   unfolding targetRow
   target-most t h =
       let a = at-every (lines L G) t (omega (arith, lines-states L G)) in
-      subst (λ (n : ℕ). targetClass L G n ≤ 2 * kinds L G + 1) (sym (a .state)) (go (a .k) (a .d) (a .rule) (a .inside))
+      subst (λ (n : ℕ). targetClass L G n ≤ 2 * kinds G + 1) (sym (a .state)) (go (a .k) (a .d) (a .rule) (a .inside))
     where
-      go : (k d : ℕ) → k < length (lines L G) → d ≤ length (right (lines L G) k) → targetClass L G (lineBase (lines L G) k + d) ≤ 2 * kinds L G + 1
+      go : (k d : ℕ) → k < length (lines L G) → d ≤ length (right (lines L G) k)
+          → targetClass L G (lineBase (lines L G) k + d) ≤ 2 * kinds G + 1
       go k zero h i =
-          rw (add-zero (lineBase (lines L G) k), target-start L (kinds L G) (lines L G) k h)
-          (small-class L (kinds L G) (left (lines L G) k) (kinds L G) (2 * kinds L G + 1) (line-left L G w apart k h) (omega arith) (omega arith))
+          rw (add-zero (lineBase (lines L G) k), target-start L (kinds G) (lines L G) k h)
+          (small-class L (kinds G) (left (lines L G) k) (kinds G) (2 * kinds G + 1) (line-left L G w apart k h) (omega arith) (omega arith))
       go k (suc d) h i =
-          rw (target-past L (kinds L G) (lines L G) k d h (omega arith))
-          (small-class L (kinds L G) (getD (right (lines L G) k) d 0) 0 (2 * kinds L G + 1) (line-right L G w apart k d h (omega arith)) (omega arith) (omega arith))
+          rw (target-past L (kinds G) (lines L G) k d h (omega arith))
+          (small-class L (kinds G) (getD (right (lines L G) k) d 0) 0 (2 * kinds G + 1) (line-right L G w apart k d h (omega arith)) (omega arith) (omega arith))

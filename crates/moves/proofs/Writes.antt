@@ -11,7 +11,7 @@ use Rattle.grammar.specs.Grammar.{Rule}
 use Rattle.moves.specs.Tables.{rowFrom, over}
 use Rattle.moves.specs.Contracts.{write, rulesFrom, lengthsFrom, ruleOf, aheadLine}
 use Rattle.moves.proofs.Lines.{Full}
-use Rattle.moves.proofs.Chains.{over-none, over-snoc}
+use Rattle.moves.proofs.Segments.{over-none, over-snoc}
 
 pub write-length : (l : List ℕ) (i : ℕ) (vs : List ℕ) → length (write l i vs) ≡ length l
 unfolding write
@@ -26,7 +26,8 @@ write-append l i (x ∷ xs) ys =
     let e : i + 1 + length xs ≡ i + suc (length xs) = omega arith in
     write-append (set l i x) (i + 1) xs ys ∙ ap (λ (n : ℕ). write (write (set l i x) (i + 1) xs) n ys) e
 
-over-write : (front vs old : List ℕ) → length front + length vs ≤ length old → write (over front old) (length front) vs ≡ over (front ++ vs) old
+over-write : (front vs old : List ℕ) → length front + length vs ≤ length old
+    → write (over front old) (length front) vs ≡ over (front ++ vs) old
 unfolding write
 over-write front [] old h = ap (λ (l : List ℕ). over l old) (sym (append-nil front))
 over-write front (v ∷ vs) old h =
@@ -61,7 +62,8 @@ mapped-more f l i d codes rest h =
     ap (λ (c : List ℕ). write l i (map f c ++ rest)) (drop-cons codes d 0 h)
     ∙ ap (λ (n : ℕ). write (set l i (f (getD codes d 0))) (i + 1) (map f (drop n codes) ++ rest)) (sym (add-one d))
 
-mapped-end : (f : ℕ → ℕ) (l : List ℕ) (i d : ℕ) (codes rest : List ℕ) → length codes ≤ d → write l i (map f (drop d codes) ++ rest) ≡ write l i rest
+mapped-end : (f : ℕ → ℕ) (l : List ℕ) (i d : ℕ) (codes rest : List ℕ) → length codes ≤ d
+    → write l i (map f (drop d codes) ++ rest) ≡ write l i rest
 mapped-end f l i d codes rest h = ap (λ (c : List ℕ). write l i (map f c ++ rest)) (drop-of-length-le codes {i = d} h)
 
 abbrev pub Writing : (ℕ → ℕ) → List ℕ → List ℕ → ℕ → List ℕ → List ℕ → ℕ → Type 0
@@ -70,13 +72,15 @@ Writing f codes rest start before row d = write row (start + d) (map f (drop d c
 pub writing-start : (f : ℕ → ℕ) (codes rest : List ℕ) (start : ℕ) (row : List ℕ) → Writing f codes rest start row row 0
 writing-start f codes rest start row = ap (λ (n : ℕ). write row n (map f codes ++ rest)) (add-zero start)
 
-pub writing-more : (f : ℕ → ℕ) (codes rest : List ℕ) (start : ℕ) (before row : List ℕ) (d at v : ℕ) → d < length codes → v ≡ f (getD codes d 0) → at ≡ start + d
+pub writing-more : (f : ℕ → ℕ) (codes rest : List ℕ) (start : ℕ) (before row : List ℕ) (d at v : ℕ) → d < length codes
+    → v ≡ f (getD codes d 0) → at ≡ start + d
     → Writing f codes rest start before row d → Writing f codes rest start before (set row at v) (d + 1)
 writing-more f codes rest start before row d at v h e q w =
     let s : start + (d + 1) ≡ start + d + 1 = omega arith in
     rw (e, q, s) (sym (mapped-more f row (start + d) d codes rest h) ∙ w)
 
-pub writing-end : (f : ℕ → ℕ) (codes rest : List ℕ) (start : ℕ) (before row : List ℕ) (d : ℕ) → length codes ≤ d → Writing f codes rest start before row d
+pub writing-end : (f : ℕ → ℕ) (codes rest : List ℕ) (start : ℕ) (before row : List ℕ) (d : ℕ) → length codes ≤ d
+    → Writing f codes rest start before row d
     → write row (start + d) rest ≡ write before start (map f codes ++ rest)
 writing-end f codes rest start before row d h w = sym (mapped-end f row (start + d) d codes rest h) ∙ w
 
@@ -90,7 +94,8 @@ map-constant v (x ∷ l) = ap (λ (l : List ℕ). v ∷ l) (map-constant v l) �
 
 -- ---- lines end to end
 
-row-append : (f : ℕ → Rule → List ℕ) (k : ℕ) (xs ys : List Rule) → rowFrom f k (xs ++ ys) ≡ rowFrom f k xs ++ rowFrom f (k + length xs) ys
+row-append : (f : ℕ → Rule → List ℕ) (k : ℕ) (xs ys : List Rule)
+    → rowFrom f k (xs ++ ys) ≡ rowFrom f k xs ++ rowFrom f (k + length xs) ys
 unfolding rowFrom
 row-append f k [] ys = ap (λ (n : ℕ). rowFrom f n ys) (sym (add-zero k))
 row-append f k (x ∷ xs) ys =
@@ -99,13 +104,15 @@ row-append f k (x ∷ xs) ys =
     ∙ sym (append-assoc (f k x) (rowFrom f (k + 1) xs) (rowFrom f (k + suc (length xs)) ys))
 
 -- some lines, then others
-pub lines-write : (f : ℕ → Rule → List ℕ) (xs ys : List Rule) (row : List ℕ) (at k : ℕ) → length (rowFrom f 0 xs) ≡ at → length xs ≡ k
+pub lines-write : (f : ℕ → Rule → List ℕ) (xs ys : List Rule) (row : List ℕ) (at k : ℕ) → length (rowFrom f 0 xs) ≡ at
+    → length xs ≡ k
     → write (write row 0 (rowFrom f 0 xs)) at (rowFrom f k ys) ≡ write row 0 (rowFrom f 0 (xs ++ ys))
 lines-write f xs ys row at k e h =
     let n : 0 + length xs ≡ k = omega (arith, h) in
     let a : 0 + length (rowFrom f 0 xs) ≡ at = omega (arith, e) in
     sym (ap (λ (l : List ℕ). write row 0 l) (row-append f 0 xs ys ∙ ap (λ (n : ℕ). rowFrom f 0 xs ++ rowFrom f n ys) n)
-    ∙ write-append row 0 (rowFrom f 0 xs) (rowFrom f k ys) ∙ ap (λ (n : ℕ). write (write row 0 (rowFrom f 0 xs)) n (rowFrom f k ys)) a)
+    ∙ write-append row 0 (rowFrom f 0 xs) (rowFrom f k ys)
+    ∙ ap (λ (n : ℕ). write (write row 0 (rowFrom f 0 xs)) n (rowFrom f k ys)) a)
 
 -- the two lines before the rules
 pub two-writes : (f : ℕ → Rule → List ℕ) (x y : Rule) (row : List ℕ) (at : ℕ) → length (f 0 x) ≡ at
@@ -132,12 +139,15 @@ rules-more lefts lengths codes n i u h = ap (λ (f : ℕ). rulesFrom lefts lengt
 
 rules-end : (lefts lengths codes : List ℕ) (n i u : ℕ) → n ≤ i → rulesFrom lefts lengths codes (n - i) i u ≡ []
 unfolding rulesFrom
-rules-end lefts lengths codes n i u h = ap (λ (f : ℕ). rulesFrom lefts lengths codes f i u) (let e : n - i ≡ 0 = omega arith in e)
+rules-end lefts lengths codes n i u h =
+    ap (λ (f : ℕ). rulesFrom lefts lengths codes f i u) (let e : n - i ≡ 0 = omega arith in e)
 
 pub lengths-start : (lengths : List ℕ) (n : ℕ) → 0 + lengthsFrom lengths (n - 0) 0 ≡ lengthsFrom lengths n 0
-lengths-start lengths n = zero-add (lengthsFrom lengths (n - 0) 0) ∙ ap (λ (f : ℕ). lengthsFrom lengths f 0) (let e : n - 0 ≡ n = omega arith in e)
+lengths-start lengths n =
+    zero-add (lengthsFrom lengths (n - 0) 0) ∙ ap (λ (f : ℕ). lengthsFrom lengths f 0) (let e : n - 0 ≡ n = omega arith in e)
 
-pub lengths-more : (lengths : List ℕ) (n i : ℕ) → i < n → lengthsFrom lengths (n - i) i ≡ getD lengths i 0 + lengthsFrom lengths (n - (i + 1)) (i + 1)
+pub lengths-more : (lengths : List ℕ) (n i : ℕ) → i < n
+    → lengthsFrom lengths (n - i) i ≡ getD lengths i 0 + lengthsFrom lengths (n - (i + 1)) (i + 1)
 unfolding lengthsFrom
 lengths-more lengths n i h = ap (λ (f : ℕ). lengthsFrom lengths f i) (less n i h)
 
@@ -154,20 +164,24 @@ module _ (f : ℕ → Rule → List ℕ) (full : Full f) (lefts lengths codes : 
   pub rows-start : Rows f lefts lengths codes count before before 4 0 0
   rows-start = record {
     same = refl;
-    ahead = ap (λ (n : ℕ). write before 4 (rowFrom f 2 (rulesFrom lefts lengths codes n 0 0))) (let e : count - 0 ≡ count = omega arith in e);
+    ahead =
+        ap (λ (n : ℕ). write before 4 (rowFrom f 2 (rulesFrom lefts lengths codes n 0 0))) (let e : count - 0 ≡ count = omega arith in e);
   }
 
   pub rows-more : (row row′ : List ℕ) (at u i k : ℕ) → i < count → k ≡ getD lengths i 0 → u + k ≤ length codes
       → row′ ≡ write row at (f (i + 2) (ruleOf (getD lefts i 0) (take (u + k - u) (drop u codes))))
-      → Rows f lefts lengths codes count before row at u i → Rows f lefts lengths codes count before row′ (at + k + 1) (u + k) (i + 1)
+      → Rows f lefts lengths codes count before row at u i
+      → Rows f lefts lengths codes count before row′ (at + k + 1) (u + k) (i + 1)
   unfolding rowFrom
   rows-more row row′ at u i k h e l w r =
       let part : List ℕ = take (getD lengths i 0) (drop u codes) in
       let x : List ℕ = f (i + 2) (ruleOf (getD lefts i 0) part) in
       let rest : List Rule = rulesFrom lefts lengths codes (count - (i + 1)) (i + 1) (u + getD lengths i 0) in
       let c : u + k - u ≡ getD lengths i 0 = add-sub-cancel-left u k ∙ e in
-      let w′ : row′ ≡ write row at x = w ∙ ap (λ (n : ℕ). write row at (f (i + 2) (ruleOf (getD lefts i 0) (take n (drop u codes))))) c in
-      let p : length part ≡ getD lengths i 0 = length-take-le (getD lengths i 0) (drop u codes) (rw (length-drop u codes) (omega arith)) in
+      let w′ : row′ ≡ write row at x =
+      w ∙ ap (λ (n : ℕ). write row at (f (i + 2) (ruleOf (getD lefts i 0) (take n (drop u codes))))) c in
+      let p : length part ≡ getD lengths i 0 =
+      length-take-le (getD lengths i 0) (drop u codes) (rw (length-drop u codes) (omega arith)) in
       let s : at + length x ≡ at + k + 1 = omega (arith, full (i + 2) (ruleOf (getD lefts i 0) part), p, e) in
       let j : i + 1 + 2 ≡ i + 2 + 1 = omega arith in
       record {
@@ -186,4 +200,6 @@ module _ (f : ℕ → Rule → List ℕ) (full : Full f) (lefts lengths codes : 
       → row ≡ write before 4 (rowFrom f 2 (rulesFrom lefts lengths codes count 0 0))
   unfolding rowFrom
   rows-end row at u i h r =
-      sym (no-write row at) ∙ sym (ap (λ (rs : List Rule). write row at (rowFrom f (i + 2) rs)) (rules-end lefts lengths codes count i u h)) ∙ r .ahead
+      sym (no-write row at)
+      ∙ sym (ap (λ (rs : List Rule). write row at (rowFrom f (i + 2) rs)) (rules-end lefts lengths codes count i u h))
+      ∙ r .ahead

@@ -1,11 +1,8 @@
 -- The sizes of a line and of its parts, in bytes. Assumes nothing.
 use Prim.Native.Nat.{ℕ, _+_, _*_, _≤_}
 use Rattle.grammar.specs.Limits.{limits}
+use Rattle.case_lines.specs.Line.{numberSize}
 use Rattle.grammar.specs.declared.CheckedGrammar.{CheckedGrammar}
-
--- the most digits of a number
-abbrev pub numberSize : ℕ
-numberSize = 20
 
 -- a list of so many numbers, with commas between
 abbrev pub listSize : ℕ → ℕ

@@ -7,8 +7,7 @@
 ghost use mathlib.Core.Path.{_≡_};
 ghost use Prim.Native.Nat.{_+_, _≤_};
 ghost use lib.ListN.{length};
-ghost use Rattle.test_tables.specs.Number.{littleEndian};
-ghost use Rattle.test_tables.specs.Line.{lineSize, numberSize, listSize, columnsSize, Few};
+ghost use Rattle.test_tables.specs.Line.{lineSize, listSize, columnsSize, Few};
 use grammar::CheckedGrammar;
 use grammar::TableVerdict;
 use libc::STDIN_FILENO;
@@ -21,51 +20,8 @@ const MAX_TABLE: usize = 65536;
 
 const LINE: usize = 12288;
 
-fn wide(x: u8) -> usize
-    ensures { λ r. ⌜ r ≡ x ⌝ }
-{
-    x as usize
-}
-
 fn wide_code(x: u16) -> u64 {
     x as u64
-}
-
-// The number that at most 8 bytes store, the lowest byte first.
-fn number(bytes: &[u8]) -> usize
-    requires { ⌜ length (now bytes) ≤ 8 ⌝ }
-    ensures { λ r. ⌜ r ≡ littleEndian (now (bytes .entry)) ⌝ }
-{
-    let mut value: usize = 0;
-    let mut i = bytes.len();
-    while 0 < i {
-        i -= 1;
-        value = value * 256 + wide(bytes[i]);
-    }
-    value
-}
-
-// The put functions write into the line from an index on, and return the index after what they wrote.
-fn put_bytes(line: &mut [u8], at: usize, bytes: &[u8]) -> usize
-    requires { ⌜ at + length (now bytes) ≤ length (now line) ⌝ }
-    ensures { λ r. ⌜ r ≡ at + length (now (bytes .entry)) ⌝ }
-{
-    let mut i = 0;
-    while i < bytes.len() {
-        line[at + i] = bytes[i];
-        i += 1;
-    }
-    at + i
-}
-
-// A number in decimal.
-fn put_number(line: &mut [u8], at: usize, x: u64) -> usize
-    requires { ⌜ at + numberSize ≤ length (now line) ⌝ }
-    ensures { λ r. ⌜ r ≤ at + numberSize ⌝ }
-{
-    let mut digits = [0u8; 20];
-    let k = io::decimal(x, &mut digits);
-    put_bytes(line, at, &digits[..k])
 }
 
 // A comma before each number of a list but the first.
@@ -89,7 +45,7 @@ fn put_list(line: &mut [u8], at: usize, values: &[u16], count: usize) -> usize
     let mut i = 0;
     while i < count {
         end = put_comma(line, end, i);
-        end = put_number(line, end, wide_code(values[i]));
+        end = case_lines::put_number(line, end, wide_code(values[i]));
         i += 1;
     }
     end
@@ -100,7 +56,7 @@ fn put_column(line: &mut [u8], at: usize, word: &[u8], values: &[u16], count: us
     requires { ⌜ (at + length (now word) + listSize count ≤ length (now line)) × (count ≤ length (now values)) ⌝ }
     ensures { λ r. ⌜ r ≤ at + length (now (word .entry)) + listSize count ⌝ }
 {
-    let end = put_bytes(line, at, word);
+    let end = case_lines::put_bytes(line, at, word);
     put_list(line, end, values, count)
 }
 
@@ -122,23 +78,11 @@ fn put_passed(line: &mut [u8], g: CheckedGrammar) -> usize
 {
     let used = g.used;
     let states = g.states;
-    let mut at = put_bytes(line, 0, b"passed states=");
-    at = put_number(line, at, states as u64);
+    let mut at = case_lines::put_bytes(line, 0, b"passed states=");
+    at = case_lines::put_number(line, at, states as u64);
     at = put_columns(line, at, g);
     at = put_column(line, at, b" codes=", &g.codes, used);
-    put_bytes(line, at, b"\n")
-}
-
-// The line of a refused table.
-fn put_refused(line: &mut [u8], cause: u8, position: usize) -> usize
-    requires { ⌜ lineSize ≤ length (now line) ⌝ }
-    ensures { λ r. ⌜ r ≤ lineSize ⌝ }
-{
-    let mut at = put_bytes(line, 0, b"refused=");
-    at = put_number(line, at, cause as u64);
-    at = put_bytes(line, at, b" at=");
-    at = put_number(line, at, position as u64);
-    put_bytes(line, at, b"\n")
+    case_lines::put_bytes(line, at, b"\n")
 }
 
 // The line of one case.
@@ -151,7 +95,7 @@ fn put_answer(line: &mut [u8], t: usize, n: usize, table: &[u8]) -> usize
     let g = checked.grammar;
     match verdict {
         TableVerdict::Passed => put_passed(line, g),
-        TableVerdict::Refused(cause, position) => put_refused(line, cause, position),
+        TableVerdict::Refused(cause, position) => case_lines::put_refused(line, cause, position),
     }
 }
 
@@ -171,9 +115,9 @@ fn answer_case() -> bool {
     if io::read_full(STDIN_FILENO, &mut header) < HEADER {
         return false;
     }
-    let t = number(&header[0..8]);
-    let n = number(&header[8..16]);
-    let size = number(&header[16..20]);
+    let t = case_lines::number(&header[0..8]);
+    let n = case_lines::number(&header[8..16]);
+    let size = case_lines::number(&header[16..20]);
     if MAX_TABLE < size {
         return false;
     }

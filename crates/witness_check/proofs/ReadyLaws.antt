@@ -22,7 +22,8 @@ use Rattle.triples.specs.Successor.{BeforeTerminal}
 use Rattle.triple_laws.proofs.Moves.{shift-ahead, terminal-ahead}
 use Rattle.moves.specs.Tables.{kinds, memberRow, targetRow, numberRow, memberClass, targetClass, Tables, Built}
 use Rattle.moves.proofs.Moves.{opens-class, closes-class, closes-number, member-target}
-use Rattle.moves.proofs.Built.{read, ahead-at, number-at, member-at, target-at}
+use Rattle.moves.proofs.Columns.{read}
+use Rattle.moves.proofs.Built.{ahead-at, number-at, member-at, target-at}
 use Rattle.witness_check.specs.StepTest.{leadsTo, opensTo, closesTo, reads}
 use Rattle.witness_check.specs.Contracts.{RowsSay, Ready}
 

@@ -7,7 +7,8 @@ use Rattle.grammar.specs.Limits.{limits}
 use Rattle.grammar.specs.declared.CheckedGrammar.{CheckedGrammar}
 use Rattle.automaton.proofs.Items.{states-four}
 use Rattle.moves.specs.Tables.{IsRecord}
-use Rattle.moves.proofs.Built.{read, few-nonterminals, few-states, room-of}
+use Rattle.moves.proofs.Columns.{read}
+use Rattle.moves.proofs.Built.{few-nonterminals, few-states, room-of}
 use Rattle.witness_check.proofs.ReadyLaws.{ready-of}
 use Rattle.witness_check.proofs.check_row.Statement.{statement}
 use Rattle.witness_check.proofs.check_row.Tie as tie

@@ -9,7 +9,7 @@ use borrow.Author.Tests.{ltb-true, ltb-false}
 use lib.Dec.{ltb}
 use lib.ListN.{length, drop, getD}
 use lib.Seq.{drop-cons, drop-length}
-use Rattle.test_tables.specs.Number.{littleEndian}
+use Rattle.case_lines.specs.Number.{littleEndian}
 
 -- the bytes from an index on store the value
 pub record Parsed (bytes : List ℕ) (value i : ℕ) : Type 0 where

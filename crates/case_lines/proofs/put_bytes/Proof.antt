@@ -4,8 +4,8 @@ use Prim.Native.Nat.{_+_, _-_, _≤_}
 use native.Mathlib.Omega.{arith}
 use borrow.Author.Needs.{needs}
 use lib.ListN.{length}
-use Rattle.test_tables.proofs.put_bytes.Statement.{statement}
-use Rattle.test_tables.proofs.put_bytes.Tie as tie
+use Rattle.case_lines.proofs.put_bytes.Statement.{statement}
+use Rattle.case_lines.proofs.put_bytes.Tie as tie
 
 abbrev Inv-loop : tie.InvT-loop
 Inv-loop line₀ at bytes i₀ line i = (i ≤ length bytes) × (length line ≡ length line₀)

@@ -2,9 +2,9 @@
 use borrow.Author.Needs.{needs}
 use Prim.Native.Nat.{_-_}
 use native.Mathlib.Omega.{arith}
-use Rattle.test_tables.proofs.NumberLaws.{Parsed, parsed-start, parsed-more, parsed-room, parsed-end}
-use Rattle.test_tables.proofs.number.Statement.{statement}
-use Rattle.test_tables.proofs.number.Tie as tie
+use Rattle.case_lines.proofs.NumberLaws.{Parsed, parsed-start, parsed-more, parsed-room, parsed-end}
+use Rattle.case_lines.proofs.number.Statement.{statement}
+use Rattle.case_lines.proofs.number.Tie as tie
 
 abbrev Inv-loop : tie.InvT-loop
 Inv-loop bytes value₀ i₀ value i = Parsed bytes value i

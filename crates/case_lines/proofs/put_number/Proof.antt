@@ -2,9 +2,9 @@
 use Prim.Native.Nat.{_≤_}
 use native.Mathlib.Omega.{arith}
 use borrow.Author.Needs.{needs}
-use Rattle.test_tables.proofs.NumberLaws.{few-digits}
-use Rattle.test_tables.proofs.put_number.Statement.{statement}
-use Rattle.test_tables.proofs.put_number.Tie as tie
+use Rattle.case_lines.proofs.NumberLaws.{few-digits}
+use Rattle.case_lines.proofs.put_number.Statement.{statement}
+use Rattle.case_lines.proofs.put_number.Tie as tie
 
 digits-fit : (d : tie.After-decimal) → d .decimal .result ≤ 20
 digits-fit d = let a = d .before .before .before in few-digits (a .args .x) (d .decimal .result) (omega arith) (d .decimal .ensures .1 .0 .2)

@@ -1,0 +1,117 @@
+"""The automaton of a checked grammar: document 01, "States and moves".
+
+`automaton_of` takes a Grammar and gives, by state, its openings, closings and
+shift. "Every rule is taken, also one that no sentence uses."
+"""
+
+from typing import List, NamedTuple, Optional, Sequence, Tuple
+
+from tables import START, Grammar
+
+BEGIN = 0                 # "State 0 is the start"
+END = 1                   # "1 the end"
+BEFORE_START = 2          # "2 is S' → ·S"
+AFTER_START = 3           # "3 is S' → S·"
+NEW_RULE = 0              # "Rule 0 is S' → S and is not stored"
+NEW_START = 0             # stands for S': no symbol has this code
+
+Arrow = Tuple[int, int]   # a rule's number or a symbol's code, and the next state
+
+
+class Item(NamedTuple):
+    """A rule, by number, left code and right codes, and the place of its dot."""
+
+    rule: int
+    left: int
+    right: bytes
+    dot: int
+
+
+class Automaton(NamedTuple):
+    """The moves by state; Q is `states`. A state has one shift or None."""
+
+    states: int
+    openings: Tuple[Tuple[Arrow, ...], ...]
+    closings: Tuple[Tuple[Arrow, ...], ...]
+    shifts: Tuple[Optional[Arrow], ...]
+
+
+def items_of(grammar: Grammar) -> List[Optional[Item]]:
+    """By state its item; states 0 and 1 have none.
+
+    2 and 3 are rule 0, "Then come the items of rule 1 from dot 0 to dot k,
+    then rule 2, and so on."
+    """
+    rules = [(NEW_START, bytes([START]))]
+    rules += [(rule.left, rule.right) for rule in grammar.rules]
+    items: List[Optional[Item]] = [None, None]
+    for number, (left, right) in enumerate(rules):
+        items += [Item(number, left, right, dot) for dot in range(len(right) + 1)]
+    assert len(items) == grammar.states, "Q is 4 plus the sum of (k+1)"
+    return items
+
+
+def after_dot(item: Optional[Item]) -> Optional[int]:
+    """The code that the dot stands before, None at the end of a rule."""
+    if item is None or item.dot == len(item.right):
+        return None
+    return item.right[item.dot]
+
+
+def before_dot(item: Optional[Item]) -> Optional[int]:
+    """The code that the dot stands just past, None at dot 0."""
+    return None if item is None or item.dot == 0 else item.right[item.dot - 1]
+
+
+def openings_from(items: Sequence[Optional[Item]], state: int) -> List[Arrow]:
+    """The openings of a state.
+
+    "a state with the dot before B moves to dot 0 of each rule i of B. State 0
+    opens 0 to state 2."
+    """
+    if state == BEGIN:
+        return [(NEW_RULE, BEFORE_START)]
+    code = after_dot(items[state])
+    if code is None:
+        return []
+    return [(item.rule, to) for to, item in enumerate(items)
+            if item is not None and item.dot == 0 and item.left == code]
+
+
+def closings_from(items: Sequence[Optional[Item]], state: int) -> List[Arrow]:
+    """The closings of a state.
+
+    "a rule i of B with the dot at its end moves to every item just past a B.
+    State 3 closes 0 to state 1."
+    """
+    if state == AFTER_START:
+        return [(NEW_RULE, END)]
+    closed = items[state]
+    if closed is None or closed.dot < len(closed.right):
+        return []
+    return [(closed.rule, to) for to, item in enumerate(items)
+            if before_dot(item) == closed.left]
+
+
+def shift_from(items: Sequence[Optional[Item]], state: int) -> Optional[Arrow]:
+    """The shift of a state: "the dot passes a terminal or a nonterminal"."""
+    code = after_dot(items[state])
+    return None if code is None else (code, state + 1)
+
+
+def automaton_of(grammar: Grammar) -> Automaton:
+    """All moves of a checked grammar."""
+    items = items_of(grammar)
+    states = range(len(items))
+    return Automaton(
+        len(items),
+        tuple(tuple(openings_from(items, state)) for state in states),
+        tuple(tuple(closings_from(items, state)) for state in states),
+        tuple(shift_from(items, state) for state in states),
+    )
+
+
+def move_count(automaton: Automaton) -> int:
+    """The number of openings, closings and shifts of all states."""
+    alone = sum(map(len, automaton.openings)) + sum(map(len, automaton.closings))
+    return alone + sum(shift is not None for shift in automaton.shifts)

@@ -1,0 +1,223 @@
+"""Grammars for the cases: document 01's rows, classic, random and faulty ones.
+
+A grammar is given as t, n and its table.
+"""
+
+from functools import lru_cache
+from typing import Callable, Dict, List, Tuple
+
+from table_cases import (
+    FIGURES, LAST, Rng, Rule, base_grammar, encode, faulty_rule, random_code,
+    random_lengths, random_rules,
+)
+from table_reasons import rule_start
+from tables import (
+    FIXED_STATES, MAX_LENGTH, OUT_OF_RANGE, START, Grammar, Refusal, check_table,
+)
+from triples import Triples, triples_of
+
+Table = Tuple[int, int, bytes]
+
+# Document 01, "Grammars on file", in its order.
+ROWS: List[Table] = [(t, n, encode(rules)) for t, n, rules in FIGURES]
+ONE_A = ROWS[2]                # S→a
+LEFT_LIST, NESTED = ROWS[3:5]  # the two rows with Q = 9
+
+
+def spelled(*lines: str) -> Table:
+    """The grammar of lines "left: symbol symbol | symbol", alternatives by "|".
+
+    Names left of a colon are the nonterminals, the first of them S; all other
+    names are terminals. Either kind is numbered in the order of the lines.
+    """
+    parts = [line.split(":", 1) for line in lines]
+    names = [left.strip() for left, _ in parts]
+    nonterminals = list(dict.fromkeys(names))
+    codes = {name: START + place for place, name in enumerate(nonterminals)}
+    t = 0
+    rules: List[Rule] = []
+    for name, (_, rights) in zip(names, parts):
+        for right in rights.split("|"):
+            for symbol in right.split():
+                if symbol not in codes:
+                    t += 1
+                    codes[symbol] = t
+            rules.append((codes[name], bytes(codes[symbol] for symbol in right.split())))
+    return t, len(nonterminals), encode(rules)
+
+
+# Classic grammars.
+
+CLASSICS: Dict[str, Table] = {
+    "expressions-ambiguous": spelled("E: E + E | E * E | ( E ) | x"),
+    "expressions-stratified": spelled("E: E + T | T", "T: T * F | F", "F: ( E ) | x"),
+    "expressions-right": spelled("E: T + E | T", "T: F * T | F", "F: ( E ) | x"),
+    "expressions-unary": spelled("E: - E | E + E | x"),
+    "expressions-prefix": spelled("E: + E E | * E E | x"),
+    "expressions-postfix": spelled("E: E E + | E E * | x"),
+    "dangling-else": spelled("S: if S | if S else S | x"),
+    "matched-else": spelled(
+        "S: M | U", "M: if M else M | x", "U: if S | if M else U"),
+    "closed-else": spelled("S: if S fi | if S else S fi | x"),
+    "palindromes-even": spelled("S: a S a | b S b |"),
+    "palindromes-odd": spelled("S: a S a | b S b | a | b"),
+    "palindromes-marked": spelled("S: a S a | b S b | c"),
+    "list-left": spelled("L: L , x | x"),
+    "list-right": spelled("L: x , L | x"),
+    "list-both": spelled("L: L , L | x"),
+    "list-empty-left": spelled("L: L x |"),
+    "list-empty-right": spelled("L: x L |"),
+    "list-of-lists": spelled("L: [ ] | [ I ]", "I: L | x | I , L | I , x"),
+    "brackets-one": spelled("S: ( S ) S |"),
+    "brackets-both": spelled("S: S S | ( S ) |"),
+    "brackets-nested": spelled("S: ( S ) | [ S ] |"),
+    "calls": spelled("T: ( T T ) | fn x . T | x"),
+    "patterns": spelled("R: R or C | C", "C: C K | K", "K: K star | ( R ) | a"),
+    "two-counts": spelled(
+        "S: A C | D B", "A: a A b |", "C: c C |", "D: a D |", "B: b B c |"),
+    "unit-cycle": spelled("S: A | x", "A: S"),
+    "hidden-left": spelled("S: N S x | y", "N: n |"),
+    "never-opened": spelled("S: a S |", "U: S b | U a"),
+    "no-finite-tree": spelled("S: a | b W", "W: a W | W"),
+    "no-start-rule": (1, 2, encode([(START + 1, bytes([1])), (START + 1, b"")])),
+    "json": spelled(
+        "V: str | num | true | false | null | { } | { M } | [ ] | [ E ]",
+        "M: P | M , P", "P: str : V", "E: V | E , V"),
+    "json-right": spelled(
+        "V: str | num | { M } | [ E ]",
+        "M: P T |", "T: , P T |", "P: str : V", "E: V U |", "U: , V U |"),
+    "robot": spelled(
+        "P: P C | C", "C: move D N ; | turn D ; | stop ; | repeat N { P }",
+        "D: left | right", "N: one | two | three"),
+    "robot-loose": spelled(
+        "P: P P | C", "C: move D | move D N | stop", "D: left | right | back",
+        "N: N digit | digit"),
+    "robot-channels": spelled(
+        "S: S C |", "C: set H V end | read H end",
+        "H: h0 | h1 | h2 | h3 | h4 | h5 | h6 | h7", "V: on | off"),
+}
+
+
+def operators(levels: int) -> Table:
+    """Expressions with so many strata, Q = 10 + 6×levels."""
+    lines = ["E%d: E%d o%d E%d | E%d" % (i, i, i, i + 1, i + 1) for i in range(levels)]
+    return spelled(*lines, "E%d: ( E0 ) | x" % levels)
+
+
+STATEMENTS = spelled(
+    "P: P S | S",
+    "S: name = E ; | if E then B fi | if E then B else B fi | while E do B od"
+    " | call name ( ) ; | call name ( A ) ; | return E ; | skip ;",
+    "B: B S | S",
+    "A: A , E | E",
+    "E: E < T | T",
+    "T: T + F | T - F | F",
+    "F: name | number | ( E )",
+)
+
+
+def keywords(rng: Rng, count: int, states: int) -> Table:
+    """`count` rules, each begun by a terminal of its own; Q = `states`.
+
+    After a terminal both sides stand on the same rule, so that nothing parts:
+    unambiguous.
+    """
+    t, n = count + rng.randrange(3), 2 + rng.randrange(count // 3)
+    lengths = [1] * count
+    while FIXED_STATES + sum(lengths) + count < states:
+        place = rng.randrange(count)
+        lengths[place] += lengths[place] < MAX_LENGTH
+    rules: List[Rule] = []
+    for place, k in enumerate(lengths):
+        left = START + (place if place < n else rng.randrange(n))
+        rest = bytes(random_code(rng, t, n) for _ in range(k - 1))
+        rules.append((left, bytes([1 + place]) + rest))
+    return t, n, encode(rules)
+
+
+# Random grammars.
+
+def small_random(rng: Rng) -> Table:
+    """1 to 3 nonterminals, 0 to 3 terminals, 0 to 6 rules of length 0 to 4."""
+    t, n = rng.randrange(4), 1 + rng.randrange(3)
+    lengths = [rng.randrange(5) for _ in range(rng.randrange(7))]
+    return t, n, encode(random_rules(rng, t, n, lengths))
+
+
+def larger_random(rng: Rng, states: int) -> Table:
+    """Q of about `states`; few symbols for so many rules, each nonterminal with one."""
+    t, n = 6 + rng.randrange(20), 3 + rng.randrange(12)
+    lengths = random_lengths(rng, states // 4, states)
+    rules = random_rules(rng, t, n, lengths)
+    rules[:n] = [(START + place, right) for place, (_, right) in enumerate(rules[:n])]
+    return t, n, encode(list(dict.fromkeys(rules)))
+
+
+@lru_cache(maxsize=1024)
+def good(table: Table) -> Grammar:
+    """The grammar of a table that passes its check."""
+    grammar = check_table(*table)
+    assert isinstance(grammar, Grammar)
+    return grammar
+
+
+def states_of(table: Table) -> int:
+    """Q of a good table."""
+    return good(table).states
+
+
+def triples_in(table: Table) -> Triples:
+    """The triples of a good table."""
+    return triples_of(good(table))
+
+
+def some(rng: Rng, count: int, wanted: Callable[[Triples], bool], most: int) -> List[Table]:
+    """Small random grammars with Q of 5 to `most` that are as wanted, none twice."""
+    found: List[Table] = []
+    while len(found) < count:
+        table = small_random(rng)
+        if 4 < states_of(table) <= most and table not in found:
+            if wanted(triples_in(table)):
+                found.append(table)
+    return found
+
+
+# Faulty tables.
+
+def out_of_range(rng: Rng) -> Table:
+    """A small table whose t, n or both are out of range."""
+    t, n, table = small_random(rng)
+    kind = rng.randrange(3)
+    if kind != 0:
+        t = rng.choice([128, 129, 255, 256, 2 ** 32, 2 ** 32 + t, LAST])
+    if kind != 1:
+        n = rng.choice([0, 128, 129, 256, 256 + n, 2 ** 32 + n, LAST])
+    return t, n, table
+
+
+def damaged_table(rng: Rng) -> Table:
+    """A table whose last rules may be at fault; also after 100 rules or Q of 256."""
+    t, n, rules = base_grammar(rng, rng.randrange(3))
+    return t, n, encode(rules) + faulty_rule(rng, t, n, rules, 1 << rng.randrange(6))
+
+
+def faulty_tables(rng: Rng, each: int) -> List[Table]:
+    """`each` tables that are refused for each of causes 1 to 8, cause by cause."""
+    found: Dict[int, List[Table]] = {cause: [] for cause in range(1, 9)}
+    found[OUT_OF_RANGE] = [out_of_range(rng) for _ in range(each)]
+    while any(len(tables) < each for tables in found.values()):
+        table = damaged_table(rng)
+        refusal = check_table(*table)
+        if isinstance(refusal, Refusal) and len(found[refusal.cause]) < each:
+            found[refusal.cause].append(table)
+    return [table for cause in sorted(found) for table in found[cause]]
+
+
+def rules_before_the_fault(table: Table) -> Table:
+    """A good grammar made of a faulty one: the rules in front of the refused one."""
+    t, n, data = table
+    refusal = check_table(t, n, data)
+    assert isinstance(refusal, Refusal)
+    if refusal.cause == OUT_OF_RANGE:
+        return ONE_A
+    return t, n, data[:rule_start(data, refusal.position)]

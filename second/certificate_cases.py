@@ -1,0 +1,311 @@
+"""Test inputs for the certificate check, and this program's answers to them.
+
+    certificate_cases.py cases FILE                writes the inputs
+    certificate_cases.py answers CASES OUT COUNTS  answers them and counts the reasons
+
+A case is t and n (8 bytes each), the table's length (4 bytes), the table, then
+the certificate's length (4 bytes) and the certificate, all little endian.
+"""
+
+import sys
+from typing import Iterator, NamedTuple, Optional
+
+from case_files import (
+    Kind, Reader, accepted_or_refused, cases_of, encode_number, encode_table, main,
+)
+from case_grammars import (
+    CLASSICS, LEFT_LIST, NESTED, ONE_A, ROWS, STATEMENTS, Table, faulty_tables, keywords,
+    larger_random, operators, rules_before_the_fault, some, states_of, triples_in,
+)
+from certificate_reasons import REASONS, reasons_of
+from certificates import check_certificate
+from table_cases import Rng, random_bytes
+from tables import MAX_STATES
+from triples import (
+    BYTE, Triples, certificate_length, certificate_of, closure, held_indexes,
+    is_potential, reached,
+)
+from ways import largest_set
+
+
+class Case(NamedTuple):
+    t: int
+    n: int
+    table: bytes
+    certificate: bytes
+
+
+# Building blocks.
+
+def smallest(table: Table) -> bytes:
+    """The smallest closed set from (0,0,0); right unless it holds (1,1,1)."""
+    triples = triples_in(table)
+    return certificate_of(triples.states, reached(triples))
+
+
+def closed_superset(rng: Rng, triples: Triples, adding: int) -> Optional[bytes]:
+    """The smallest set and `adding` random triples, closed; None with (1,1,1)."""
+    held = reached(triples)
+    for _ in range(adding):
+        more = closure(triples, [rng.randrange(triples.count)], held)
+        if triples.last not in more:
+            held = more
+    return None if triples.last in held else certificate_of(triples.states, held)
+
+
+def flipped(certificate: bytes, *indexes: int) -> bytes:
+    """The certificate with these bits changed."""
+    changed = bytearray(certificate)
+    for index in indexes:
+        changed[index // BYTE] ^= 1 << index % BYTE
+    return bytes(changed)
+
+
+def unambiguous(triples: Triples) -> bool:
+    return not is_potential(triples)
+
+
+def unambiguous_and_varied(triples: Triples) -> bool:
+    """Unambiguous with more than a few triples reached."""
+    return len(reached(triples)) >= 12 and unambiguous(triples)
+
+
+def is_odd(triples: Triples) -> bool:
+    """Odd Q: six spare bits in the last byte; an even Q has none."""
+    return triples.states % 2 == 1 and unambiguous(triples)
+
+
+# Groups of cases.
+
+def document(rng: Rng) -> Iterator[Case]:
+    """Document 01's certificate of S→a and its five cases; its rows' closed sets."""
+    right = smallest(ONE_A)
+    for certificate in (right, right[:8], bytes(9), b"\xff" * 9, b"\x01" + bytes(8)):
+        yield Case(*ONE_A, certificate)
+    for table in (LEFT_LIST, NESTED):
+        yield Case(*table, flipped(smallest(table), 162))
+    for table in ROWS:
+        yield Case(*table, smallest(table))
+
+
+def every_bit(rng: Rng) -> Iterator[Case]:
+    """Right certificates of small grammars with each single bit flipped."""
+    tables = [table for table in ROWS if unambiguous(triples_in(table))]
+    tables += [CLASSICS["list-right"], CLASSICS["list-empty-right"], CLASSICS["brackets-one"]]
+    for table in tables + some(rng, 30, unambiguous_and_varied, 10):
+        right = smallest(table)
+        yield Case(*table, right)
+        for index in range(BYTE * len(right)):
+            yield Case(*table, flipped(right, index))
+
+
+def every_bit_of_larger_sets(rng: Rng) -> Iterator[Case]:
+    """Larger closed sets, the largest too, with each single bit flipped."""
+    for table in ROWS[1:5] + some(rng, 12, unambiguous_and_varied, 9):
+        triples = triples_in(table)
+        sets = [certificate_of(triples.states, largest_set(triples))]
+        sets.append(closed_superset(rng, triples, 5) or smallest(table))
+        for certificate in sets:
+            yield Case(*table, certificate)
+            for index in range(BYTE * len(certificate)):
+                yield Case(*table, flipped(certificate, index))
+
+
+def some_bits(rng: Rng) -> Iterator[Case]:
+    """Right certificates with one or two bits flipped, held ones as often as others."""
+    tables = list(CLASSICS.values()) + some(rng, 170, unambiguous_and_varied, 24)
+    for table in tables:
+        triples = triples_in(table)
+        if not unambiguous(triples):
+            continue
+        right = smallest(table)
+        held = sorted(reached(triples))
+        yield Case(*table, right)
+        for _ in range(9):
+            one, other = rng.choice(held), rng.randrange(triples.count)
+            yield Case(*table, flipped(right, one))
+            yield Case(*table, flipped(right, other))
+            yield Case(*table, flipped(right, *{one, other}))
+
+
+def lengths(rng: Rng) -> Iterator[Case]:
+    """Too short, too long and empty, of right certificates and of wrong ones."""
+    tables = ROWS + list(CLASSICS.values()) + some(rng, 70, unambiguous, 40)
+    for table in tables:
+        right = smallest(table)
+        yield Case(*table, b"")
+        yield Case(*table, right[:-1])
+        yield Case(*table, right[1:])
+        yield Case(*table, right + b"\0")
+        yield Case(*table, right + b"\xff")
+        yield Case(*table, right + right)
+        other = len(right) + rng.choice([-1, 1])
+        yield Case(*table, rng.choice([b"\0", b"\xff"]) * other)
+        yield Case(*table, random_bytes(rng, rng.randrange(2 * len(right))))
+
+
+def spare_bits(rng: Rng) -> Iterator[Case]:
+    """Spare bits set: each alone, several, and beside later faults."""
+    for table in some(rng, 60, is_odd, 40):
+        triples = triples_in(table)
+        right, count, last = smallest(table), triples.count, triples.last
+        spare = range(count, BYTE * len(right))
+        for index in spare:
+            yield Case(*table, flipped(right, index))
+        yield Case(*table, flipped(right, *spare))
+        yield Case(*table, flipped(right, *spare[2:5]))
+        yield Case(*table, flipped(right, rng.choice(spare), 0))
+        yield Case(*table, flipped(right, rng.choice(spare), last))
+        yield Case(*table, flipped(right, rng.choice(spare), rng.randrange(count)))
+        yield Case(*table, flipped(bytes(len(right)), spare[-1]))
+
+
+def closed_sets(rng: Rng) -> Iterator[Case]:
+    """Closed sets between the smallest and the largest, also with a bit flipped."""
+    tables = list(CLASSICS.values()) + some(rng, 130, unambiguous, 20)
+    for table in tables:
+        triples = triples_in(table)
+        if not unambiguous(triples):
+            continue
+        largest = certificate_of(triples.states, largest_set(triples))
+        yield Case(*table, largest)
+        yield Case(*table, flipped(largest, rng.randrange(triples.count)))
+        for adding in (1, 1, 1, 4, 20):
+            certificate = closed_superset(rng, triples, adding)
+            if certificate is not None:
+                yield Case(*table, certificate)
+                held = held_indexes(certificate)
+                yield Case(*table, flipped(certificate, rng.choice(held)))
+                yield Case(*table, flipped(certificate, rng.randrange(triples.count)))
+
+
+def extremes(rng: Rng) -> Iterator[Case]:
+    """All 0, all 1, random bytes, and few or all but few bits."""
+    tables = ROWS + list(CLASSICS.values()) + some(rng, 90, lambda triples: True, 40)
+    for table in tables:
+        triples = triples_in(table)
+        size, first, last = certificate_length(triples.states), triples.first, triples.last
+        full = certificate_of(triples.states, range(triples.count))
+        for certificate in (bytes(size), full):
+            for bits in ((), (first,), (last,), (first, last)):
+                yield Case(*table, flipped(certificate, *bits))
+        yield Case(*table, b"\xff" * size)
+        noise = flipped(random_bytes(rng, size), *range(triples.count, BYTE * size))
+        yield Case(*table, noise)
+        sparse = [rng.randrange(triples.count) for _ in range(4)]
+        yield Case(*table, certificate_of(triples.states, [first] + sparse))
+        yield Case(*table, certificate_of(triples.states, sparse))
+        yield Case(*table, certificate_of(triples.states, triples.successors(first)))
+
+
+def potential(rng: Rng) -> Iterator[Case]:
+    """Grammars that have no right certificate: 12, or 13 without (1,1,1)."""
+    tables = ROWS + list(CLASSICS.values()) + some(rng, 110, is_potential, 18)
+    for table in tables:
+        triples = triples_in(table)
+        if not is_potential(triples):
+            continue
+        certificate, last = smallest(table), triples.last
+        held = sorted(reached(triples))
+        yield Case(*table, certificate)
+        yield Case(*table, flipped(certificate, last))
+        yield Case(*table, flipped(certificate, *{last, rng.choice(held)}))
+        yield Case(*table, flipped(certificate, *{last, rng.choice(held)}))
+        yield Case(*table, flipped(certificate, triples.first))
+        largest = largest_set(triples) | {triples.first}
+        yield Case(*table, certificate_of(triples.states, largest))
+
+
+def of_other_grammars(rng: Rng) -> Iterator[Case]:
+    """The right certificate of another grammar, of the same Q more often than not."""
+    tables = ROWS + list(CLASSICS.values()) + some(rng, 250, unambiguous, 20)
+    for place, table in enumerate(tables):
+        states = states_of(table)
+        alike = [other for other in tables[:place] if states_of(other) == states]
+        for other in alike[-3:] + [rng.choice(tables)]:
+            yield Case(*table, smallest(other))
+
+
+def faulty(rng: Rng) -> Iterator[Case]:
+    """Faulty tables, with certificates right for the rules before the fault or not."""
+    for table in faulty_tables(rng, 30):
+        good = rules_before_the_fault(table)
+        if states_of(good) < 40:
+            yield Case(*table, smallest(good))
+        yield Case(*table, rng.choice([b"", b"", smallest(ONE_A), b"\xff" * 9]))
+
+
+def larger(rng: Rng) -> Iterator[Case]:
+    """Q from 60 to 120: right ones, flipped ones, closed sets, wrong ones."""
+    tables = [operators(levels) for levels in (9, 13, 16)] + [STATEMENTS]
+    tables += [keywords(rng, 16, states) for states in (61, 75, 98, 119, 120)]
+    tables += [larger_random(rng, states) for states in (63, 90)]
+    for table in tables:
+        triples = triples_in(table)
+        right, held = smallest(table), sorted(reached(triples))
+        yield Case(*table, right)
+        for _ in range(16):
+            yield Case(*table, flipped(right, rng.choice(held)))
+            yield Case(*table, flipped(right, rng.randrange(triples.count)))
+        for adding in (1, 3, 9):
+            yield Case(*table, closed_superset(rng, triples, adding) or right[:-1])
+        yield Case(*table, b"\xff" * len(right))
+        yield Case(*table, flipped(right, triples.last))
+        if triples.states < 80:
+            yield Case(*table, certificate_of(triples.states, largest_set(triples)))
+
+
+def largest_grammar(rng: Rng) -> Iterator[Case]:
+    """Q = 256: indexes up to 131,071."""
+    table = keywords(rng, 30, MAX_STATES)
+    triples = triples_in(table)
+    right, held = smallest(table), sorted(reached(triples))
+    yield Case(*table, right)
+    for _ in range(12):
+        yield Case(*table, flipped(right, rng.choice(held)))
+        yield Case(*table, flipped(right, rng.randrange(triples.count)))
+    yield Case(*table, flipped(right, held[-1]))
+    yield Case(*table, flipped(right, triples.count - 1))
+    yield Case(*table, flipped(right, triples.last))
+    yield Case(*table, right[:-1])
+    yield Case(*table, right + b"\0")
+    yield Case(*table, b"\xff" * len(right))
+    for adding in (1, 20, 200):
+        certificate = closed_superset(rng, triples, adding)
+        if certificate is not None:
+            yield Case(*table, certificate)
+            yield Case(*table, flipped(certificate, held_indexes(certificate)[-1]))
+
+
+GROUPS = [
+    document, every_bit, every_bit_of_larger_sets, some_bits, lengths, spare_bits,
+    closed_sets, extremes, potential, of_other_grammars, faulty, larger, largest_grammar,
+]
+
+
+# Answers.
+
+def answer(case: Case) -> str:
+    """The line of one case, without its byte 10."""
+    return accepted_or_refused(check_certificate(*case))
+
+
+# Files.
+
+def encode_case(case: Case) -> bytes:
+    """One case of the file of inputs."""
+    return (encode_table(*case[:3]) + encode_number(len(case.certificate))
+            + case.certificate)
+
+
+def decode_case(reader: Reader) -> Case:
+    """The next case of a file of inputs."""
+    t, n, table = reader.table()
+    return Case(t, n, table, reader.take(reader.number()))
+
+
+KIND = Kind(lambda: cases_of(GROUPS), encode_case, decode_case, answer,
+            REASONS, lambda case: reasons_of(*case))
+
+if __name__ == "__main__":
+    sys.exit(main(KIND, __doc__, sys.argv[1:]))

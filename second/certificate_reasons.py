@@ -1,0 +1,142 @@
+"""Sorts certificate cases by reasons finer than document 01's causes.
+
+The counts of these reasons show that a file of cases tries every fault, every
+way in which a successor is missing, and every place where the order shows.
+"""
+
+from typing import List, Set, Tuple
+
+from case_files import TABLE_REASONS
+from certificates import (
+    FIRST_MISSING, LAST_PRESENT, SPARE_BIT, SUCCESSOR_MISSING, WRONG_LENGTH,
+    certificate_fault, checked_triples, successor_fault,
+)
+from tables import MAX_STATES, Refusal
+from triples import Triples, certificate_length, held_indexes, is_potential, reached
+from ways import largest_set
+
+REASONS = [
+    "accepted-smallest",
+    "accepted-larger",
+    "accepted-largest-possible",
+    "accepted-with-spare-bits-there",
+    "accepted-over-60-states",
+] + TABLE_REASONS + [
+    "1-to-8-with-an-empty-certificate",
+    "9-empty",
+    "9-one-byte-short",
+    "9-shorter",
+    "9-one-byte-long",
+    "9-longer",
+    "9-though-its-front-is-right",
+    "10-lowest-spare-bit",
+    "10-a-later-spare-bit",
+    "11",
+    "12",
+    "12-of-a-potential-grammar",
+    "13-at-0",
+    "13-opening-or-shift-of-layer-0-missing",
+    "13-parting-missing",
+    "13-successor-in-layer-1-missing",
+    "13-missing-index-below-its-holder",
+    "13-missing-index-above-its-holder",
+    "13-lowest-of-several",
+    "13-of-a-potential-grammar",
+    "order-10-before-11",
+    "order-10-before-12",
+    "order-10-before-13",
+    "order-11-before-12",
+    "order-11-before-13",
+    "order-12-before-13",
+    "256-states",
+]
+
+
+def reasons_of(t: int, n: int, table: bytes, certificate: bytes) -> List[str]:
+    """Every reason of REASONS that this case meets."""
+    triples = checked_triples(t, n, table)
+    if isinstance(triples, Refusal):
+        empty = ["1-to-8-with-an-empty-certificate"] if not certificate else []
+        return [str(triples.cause)] + empty
+    fault = certificate_fault(triples, certificate)
+    names = ["256-states"] if triples.states == MAX_STATES else []
+    if fault is None:
+        return names + accepted_reasons(triples, certificate)
+    if fault.cause == WRONG_LENGTH:
+        return names + length_reasons(triples, certificate)
+    return names + later_reasons(triples, certificate, fault)
+
+
+def accepted_reasons(triples: Triples, certificate: bytes) -> List[str]:
+    """How large an accepted certificate is."""
+    size = len(held_indexes(certificate))
+    least = size == len(reached(triples))
+    met = [
+        ("accepted-smallest", least),
+        ("accepted-larger", not least),
+        ("accepted-largest-possible",
+         not least and triples.states < 40 and size == len(largest_set(triples))),
+        ("accepted-with-spare-bits-there", triples.states % 2 == 1),
+        ("accepted-over-60-states", triples.states > 60),
+    ]
+    return [name for name, holds in met if holds]
+
+
+def length_reasons(triples: Triples, certificate: bytes) -> List[str]:
+    """How the length is wrong, and whether it alone is."""
+    size, need = len(certificate), certificate_length(triples.states)
+    front = size > need and certificate_fault(triples, certificate[:need]) is None
+    met = [
+        ("9-empty", size == 0),
+        ("9-one-byte-short", size == need - 1),
+        ("9-shorter", size < need - 1),
+        ("9-one-byte-long", size == need + 1),
+        ("9-longer", size > need + 1),
+        ("9-though-its-front-is-right", front),
+    ]
+    return [name for name, holds in met if holds]
+
+
+def later_reasons(triples: Triples, certificate: bytes, fault: Refusal) -> List[str]:
+    """How causes 10 to 13 show, and which later faults the order hides."""
+    held = [index for index in held_indexes(certificate) if index < triples.count]
+    if fault.cause == SUCCESSOR_MISSING:
+        return successor_reasons(triples, held, fault.position)
+    later = [
+        (FIRST_MISSING, triples.first not in held),
+        (LAST_PRESENT, triples.last in held),
+        (SUCCESSOR_MISSING, successor_fault(triples, held) is not None),
+    ]
+    names = ["order-%d-before-%d" % (fault.cause, cause)
+             for cause, there in later if there and cause > fault.cause]
+    if fault.cause == SPARE_BIT:
+        lowest = fault.position == triples.count
+        return names + ["10-lowest-spare-bit" if lowest else "10-a-later-spare-bit"]
+    if fault.cause == LAST_PRESENT and is_potential(triples):
+        names.append("12-of-a-potential-grammar")
+    return names + [str(fault.cause)]
+
+
+def successor_reasons(triples: Triples, held: List[int], holder: int) -> List[str]:
+    """Which successors the lowest holder lacks, and whether others lack one."""
+    holds = set(held)
+    missing = [index for index in triples.successors(holder) if index not in holds]
+    half = triples.count // 2
+    later = [index for index in held if index > holder]
+    met: List[Tuple[str, bool]] = [
+        ("13-at-0", holder == 0),
+        ("13-opening-or-shift-of-layer-0-missing", any(i < half for i in missing)),
+        ("13-parting-missing", holder < half <= max(missing)),
+        ("13-successor-in-layer-1-missing", holder >= half),
+        ("13-missing-index-below-its-holder", max(missing) < holder),
+        ("13-missing-index-above-its-holder", min(missing) > holder),
+        ("13-lowest-of-several", lacks_one(triples, holds, later)),
+        ("13-of-a-potential-grammar", is_potential(triples)),
+    ]
+    return [name for name, there in met if there]
+
+
+def lacks_one(triples: Triples, holds: Set[int], indexes: List[int]) -> bool:
+    """Whether one of these has a successor that is not held."""
+    return any(successor not in holds
+               for index in indexes for successor in triples.successors(index))

@@ -1,0 +1,157 @@
+"""Good grammars with names, from which the cases of texts are made.
+
+The texts here are put together without the writer of text.py.
+"""
+
+import random
+from typing import Dict, List, NamedTuple, Sequence
+
+from table_cases import FIGURES, Rule, encode, large_grammar, random_rules, small_grammar
+from tables import MAX_LENGTH, MAX_NONTERMINALS, MAX_TERMINALS, START
+from text import MAX_NAME, NAME_BYTES, Lent
+
+Rng = random.Random
+
+LONGEST_TEXT = 8719      # bytes of the longest text that is read
+MAX_BYTES = 70000        # bytes of the longest text, or names, of a case
+MAX_LENT = 70000         # entries of the longest row that a case lends
+
+
+class Named(NamedTuple):
+    """A good grammar; `names` in order of symbol numbers."""
+
+    t: int
+    n: int
+    rules: List[Rule]
+    names: List[bytes]
+
+
+# Names.
+
+def random_name(rng: Rng, length: int) -> bytes:
+    return bytes(rng.choice(NAME_BYTES) for _ in range(length))
+
+
+def random_length(rng: Rng) -> int:
+    """The length of a name, often short, often 15."""
+    kind = rng.randrange(6)
+    if kind == 0:
+        return MAX_NAME
+    return 1 + rng.randrange(MAX_NAME if kind == 1 else 4)
+
+
+def random_names(rng: Rng, count: int) -> List[bytes]:
+    """Different names of many lengths."""
+    names: Dict[bytes, None] = {}
+    while len(names) < count:
+        names[random_name(rng, random_length(rng))] = None
+    return list(names)
+
+
+def long_names(rng: Rng, count: int) -> List[bytes]:
+    """Different names of 15 bytes."""
+    names: Dict[bytes, None] = {}
+    while len(names) < count:
+        names[random_name(rng, MAX_NAME)] = None
+    return list(names)
+
+
+def counted_names(count: int) -> List[bytes]:
+    """Different names of 4 digits or letters each, for long lists."""
+    digits = b"0123456789abcdefghijklmnopqrstuvwxyz"
+    return [bytes([digits[i // 46656 % 36], digits[i // 1296 % 36],
+                   digits[i // 36 % 36], digits[i % 36]]) for i in range(count)]
+
+
+def name_of(grammar: Named, code: int) -> bytes:
+    """The name of a code: "Symbol numbers run over the terminals, then [...]"."""
+    if code < START:
+        return grammar.names[code - 1]
+    return grammar.names[grammar.t + code - START]
+
+
+# Texts.
+
+def rule_line(grammar: Named, rule: Rule) -> bytes:
+    left, right = rule
+    return b"rule=%s:%s" % (
+        name_of(grammar, left), b"".join(b" " + name_of(grammar, code) for code in right))
+
+
+def lines_of(grammar: Named) -> List[bytes]:
+    """The lines of the grammar's text, without their byte 10."""
+    return [b"terminals=" + b",".join(grammar.names[:grammar.t]),
+            b"nonterminals=" + b",".join(grammar.names[grammar.t:])
+            ] + [rule_line(grammar, rule) for rule in grammar.rules]
+
+
+def join_lines(lines: Sequence[bytes]) -> bytes:
+    """The lines, each ended by byte 10."""
+    return b"".join(line + b"\n" for line in lines)
+
+
+def text_of(grammar: Named) -> bytes:
+    return join_lines(lines_of(grammar))
+
+
+# Grammars.
+
+def with_names(rng: Rng, t: int, n: int, rules: List[Rule]) -> Named:
+    return Named(t, n, rules, random_names(rng, t + n))
+
+
+def small_named(rng: Rng, most: int = 6) -> Named:
+    """A grammar of few symbols and rules."""
+    return with_names(rng, *small_grammar(rng, most))
+
+
+def large_named(rng: Rng, count: int, states: int) -> Named:
+    """A grammar of `count` rules and Q = `states`."""
+    return with_names(rng, *large_grammar(rng, count, states))
+
+
+def full_named(rng: Rng) -> Named:
+    """A grammar at some limit: symbols, rules, states or all of them."""
+    t = rng.choice([0, 1, 126, MAX_TERMINALS])
+    n = rng.choice([1, 2, 126, MAX_NONTERMINALS])
+    lengths = [rng.randrange(5) for _ in range(rng.randrange(40))]
+    return with_names(rng, t, n, random_rules(rng, t, n, lengths))
+
+
+def longest_named(rng: Rng) -> Named:
+    """All limits at once, with names of 15 bytes: the longest text there is."""
+    t, n = MAX_TERMINALS, MAX_NONTERMINALS
+    rules = random_rules(rng, t, n, [MAX_LENGTH] * 5 + [1] * 92 + [0] * 3)
+    return Named(t, n, rules, long_names(rng, t + n))
+
+
+def figures_named() -> List[Named]:
+    """Document 01's "Grammars on file", its names being a, b, S, A, B."""
+    return [Named(t, n, rules, [b"a", b"b"][:t] + [b"S", b"A", b"B"][:n])
+            for t, n, rules in FIGURES]
+
+
+# Lent rows.
+
+def exact_lent(grammar: Named) -> Lent:
+    """Rows exactly as long as the reader's outputs."""
+    symbols = grammar.t + grammar.n
+    return Lent(len(encode(grammar.rules)), symbols, symbols)
+
+
+def ample_lent(rng: Rng) -> Lent:
+    """Rows long enough for every grammar."""
+    return Lent(*(size + rng.randrange(200) for size in (352, 254, 254)))
+
+
+def any_lent(rng: Rng, grammar: Named) -> Lent:
+    """Rows of all sizes, enough in most cases."""
+    kind = rng.randrange(8)
+    exact = exact_lent(grammar)
+    if kind < 4:
+        return ample_lent(rng)
+    if kind < 6:
+        return exact
+    if kind == 6:
+        return Lent(*(rng.choice([0, size, max(0, size - 1)]) for size in exact))
+    return Lent(*(size + rng.randrange(3) for size in exact))

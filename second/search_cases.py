@@ -1,0 +1,306 @@
+"""Test inputs for the search, this program's answers, and a check of witnesses.
+
+    search_cases.py cases FILE                writes the inputs
+    search_cases.py answers CASES OUT COUNTS  answers them and counts the reasons
+    search_cases.py witness-ok CASES FOUND    checks the witnesses that were found
+
+A case is t and n (8 bytes each), the table's length (4 bytes), the table, then
+what is lent (4 bytes each): certificate bytes, and entries of queue, parents
+and witness; then one byte that these are filled with. All is little endian.
+
+FOUND has for each potential case, in order, the witness's number of entries
+and the entries (4 bytes each), and nothing for the other cases.
+"""
+
+import sys
+from typing import Iterator, List, NamedTuple, Optional, Sequence, Tuple
+
+from case_files import (
+    TABLE_REASONS, Kind, Reader, cases_of, encode_number, encode_table, main,
+    read_cases, refused,
+)
+from case_grammars import (
+    CLASSICS, ROWS, STATEMENTS, Table, faulty_tables, keywords, larger_random, operators,
+    rules_before_the_fault, small_random, some, states_of,
+)
+from certificates import check_witness, checked_triples
+from derivations import used_rules
+from searches import Lent, Potential, Unambiguous, needed, search
+from table_cases import Rng
+from tables import MAX_STATES, START, Grammar, Refusal, check_table
+from triples import is_potential, reached
+
+NAMES = Lent._fields      # certificate, queue, parents, witness
+
+
+class Case(NamedTuple):
+    t: int
+    n: int
+    table: bytes
+    lent: Lent
+    fill: int
+
+
+# Groups of cases.
+
+def fill(rng: Rng) -> int:
+    """A byte that lent memory holds before; 0 and 255 more often."""
+    return rng.choice([0, 255, rng.randrange(256), rng.randrange(256)])
+
+
+def more(rng: Rng, lent: Lent, most: int) -> Lent:
+    """Each length longer by up to `most`, some by nothing."""
+    return Lent(*(length + rng.choice([0, 1, rng.randrange(most)]) for length in lent))
+
+
+def exact_and_longer(rng: Rng, table: Table) -> Iterator[Case]:
+    """Lent exactly enough, and more."""
+    need = needed(states_of(table))
+    yield Case(*table, need, fill(rng))
+    yield Case(*table, more(rng, need, 40), fill(rng))
+
+
+def too_short(rng: Rng, table: Table) -> Iterator[Case]:
+    """One entry too short in each of the four in turn, the others enough."""
+    need = needed(states_of(table))
+    for place in range(len(need)):
+        lent = list(more(rng, need, 40))
+        lent[place] = need[place] - 1
+        yield Case(*table, Lent(*lent), fill(rng))
+
+
+def short_and_empty(rng: Rng, table: Table) -> Iterator[Case]:
+    """Nothing lent, one of the four empty, several too short, each four times Q."""
+    need = needed(states_of(table))
+    yield Case(*table, Lent(0, 0, 0, 0), fill(rng))
+    yield Case(*table, need._replace(**{rng.choice(NAMES): 0}), fill(rng))
+    yield Case(*table, Lent(*(rng.randrange(length + 1) for length in need)), fill(rng))
+    yield Case(*table, Lent(need.certificate, *[need.certificate] * 3), fill(rng))
+
+
+def rows_and_classics(rng: Rng) -> Iterator[Case]:
+    """Document 01's grammars and classic ones, with every kind of lengths."""
+    for table in ROWS + list(CLASSICS.values()) + [operators(2), operators(4)]:
+        yield from exact_and_longer(rng, table)
+        yield from too_short(rng, table)
+        yield from short_and_empty(rng, table)
+
+
+def random_grammars(rng: Rng) -> Iterator[Case]:
+    """Small random grammars, lent exactly enough or more."""
+    for _ in range(1300):
+        table = small_random(rng)
+        yield rng.choice(list(exact_and_longer(rng, table)))
+    for table in some(rng, 450, lambda triples: len(reached(triples)) > 30, 40):
+        yield rng.choice(list(exact_and_longer(rng, table)))
+
+
+def random_short(rng: Rng) -> Iterator[Case]:
+    """Small random grammars, lent too little."""
+    for table in some(rng, 120, lambda triples: True, 40):
+        yield from too_short(rng, table)
+        yield rng.choice(list(short_and_empty(rng, table)))
+
+
+def much_longer(rng: Rng) -> Iterator[Case]:
+    """Rows far longer than any grammar needs."""
+    for table in ROWS:
+        yield Case(*table, Lent(*(100000 + rng.randrange(50000) for _ in NAMES)), fill(rng))
+        lent = more(rng, needed(states_of(table)), 40)
+        yield Case(*table, lent._replace(**{rng.choice(NAMES): 140000}), fill(rng))
+
+
+def larger(rng: Rng) -> Iterator[Case]:
+    """Q from 60 to 120."""
+    tables = [operators(levels) for levels in (9, 13, 17)] + [STATEMENTS]
+    tables += [keywords(rng, 16, states) for states in (61, 75, 98, 111, 119, 120)]
+    tables += [larger_random(rng, states) for states in range(61, 121, 3)]
+    for table in tables:
+        yield from exact_and_longer(rng, table)
+        yield rng.choice(list(too_short(rng, table)))
+
+
+def largest(rng: Rng) -> Iterator[Case]:
+    """Q = 256, the most that passes."""
+    tables = [keywords(rng, count, MAX_STATES) for count in (22, 30, 50)]
+    for table in tables + [larger_random(rng, MAX_STATES)]:
+        yield from exact_and_longer(rng, table)
+        yield from too_short(rng, table)
+
+
+def faulty(rng: Rng) -> Iterator[Case]:
+    """Faulty tables, lent enough for the rules before the fault, or nothing."""
+    for table in faulty_tables(rng, 35):
+        need = needed(states_of(rules_before_the_fault(table)))
+        lent = rng.choice([need, more(rng, need, 40), Lent(0, 0, 0, 0)])
+        yield Case(*table, lent, fill(rng))
+
+
+GROUPS = [
+    rows_and_classics, random_grammars, random_short, much_longer, larger, largest, faulty,
+]
+
+
+# Answers.
+
+def answer(case: Case) -> str:
+    """The line of one case, without its byte 10."""
+    result = search(*case[:4])
+    if isinstance(result, Refusal):
+        return refused(result)
+    if isinstance(result, Potential):
+        return "potential"
+    return "unambiguous size=%d certificate=%s" % (result.size, result.certificate.hex())
+
+
+# Reasons.
+
+REASONS = TABLE_REASONS + [
+    "1-to-8-with-nothing-lent",
+] + ["14-%s-one-too-short" % name for name in NAMES] + [
+    "14-one-empty",
+    "14-several",
+    "14-nothing-lent",
+    "14-of-a-potential-grammar",
+    "14-of-an-unambiguous-grammar",
+] + ["%s-%s" % (verdict, how)
+     for verdict in ("unambiguous", "potential")
+     for how in ("exactly-enough", "longer", "every-rule-used", "a-rule-no-sentence-uses",
+                 "odd-states", "even-states", "over-60-states")
+] + [
+    "unambiguous-without-a-rule-of-S",
+    "unambiguous-with-layer-1",
+    "256-states",
+]
+
+
+def reasons_of(case: Case) -> List[str]:
+    """Every reason of REASONS that this case meets."""
+    grammar = check_table(case.t, case.n, case.table)
+    if isinstance(grammar, Refusal):
+        nothing = not any(case.lent)
+        return [str(grammar.cause)] + ["1-to-8-with-nothing-lent"] * nothing
+    result = search(*case[:4])
+    if isinstance(result, Refusal):
+        met = short_reasons(case, grammar)
+    else:
+        met = found_reasons(case, grammar, result)
+    met.append(("256-states", grammar.states == MAX_STATES))
+    return [name for name, holds in met if holds]
+
+
+def short_reasons(case: Case, grammar: Grammar) -> List[Tuple[str, bool]]:
+    """What was lent too short."""
+    need = needed(grammar.states)
+    short = [name for name, given, length in zip(NAMES, case.lent, need) if given < length]
+    by_one = [name for name in short if getattr(case.lent, name) == getattr(need, name) - 1]
+    triples = checked_triples(*case[:3])
+    assert not isinstance(triples, Refusal)
+    potential = is_potential(triples)
+    met = [("14-%s-one-too-short" % name, len(short) == 1) for name in by_one]
+    return met + [
+        ("14-one-empty", len(short) == 1 and getattr(case.lent, short[0]) == 0),
+        ("14-several", len(short) > 1),
+        ("14-nothing-lent", not any(case.lent)),
+        ("14-of-a-potential-grammar", potential),
+        ("14-of-an-unambiguous-grammar", not potential),
+    ]
+
+
+def found_reasons(case: Case, grammar: Grammar, result) -> List[Tuple[str, bool]]:
+    """The verdict and what kind of grammar and rows it is about."""
+    used, exact = used_rules(grammar), case.lent == needed(grammar.states)
+    unambiguous = isinstance(result, Unambiguous)
+    verdict = "unambiguous-" if unambiguous else "potential-"
+    met = [
+        ("exactly-enough", exact),
+        ("longer", not exact),
+        ("every-rule-used", all(used)),
+        ("a-rule-no-sentence-uses", not all(used)),
+        ("odd-states", grammar.states % 2 == 1),
+        ("even-states", grammar.states % 2 == 0),
+        ("over-60-states", grammar.states > 60),
+    ]
+    return [(verdict + name, holds) for name, holds in met] + [
+        ("unambiguous-without-a-rule-of-S", unambiguous and not opens(grammar)),
+        ("unambiguous-with-layer-1", unambiguous and has_layer_1(grammar, result)),
+    ]
+
+
+def opens(grammar: Grammar) -> bool:
+    """Whether S has a rule."""
+    return any(rule.left == START for rule in grammar.rules)
+
+
+def has_layer_1(grammar: Grammar, result: Unambiguous) -> bool:
+    """Whether the certificate holds a triple of layer 1."""
+    bits = int.from_bytes(result.certificate, "little")
+    return bits >> grammar.states * grammar.states != 0
+
+
+# Witnesses that were found.
+
+def witness_faults(
+    cases: Sequence[Case], found: bytes
+) -> Iterator[Tuple[int, Optional[Refusal]]]:
+    """For each potential case its number from 0 and the fault of its witness.
+
+    ValueError if `found` is cut, has bytes left over, or gives more entries
+    than were lent.
+    """
+    reader = Reader(found)
+    for number, case in enumerate(cases):
+        if isinstance(search(*case[:4]), Potential):
+            entries = reader.numbers(reader.number())
+            if len(entries) > case.lent.witness:
+                raise ValueError("case %d: more entries than were lent" % number)
+            yield number, check_witness(*case[:3], entries)
+    if not reader.at_end():
+        raise ValueError("bytes are left over after the last witness")
+
+
+def witness_ok(cases_path: str, found_path: str) -> int:
+    """The verb `witness-ok`: 0 if every witness is accepted, else 1."""
+    with open(found_path, "rb") as file:
+        found = file.read()
+    accepted = wrong = 0
+    try:
+        for number, fault in witness_faults(read_cases(KIND, cases_path), found):
+            if fault is None:
+                accepted += 1
+            else:
+                wrong += 1
+                print("case %d: %s" % (number, refused(fault)), file=sys.stderr)
+    except ValueError as error:
+        print(error, file=sys.stderr)
+        return 1
+    print("accepted %d wrong %d" % (accepted, wrong))
+    return 1 if wrong else 0
+
+
+# Files.
+
+def encode_case(case: Case) -> bytes:
+    """One case of the file of inputs."""
+    lengths = b"".join(map(encode_number, case.lent))
+    return encode_table(*case[:3]) + lengths + bytes([case.fill])
+
+
+def decode_case(reader: Reader) -> Case:
+    """The next case of a file of inputs."""
+    t, n, table = reader.table()
+    return Case(t, n, table, Lent(*reader.numbers(len(NAMES))), reader.take(1)[0])
+
+
+KIND = Kind(lambda: cases_of(GROUPS), encode_case, decode_case, answer, REASONS, reasons_of)
+
+
+def run(words: Sequence[str]) -> int:
+    """The verbs, `witness-ok` beside those of every file of cases."""
+    if len(words) == 3 and words[0] == "witness-ok":
+        return witness_ok(words[1], words[2])
+    return main(KIND, __doc__, words)
+
+
+if __name__ == "__main__":
+    sys.exit(run(sys.argv[1:]))

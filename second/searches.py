@@ -1,0 +1,54 @@
+"""The search of document 01: what it must be lent, and what it answers.
+
+The witness of a potential verdict is the program's choice and not given here;
+`certificates.check_witness` says whether a choice is right.
+"""
+
+from typing import NamedTuple, Union
+
+from certificates import checked_triples
+from tables import Refusal
+from triples import LAYERS, certificate_length, certificate_of, reached
+
+ROW_TOO_SHORT = 14        # "a lent output or work row too short"
+
+
+class Lent(NamedTuple):
+    """How much is lent: certificate bytes, and entries of the three rows."""
+
+    certificate: int
+    queue: int
+    parents: int
+    witness: int
+
+
+class Unambiguous(NamedTuple):
+    """"With unambiguous the search returns the size", and writes the certificate."""
+
+    size: int
+    certificate: bytes
+
+
+class Potential(NamedTuple):
+    """The search writes a witness of its own choice."""
+
+
+def needed(states: int) -> Lent:
+    """What is lent enough: "three rows of 2Q² 32-bit entries", and the bytes."""
+    row = LAYERS * states * states
+    return Lent(certificate_length(states), row, row, row)
+
+
+def search(
+    t: int, n: int, table: bytes, lent: Lent
+) -> Union[Refusal, Unambiguous, Potential]:
+    """Table faults, then 14 at 0 if anything lent is too short, then the verdict."""
+    triples = checked_triples(t, n, table)
+    if isinstance(triples, Refusal):
+        return triples
+    if any(given < need for given, need in zip(lent, needed(triples.states))):
+        return Refusal(ROW_TOO_SHORT, 0)
+    held = reached(triples)
+    if triples.last in held:
+        return Potential()
+    return Unambiguous(len(held), certificate_of(triples.states, held))

@@ -1,0 +1,286 @@
+"""Test inputs for the step records, and this program's answers to them.
+
+    step_cases.py cases FILE                writes the inputs
+    step_cases.py answers CASES OUT COUNTS  answers them and counts the reasons
+
+A case is t and n (8 bytes each), the table's length (4 bytes), the table, then
+layer, left and right (4 bytes each), all little endian.
+"""
+
+import sys
+from typing import Iterator, List, NamedTuple, Tuple
+
+from case_files import (
+    LARGEST, TABLE_REASONS, Kind, Reader, cases_of, encode_number, encode_table,
+    main, refused,
+)
+from case_grammars import (
+    CLASSICS, ONE_A, ROWS, STATEMENTS, Table, faulty_tables, keywords, larger_random,
+    operators, some, triples_in,
+)
+from certificates import checked_triples
+from table_cases import Rng, encode
+from tables import MAX_STATES, START, Refusal
+from triples import (
+    CLOSING, OPENING, STILL, SYMBOL, Move, Step, Triple, Triples, in_range,
+    reached, steps, triple_at,
+)
+
+LETTERS = {OPENING: "o", CLOSING: "c", SYMBOL: "s"}
+MANY = 100                # records of a triple that count as many
+
+
+class Case(NamedTuple):
+    t: int
+    n: int
+    table: bytes
+    triple: Triple
+
+
+# Groups of cases.
+
+def all_of(table: Table) -> Iterator[Case]:
+    """Every triple of a grammar."""
+    triples = triples_in(table)
+    for index in range(triples.count):
+        yield Case(*table, triple_at(triples.states, index))
+
+
+def rows(rng: Rng) -> Iterator[Case]:
+    """Every triple of document 01's grammars."""
+    for table in ROWS:
+        yield from all_of(table)
+
+
+def small(rng: Rng) -> Iterator[Case]:
+    """Every triple of small random grammars."""
+    for table in some(rng, 28, lambda triples: triples.states > 6, 11):
+        yield from all_of(table)
+
+
+def larger_grammars(rng: Rng) -> List[Table]:
+    """Classic grammars, and larger ones up to Q = 256."""
+    tables = list(CLASSICS.values()) + [operators(3), operators(12), STATEMENTS]
+    tables += some(rng, 20, lambda triples: triples.states > 18, 34)
+    tables += [larger_random(rng, states) for states in (60, 90, 120, MAX_STATES)]
+    return tables + [keywords(rng, 24, 100), keywords(rng, 40, MAX_STATES)]
+
+
+def larger(rng: Rng) -> Iterator[Case]:
+    """Random triples of larger grammars: reached ones, and any."""
+    for table in larger_grammars(rng):
+        triples = triples_in(table)
+        held = sorted(reached(triples))
+        for _ in range(14):
+            yield Case(*table, triple_at(triples.states, rng.choice(held)))
+            yield Case(*table, triple_at(triples.states, rng.randrange(triples.count)))
+        for _ in range(14):
+            yield Case(*table, busy_triple(rng, triples))
+
+
+def busy_triple(rng: Rng, triples: Triples) -> Triple:
+    """The triple with the most records among some with equal or random states."""
+    found = []
+    for _ in range(8):
+        left = rng.randrange(triples.states)
+        right = left if rng.randrange(3) == 0 else rng.randrange(triples.states)
+        found.append(Triple(rng.randrange(2), left, right))
+    return max(found, key=lambda triple: len(steps(triples.automaton, triple)))
+
+
+def many_closings(rng: Rng) -> Iterator[Case]:
+    """Ends of A→ and A→A, which close to every item just past an A, 6 to 39 of them."""
+    for past in range(5, 39, 3):
+        table = many_pasts(past)
+        last = triples_in(table).states - 1
+        for left, right in ((last, last - 2), (last - 2, last), (last, last), (last, 4)):
+            for layer in (0, 1):
+                yield Case(*table, Triple(layer, left, right))
+
+
+def many_pasts(past: int) -> Table:
+    """A grammar with `past` codes A on its right sides, then A→ and A→A."""
+    A = START + 1
+    rules = [(START, bytes([1 + first // 11] + [A] * min(11, past - first)))
+             for first in range(0, past, 11)]
+    return 4, 2, encode(rules + [(A, b""), (A, bytes([A]))])
+
+
+def out_of_range(rng: Rng) -> Iterator[Case]:
+    """Layers above 1 and states of Q or more, also where fewer bits hide them."""
+    tables = ROWS + [CLASSICS["json"], operators(12), keywords(rng, 40, MAX_STATES)]
+    for table in tables:
+        states = triples_in(table).states
+        beyond = [states, states + 1, 255 + states, 256, 256 + 2, 65536, 2 ** 31, LARGEST]
+        for layer in (2, 3, 255, 256, 257, 65536, 2 ** 31, LARGEST):
+            yield Case(*table, Triple(layer, 0, 0))
+            yield Case(*table, Triple(layer, rng.randrange(states), 2))
+        for state in sorted(set(beyond)):
+            if state >= states:
+                inside = rng.randrange(states)
+                yield Case(*table, Triple(rng.randrange(2), state, inside))
+                yield Case(*table, Triple(rng.randrange(2), inside, state))
+                yield Case(*table, Triple(rng.randrange(2), state, state))
+        yield Case(*table, Triple(LARGEST, LARGEST, LARGEST))
+        yield Case(*table, Triple(0, 0, states * states))
+
+
+def faulty(rng: Rng) -> Iterator[Case]:
+    """Faulty tables, with triples in range and out of it."""
+    for table in faulty_tables(rng, 30):
+        yield Case(*table, Triple(rng.randrange(3), rng.randrange(6), rng.randrange(6)))
+    yield Case(128, *ONE_A[1:], Triple(LARGEST, LARGEST, LARGEST))
+
+
+GROUPS = [rows, small, larger, many_closings, out_of_range, faulty]
+
+
+# Answers.
+
+def spelled_move(move: Move) -> str:
+    """`oI`, `cI`, `sX` or `-`."""
+    return "-" if move == STILL else LETTERS[move[0]] + str(move[1])
+
+
+def spelled_step(step: Step) -> str:
+    """`LAYER,LEFT,RIGHT,MOVE,MOVE`."""
+    return "%d,%d,%d,%s,%s" % (
+        *step.next, spelled_move(step.left), spelled_move(step.right))
+
+
+def answer(case: Case) -> str:
+    """The line of one case, without its byte 10."""
+    triples = checked_triples(case.t, case.n, case.table)
+    if isinstance(triples, Refusal):
+        return refused(triples)
+    records = steps(triples.automaton, case.triple)
+    return " ".join(["records=%d" % len(records)] + [spelled_step(r) for r in records])
+
+
+# Reasons.
+
+# What a record shows: the layers it leads from and to, and what either side did.
+SHOWN = {
+    (0, 0, OPENING, "still"): "layer-0-left-opens",
+    (0, 0, "still", OPENING): "layer-0-right-opens",
+    (0, 1, CLOSING, CLOSING): "parting-both-close",
+    (0, 1, CLOSING, "still"): "parting-left-closes",
+    (0, 1, "still", CLOSING): "parting-right-closes",
+    (1, 1, OPENING, "still"): "layer-1-left-opens",
+    (1, 1, "still", OPENING): "layer-1-right-opens",
+    (1, 1, CLOSING, "still"): "layer-1-left-closes",
+    (1, 1, "still", CLOSING): "layer-1-right-closes",
+    (1, 1, SYMBOL, SYMBOL): "layer-1-terminal",
+}
+
+REASONS = TABLE_REASONS + sorted(SHOWN.values()) + [
+    "layer-0-terminal",
+    "layer-0-nonterminal",
+    "rule-0-opens",
+    "rule-0-closes",
+    "back-to-itself-left-only",
+    "back-to-itself-right-only",
+    "back-to-itself-both",
+    "back-to-itself-with-a-lower-next",
+    "many-records",
+    "no-records-in-range",
+    "equal-closings-do-not-part",
+    "closing-beside-a-nonterminal-does-not-part",
+    "layer-1-equal-nonterminals-do-not-shift",
+    "unequal-symbols-do-not-shift",
+    "256-states",
+    "out-of-range-layer",
+    "out-of-range-left",
+    "out-of-range-right",
+    "out-of-range-though-its-index-is-below-2QQ",
+]
+
+
+def reasons_of(case: Case) -> List[str]:
+    """Every reason of REASONS that this case meets."""
+    triples = checked_triples(case.t, case.n, case.table)
+    if isinstance(triples, Refusal):
+        return [str(triples.cause)]
+    met = range_reasons(triples, case.triple)
+    if not in_range(triples.states, case.triple):
+        return [name for name, holds in met if holds]
+    met += record_reasons(triples, case.triple)
+    met += quiet_reasons(triples, case.triple)
+    return [name for name, holds in met if holds]
+
+
+def range_reasons(triples: Triples, triple: Triple) -> List[Tuple[str, bool]]:
+    """In which parts a triple is out of range."""
+    states = triples.states
+    index = triple.layer * states * states + triple.left * states + triple.right
+    outside = not in_range(states, triple)
+    return [
+        ("256-states", states == MAX_STATES),
+        ("out-of-range-layer", triple.layer > 1),
+        ("out-of-range-left", triple.left >= states),
+        ("out-of-range-right", triple.right >= states),
+        ("out-of-range-though-its-index-is-below-2QQ", outside and index < triples.count),
+    ]
+
+
+def record_reasons(triples: Triples, triple: Triple) -> List[Tuple[str, bool]]:
+    """What the records of a triple in range show."""
+    records = steps(triples.automaton, triple)
+    names = {shown(triple.layer, record) for record in records}
+    moves = {move for record in records for move in record[1:]}
+    back = [record for record in records if record.next == triple]
+    left = any(record.right == STILL for record in back)
+    right = any(record.left == STILL for record in back)
+    return [(name, True) for name in sorted(names)] + [
+        ("rule-0-opens", (OPENING, 0) in moves),
+        ("rule-0-closes", (CLOSING, 0) in moves),
+        ("back-to-itself-left-only", left and not right),
+        ("back-to-itself-right-only", right and not left),
+        ("back-to-itself-both", left and right),
+        ("back-to-itself-with-a-lower-next",
+         bool(back) and min(record.next for record in records) < triple),
+        ("many-records", len(records) >= MANY),
+        ("no-records-in-range", not records),
+    ]
+
+
+def shown(layer: int, record: Step) -> str:
+    """The reason that names a record's layers and moves."""
+    if layer == 0 and record.left[0] == SYMBOL:
+        terminal = record.left[1] < START
+        return "layer-0-terminal" if terminal else "layer-0-nonterminal"
+    return SHOWN[layer, record.next.layer, record.left[0], record.right[0]]
+
+
+def quiet_reasons(triples: Triples, triple: Triple) -> List[Tuple[str, bool]]:
+    """What makes no record though a misreading would have one."""
+    closings, shifts = triples.automaton.closings, triples.automaton.shifts
+    left = {rule for rule, _ in closings[triple.left]}
+    right = {rule for rule, _ in closings[triple.right]}
+    codes = [(shifts[state] or (0, 0))[0] for state in triple[1:]]
+    beside = (left and codes[1] >= START) or (right and codes[0] >= START)
+    return [
+        ("equal-closings-do-not-part", triple.layer == 0 and bool(left & right)),
+        ("closing-beside-a-nonterminal-does-not-part", triple.layer == 0 and bool(beside)),
+        ("layer-1-equal-nonterminals-do-not-shift",
+         triple.layer == 1 and codes[0] == codes[1] >= START),
+        ("unequal-symbols-do-not-shift", 0 not in codes and codes[0] != codes[1]),
+    ]
+
+
+# Files.
+
+def encode_case(case: Case) -> bytes:
+    """One case of the file of inputs."""
+    return encode_table(*case[:3]) + b"".join(map(encode_number, case.triple))
+
+
+def decode_case(reader: Reader) -> Case:
+    """The next case of a file of inputs."""
+    return Case(*reader.table(), Triple(*reader.numbers(3)))
+
+
+KIND = Kind(lambda: cases_of(GROUPS), encode_case, decode_case, answer, REASONS, reasons_of)
+
+if __name__ == "__main__":
+    sys.exit(main(KIND, __doc__, sys.argv[1:]))

@@ -1,0 +1,122 @@
+"""Tests of the certificate cases: their bytes, the lines, the sorting by reasons."""
+
+import unittest
+
+from case_files import decode_all, digest
+from case_grammars import ONE_A, ROWS, triples_in
+from certificate_cases import (
+    KIND, Case, answer, closed_superset, encode_case, flipped, smallest,
+)
+from certificate_reasons import REASONS, reasons_of
+from table_cases import Rng
+from triples import certificate_of, held_indexes, reached
+from ways import largest_set
+
+# SHA-256 of the file of cases.
+DIGEST = "96b0c5b6fb65a22c40575fac286374f8d12d90f3aa7c136a62e5f8199de51b53"
+
+EMPTY = ROWS[1]           # S→, Q = 5: bits 50 to 55 are spare
+CYCLE = ROWS[5]           # S→S, Q = 6, potential
+
+
+class FileTest(unittest.TestCase):
+    def test_the_cases_are_these_bytes(self):
+        self.assertEqual(digest(KIND), DIGEST)
+
+    def test_layout_of_a_case(self):
+        data = encode_case(Case(1, 1, b"\x80\x00", b"\x15\x50\x21"))
+        self.assertEqual(data, (
+            b"\x01" + bytes(7) + b"\x01" + bytes(7) + b"\x02\0\0\0" + b"\x80\x00"
+            + b"\x03\0\0\0" + b"\x15\x50\x21"))
+        self.assertEqual(list(decode_all(KIND, data * 2)),
+                         [Case(1, 1, b"\x80\x00", b"\x15\x50\x21")] * 2)
+
+    def test_a_cut_file_is_refused(self):
+        data = encode_case(Case(*ONE_A, smallest(ONE_A)))
+        for end in range(1, len(data)):
+            with self.assertRaises(ValueError):
+                list(decode_all(KIND, data[:end]))
+
+    def test_answer_lines(self):
+        right = smallest(ONE_A)
+        self.assertEqual(answer(Case(*ONE_A, right)), "accepted")
+        self.assertEqual(answer(Case(*ONE_A, right[:8])), "refused=9 at=0")
+        self.assertEqual(answer(Case(*ONE_A, b"\xff" * 9)), "refused=12 at=43")
+        self.assertEqual(answer(Case(0, 0, b"", right)), "refused=1 at=0")
+
+
+class SetsTest(unittest.TestCase):
+    def test_flipped(self):
+        self.assertEqual(flipped(b"\x01\x00", 0, 9), b"\x00\x02")
+
+    def test_closed_supersets(self):
+        triples = triples_in(ONE_A)
+        for seed in range(30):
+            certificate = closed_superset(Rng(seed), triples, 2)
+            held = set(held_indexes(certificate))
+            self.assertLessEqual(reached(triples), held)
+            self.assertLessEqual(held, largest_set(triples))
+            self.assertTrue(all(set(triples.successors(index)) <= held for index in held))
+        self.assertIsNone(closed_superset(Rng(0), triples_in(CYCLE), 2))
+
+    def test_the_largest_set_lacks_what_leads_to_the_end(self):
+        triples = triples_in(ONE_A)
+        # Only closings lead to (1,1,1) from (1,1,3), (1,3,1), (1,1,5), (1,5,1).
+        for index in (43, 45, 55, 47, 67):
+            self.assertNotIn(index, largest_set(triples))
+        self.assertIn(0, largest_set(triples))
+        self.assertNotIn(0, largest_set(triples_in(CYCLE)))
+
+
+class ReasonsTest(unittest.TestCase):
+    def reasons(self, table, certificate, *names):
+        found = reasons_of(*table, certificate)
+        self.assertEqual(sorted(found), sorted(names))
+        self.assertLessEqual(set(found), set(REASONS))
+
+    def test_accepted(self):
+        self.reasons(ONE_A, smallest(ONE_A), "accepted-smallest")
+        self.reasons(ONE_A, flipped(smallest(ONE_A), 7), "accepted-larger")
+        self.reasons(EMPTY, smallest(EMPTY), "accepted-smallest",
+                     "accepted-with-spare-bits-there")
+        triples = triples_in(ONE_A)
+        self.reasons(ONE_A, certificate_of(6, largest_set(triples)), "accepted-larger",
+                     "accepted-largest-possible")
+
+    def test_table_faults(self):
+        self.reasons((0, 1, ONE_A[2]), smallest(ONE_A), "5")
+        self.reasons((0, 1, ONE_A[2]), b"", "5", "1-to-8-with-an-empty-certificate")
+
+    def test_9(self):
+        right = smallest(ONE_A)
+        self.reasons(ONE_A, right[:8], "9-one-byte-short")
+        self.reasons(ONE_A, b"", "9-empty", "9-shorter")
+        self.reasons(ONE_A, right + b"\0", "9-one-byte-long", "9-though-its-front-is-right")
+        self.reasons(ONE_A, bytes(18), "9-longer")
+
+    def test_10_and_11_and_12(self):
+        right = smallest(EMPTY)
+        self.reasons(EMPTY, flipped(right, 50), "10-lowest-spare-bit")
+        self.reasons(EMPTY, flipped(right, 51), "10-a-later-spare-bit")
+        self.reasons(EMPTY, flipped(bytes(7), 55), "10-a-later-spare-bit",
+                     "order-10-before-11")
+        self.reasons(EMPTY, flipped(right, 31, 55), "10-a-later-spare-bit",
+                     "order-10-before-12")
+        self.reasons(ONE_A, flipped(bytes(9), 43), "11", "order-11-before-12")
+        self.reasons(ONE_A, flipped(smallest(ONE_A), 43), "12")
+        self.reasons(CYCLE, smallest(CYCLE), "12", "12-of-a-potential-grammar")
+
+    def test_13(self):
+        self.reasons(ONE_A, b"\x01" + bytes(8), "13-at-0",
+                     "13-opening-or-shift-of-layer-0-missing",
+                     "13-missing-index-above-its-holder")
+        self.reasons(ONE_A, flipped(smallest(ONE_A), 33), "13-parting-missing",
+                     "13-missing-index-above-its-holder")
+        self.reasons(ONE_A, flipped(smallest(ONE_A), 67), "13-successor-in-layer-1-missing",
+                     "13-missing-index-below-its-holder")
+        self.reasons(ONE_A, flipped(smallest(ONE_A), 33, 67), "13-parting-missing",
+                     "13-missing-index-above-its-holder", "13-lowest-of-several")
+
+
+if __name__ == "__main__":
+    unittest.main()

@@ -1,0 +1,121 @@
+"""Tests of the search cases: their bytes, the lines, the reasons, `witness-ok`."""
+
+import os
+import tempfile
+import unittest
+from contextlib import redirect_stderr, redirect_stdout
+from io import StringIO
+
+from case_files import decode_all, digest
+from case_grammars import ONE_A, ROWS
+from search_cases import KIND, REASONS, Case, answer, encode_case, reasons_of, run
+from searches import Lent
+from witness_cases import encode_entries
+
+# SHA-256 of the file of cases.
+DIGEST = "f80784dc9e97f96014dd013a530054bc7695eda7b4f1546315310d4c47a827e1"
+
+CYCLE = ROWS[5]           # S→S, Q = 6
+WAY = [0, 2, 14, 16, 23, 45, 43]
+ENOUGH = Lent(9, 72, 72, 72)
+
+
+class FileTest(unittest.TestCase):
+    def test_the_cases_are_these_bytes(self):
+        self.assertEqual(digest(KIND), DIGEST)
+
+    def test_layout_of_a_case(self):
+        case = Case(1, 1, b"\x80\x00", Lent(258, 3, 4, 5), 255)
+        data = encode_case(case)
+        self.assertEqual(data, (
+            b"\x01" + bytes(7) + b"\x01" + bytes(7) + b"\x02\0\0\0" + b"\x80\x00"
+            + b"\x02\x01\0\0" + b"\x03\0\0\0" + b"\x04\0\0\0" + b"\x05\0\0\0" + b"\xff"))
+        self.assertEqual(list(decode_all(KIND, data * 2)), [case] * 2)
+
+    def test_a_cut_file_is_refused(self):
+        data = encode_case(Case(*ONE_A, ENOUGH, 0))
+        for end in range(1, len(data)):
+            with self.assertRaises(ValueError):
+                list(decode_all(KIND, data[:end]))
+
+    def test_answer_lines(self):
+        self.assertEqual(answer(Case(*ONE_A, ENOUGH, 7)),
+                         "unambiguous size=11 certificate=155021150800000000")
+        self.assertEqual(answer(Case(*CYCLE, ENOUGH, 7)), "potential")
+        for short in ENOUGH._fields:
+            lent = ENOUGH._replace(**{short: getattr(ENOUGH, short) - 1})
+            self.assertEqual(answer(Case(*CYCLE, lent, 7)), "refused=14 at=0")
+        self.assertEqual(answer(Case(0, 1, ONE_A[2], Lent(0, 0, 0, 0), 7)), "refused=5 at=2")
+
+
+class ReasonsTest(unittest.TestCase):
+    def reasons(self, table, lent, *names):
+        found = reasons_of(Case(*table, lent, 0))
+        self.assertEqual(sorted(found), sorted(names))
+        self.assertLessEqual(set(found), set(REASONS))
+
+    def test_verdicts(self):
+        self.reasons(ONE_A, ENOUGH, "unambiguous-exactly-enough",
+                     "unambiguous-every-rule-used", "unambiguous-even-states")
+        self.reasons(CYCLE, ENOUGH._replace(queue=73), "potential-longer",
+                     "potential-a-rule-no-sentence-uses", "potential-even-states")
+        self.reasons(ROWS[4], Lent(21, 162, 162, 162), "unambiguous-exactly-enough",
+                     "unambiguous-every-rule-used", "unambiguous-odd-states",
+                     "unambiguous-with-layer-1")
+        self.reasons(ROWS[0], ENOUGH, "unambiguous-longer", "unambiguous-every-rule-used",
+                     "unambiguous-even-states", "unambiguous-without-a-rule-of-S")
+
+    def test_14(self):
+        self.reasons(ONE_A, ENOUGH._replace(queue=71), "14-queue-one-too-short",
+                     "14-of-an-unambiguous-grammar")
+        self.reasons(CYCLE, ENOUGH._replace(witness=0), "14-one-empty",
+                     "14-of-a-potential-grammar")
+        self.reasons(ONE_A, Lent(0, 0, 0, 0), "14-several", "14-nothing-lent",
+                     "14-of-an-unambiguous-grammar")
+
+    def test_table_faults(self):
+        self.reasons((0, 1, ONE_A[2]), ENOUGH, "5")
+        self.reasons((0, 1, ONE_A[2]), Lent(0, 0, 0, 0), "5", "1-to-8-with-nothing-lent")
+
+
+class WitnessOkTest(unittest.TestCase):
+    CASES = [Case(*ONE_A, ENOUGH, 0), Case(*CYCLE, ENOUGH, 0), Case(128, 1, b"", ENOUGH, 0),
+             Case(*CYCLE, Lent(0, 0, 0, 0), 0), Case(*CYCLE, ENOUGH, 1)]
+
+    def found(self, *rows):
+        return b"".join(map(encode_entries, rows))
+
+    def verb(self, found):
+        """Exit code, output and complaints of `witness-ok`."""
+        with tempfile.TemporaryDirectory() as folder:
+            paths = [os.path.join(folder, name) for name in "ab"]
+            for path, data in zip(paths, (b"".join(map(encode_case, self.CASES)), found)):
+                with open(path, "wb") as file:
+                    file.write(data)
+            with redirect_stdout(StringIO()) as out, redirect_stderr(StringIO()) as errors:
+                code = run(["witness-ok"] + paths)
+        return code, out.getvalue(), errors.getvalue()
+
+    def test_accepted(self):
+        longer = WAY[:4] + WAY[3:]
+        self.assertEqual(self.verb(self.found(WAY, longer)), (0, "accepted 2 wrong 0\n", ""))
+
+    def test_wrong(self):
+        self.assertEqual(self.verb(self.found(WAY[:3], WAY)), (
+            1, "accepted 1 wrong 1\n", "case 1: refused=15 at=3\n"))
+        self.assertEqual(self.verb(self.found([], WAY + [0])), (
+            1, "accepted 0 wrong 2\n",
+            "case 1: refused=15 at=0\ncase 4: refused=15 at=7\n"))
+
+    def test_cut_or_left_over_or_too_long(self):
+        found = self.found(WAY, WAY)
+        for end in range(len(found)):
+            self.assertEqual(self.verb(found[:end])[0], 1)
+        self.assertEqual(self.verb(found + b"\0")[0], 1)
+        self.assertEqual(self.verb(self.found(WAY, WAY, WAY))[0], 1)
+        self.assertEqual(self.verb(self.found(WAY, WAY[:3] + [16] * 66 + WAY[4:]))[0], 0)
+        self.assertEqual(self.verb(self.found(WAY, WAY[:3] + [16] * 67 + WAY[4:]))[0], 1)
+
+
+if __name__ == "__main__":
+    unittest.main()

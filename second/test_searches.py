@@ -1,0 +1,79 @@
+"""Tests of searches.py: what must be lent, the order of faults, the answers."""
+
+import unittest
+
+from case_grammars import CLASSICS, ONE_A, ROWS, states_of
+from certificates import check_certificate
+from searches import Lent, Potential, Unambiguous, needed, search
+from tables import Refusal
+
+PLENTY = Lent(20000, 140000, 140000, 140000)
+
+
+class LentTest(unittest.TestCase):
+    def test_needed(self):
+        self.assertEqual(needed(4), Lent(4, 32, 32, 32))
+        self.assertEqual(needed(9), Lent(21, 162, 162, 162))
+        self.assertEqual(needed(256), Lent(16384, 131072, 131072, 131072))
+
+    def test_each_too_short(self):
+        for row in ROWS:
+            need = needed(states_of(row))
+            self.assertNotIsInstance(search(*row, need), Refusal)
+            for place in range(4):
+                lent = list(PLENTY)
+                lent[place] = need[place] - 1
+                self.assertEqual(search(*row, Lent(*lent)), Refusal(14, 0))
+
+    def test_nothing_lent(self):
+        self.assertEqual(search(*ONE_A, Lent(0, 0, 0, 0)), Refusal(14, 0))
+
+    def test_table_faults_come_first(self):
+        for lent in (PLENTY, Lent(0, 0, 0, 0)):
+            self.assertEqual(search(128, 1, b"", lent), Refusal(1, 0))
+            self.assertEqual(search(1, 1, b"\x80\x01", lent), Refusal(2, 0))
+            self.assertEqual(search(1, 1, ONE_A[2] * 2, lent), Refusal(6, 3))
+
+
+class VerdictTest(unittest.TestCase):
+    def test_one_a(self):
+        right = bytes.fromhex("15 50 21 15 08 00 00 00 00")
+        for lent in (needed(6), PLENTY):
+            self.assertEqual(search(*ONE_A, lent), Unambiguous(11, right))
+
+    def test_rows(self):
+        results = [search(*row, PLENTY) for row in ROWS]
+        self.assertEqual([result.size for result in results[:5] + results[9:]],
+                         [5, 10, 11, 24, 30, 82])
+        self.assertEqual(results[5:9], [Potential()] * 4)
+
+    def test_the_certificate_is_accepted(self):
+        for table in ROWS + list(CLASSICS.values()):
+            result = search(*table, PLENTY)
+            if isinstance(result, Unambiguous):
+                self.assertIsNone(check_certificate(*table, result.certificate))
+
+
+class ClassicsTest(unittest.TestCase):
+    def verdict(self, name):
+        return type(search(*CLASSICS[name], PLENTY))
+
+    def test_two_trees_are_always_potential(self):
+        for name in ("expressions-ambiguous", "expressions-unary", "dangling-else",
+                     "list-both", "brackets-both", "two-counts", "unit-cycle",
+                     "hidden-left", "robot-loose"):
+            self.assertIs(self.verdict(name), Potential, name)
+
+    def test_unambiguous(self):
+        for name in ("expressions-stratified", "expressions-right", "expressions-prefix",
+                     "closed-else", "palindromes-marked", "list-left", "list-right",
+                     "brackets-one", "json", "robot", "robot-channels"):
+            self.assertIs(self.verdict(name), Unambiguous, name)
+
+    def test_potential_though_truly_unambiguous(self):
+        for name in ("palindromes-even", "palindromes-odd"):
+            self.assertIs(self.verdict(name), Potential, name)
+
+
+if __name__ == "__main__":
+    unittest.main()

@@ -1,0 +1,110 @@
+"""Tests of the step cases: their bytes, the answer lines, the sorting by reasons."""
+
+import unittest
+
+from case_files import decode_all, digest
+from case_grammars import ONE_A, ROWS, spelled
+from step_cases import KIND, REASONS, Case, answer, encode_case, reasons_of
+from triples import Triple
+
+# SHA-256 of the file of cases.
+DIGEST = "0e322c7729409df869ef1399d5c1d18e81945eea52b8b693565294fa93061697"
+
+CYCLE = ROWS[5]           # S→S, Q = 6
+
+
+class FileTest(unittest.TestCase):
+    def test_the_cases_are_these_bytes(self):
+        self.assertEqual(digest(KIND), DIGEST)
+
+    def test_layout_of_a_case(self):
+        data = encode_case(Case(1, 1, b"\x80\x00", Triple(1, 2, 258)))
+        self.assertEqual(data, (
+            b"\x01" + bytes(7) + b"\x01" + bytes(7) + b"\x02\0\0\0" + b"\x80\x00"
+            + b"\x01\0\0\0" + b"\x02\0\0\0" + b"\x02\x01\0\0"))
+        self.assertEqual(list(decode_all(KIND, data * 2)),
+                         [Case(1, 1, b"\x80\x00", Triple(1, 2, 258))] * 2)
+
+    def test_a_cut_file_is_refused(self):
+        data = encode_case(Case(*ONE_A, Triple(0, 0, 0)))
+        for end in range(1, len(data)):
+            with self.assertRaises(ValueError):
+                list(decode_all(KIND, data[:end]))
+
+
+class AnswerTest(unittest.TestCase):
+    def line(self, table, triple, line):
+        self.assertEqual(answer(Case(*table, Triple(*triple))), line)
+
+    def test_records(self):
+        self.line(ONE_A, (0, 0, 0), "records=2 0,0,2,-,o0 0,2,0,o0,-")
+        self.line(ONE_A, (0, 2, 2), "records=3 0,2,4,-,o1 0,3,3,s128,s128 0,4,2,o1,-")
+        self.line(ONE_A, (0, 5, 4), "records=1 1,3,4,c1,-")
+        self.line(ONE_A, (0, 3, 5), "records=1 1,1,3,c0,c1")
+        self.line(ONE_A, (1, 4, 4), "records=1 1,5,5,s1,s1")
+        self.line(CYCLE, (0, 4, 4), "records=3 0,4,4,o1,- 0,4,4,-,o1 0,5,5,s128,s128")
+
+    def test_no_records(self):
+        self.line(ONE_A, (1, 1, 1), "records=0")
+        self.line(ONE_A, (2, 0, 0), "records=0")
+        self.line(ONE_A, (0, 6, 0), "records=0")
+        self.line(ONE_A, (0, 0, 2 ** 32 - 1), "records=0")
+
+    def test_refused(self):
+        self.line((0, 1, ONE_A[2]), (0, 0, 0), "refused=5 at=2")
+        self.line((0, 0, b""), (2, 0, 0), "refused=1 at=0")
+
+
+class ReasonsTest(unittest.TestCase):
+    def reasons(self, table, triple, *names):
+        found = reasons_of(Case(*table, Triple(*triple)))
+        self.assertEqual(sorted(found), sorted(names))
+        self.assertLessEqual(set(found), set(REASONS))
+
+    def test_layer_0(self):
+        self.reasons(ONE_A, (0, 0, 0), "layer-0-left-opens", "layer-0-right-opens",
+                     "rule-0-opens")
+        self.reasons(ONE_A, (0, 2, 2), "layer-0-left-opens", "layer-0-right-opens",
+                     "layer-0-nonterminal")
+        self.reasons(ONE_A, (0, 4, 4), "layer-0-terminal")
+        self.reasons(ONE_A, (0, 2, 4), "layer-0-left-opens", "unequal-symbols-do-not-shift")
+
+    def test_partings(self):
+        self.reasons(ONE_A, (0, 3, 5), "parting-both-close", "rule-0-closes")
+        self.reasons(ONE_A, (0, 5, 4), "parting-left-closes")
+        self.reasons(ONE_A, (0, 4, 5), "parting-right-closes")
+        self.reasons(ONE_A, (0, 5, 5), "no-records-in-range", "equal-closings-do-not-part")
+        self.reasons(ONE_A, (0, 2, 5), "layer-0-left-opens",
+                     "closing-beside-a-nonterminal-does-not-part")
+
+    def test_layer_1(self):
+        self.reasons(ONE_A, (1, 2, 2), "layer-1-left-opens", "layer-1-right-opens",
+                     "layer-1-equal-nonterminals-do-not-shift")
+        self.reasons(ONE_A, (1, 4, 4), "layer-1-terminal")
+        self.reasons(ONE_A, (1, 5, 1), "layer-1-left-closes")
+        self.reasons(ONE_A, (1, 1, 3), "layer-1-right-closes", "rule-0-closes")
+
+    def test_back_to_itself(self):
+        self.reasons(CYCLE, (1, 5, 5), "layer-1-left-closes", "layer-1-right-closes",
+                     "back-to-itself-both", "back-to-itself-with-a-lower-next")
+        self.reasons(CYCLE, (1, 5, 1), "layer-1-left-closes", "back-to-itself-left-only",
+                     "back-to-itself-with-a-lower-next")
+        self.reasons(CYCLE, (1, 1, 4), "layer-1-right-opens", "back-to-itself-right-only")
+
+    def test_out_of_range(self):
+        self.reasons(ONE_A, (2, 0, 0), "out-of-range-layer")
+        self.reasons(ONE_A, (0, 6, 0), "out-of-range-left",
+                     "out-of-range-though-its-index-is-below-2QQ")
+        self.reasons(ONE_A, (0, 99, 99), "out-of-range-left", "out-of-range-right")
+
+    def test_table_faults(self):
+        self.reasons((0, 1, ONE_A[2]), (0, 0, 0), "5")
+
+    def test_many_records(self):
+        table = spelled("S: " + " ".join("A" * 12), "A: | A")
+        # 17 is A→·, 18 and 19 A→·A and A→A·: both close to 13 items each.
+        self.reasons(table, (0, 17, 19), "parting-both-close", "many-records")
+
+
+if __name__ == "__main__":
+    unittest.main()

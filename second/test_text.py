@@ -1,0 +1,456 @@
+"""Tests of text.py: document 01's figures, every refusal, the order of tests."""
+
+import random
+import unittest
+
+from named_grammars import (
+    LONGEST_TEXT, Named, ample_lent, exact_lent, figures_named, full_named,
+    large_named, longest_named, random_names, small_named, text_of,
+)
+from table_cases import encode
+from tables import Refusal
+from text import Lent, Text, is_name, read_text, write_text
+from text_write_inputs import overlapping, packed, scattered
+
+S, A = 128, 129
+AMPLE = Lent(400, 300, 300)
+FRONT = b"terminals=a,b\nnonterminals=S,A\n"
+LETTERS = b"ABCDEFGHIJKLMNOPQRSTUVWXYZabcdefghijklmnopqrstuvwxyz"
+WORD = 2 ** 32
+
+
+def text(*lines):
+    """The lines, each ended by byte 10."""
+    return b"".join(line + b"\n" for line in lines)
+
+
+def rules(*values):
+    """A text with these rules after FRONT."""
+    return FRONT + text(*(b"rule=" + value for value in values))
+
+
+def names(count):
+    """Different names n0, n1, ... separated by commas."""
+    return b",".join(b"n%d" % i for i in range(count))
+
+
+def many(count, front=b""):
+    """A text with `count` unequal rules of 3 bytes and 2 states each."""
+    return (b"terminals=" + names(count) + b"\nnonterminals=S\n" + front
+            + b"".join(b"rule=S: n%d\n" % i for i in range(count)))
+
+
+def full(*more):
+    """Q = 256: 19 rules of 14 bytes, then one of 6; 272 bytes; then more lines."""
+    twelve = [b"rule=S:" + b" n%d" % i * 12 for i in range(19)]
+    return text(b"terminals=" + names(19), b"nonterminals=S,A", *twelve,
+                b"rule=S: n0 n0 n0 n0", *more)
+
+
+class ReaderTest(unittest.TestCase):
+    def refused(self, data, cause, position, lent=AMPLE):
+        self.assertEqual(read_text(data, lent), Refusal(cause, position))
+
+    def read(self, data, t, n, table, states, lent=AMPLE):
+        result = read_text(data, lent)
+        self.assertIsInstance(result, Text)
+        self.assertEqual(result[:4], (t, n, bytes(table), states))
+        return result
+
+
+class FiguresTest(ReaderTest):
+    """Document 01, "Grammars on file", its example and its line on the limits."""
+
+    def test_the_example(self):
+        result = self.read(b"terminals=a\nnonterminals=S\nrule=S: a\n", 1, 1, [S, 1, 1], 6)
+        self.assertEqual((result.starts, result.lengths), ((10, 25), (1, 1)))
+
+    def test_states_of_the_grammars_on_file(self):
+        states = [4, 5, 6, 9, 9, 6, 8, 10, 10, 17]
+        for grammar, expected in zip(figures_named(), states):
+            table = encode(grammar.rules)
+            self.read(text_of(grammar), grammar.t, grammar.n, table, expected)
+
+    def test_k_of_12_passes_and_13_does_not(self):
+        self.read(rules(b"S:" + b" a" * 12), 2, 2, [S, 12] + [1] * 12, 17)
+        self.refused(rules(b"S:" + b" a" * 13), 4, 3)
+
+    def test_100_rules_pass_and_101_do_not(self):
+        table = [byte for i in range(100) for byte in (S, 1, 1 + i)]
+        self.read(many(100), 100, 1, table, 204)
+        self.refused(many(101), 7, 300)
+
+    def test_256_states_pass_and_257_do_not(self):
+        self.assertEqual(read_text(full(), AMPLE).states, 256)
+        self.refused(full(b"rule=A:"), 8, 272)
+
+    def test_the_longest_text_that_is_read(self):
+        grammar = longest_named(random.Random(1))
+        self.assertEqual(len(text_of(grammar)), LONGEST_TEXT)
+        table = encode(grammar.rules)
+        self.read(text_of(grammar), 127, 127, table, 256, exact_lent(grammar))
+
+
+class ReadingsTest(ReaderTest):
+    """The ten readings of document 01's open words on tables and text."""
+
+    def test_01_all_lines_before_7_6_8(self):
+        self.refused(text(b"terminals=a", b"nonterminals=S", b"rule=S: a", b"rule=S: a",
+                          b"rule=S: b"), 17, 5)
+        long = b"rule=S:" + b" S" * 13
+        for line, cause in ((b"rule=S: x", 17), (b"rule", 16), (long, 4)):
+            self.refused(rules(b"S:", b"S:") + line + b"\n", cause, 5)
+            self.refused(many(101) + line + b"\n", cause, 104)
+            self.refused(full(b"rule=A:", line), cause, 24)
+        self.refused(rules(b"S:", b"S:"), 6, 2)
+
+    def test_02_16_in_the_whole_line_then_18_then_the_count(self):
+        equal = b",".join([b"a"] * 128)
+        self.refused(text(b"terminals=" + equal), 18, 1)
+        self.refused(text(b"terminals=", b"nonterminals=" + equal), 18, 2)
+        self.refused(text(b"terminals=" + equal + b","), 16, 1)
+        self.refused(text(b"terminals=a,a,b_"), 16, 1)
+        self.refused(text(b"terminals=" + names(128)), 1, 1)
+        self.refused(text(b"terminals=" + names(9000)), 1, 1)
+        self.refused(text(b"terminals=" + names(9000) + b",n8999"), 18, 1)
+        self.refused(text(b"terminals=" + names(9000) + b",n8999,"), 16, 1)
+        self.refused(text(b"terminals=n8999", b"nonterminals=" + names(9000)), 18, 2)
+        self.refused(text(b"terminals=x", b"nonterminals=" + names(9000)), 1, 2)
+
+    def test_03_empty_lists(self):
+        self.refused(text(b"terminals=", b"nonterminals="), 1, 2)
+        self.read(text(b"terminals=", b"nonterminals=S"), 0, 1, b"", 4)
+        for value in (b",", b"a,", b",a", b"a,,b"):
+            self.refused(text(b"terminals=" + value), 16, 1)
+            self.refused(text(b"terminals=", b"nonterminals=" + value), 16, 2)
+
+    def test_04_7_before_2_and_4_before_2_and_17_before_4(self):
+        hundred = b"".join(bytes([S, 1, 1 + i]) for i in range(100))
+        stray = hundred + b"\0"
+        self.assertEqual(write_text(100, 1, stray, b"", [], [], 0), Refusal(7, 300))
+        self.assertEqual(write_text(1, 1, bytes([S, 13]), b"", [], [], 0), Refusal(4, 0))
+        self.refused(rules(b"S:" + b" a" * 13 + b" x"), 17, 3)
+        self.refused(rules(b"a:" + b" a" * 13), 17, 3)
+
+    def test_05_t_and_n_of_any_size(self):
+        for t, n in ((128, 1), (0, 0), (0, 128), (WORD, 1), (256, 257), (0, WORD + 1),
+                     (2 ** 64 - 1, 2 ** 64 - 1), (2 ** 64 - 1, 2)):
+            self.assertEqual(write_text(t, n, b"\0", b"", [], [], 0), Refusal(1, 0))
+
+    def test_06_too_long_before_everything_and_missing_lines(self):
+        for data in (b"", text(b"terminals=a,a"), FRONT, text(b"terminals=" + names(200)),
+                     rules(b"S:", b"S:")):
+            self.refused(data + b"\n" * (65537 - len(data)), 16, 0, Lent(0, 0, 0))
+        self.refused(b"\n" * 65536, 16, 1)
+        self.refused(FRONT + b"rule=S:\n" * ((65536 - len(FRONT)) // 8), 6, 2)
+        self.refused(b"", 16, 1)
+        self.refused(text(b"terminals=a"), 16, 2)
+        self.refused(text(b"nonterminals=S", b"rule=S:"), 16, 1)
+        self.refused(text(b"terminals=a", b"rule=S:"), 16, 2)
+        self.read(FRONT, 2, 2, b"", 4)
+
+    def test_07_blank_lines_and_byte_13(self):
+        lines = [b"terminals=a", b"nonterminals=S", b"rule=S:", b"rule=S: a"]
+        for place in range(5):
+            self.refused(text(*lines[:place], b"", *lines[place:]), 16, place + 1)
+        for place in range(4):
+            ended = lines[:place] + [lines[place] + b"\r"] + lines[place + 1:]
+            self.refused(text(*ended), 16, place + 1)
+        self.refused(text(*lines).replace(b"\n", b"\r"), 16, 1)
+
+    def test_08_starts_are_offsets_in_the_whole_text(self):
+        data = text(b"terminals=ab,c", b"nonterminals=Start,T-1,u", b"rule=u: ab")
+        result = self.read(data, 2, 3, [130, 1, 1], 6)
+        self.assertEqual(result.starts, (10, 13, 28, 34, 38))
+        self.assertEqual(result.lengths, (2, 1, 5, 3, 1))
+
+    def test_09_a_name_not_lent_whole(self):
+        def answer(starts, lengths):
+            return write_text(1, 2, b"", b"aST", starts, lengths, 99)
+        self.assertIsInstance(answer([0, 1, 2], [1, 1, 1]), bytes)
+        self.assertEqual(answer([0, 1, 3], [1, 1, 1]), Refusal(16, 2))
+        self.assertEqual(answer([0, WORD - 1, 2], [1, 1, 1]), Refusal(16, 1))
+        self.assertEqual(answer([0, 1, 1], [1, 1, WORD - 1]), Refusal(16, 2))
+        self.assertEqual(answer([0, 1], [1, 1, 1]), Refusal(16, 2))
+        self.assertEqual(answer([0, 1, 2], [1]), Refusal(16, 1))
+        self.assertEqual(answer([], []), Refusal(16, 0))
+        self.assertEqual(answer([0, 0, 3], [1, 1, 1]), Refusal(16, 2))
+        self.assertEqual(answer([0, 0, 2], [1, 1, 1]), Refusal(18, 1))
+
+    def test_10_offsets_for_6_7_8_and_lines_for_all_else(self):
+        self.refused(rules(b"S: a", b"A:", b"S: a"), 6, 5)
+        self.refused(many(101), 7, 300)
+        self.refused(full(b"rule=A: A A"), 8, 272)
+        self.refused(rules(b"S: a", b"A:", b"S: c"), 17, 5)
+        self.refused(rules(b"S: a", b"A:", b"S: c "), 16, 5)
+        self.refused(rules(b"S: a", b"A:", b"S:" + b" a" * 13), 4, 5)
+
+
+class ListTest(ReaderTest):
+    """16, 18 and 1 on lines 1 and 2, each by itself."""
+
+    def test_keys(self):
+        for key in (b"Terminals", b"TERMINALS", b" terminals", b"terminals ", b"terminal",
+                    b"terminalss", b"", b"nonterminals", b"rule", b"terminals\0"):
+            self.refused(text(key + b"=a", b"nonterminals=S"), 16, 1)
+        for key in (b"Nonterminals", b"nonterminals ", b"nonterminal", b"terminals", b""):
+            self.refused(text(b"terminals=a", key + b"=S"), 16, 2)
+
+    def test_equals_sign(self):
+        self.refused(text(b"terminals", b"nonterminals=S"), 16, 1)
+        self.refused(text(b"terminals:a", b"nonterminals=S"), 16, 1)
+        self.refused(text(b"terminals==a", b"nonterminals=S"), 16, 1)
+        self.refused(text(b"terminals=a", b"nonterminals"), 16, 2)
+        self.refused(text(b"terminals=a", b"nonterminals=S="), 16, 2)
+
+    def test_last_line_without_byte_10(self):
+        self.refused(b"terminals=a", 16, 1)
+        self.refused(b"terminals=a\nnonterminals=S", 16, 2)
+        self.refused(b"terminals=a\nnonterminals=", 16, 2)
+        self.refused(FRONT + b"rule=S: a", 16, 3)
+
+    def test_lengths_of_names(self):
+        fifteen = text(b"terminals=" + b"a" * 15, b"nonterminals=" + b"b" * 15)
+        self.read(fifteen, 1, 1, b"", 4)
+        self.refused(text(b"terminals=" + b"a" * 16, b"nonterminals=S"), 16, 1)
+        self.refused(text(b"terminals=a", b"nonterminals=S," + b"b" * 16), 16, 2)
+
+    def test_bytes_of_names(self):
+        good = LETTERS + b"0123456789-"
+        for value in range(256):
+            self.assertEqual(is_name(bytes([value])), value in good)
+            line = b"terminals=x" + bytes([value]) + b"y"
+            result = read_text(text(line, b"nonterminals=S"), AMPLE)
+            well = value in good or value == ord(",")
+            self.assertEqual(isinstance(result, Text), well, value)
+
+    def test_declared_twice(self):
+        self.refused(text(b"terminals=a,b,a", b"nonterminals=S"), 18, 1)
+        self.refused(text(b"terminals=a", b"nonterminals=S,T,S"), 18, 2)
+        self.refused(text(b"terminals=a,S", b"nonterminals=S"), 18, 2)
+        self.read(text(b"terminals=a,A,aa,a-", b"nonterminals=S,s"), 4, 2, b"", 4)
+
+    def test_counts(self):
+        self.read(text(b"terminals=" + names(127), b"nonterminals=S"), 127, 1, b"", 4)
+        self.read(text(b"terminals=", b"nonterminals=" + names(127)), 0, 127, b"", 4)
+        self.refused(text(b"terminals=" + names(128), b"nonterminals=S"), 1, 1)
+        self.refused(text(b"terminals=", b"nonterminals=" + names(128)), 1, 2)
+        self.refused(text(b"terminals=a", b"nonterminals="), 1, 2)
+
+
+class RuleTest(ReaderTest):
+    """16, 17, 4, 6, 7 and 8, each by itself."""
+
+    def test_good_rules(self):
+        self.read(rules(b"S:"), 2, 2, [S, 0], 5)
+        self.read(rules(b"A: b S a"), 2, 2, [A, 3, 2, S, 1], 8)
+        self.read(rules(b"S: S", b"A: S", b"S: A"), 2, 2, [S, 1, S, A, 1, S, S, 1, A], 10)
+
+    def test_malformed(self):
+        for value in (b"", b"S", b"S a", b"S: ", b"S:a", b"S:  a", b"S: a ", b"S: a  b",
+                      b"S::", b"S: a:", b"S: : a", b": a", b" S: a", b"S : a", b"S: a,b",
+                      b"S:\ta", b"S: a\r", b"S= a", b"S: " + b"a" * 16, b"a" * 16 + b":"):
+            self.refused(rules(value), 16, 3)
+            self.refused(rules(b"S:", value, b"A:"), 16, 4)
+
+    def test_wrong_key(self):
+        for line in (b"Rule=S:", b"rules=S:", b"rule =S:", b" rule=S:", b"S: a", b"=S:",
+                     b"terminals=a,b", b"nonterminals=S,A", b"rule"):
+            self.refused(FRONT + text(line), 16, 3)
+
+    def test_unknown_or_wrong_kind(self):
+        for value in (b"a:", b"a: b", b"T:", b"s:", b"SA:", b"S: c", b"S: s", b"S: a ab",
+                      b"S: A B", b"S: a b a b c"):
+            self.refused(rules(value), 17, 3)
+            self.refused(rules(b"S:", value, b"A:"), 17, 4)
+
+    def test_k_above_12(self):
+        for k in (13, 14, 100, 256, 268, 5000):
+            self.refused(rules(b"S:" + b" a" * k), 4, 3)
+
+    def test_equal_rules(self):
+        self.refused(rules(b"S:", b"S:"), 6, 2)
+        self.refused(rules(b"S: a", b"S: b", b"A: a", b"S: a"), 6, 9)
+        self.read(rules(b"S: a", b"A: a", b"S: a a", b"S:"), 2, 2,
+                  [S, 1, 1, A, 1, 1, S, 2, 1, 1, S, 0], 12)
+
+    def test_states_pass_256(self):
+        self.refused(full(b"rule=S: n1"), 8, 272)
+        self.refused(full(b"rule=S:", b"rule=A:"), 8, 272)
+
+
+class ReaderOrderTest(ReaderTest):
+    """Lines in order; "within a line 16, 18, 1, or 16, 17, 4; then 7, 6, 8"."""
+
+    def test_lines_in_order(self):
+        self.refused(text(b"terminals=a,a", b"nonterminals"), 18, 1)
+        self.refused(text(b"terminals=" + names(128), b"x"), 1, 1)
+        self.refused(text(b"terminals=a,a"), 18, 1)
+        self.refused(text(b"terminals=a", b"nonterminals=", b"rule"), 1, 2)
+        self.refused(text(b"terminals=a", b"nonterminals=a", b"rule"), 18, 2)
+        self.refused(rules(b"S: x", b""), 17, 3)
+        self.refused(rules(b"S:" + b" a" * 13, b"S: x"), 4, 3)
+        self.refused(rules(b"S: x")[:-1] + b"\nrule=S:", 17, 3)
+
+    def test_16_before_18_and_1(self):
+        self.refused(text(b"terminals=a,a,"), 16, 1)
+        self.refused(b"terminals=a,a", 16, 1)
+        self.refused(text(b"terminals=" + names(128) + b",_"), 16, 1)
+        self.refused(text(b"terminals=a", b"nonterminals=a,"), 16, 2)
+        self.refused(b"terminals=a\nnonterminals=", 16, 2)
+
+    def test_18_before_1(self):
+        self.refused(text(b"terminals=" + names(128) + b",n0"), 18, 1)
+        self.refused(text(b"terminals=x", b"nonterminals=x," + names(127)), 18, 2)
+
+    def test_16_before_17_and_4(self):
+        self.refused(rules(b"x: "), 16, 3)
+        self.refused(rules(b"S: x  a"), 16, 3)
+        self.refused(rules(b"S:" + b" a" * 13 + b" "), 16, 3)
+        self.refused(FRONT + b"rule=x:", 16, 3)
+
+    def test_7_before_6_before_8(self):
+        self.refused(many(100) + b"rule=S: n5\n", 7, 300)
+        self.refused(full(b"rule=S: n0 n0 n0 n0"), 6, 272)
+        self.refused(full(b"rule=A:", b"rule=A:"), 8, 272)
+        self.refused(many(101, b"rule=S: n0\n"), 6, 3)
+
+    def test_14_comes_last(self):
+        none = Lent(0, 0, 0)
+        self.refused(b"", 16, 1, none)
+        self.refused(text(b"terminals=a,a"), 18, 1, none)
+        self.refused(text(b"terminals=", b"nonterminals="), 1, 2, none)
+        self.refused(rules(b"S: x"), 17, 3, none)
+        self.refused(rules(b"S:" + b" a" * 13), 4, 3, none)
+        self.refused(rules(b"S:", b"S:"), 6, 2, none)
+        self.refused(many(101), 7, 300, none)
+        self.refused(full(b"rule=A:"), 8, 272, none)
+        self.refused(rules(b"S:"), 14, 0, none)
+
+    def test_14_by_each_row(self):
+        data = rules(b"S: a", b"A:")
+        table = [S, 1, 1, A, 0]
+        self.read(data, 2, 2, table, 7, Lent(5, 4, 4))
+        self.read(data, 2, 2, table, 7, Lent(50, 40, 40))
+        self.refused(data, 14, 0, Lent(4, 4, 4))
+        self.refused(data, 14, 0, Lent(5, 3, 4))
+        self.refused(data, 14, 0, Lent(5, 4, 3))
+        self.read(text(b"terminals=", b"nonterminals=S"), 0, 1, b"", 4, Lent(0, 1, 1))
+
+
+class WriterTest(unittest.TestCase):
+    TABLE = bytes([S, 2, 1, A, A, 0])
+    NAMES = b"abSA"
+    STARTS = (0, 1, 2, 3)
+    ONES = (1, 1, 1, 1)
+    WRITTEN = FRONT + b"rule=S: a A\nrule=A:\n"
+
+    def answer(self, table=TABLE, data=NAMES, starts=STARTS, lengths=ONES, room=99):
+        return write_text(2, 2, table, data, starts, lengths, room)
+
+    def test_written(self):
+        self.assertEqual(self.answer(), self.WRITTEN)
+        self.assertEqual(write_text(0, 1, b"", b"-", [0], [1], 26),
+                         b"terminals=\nnonterminals=-\n")
+
+    def test_names_that_overlap_or_lie_in_any_order(self):
+        self.assertEqual(
+            self.answer(data=b"xyz", starts=[1, 0, 0, 2], lengths=[1, 1, 2, 1]),
+            text(b"terminals=y,x", b"nonterminals=xy,z", b"rule=xy: y z", b"rule=z:"))
+
+    def test_longer_rows(self):
+        self.assertEqual(self.answer(starts=self.STARTS + (WORD - 1,)), self.WRITTEN)
+        self.assertEqual(self.answer(lengths=self.ONES + (0, 16)), self.WRITTEN)
+
+    def test_room(self):
+        size = len(self.WRITTEN)
+        self.assertEqual(self.answer(room=size), self.WRITTEN)
+        self.assertEqual(self.answer(room=size - 1), Refusal(14, 0))
+        self.assertEqual(self.answer(room=0), Refusal(14, 0))
+
+    def test_table_faults(self):
+        for table, cause, position in (
+                ([S], 2, 0), ([S, 0, 1, 0], 3, 2), ([S, 13], 4, 0), ([S, 0, S, 1, 3], 5, 4),
+                ([S, 0, S, 0], 6, 2)):
+            self.assertEqual(self.answer(table=bytes(table)), Refusal(cause, position))
+            self.assertEqual(
+                self.answer(table=bytes(table), starts=(), lengths=(0, 16), room=0),
+                Refusal(cause, position))
+        more = b"".join(bytes([S, 1, 1 + i]) for i in range(101))
+        self.assertEqual(write_text(101, 1, more, b"", [], [], 0), Refusal(7, 300))
+        twelve = b"".join(bytes([S, 12] + [1 + i] * 12) for i in range(20))
+        self.assertEqual(write_text(100, 1, twelve, b"", [], [], 0), Refusal(8, 266))
+
+    def test_malformed_names(self):
+        for length in (0, 16, 17, 256, WORD - 1):
+            self.assertEqual(
+                self.answer(data=b"a" * 300, lengths=[1, 2, length, 3]), Refusal(16, 2))
+        for value in range(256):
+            if value not in LETTERS + b"0123456789-":
+                data = b"ab" + bytes([value]) + b"A"
+                self.assertEqual(self.answer(data=data), Refusal(16, 2))
+
+    def test_past_the_name_bytes(self):
+        for start, length in ((3, 2), (4, 1), (0, 5), (WORD - 1, 1), (WORD - 1, 2),
+                              (1, WORD - 1), (WORD - 1, WORD - 1), (WORD - 15, 15)):
+            self.assertEqual(
+                self.answer(starts=[0, start, 2, 3], lengths=[1, length, 1, 1]),
+                Refusal(16, 1))
+
+    def test_equal_names(self):
+        self.assertEqual(self.answer(data=b"aaSA"), Refusal(18, 1))
+        self.assertEqual(self.answer(data=b"abSS"), Refusal(18, 3))
+        self.assertEqual(self.answer(data=b"abSa"), Refusal(18, 3))
+        self.assertEqual(self.answer(data=b"abba"), Refusal(18, 2))
+        self.assertEqual(self.answer(data=b"aaaa"), Refusal(18, 1))
+
+    def test_lowest_16_before_18_before_14(self):
+        self.assertEqual(self.answer(data=b"aa_A", room=0), Refusal(16, 2))
+        self.assertEqual(self.answer(data=b"aa__"), Refusal(16, 2))
+        self.assertEqual(self.answer(data=b"aaSA", starts=self.STARTS[:3]), Refusal(16, 3))
+        self.assertEqual(self.answer(data=b"aaSA", lengths=self.ONES[:3]), Refusal(16, 3))
+        self.assertEqual(self.answer(data=b"aaSA", room=0), Refusal(18, 1))
+
+
+class RoundTripTest(unittest.TestCase):
+    """What is read is written back, and what is written is read back."""
+
+    def grammars(self, seed):
+        rng = random.Random(seed)
+        for _ in range(300):
+            yield small_named(rng, 8)
+        for _ in range(20):
+            yield full_named(rng)
+            yield large_named(rng, 22 + rng.randrange(79), 250 + rng.randrange(7))
+        yield longest_named(rng)
+
+    def test_read_then_write(self):
+        for grammar in self.grammars(1):
+            data = text_of(grammar)
+            result = read_text(data, exact_lent(grammar))
+            self.assertEqual(result.table, encode(grammar.rules))
+            self.assertEqual(
+                write_text(result.terminals, result.nonterminals, result.table, data,
+                           result.starts, result.lengths, len(data)), data)
+
+    def test_write_then_read(self):
+        rng = random.Random(2)
+        for grammar in self.grammars(2):
+            count = grammar.t + grammar.n
+            for rows in (packed(random_names(rng, count)), overlapping(rng, count),
+                         scattered(rng, random_names(rng, count))):
+                self.written_and_read(grammar, rows, ample_lent(rng))
+
+    def written_and_read(self, grammar: Named, rows, lent):
+        data, starts, lengths = rows
+        table = encode(grammar.rules)
+        written = write_text(grammar.t, grammar.n, table, data, starts, lengths, 8719)
+        result = read_text(written, lent)
+        self.assertEqual(result[:3], (grammar.t, grammar.n, table))
+        self.assertEqual(
+            [written[s:s + k] for s, k in zip(result.starts, result.lengths)],
+            [data[s:s + k] for s, k in zip(starts, lengths)])
+
+
+if __name__ == "__main__":
+    unittest.main()

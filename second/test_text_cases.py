@@ -1,0 +1,229 @@
+"""Tests of the reader's and writer's case files, answers and reasons."""
+
+import hashlib
+import random
+import unittest
+
+import text_cases
+import text_read_inputs
+import text_read_reasons
+import text_write_inputs
+import text_write_reasons
+from named_grammars import text_of
+from tables import Refusal
+from text import Lent, Text, read_lines, read_text, write_text
+from text_write_reasons import Case
+
+# SHA-256 of the files of cases.
+READ_DIGEST = "dba768ba3af16ac604d29b0871bd53d4308bd2d11ec2be80611f8a20155d3ba3"
+WRITE_DIGEST = "442eeb86ae89d3982f5a178d63ceab5dbfc223c0bf1f0a8076bc021190ada390"
+
+S, A = 128, 129
+AMPLE = Lent(400, 300, 300)
+FRONT = b"terminals=a,b\nnonterminals=S,A\n"
+WORD = 2 ** 32
+
+
+class FileTest(unittest.TestCase):
+    def test_the_cases_are_these_bytes(self):
+        digest = hashlib.sha256()
+        for case in text_read_inputs.all_cases():
+            digest.update(text_cases.encode_read_case(*case))
+        self.assertEqual(digest.hexdigest(), READ_DIGEST)
+        digest = hashlib.sha256()
+        for case in text_write_inputs.all_cases():
+            digest.update(text_cases.encode_write_case(case))
+        self.assertEqual(digest.hexdigest(), WRITE_DIGEST)
+
+    def test_layout_of_a_read_case(self):
+        data = text_cases.encode_read_case(b"a\n", Lent(258, 3, 0))
+        self.assertEqual(data, b"\2\0\0\0a\n\2\1\0\0\3\0\0\0\0\0\0\0")
+        more = text_cases.encode_read_case(b"", AMPLE)
+        self.assertEqual(list(text_cases.decode_read_cases(data + more)),
+                         [(b"a\n", Lent(258, 3, 0)), (b"", AMPLE)])
+
+    def test_layout_of_a_write_case(self):
+        case = Case(2 ** 64 - 1, 258, b"\x80\0", b"ab", (WORD - 1, 1), (3,), 513)
+        data = text_cases.encode_write_case(case)
+        self.assertEqual(
+            data, b"\xff" * 8 + b"\2\1" + bytes(6) + b"\2\0\0\0\x80\0" + b"\2\0\0\0ab"
+            + b"\2\0\0\0\xff\xff\xff\xff\1\0\0\0" + b"\1\0\0\0\3\0\0\0" + b"\1\2\0\0")
+        empty = Case(0, 1, b"", b"", (), (), 0)
+        both = data + text_cases.encode_write_case(empty)
+        self.assertEqual(list(text_cases.decode_write_cases(both)), [case, empty])
+
+    def test_a_cut_file_is_refused(self):
+        data = text_cases.encode_read_case(b"a\n", AMPLE)
+        for end in range(1, len(data)):
+            with self.assertRaises(ValueError):
+                list(text_cases.decode_read_cases(data[:end]))
+        data = text_cases.encode_write_case(Case(1, 1, b"\x80\0", b"ab", (1, 2), (3,), 5))
+        for end in range(1, len(data)):
+            with self.assertRaises(ValueError):
+                list(text_cases.decode_write_cases(data[:end]))
+
+    def test_too_large_numbers_are_refused(self):
+        with self.assertRaises(ValueError):
+            list(text_cases.decode_read_cases(b"\xff" * 99999))
+        with self.assertRaises(ValueError):
+            list(text_cases.decode_write_cases(b"\xff" * 99999))
+
+    def test_sizes_of_long_texts(self):
+        for size in (65535, 65536, 65537, 70000):
+            for text in text_read_inputs.long_texts_of(random.Random(size), size):
+                self.assertEqual(len(text), size)
+
+    def test_first_faults_of_long_texts(self):
+        texts = text_read_inputs.long_texts_of(random.Random(1), 65536)
+        causes = [read_lines(text).cause for text in texts]
+        self.assertEqual(causes, [1, 18, 16, 1, 18, 6, 17, 16, 4, 7, 8])
+
+
+class AnswerTest(unittest.TestCase):
+    def test_read_answers(self):
+        self.assertEqual(
+            text_cases.read_answer(FRONT + b"rule=A: b S\nrule=S:\n", AMPLE),
+            "read terminals=2 nonterminals=2 states=8 table=129,2,2,128,128,0 "
+            "starts=10,12,27,29 lengths=1,1,1,1")
+        self.assertEqual(
+            text_cases.read_answer(b"terminals=\nnonterminals=Start\n", Lent(0, 1, 1)),
+            "read terminals=0 nonterminals=1 states=4 table= starts=24 lengths=5")
+        self.assertEqual(text_cases.read_answer(b"", AMPLE), "refused=16 at=1")
+
+    def test_write_answers(self):
+        case = Case(0, 1, b"", b"S", (0,), (1,), 26)
+        self.assertEqual(
+            text_cases.write_answer(case),
+            "written=26 text=7465726d696e616c733d0a6e6f6e7465726d696e616c733d530a")
+        self.assertEqual(text_cases.write_answer(case._replace(room=25)), "refused=14 at=0")
+
+    def test_what_is_read_is_written_back(self):
+        for text, lent in text_read_inputs.all_cases():
+            result = read_text(text, lent)
+            if isinstance(result, Text):
+                self.assertEqual(
+                    write_text(result.terminals, result.nonterminals, result.table, text,
+                               result.starts, result.lengths, len(text)), text)
+
+    def test_what_is_written_is_read_back(self):
+        for case in text_write_inputs.all_cases():
+            text = write_text(*case)
+            if isinstance(text, Refusal):
+                continue
+            result = read_text(text, AMPLE)
+            self.assertEqual(result[:3], (case.t, case.n, case.table))
+            self.assertEqual(
+                [text[s:s + k] for s, k in zip(result.starts, result.lengths)],
+                [case.names[s:s + k] for s, k in zip(case.starts, case.lengths)]
+                [:case.t + case.n])
+
+    def test_counts(self):
+        counts = text_cases.count_reasons(["x", "y", "z"], iter([["x", "z"], [], ["z"]]))
+        self.assertEqual(counts, [("x", 1), ("y", 0), ("z", 2)])
+
+    def test_wrong_words(self):
+        self.assertNotIn(("read-cases", 3), text_cases.VERBS)
+        self.assertEqual(sorted(text_cases.VERBS), [
+            ("read-answers", 3), ("read-cases", 1), ("write-answers", 3), ("write-cases", 1)])
+
+
+class ReadReasonsTest(unittest.TestCase):
+    def reasons(self, text, *names, lent=AMPLE):
+        self.assertEqual(sorted(text_read_reasons.reasons_of(text, lent)), sorted(names))
+
+    def test_read(self):
+        self.reasons(FRONT, "read", "read-no-rules", "read-rows-all-longer")
+        self.reasons(b"terminals=\nnonterminals=S\nrule=S:\n", "read", "read-no-terminals",
+                     "read-an-empty-rule", "read-rows-exactly-enough", lent=Lent(2, 1, 1))
+
+    def test_16(self):
+        self.reasons(b"", "16-line-1-missing")
+        self.reasons(b"terminals=\n", "16-line-2-missing")
+        self.reasons(b"terminals=", "16-in-line-1", "16-last-line-without-byte-10")
+        self.reasons(b"\n", "16-in-line-1", "16-blank-line")
+        self.reasons(b"terminals=\nrule=S:\n", "16-in-line-2", "16-key-of-another-line")
+        self.reasons(FRONT + b"Rule=S:\n", "16-in-a-rule-line",
+                     "16-key-in-wrong-case-or-with-spaces")
+        self.reasons(FRONT + b"rule=S: a  b \n", "16-in-a-rule-line",
+                     "16-rule-with-double-space", "16-rule-with-space-at-its-end")
+        self.reasons(b"a" * 65537, "16-text-of-65537-bytes", "order-16-at-0-before-a-line")
+        self.reasons(b"\n" * 65536, "text-of-65536-bytes", "16-in-line-1", "16-blank-line")
+
+    def test_17_and_18_and_1_and_4(self):
+        self.reasons(FRONT + b"rule=a: c\n", "17-left-a-terminal", "17-right-unknown")
+        self.reasons(FRONT + b"rule=x:\n", "17-left-unknown")
+        self.reasons(b"terminals=a,a\n", "18-among-terminals",
+                     "order-18-before-a-missing-line")
+        self.reasons(b"terminals=a\nnonterminals=a,S,S\n", "18-among-nonterminals",
+                     "18-across-the-lists")
+        self.reasons(b"terminals=\nnonterminals=\n", "1-no-nonterminals")
+        self.reasons(FRONT + b"rule=S:" + b" S" * 13 + b"\n", "4-k-of-13")
+
+    def test_14(self):
+        self.reasons(FRONT, "14-only-the-starts-by-one", lent=Lent(0, 3, 4))
+        self.reasons(FRONT, "14-only-the-lengths-by-one", lent=Lent(0, 9, 3))
+        self.reasons(FRONT + b"rule=S:\n", "14-only-the-table-by-one", lent=Lent(1, 4, 4))
+        self.reasons(FRONT, "14-otherwise", lent=Lent(0, 3, 3))
+        self.reasons(FRONT + b"rule=S: x\n", "17-right-unknown", "order-17-before-14",
+                     lent=Lent(9, 0, 9))
+
+    def test_faults_that_the_order_hides(self):
+        equal = b"rule=S:\nrule=S:\n"
+        self.reasons(FRONT + equal, "6-next-to-the-earlier-rule")
+        self.reasons(FRONT + equal + b"rule=S: c\n", "17-right-unknown",
+                     "order-17-before-6-of-an-earlier-rule")
+        self.reasons(FRONT + b"rule=S: c" + b" a" * 12 + b"\nrule\n", "17-right-unknown",
+                     "order-17-before-4-in-a-line", "order-17-before-16-on-a-later-line")
+        self.reasons(b"terminals=a,,a\n", "16-in-line-1", "16-name-empty-in-a-list",
+                     "order-16-before-18-in-a-line")
+
+
+class WriteReasonsTest(unittest.TestCase):
+    CASE = Case(1, 1, bytes([S, 1, 1]), b"aS", (0, 1), (1, 1), 99)
+
+    def reasons(self, changes, *names):
+        case = self.CASE._replace(**changes)
+        self.assertEqual(sorted(text_write_reasons.reasons_of(case)), sorted(names))
+
+    def test_written(self):
+        self.reasons({}, "written", "written-a-name-at-the-end-of-the-bytes",
+                     "written-more-room")
+        self.reasons({"starts": (1, 0, 0), "lengths": (1, 2), "room": 39}, "written",
+                     "written-names-that-overlap", "written-names-not-in-order",
+                     "written-a-name-at-the-end-of-the-bytes", "written-longer-rows",
+                     "written-exact-room")
+
+    def test_16(self):
+        self.reasons({"starts": (0,)}, "16-starts-end")
+        self.reasons({"lengths": (1,)}, "16-lengths-end")
+        self.reasons({"starts": (0, 2)}, "16-one-byte-past-the-names")
+        self.reasons({"starts": (0, WORD - 1)}, "16-start-plus-length-past-32-bits")
+        self.reasons({"lengths": (WORD - 1, 1)}, "16-length-of-32-ones")
+        self.reasons({"lengths": (0, 0), "room": 0}, "16-length-0",
+                     "order-lowest-16-of-several", "order-16-before-14")
+        self.reasons({"names": b"a:"}, "16-bad-byte")
+
+    def test_18_and_14(self):
+        self.reasons({"names": b"aa"}, "18-across-the-kinds", "18-equal-bytes-elsewhere")
+        self.reasons({"starts": (1, 1), "room": 5}, "18-across-the-kinds",
+                     "18-one-span-twice", "order-18-before-14")
+        self.reasons({"room": 36}, "14-by-one")
+        self.reasons({"room": 0}, "14-by-more", "14-no-room")
+
+    def test_table(self):
+        self.reasons({"t": 0, "room": 0}, "table-5", "order-table-before-14")
+        self.reasons({"table": b"\x80", "names": b"aa"}, "table-2", "order-table-before-18")
+        self.reasons({"n": 2 ** 64 - 1}, "table-1", "order-table-before-16")
+
+
+class LengthTest(unittest.TestCase):
+    def test_length_of_text(self):
+        rng = random.Random(1)
+        for grammar in text_write_inputs.figures_named():
+            case = text_write_inputs.make(
+                grammar, text_write_inputs.laid(rng, grammar), 0)
+            self.assertEqual(text_write_reasons.length_of_text(case), len(text_of(grammar)))
+
+
+if __name__ == "__main__":
+    unittest.main()

@@ -1,0 +1,109 @@
+"""Tests of the witness cases: their bytes, the lines, the sorting by reasons."""
+
+import unittest
+
+from case_files import LARGEST, decode_all, digest
+from case_grammars import ONE_A, ROWS, triples_in
+from certificates import witness_fault
+from table_cases import Rng
+from ways import longer, shortest, wander
+from witness_cases import KIND, Case, answer, encode_case
+from witness_reasons import REASONS, reasons_of
+
+# SHA-256 of the file of cases.
+DIGEST = "b76fa821ff1e82b7a413aaf851016a2375eba4aecb62dc4cf7720284a34f45ec"
+
+CYCLE = ROWS[5]           # S→S, Q = 6
+WAY = (0, 2, 14, 16, 23, 45, 43)
+
+
+class FileTest(unittest.TestCase):
+    def test_the_cases_are_these_bytes(self):
+        self.assertEqual(digest(KIND), DIGEST)
+
+    def test_layout_of_a_case(self):
+        data = encode_case(Case(1, 1, b"\x80\x00", (258, LARGEST)))
+        self.assertEqual(data, (
+            b"\x01" + bytes(7) + b"\x01" + bytes(7) + b"\x02\0\0\0" + b"\x80\x00"
+            + b"\x02\0\0\0" + b"\x02\x01\0\0" + b"\xff" * 4))
+        self.assertEqual(list(decode_all(KIND, data * 2)),
+                         [Case(1, 1, b"\x80\x00", (258, LARGEST))] * 2)
+
+    def test_a_cut_file_is_refused(self):
+        data = encode_case(Case(*CYCLE, WAY))
+        for end in range(1, len(data)):
+            with self.assertRaises(ValueError):
+                list(decode_all(KIND, data[:end]))
+
+    def test_answer_lines(self):
+        self.assertEqual(answer(Case(*CYCLE, WAY)), "accepted")
+        self.assertEqual(answer(Case(*CYCLE, WAY[:4])), "refused=15 at=4")
+        self.assertEqual(answer(Case(*CYCLE, (0, 1) + WAY)), "refused=15 at=1")
+        self.assertEqual(answer(Case(0, 0, b"", WAY)), "refused=1 at=0")
+
+
+class WaysTest(unittest.TestCase):
+    def test_shortest_and_longer_are_witnesses(self):
+        for row in ROWS[5:9]:
+            triples = triples_in(row)
+            least = len(shortest(triples))
+            for more in range(30):
+                way = longer(Rng(more), triples, more)
+                self.assertIsNone(witness_fault(triples, way))
+                self.assertGreaterEqual(len(way), least)
+
+    def test_wander_follows_successors(self):
+        triples = triples_in(ONE_A)
+        for seed in range(30):
+            way = wander(Rng(seed), triples, 12)
+            self.assertEqual(witness_fault(triples, way), (15, len(way)))
+
+
+class ReasonsTest(unittest.TestCase):
+    def reasons(self, table, entries, *names):
+        found = reasons_of(*table, entries)
+        self.assertEqual(sorted(found), sorted(names))
+        self.assertLessEqual(set(found), set(REASONS))
+
+    def test_accepted(self):
+        self.reasons(CYCLE, WAY, "accepted-shortest")
+        self.reasons(CYCLE, WAY[:4] + WAY[3:], "accepted-longer",
+                     "accepted-with-a-triple-repeated",
+                     "accepted-with-a-triple-repeated-at-once")
+        self.reasons(CYCLE, WAY[:5] + (47,) + WAY[5:], "accepted-longer")
+
+    def test_table_faults(self):
+        self.reasons((0, 0, b""), WAY, "1")
+        self.reasons((0, 0, b""), (), "1", "1-to-8-with-an-empty-row")
+
+    def test_rows_that_do_not_end(self):
+        self.reasons(CYCLE, (), "15-empty-row")
+        self.reasons(CYCLE, WAY[:-1], "15-only-the-end-fails")
+        self.reasons(ONE_A, (0,), "15-only-the-end-fails", "15-of-an-unambiguous-grammar")
+
+    def test_first_entry(self):
+        self.reasons(CYCLE, (1,) + WAY[1:], "15-first-entry", "15-first-of-several",
+                     "15-first-entry-though-the-rest-is-right")
+        self.reasons(CYCLE, (43,), "15-first-entry", "15-last-entry")
+
+    def test_after_the_end(self):
+        self.reasons(CYCLE, WAY + (43,), "15-after-the-end", "15-last-entry")
+
+    def test_large_entries(self):
+        self.reasons(CYCLE, WAY[:-1] + (72,), "15-entry-of-2QQ", "15-last-entry")
+        self.reasons(CYCLE, WAY[:-1] + (73,), "15-entry-above-2QQ", "15-last-entry")
+        self.reasons(CYCLE, WAY[:2] + (LARGEST,) + WAY[3:], "15-entry-above-2QQ",
+                     "15-entry-of-32-ones", "15-inner-entry", "15-first-of-several")
+
+    def test_misreadings(self):
+        # (0,3,5) to (1,3,5), not moved; (0,2,4) to (1,2,4) by an opening.
+        self.reasons(CYCLE, WAY[:5] + (36 + 23,), "15-no-successor-and-not-reached",
+                     "15-last-entry", "15-parting-without-the-closing-move")
+        self.reasons(CYCLE, WAY[:4] + (36 + 16,), "15-no-successor-and-not-reached",
+                     "15-last-entry", "15-parting-on-an-opening")
+        self.reasons(CYCLE, WAY[:3] + (28,), "15-no-successor-though-reached",
+                     "15-last-entry", "15-both-open-at-once")
+
+
+if __name__ == "__main__":
+    unittest.main()

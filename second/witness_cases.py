@@ -1,0 +1,211 @@
+"""Test inputs for the witness check, and this program's answers to them.
+
+    witness_cases.py cases FILE                writes the inputs
+    witness_cases.py answers CASES OUT COUNTS  answers them and counts the reasons
+
+A case is t and n (8 bytes each), the table's length (4 bytes), the table, then
+the number of entries (4 bytes) and the entries (4 bytes each), all little
+endian.
+"""
+
+import sys
+from typing import Dict, Iterator, List, NamedTuple, Sequence, Tuple
+
+from case_files import (
+    LARGEST, Kind, Reader, accepted_or_refused, cases_of, encode_number, encode_table,
+    main,
+)
+from case_grammars import (
+    CLASSICS, ONE_A, ROWS, STATEMENTS, Table, faulty_tables, keywords, larger_random,
+    operators, rules_before_the_fault, some, states_of, triples_in,
+)
+from certificates import check_witness
+from misreadings import NAMES, misread_indexes
+from table_cases import Rng
+from tables import MAX_STATES
+from triples import is_potential, reached
+from ways import longer, shortest, wander, way_from, way_to
+from witness_reasons import REASONS, reasons_of
+
+
+class Case(NamedTuple):
+    t: int
+    n: int
+    table: bytes
+    entries: Tuple[int, ...]
+
+
+# Groups of cases.
+
+def potential_tables(rng: Rng, count: int) -> List[Table]:
+    """Document 01's potential rows, classic ones and `count` random ones."""
+    tables = ROWS + list(CLASSICS.values())
+    tables = [table for table in tables if is_potential(triples_in(table))]
+    return tables + some(rng, count, is_potential, 40)
+
+
+def right(rng: Rng) -> Iterator[Case]:
+    """Shortest witnesses and longer ones, with repeated triples."""
+    for table in potential_tables(rng, 150):
+        triples = triples_in(table)
+        yield Case(*table, tuple(shortest(triples)))
+        for more in (4, 12, 40):
+            yield Case(*table, tuple(longer(rng, triples, more)))
+    for table in potential_tables(rng, 0)[:8]:
+        yield Case(*table, tuple(longer(rng, triples_in(table), 3000)))
+
+
+def cut(rng: Rng) -> Iterator[Case]:
+    """Right witnesses cut at the end, at the front, and in the middle."""
+    for table in potential_tables(rng, 35):
+        triples = triples_in(table)
+        way = shortest(triples)
+        for end in range(len(way)):
+            yield Case(*table, tuple(way[:end]))
+        place = 1 + rng.randrange(len(way) - 1)
+        yield Case(*table, tuple(way[1:]))
+        yield Case(*table, tuple(way[place:]))
+        yield Case(*table, tuple(way[:place] + way[place + 1:]))
+
+
+def extended(rng: Rng) -> Iterator[Case]:
+    """Right witnesses that go on past (1,1,1), or have an entry twice."""
+    for table in potential_tables(rng, 35):
+        triples = triples_in(table)
+        way = longer(rng, triples, rng.choice([0, 5]))
+        for more in (triples.last, triples.first, rng.randrange(triples.count), LARGEST):
+            yield Case(*table, tuple(way + [more]))
+        yield Case(*table, tuple(way + way))
+        place = rng.randrange(len(way))
+        yield Case(*table, tuple(way[:place + 1] + way[place:]))
+
+
+def wrong_entries(rng: Rng) -> Iterator[Case]:
+    """A wrong entry at each place of a right witness."""
+    for table in potential_tables(rng, 22):
+        triples = triples_in(table)
+        way, held = longer(rng, triples, rng.choice([0, 0, 3])), sorted(reached(triples))
+        for place in range(len(way)):
+            beyond = triples.count + rng.randrange(triples.count)
+            for entry in (rng.choice(held), triples.count, beyond, LARGEST):
+                yield Case(*table, tuple(way[:place] + [entry] + way[place + 1:]))
+        yield Case(*table, tuple(rng.choice(held) for _ in way))
+
+
+def first_entries(rng: Rng) -> Iterator[Case]:
+    """A wrong first entry, also with a right way after it."""
+    for table in potential_tables(rng, 30):
+        triples = triples_in(table)
+        way = shortest(triples)
+        for first in (1, triples.last, triples.count // 2, triples.count, LARGEST):
+            yield Case(*table, tuple([first] + way[1:]))
+        yield Case(*table, (triples.last,))
+        yield Case(*table, tuple(way[::-1]))
+        yield Case(*table, (triples.count,) + tuple(way))
+
+
+def misread_entries(rng: Rng) -> Iterator[Case]:
+    """An entry that would be right in a misreading, then the end."""
+    tables = ROWS + list(CLASSICS.values())
+    tables += some(rng, 40, lambda triples: len(reached(triples)) > 20, 40)
+    for table in tables:
+        triples = triples_in(table)
+        held = sorted(reached(triples))
+        by_name: Dict[str, List[Tuple[int, int]]] = {name: [] for name in NAMES}
+        for index in held:
+            for other, name in misread_indexes(triples, index).items():
+                by_name[name].append((index, other))
+        for row in by_name.values():
+            if row:
+                index, other = rng.choice(row)
+                way = way_to(triples, index)
+                yield Case(*table, tuple(way + [other]))
+                yield Case(*table, tuple(way + way_from(triples, other)))
+
+
+def unambiguous(rng: Rng) -> Iterator[Case]:
+    """Grammars that have no witness: right ways that do not end, or end wrongly."""
+    tables = ROWS + list(CLASSICS.values())
+    tables += some(rng, 60, lambda triples: not is_potential(triples), 40)
+    for table in tables:
+        triples = triples_in(table)
+        if is_potential(triples):
+            continue
+        yield Case(*table, ())
+        yield Case(*table, (triples.first,))
+        yield Case(*table, (triples.first, triples.last))
+        for most in (6, 30):
+            way = wander(rng, triples, most)
+            yield Case(*table, tuple(way))
+            yield Case(*table, tuple(way + [triples.last]))
+            place = rng.randrange(len(way))
+            other = rng.randrange(triples.count)
+            yield Case(*table, tuple(way[:place] + [other] + way[place + 1:]))
+
+
+def larger(rng: Rng) -> Iterator[Case]:
+    """Q from 60 to 256, potential and not."""
+    tables = [larger_random(rng, states) for states in (*range(62, 121, 8), MAX_STATES)]
+    tables += [keywords(rng, 30, 110), keywords(rng, 40, MAX_STATES)]
+    tables += [operators(10), STATEMENTS]
+    for table in tables:
+        triples = triples_in(table)
+        walk = longer if is_potential(triples) else wander
+        for more in (0, 1, 3, 10, 30, 100):
+            way = walk(rng, triples, more)
+            yield Case(*table, tuple(way))
+            place = rng.randrange(len(way))
+            for entry in (rng.randrange(triples.count), triples.count, LARGEST):
+                yield Case(*table, tuple(way[:place] + [entry] + way[place + 1:]))
+            yield Case(*table, tuple(way[:place]))
+
+
+def faulty(rng: Rng) -> Iterator[Case]:
+    """Faulty tables, with witnesses right for the rules before the fault or not."""
+    for table in faulty_tables(rng, 30):
+        good = rules_before_the_fault(table)
+        if states_of(good) < 40 and is_potential(triples_in(good)):
+            yield Case(*table, tuple(shortest(triples_in(good))))
+        yield Case(*table, rng.choice([(), (0,), (0, LARGEST), (1, 2, 3)]))
+    way = tuple(shortest(triples_in(ROWS[5])))
+    for t in range(128, 160):
+        yield Case(t, *ROWS[5][1:], way)
+    yield Case(*ONE_A, way)
+
+
+GROUPS = [
+    right, cut, extended, wrong_entries, first_entries, misread_entries, unambiguous,
+    larger, faulty,
+]
+
+
+# Answers.
+
+def answer(case: Case) -> str:
+    """The line of one case, without its byte 10."""
+    return accepted_or_refused(check_witness(*case))
+
+
+# Files.
+
+def encode_case(case: Case) -> bytes:
+    """One case of the file of inputs."""
+    return encode_table(*case[:3]) + encode_entries(case.entries)
+
+
+def encode_entries(entries: Sequence[int]) -> bytes:
+    """The number of entries, then the entries."""
+    return encode_number(len(entries)) + b"".join(map(encode_number, entries))
+
+
+def decode_case(reader: Reader) -> Case:
+    """The next case of a file of inputs."""
+    t, n, table = reader.table()
+    return Case(t, n, table, tuple(reader.numbers(reader.number())))
+
+
+KIND = Kind(lambda: cases_of(GROUPS), encode_case, decode_case, answer,
+            REASONS, lambda case: reasons_of(*case))
+
+if __name__ == "__main__":
+    sys.exit(main(KIND, __doc__, sys.argv[1:]))

@@ -1,0 +1,119 @@
+"""Sorts witness cases by reasons finer than document 01's cause 15.
+
+The counts of these reasons show that a file of cases tries every way in which
+a row is wrong, also as a misreading would have it.
+"""
+
+from typing import List, Sequence, Tuple
+
+from case_files import LARGEST, TABLE_REASONS
+from certificates import checked_triples, witness_fault
+from misreadings import NAMES, misread_indexes
+from tables import Refusal
+from triples import Triples, is_potential, reached
+from ways import shortest
+
+REASONS = [
+    "accepted-shortest",
+    "accepted-longer",
+    "accepted-with-a-triple-repeated",
+    "accepted-with-a-triple-repeated-at-once",
+    "accepted-over-60-states",
+] + TABLE_REASONS + [
+    "1-to-8-with-an-empty-row",
+    "15-empty-row",
+    "15-first-entry",
+    "15-first-entry-though-the-rest-is-right",
+    "15-only-the-end-fails",
+    "15-after-the-end",
+    "15-entry-of-2QQ",
+    "15-entry-above-2QQ",
+    "15-entry-of-32-ones",
+    "15-no-successor-though-reached",
+    "15-no-successor-and-not-reached",
+    "15-last-entry",
+    "15-inner-entry",
+    "15-first-of-several",
+    "15-of-an-unambiguous-grammar",
+    "15-over-60-states",
+] + ["15-" + name for name in NAMES]
+
+
+def reasons_of(t: int, n: int, table: bytes, entries: Sequence[int]) -> List[str]:
+    """Every reason of REASONS that this case meets."""
+    triples = checked_triples(t, n, table)
+    if isinstance(triples, Refusal):
+        empty = ["1-to-8-with-an-empty-row"] if not entries else []
+        return [str(triples.cause)] + empty
+    fault = witness_fault(triples, entries)
+    if fault is None:
+        met = accepted_reasons(triples, entries)
+    else:
+        met = refused_reasons(triples, entries, fault.position)
+    return [name for name, holds in met if holds]
+
+
+def accepted_reasons(triples: Triples, entries: Sequence[int]) -> List[Tuple[str, bool]]:
+    """How long an accepted witness is, and whether it repeats triples."""
+    least = len(entries) == len(shortest(triples))
+    at_once = any(one == other for one, other in zip(entries, entries[1:]))
+    return [
+        ("accepted-shortest", least),
+        ("accepted-longer", not least),
+        ("accepted-with-a-triple-repeated", len(set(entries)) < len(entries)),
+        ("accepted-with-a-triple-repeated-at-once", at_once),
+        ("accepted-over-60-states", triples.states > 60),
+    ]
+
+
+def refused_reasons(
+    triples: Triples, entries: Sequence[int], place: int
+) -> List[Tuple[str, bool]]:
+    """How a witness is wrong."""
+    met = [
+        ("15-empty-row", len(entries) == 0),
+        ("15-only-the-end-fails", 0 < len(entries) == place),
+        ("15-of-an-unambiguous-grammar", not is_potential(triples)),
+        ("15-over-60-states", triples.states > 60),
+    ]
+    if place == len(entries):
+        return met
+    return met + entry_reasons(triples, entries, place)
+
+
+def entry_reasons(
+    triples: Triples, entries: Sequence[int], place: int
+) -> List[Tuple[str, bool]]:
+    """How the first wrong entry is wrong."""
+    entry, first = entries[place], place == 0
+    before = triples.first if first else entries[place - 1]
+    mended = [triples.first] + list(entries[1:])
+    inside = not first and entry < triples.count and before != triples.last
+    return [
+        ("15-first-entry", first),
+        ("15-first-entry-though-the-rest-is-right",
+         first and witness_fault(triples, mended) is None),
+        ("15-after-the-end", not first and before == triples.last),
+        ("15-entry-of-2QQ", entry == triples.count),
+        ("15-entry-above-2QQ", entry > triples.count),
+        ("15-entry-of-32-ones", entry == LARGEST),
+        ("15-no-successor-though-reached", inside and entry in reached(triples)),
+        ("15-no-successor-and-not-reached", inside and entry not in reached(triples)),
+        ("15-last-entry", place == len(entries) - 1),
+        ("15-inner-entry", 0 < place < len(entries) - 1),
+        ("15-first-of-several", wrong_later(triples, entries, place)),
+    ] + misread_reasons(triples, before, entry, inside)
+
+
+def wrong_later(triples: Triples, entries: Sequence[int], place: int) -> bool:
+    """Whether a later entry does not follow the one before it either."""
+    return any(one >= triples.count or other not in triples.successors(one)
+               for one, other in zip(entries[place:], entries[place + 1:]))
+
+
+def misread_reasons(
+    triples: Triples, before: int, entry: int, inside: bool
+) -> List[Tuple[str, bool]]:
+    """The misreading in which the entry would be right."""
+    found = misread_indexes(triples, before) if inside else {}
+    return [("15-" + found[entry], True)] if entry in found else []
