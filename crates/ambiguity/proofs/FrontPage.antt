@@ -1,0 +1,114 @@
+-- The front page holds. Assumes nothing.
+use Prim.Native.Nat.{ℕ}
+use mathlib.Core.Path.{_≡_, refl, ap, sym, subst, _∙_}
+use mathlib.Core.List.{List, []}
+use mathlib.Core.Logic.{_↔_}
+use native.Mathlib.Omega.{arith}
+use Rattle.grammar.specs.Limits.{limits}
+use Rattle.grammar.specs.Grammar.{Grammar, WellFormed}
+use Rattle.grammar.specs.Tree.{HasTwoTrees}
+use Rattle.grammar.specs.Record.{recordOf}
+use Rattle.grammar.specs.Refusal.{Answer, done, refused, andThen}
+use Rattle.grammar.specs.TableCheck.{checkTable, tableChecked}
+use Rattle.grammar.specs.declared.TableChecked.{TableChecked}
+use Rattle.grammar.specs.declared.TableVerdict.the-variants.{Passed, Refused}
+use Rattle.grammar.proofs.Answers.{then-goes, then-stops}
+use Rattle.grammar.proofs.WellFormed.{passes-exactly, takes-only, room}
+use Rattle.automaton.specs.Strings.{Potential, Unambiguous}
+use Rattle.automaton.specs.Position.{position}
+use Rattle.triples.specs.Successor.{Reached, origin, next, Acceptable}
+use Rattle.triples.specs.Certificate.{AcceptableCertificate, checkBytes, checkCertificate}
+use Rattle.triples.specs.Witness.{LeadsOn, ends, goes, Witness, begins, checkRow, checkWitness}
+use Rattle.triples.specs.Verdict.{checkVerdict}
+use Rattle.triples.specs.declared.CheckVerdict.{CheckVerdict}
+use Rattle.triples.specs.declared.CheckVerdict.the-variants as check
+use Rattle.triple_laws.proofs.Laws.{accepts-exactly, witness-exactly}
+use Rattle.parting.proofs.Position.{potential-reached}
+use Rattle.soundness.proofs.Position.{one-tree}
+use Rattle.table_check.proofs.Callers.{passed-table, refused-table}
+use Rattle.ambiguity.specs.FrontPage.{Stores, TableAnswer, WitnessAnswer, CertificateAnswer, TableTheorems, WitnessTheorems, CertificateTheorems, FrontPage}
+
+-- a verdict is accepted exactly if the answer is done
+accepted-done : (o : Answer Unit) → (checkVerdict o ≡ check.Accepted) ↔ (o ≡ done tt)
+accepted-done (done tt) = (λ e. refl, λ e. refl)
+accepted-done (refused c p) = (
+  λ e. let z : _≡_ {A = ℕ} 0 1 = cc in absurd (let o : ⊥ = omega arith in o),
+  λ e. let z : _≡_ {A = ℕ} 0 1 = cc in absurd (let o : ⊥ = omega arith in o),
+)
+
+-- what leads on from a reached triple reaches (1,1,1)
+leads-reached : (G : Grammar) {f p q : ℕ} {row : List ℕ} → Reached (position limits G) f p q → LeadsOn limits G f p q row
+    → Reached (position limits G) 1 1 1
+leads-reached G r ends = r
+leads-reached G r (goes s e l) = leads-reached G (next r s) l
+
+witness-reached : (G : Grammar) {row : List ℕ} → Witness limits G row → Reached (position limits G) 1 1 1
+witness-reached G (begins e l) = leads-reached G origin l
+
+-- a closed set holds what is reached
+reached-held : (G : Grammar) (C : ℕ → ℕ → ℕ → Type 0) → Acceptable (position limits G) C → {f p q : ℕ} → Reached (position limits G) f p q → C f p q
+reached-held G C a origin = a .closed .holds
+reached-held G C a (next r s) = a .closed .step (reached-held G C a r) s
+
+module _ (t n : ℕ) (table : List ℕ) where
+  checked : (G : Grammar) → Stores t n table G → checkTable limits t n table ≡ done G
+  checked G s = passes-exactly limits room t n table G .1 (s .wellFormed, s .terminals, s .nonterminals, s .stored)
+
+  -- the faults of the table come first in a check that begins with them
+  table-first : (go : Grammar → Answer Unit) (v : CheckVerdict) → v ≡ checkVerdict (andThen (checkTable limits t n table) go)
+      → (r : TableChecked) (cause at : ℕ) → TableAnswer t n table r → r .verdict ≡ Refused cause at → v ≡ check.Refused cause at
+  table-first go v h r cause at e d = h ∙ ap checkVerdict (then-stops (checkTable limits t n table) go cause at (refused-table t n table r e cause at d))
+
+  -- and otherwise it accepts exactly if what follows is done
+  then-accepted : (go : Grammar → Answer Unit) (v : CheckVerdict) → v ≡ checkVerdict (andThen (checkTable limits t n table) go)
+      → (G : Grammar) → Stores t n table G → (v ≡ check.Accepted) ↔ (go G ≡ done tt)
+  then-accepted go v h G s =
+      let e = then-goes (checkTable limits t n table) go G (checked G s) in
+      let a = accepted-done (go G) in
+      let w : v ≡ checkVerdict (go G) = h ∙ ap checkVerdict e in
+      (λ x. a .0 (sym w ∙ x), λ x. w ∙ a .1 x)
+
+  table-theorems : (r : TableChecked) → TableAnswer t n table r → TableTheorems t n table r
+  table-theorems r e = record {
+    passes = λ G s. let h : r ≡ tableChecked (done G) = e ∙ ap tableChecked (checked G s) in
+        (ap (λ (r : TableChecked). r .verdict) h, ap (λ (r : TableChecked). r .grammar) h);
+    passes-only = λ v. let p = passed-table t n table r e v in let a = takes-only limits room t n table (p .grammar) (p .checked) in
+        (p .grammar, record { wellFormed = a .wellFormed; terminals = a .terminals; nonterminals = a .nonterminals; stored = a .table }, p .same);
+  }
+
+  module _ (row : List ℕ) (v : CheckVerdict) (h : WitnessAnswer t n table row v) where
+    accepts-witness : (G : Grammar) → Stores t n table G → (v ≡ check.Accepted) ↔ Witness limits G row
+    unfolding checkWitness
+    accepts-witness G s =
+        let a = then-accepted (λ G. checkRow limits G row) v h G s in
+        let b = witness-exactly limits G (s .wellFormed) (omega arith) row in
+        (λ x. b .0 (a .0 x), λ x. a .1 (b .1 x))
+
+    witness-theorems : WitnessTheorems t n table row v
+    unfolding checkWitness
+    witness-theorems = record {
+      refused = table-first (λ G. checkRow limits G row) v h;
+      accepted = accepts-witness;
+      potential = λ G s x. potential-reached limits G (s .wellFormed) (omega arith) .1 (witness-reached G (accepts-witness G s .0 x));
+    }
+
+  module _ (bytes : List ℕ) (v : CheckVerdict) (h : CertificateAnswer t n table bytes v) where
+    accepts-certificate : (G : Grammar) → Stores t n table G → (v ≡ check.Accepted) ↔ AcceptableCertificate limits G bytes
+    unfolding checkCertificate
+    accepts-certificate G s =
+        let a = then-accepted (λ G. checkBytes limits G bytes) v h G s in
+        let b = accepts-exactly limits G (s .wellFormed) (omega arith) bytes in
+        (λ x. b .0 (a .0 x), λ x. a .1 (b .1 x))
+
+    certificate-theorems : CertificateTheorems t n table bytes v
+    unfolding checkCertificate
+    certificate-theorems = record {
+      refused = table-first (λ G. checkBytes limits G bytes) v h;
+      accepted = accepts-certificate;
+      one-tree = λ G s x. one-tree limits G (s .wellFormed) (omega arith) _ (accepts-certificate G s .0 x .acceptable);
+      unambiguous = λ G s x p. let a = accepts-certificate G s .0 x .acceptable in
+          a .lacks (reached-held G _ a (potential-reached limits G (s .wellFormed) (omega arith) .0 p));
+    }
+
+pub front-page : FrontPage
+front-page = record { tables = table-theorems; witnesses = witness-theorems; certificates = certificate-theorems }

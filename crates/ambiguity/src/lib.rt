@@ -1,0 +1,7 @@
+// The front page: what this crate passes on is the library. specs/FrontPage.antt states what follows from the entries' promises.
+pub use grammar::CheckedGrammar;
+pub use grammar::TableChecked;
+pub use grammar::TableVerdict;
+pub use table_check::check_table;
+pub use triples::CheckVerdict;
+pub use witness_check::check_witness;
