@@ -26,6 +26,7 @@ use Rattle.triple_laws.proofs.Laws.{accepts-exactly, witness-exactly}
 use Rattle.parting.proofs.Position.{potential-reached}
 use Rattle.soundness.proofs.Position.{one-tree}
 use Rattle.table_check.proofs.Callers.{passed-table, refused-table}
+use Rattle.ambiguity.proofs.Texts.{text-theorems}
 use Rattle.ambiguity.specs.FrontPage.{Stores, TableAnswer, WitnessAnswer, CertificateAnswer, TableTheorems, WitnessTheorems, CertificateTheorems, FrontPage}
 
 -- a verdict is accepted exactly if the answer is done
@@ -111,4 +112,4 @@ module _ (t n : ℕ) (table : List ℕ) where
     }
 
 pub front-page : FrontPage
-front-page = record { tables = table-theorems; witnesses = witness-theorems; certificates = certificate-theorems }
+front-page = record { tables = table-theorems; witnesses = witness-theorems; certificates = certificate-theorems; texts = text-theorems }

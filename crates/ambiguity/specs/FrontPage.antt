@@ -1,15 +1,17 @@
 -- What holds of the library, whatever the input: theorems over what the public entries promise. A promise is the entry's
 -- `ensures`; it determines the answer. proofs/FrontPage.antt has the value of the record. Source: document 01; the demands of the
 -- mission by number. Assumes nothing.
-use Prim.Native.Nat.{ℕ}
+use Prim.Native.Nat.{ℕ, _+_, _≤_}
 use mathlib.Core.Path.{_≡_}
 use mathlib.Core.List.{List}
 use mathlib.Core.Logic.{_↔_}
+use lib.ListN.{length, take}
 use Rattle.grammar.specs.Limits.{limits}
 use Rattle.grammar.specs.Grammar.{Grammar, WellFormed}
 use Rattle.grammar.specs.Table.{encode}
 use Rattle.grammar.specs.Tree.{HasTwoTrees}
 use Rattle.grammar.specs.Record.{recordOf}
+use Rattle.grammar.specs.Refusal.{done}
 use Rattle.grammar.specs.TableCheck.{checkTable, tableChecked}
 use Rattle.grammar.specs.declared.TableChecked.{TableChecked}
 use Rattle.grammar.specs.declared.TableVerdict.the-variants.{Passed, Refused}
@@ -20,6 +22,13 @@ use Rattle.triples.specs.Witness.{Witness, checkWitness}
 use Rattle.triples.specs.Verdict.{checkVerdict}
 use Rattle.triples.specs.declared.CheckVerdict.{CheckVerdict}
 use Rattle.triples.specs.declared.CheckVerdict.the-variants as check
+use Rattle.text.specs.Read.{Source, symbolNames, readText}
+use Rattle.text.specs.Promise.{over, textRead, ReadsText, WritesText, SameAgain}
+use Rattle.text.specs.declared.TextRead.{TextRead}
+use Rattle.text.specs.declared.TextRead.the-variants as reader
+use Rattle.text.specs.declared.TextRead.the-variants.{Read}
+use Rattle.text.specs.declared.TextWritten.{TextWritten}
+use Rattle.text.specs.declared.TextWritten.the-variants.{Written}
 
 -- t, n and the table are those of a well-formed grammar within the limits
 pub record Stores (t n : ℕ) (table : List ℕ) (G : Grammar) : Type 0 where
@@ -61,8 +70,39 @@ module _ (t n : ℕ) (table : List ℕ) where
     -- demand 2: nor do two strings part
     pub unambiguous : (G : Grammar) → Stores t n table G → v ≡ check.Accepted → Unambiguous (position limits G)
 
+pub record TextTheorems : Type 0 where
+  -- demand 2: text that is read and written again, with the names that the reader gave, is the same text
+  pub text-again : (text table starts lengths table′ starts′ lengths′ : List ℕ) (t n e q : ℕ) (out out′ : List ℕ) (r : TextWritten)
+      → ReadsText text table starts lengths (Read t n e q) table′ starts′ lengths′
+      → WritesText t n (take e table′) text starts′ lengths′ out r out′ → length text ≤ length out
+      → (r ≡ Written (length text)) × (out′ ≡ over text out)
+  -- tables and names that are written and read again, lent enough, are the same tables and the same names
+  pub tables-again : (t n : ℕ) (table bytes starts lengths out : List ℕ) (m : ℕ) (out′ table₂ starts₂ lengths₂ : List ℕ) (r : TextRead)
+      (table′ starts′ lengths′ : List ℕ)
+      → WritesText t n table bytes starts lengths out (Written m) out′
+      → ReadsText (take m out′) table₂ starts₂ lengths₂ r table′ starts′ lengths′
+      → length table ≤ length table₂ → t + n ≤ length starts₂ → t + n ≤ length lengths₂
+      → SameAgain t n table bytes starts lengths (take m out′) r table′ starts′ lengths′
+  -- what is written is never longer than the reader takes
+  pub short : (t n : ℕ) (table bytes starts lengths out : List ℕ) (m : ℕ) (out′ : List ℕ)
+      → WritesText t n table bytes starts lengths out (Written m) out′ → m ≤ limits .maxText
+  -- demand 1: the reader's tests 7, 6, 8 are the table check of the table that it would write
+  pub last-tests : (text : List ℕ) (s : Source) → readText limits text ≡ done s → (r : TableChecked)
+      → TableAnswer (length (s .terminals)) (length (s .nonterminals)) (encode (s .rules)) r
+      → (table starts lengths : List ℕ) (v : TextRead) (table′ starts′ lengths′ : List ℕ)
+      → ReadsText text table starts lengths v table′ starts′ lengths′
+      → (cause at : ℕ) → r .verdict ≡ Refused cause at → v ≡ reader.Refused cause at
+  -- and where it passes, the reader, lent enough, reads
+  pub reads : (text : List ℕ) (s : Source) → readText limits text ≡ done s → (r : TableChecked)
+      → TableAnswer (length (s .terminals)) (length (s .nonterminals)) (encode (s .rules)) r
+      → (table starts lengths : List ℕ) (v : TextRead) (table′ starts′ lengths′ : List ℕ)
+      → ReadsText text table starts lengths v table′ starts′ lengths′
+      → r .verdict ≡ Passed → length (encode (s .rules)) ≤ length table → length (symbolNames s) ≤ length starts
+      → length (symbolNames s) ≤ length lengths → v ≡ textRead (done s)
+
 -- whatever answers as the entries promise
 pub record FrontPage : Type 0 where
   pub tables : (t n : ℕ) (table : List ℕ) (r : TableChecked) → TableAnswer t n table r → TableTheorems t n table r
   pub witnesses : (t n : ℕ) (table row : List ℕ) (v : CheckVerdict) → WitnessAnswer t n table row v → WitnessTheorems t n table row v
   pub certificates : (t n : ℕ) (table bytes : List ℕ) (v : CheckVerdict) → CertificateAnswer t n table bytes v → CertificateTheorems t n table bytes v
+  pub texts : TextTheorems

@@ -14,7 +14,7 @@ use Rattle.grammar.proofs.Rules.{decode-encode}
 use Rattle.text.specs.Read.{Source, symbolNames}
 use Rattle.text.specs.Rules.{readInto}
 use Rattle.text.specs.Print.{gather, writeInto}
-use Rattle.text.specs.Promise.{over, nameStarts, nameLengths, textRead, textWritten, afterwards, ReadsText, WritesText}
+use Rattle.text.specs.Promise.{over, nameStarts, nameLengths, textRead, textWritten, afterwards, ReadsText, WritesText, SameAgain}
 use Rattle.text.specs.declared.TextRead.{TextRead}
 use Rattle.text.specs.declared.TextRead.the-variants.{Read}
 use Rattle.text.specs.declared.TextWritten.{TextWritten}
@@ -38,7 +38,7 @@ read-as : (o : Answer Source) (t n e q : ℕ) → Read t n e q ≡ textRead o �
 read-as (done s) t n e q h = record { source = s; whole = refl; terminals = cc; nonterminals = cc; entries = cc; states = cc }
 read-as (refused c p) t n e q h = absurd (let z : _≡_ {A = ℕ} 0 1 = cc in omega arith)
 
-written-as : (o : Answer (List ℕ)) (m : ℕ) → Written m ≡ textWritten o → (text : List ℕ) × (o ≡ done text) × (length text ≡ m)
+pub written-as : (o : Answer (List ℕ)) (m : ℕ) → Written m ≡ textWritten o → (text : List ℕ) × (o ≡ done text) × (length text ≡ m)
 written-as (done text) m h = (text, refl, cc)
 written-as (refused c p) m h = absurd (let z : _≡_ {A = ℕ} 0 1 = cc in omega arith)
 
@@ -96,13 +96,6 @@ read-write text table starts lengths table′ starts′ lengths′ t n e q out o
     (omega (arith, length-lengths (symbolNames s)))
     ∙ limits-read-then-write (length table) (length starts) (length lengths) text s room (a .whole) h in
     (w .answer ∙ ap textWritten o, after-done _ (λ text. text) out out′ text o (w .out-after))
-
--- what was read again is what was written: t, n, the table, Q and the names
-pub record SameAgain (t n : ℕ) (table bytes starts lengths text : List ℕ) (r : TextRead)
-    (table′ starts′ lengths′ : List ℕ) : Type 0 where
-  pub answer : r ≡ Read t n (length table) (stateCount (decode table))
-  pub rules : take (length table) table′ ≡ table
-  pub names : gather text starts′ lengths′ 0 (t + n) ≡ gather bytes starts lengths 0 (t + n)
 
 -- a table and names written and read again with enough room are the same
 pub write-read : (t n : ℕ) (table bytes starts lengths out : List ℕ) (m : ℕ) (out′ table₂ starts₂ lengths₂ : List ℕ)

@@ -3,16 +3,16 @@
 use Prim.Native.Nat.{ℕ, _+_}
 use mathlib.Core.Path.{_≡_}
 use mathlib.Core.List.{List, [], _∷_, _++_}
-use lib.ListN.{length, drop}
+use lib.ListN.{length, take, drop}
 use Rattle.grammar.specs.Limits.{limits}
 use Rattle.grammar.specs.Grammar.{stateCount}
-use Rattle.grammar.specs.Table.{encode}
+use Rattle.grammar.specs.Table.{encode, decode}
 use Rattle.grammar.specs.Refusal.{Answer, done, refused}
 use Rattle.text.specs.Pieces.{comma, join}
 use Rattle.text.specs.Keys.{key}
 use Rattle.text.specs.Read.{Source, symbolNames}
 use Rattle.text.specs.Rules.{readInto}
-use Rattle.text.specs.Print.{printLine, writeInto}
+use Rattle.text.specs.Print.{printLine, gather, writeInto}
 use Rattle.text.specs.declared.TextRead.{TextRead}
 use Rattle.text.specs.declared.TextRead.the-variants.{Read, Refused as ReadRefused}
 use Rattle.text.specs.declared.TextWritten.{TextWritten}
@@ -64,3 +64,10 @@ pub record ReadsText (text table starts lengths : List ℕ) (r : TextRead) (tabl
 pub record WritesText (t n : ℕ) (table bytes starts lengths out : List ℕ) (r : TextWritten) (out′ : List ℕ) : Type 0 where
   pub answer : r ≡ textWritten (writeInto limits t n table bytes starts lengths (length out))
   pub out-after : out′ ≡ afterwards (writeInto limits t n table bytes starts lengths (length out)) (λ text. text) out
+
+-- what was read again is what was written: t, n, the table, Q and the names
+pub record SameAgain (t n : ℕ) (table bytes starts lengths text : List ℕ) (r : TextRead)
+    (table′ starts′ lengths′ : List ℕ) : Type 0 where
+  pub answer : r ≡ Read t n (length table) (stateCount (decode table))
+  pub rules : take (length table) table′ ≡ table
+  pub names : gather text starts′ lengths′ 0 (t + n) ≡ gather bytes starts lengths 0 (t + n)
