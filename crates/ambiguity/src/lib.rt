@@ -1,7 +1,11 @@
 // The front page: what this crate passes on is the library. specs/FrontPage.antt states what follows from the entries' promises.
+pub use certificate_check::check_certificate;
 pub use grammar::CheckedGrammar;
 pub use grammar::TableChecked;
 pub use grammar::TableVerdict;
 pub use table_check::check_table;
+pub use text::TextRead;
+pub use text::TextWritten;
+pub use text_write::write_text;
 pub use triples::CheckVerdict;
 pub use witness_check::check_witness;

@@ -1,0 +1,6 @@
+pub mod BitLaws
+pub mod PlanLaws
+pub mod ScanLaws
+pub mod CheckLaws
+pub mod BlockLaws
+pub mod PlannedLaws

@@ -1,0 +1,165 @@
+-- A plan's numbers: how large they are, and which successor is the k-th. Assumes nothing.
+use mathlib.Core.Path.{_≡_, refl, ap, sym, _∙_}
+use mathlib.Core.Bool.{Bool, true, false, not, _&&_, _||_}
+use mathlib.Core.List.{List}
+use Prim.Native.Nat.{ℕ, zero, suc, _+_, _-_, _*_, _/_, _%_, _≤_, _<_}
+use native.Mathlib.Omega.{arith}
+use native.Mathlib.Nat.{mul-le-mul, mod-lt}
+use lib.Dec.{eqb, leb, ltb}
+use lib.ListN.{getD}
+use borrow.Author.Tests.{lt-ltb, le-ltb, le-leb, eq-eqb, ne-eqb}
+use Rattle.grammar.specs.Basics.{choose}
+use Rattle.grammar.specs.Limits.{limits}
+use Rattle.triples.specs.Index.{layerOf, leftOf, rightOf}
+use Rattle.certificate_check.specs.declared.Side.{Side}
+use Rattle.certificate_check.specs.declared.Plan.{Plan}
+use Rattle.certificate_check.specs.Contracts.{SideFits, Safe}
+use Rattle.certificate_check.specs.Plan.{Rows, readsAt, sideOf, aloneOf, layerAfter, shiftOf, pairsOf, planFor, planOf, pairAt, nextOf}
+
+choose-le : (b : Bool) (x y n : ℕ) → x ≤ n → y ≤ n → choose b x y ≤ n
+choose-le true x y n h k = h
+choose-le false x y n h k = k
+
+pub alone-le : (ahead : List ℕ) (t m f : ℕ) (s : Side) (o : ℕ) → aloneOf ahead t m f s o ≤ s .span
+unfolding aloneOf
+alone-le ahead t m f s o = choose-le (eqb f 0 && (ltb (s .kind) m && not (readsAt ahead t o))) 0 (s .span) (s .span) (omega arith) (omega arith)
+
+pub layer-le : (m f : ℕ) (s : Side) → layerAfter m f s ≤ 1
+unfolding layerAfter
+layer-le m f s = choose-le (eqb f 0 && leb m (s .kind)) 0 1 1 (omega arith) (omega arith)
+
+pub shift-le : (ahead : List ℕ) (t f a b : ℕ) → shiftOf ahead t f a b ≤ 1
+unfolding shiftOf
+shift-le ahead t f a b = choose-le (leb 1 (getD ahead a 0) && (eqb (getD ahead a 0) (getD ahead b 0) && (eqb f 0 || readsAt ahead t a))) 1 0 1 (omega arith) (omega arith)
+
+pub pairs-le : (number : List ℕ) (m f a b : ℕ) (x y : Side) → pairsOf number m f a b x y ≤ x .span * y .span
+unfolding pairsOf
+pairs-le number m f a b x y =
+    choose-le (eqb f 0 && (ltb (x .kind) m && (ltb (y .kind) m && not (eqb (getD number a 0) (getD number b 0))))) (x .span * y .span) 0 (x .span * y .span) (omega arith) (omega arith)
+
+-- products of small numbers
+pub product-le : (x y : ℕ) → x ≤ limits .maxStates → y ≤ limits .maxStates → x * y ≤ 65536
+product-le x y h k = mul-le-mul {n₂ = 256} {m₂ = 256} h k
+
+pub square-of : (q : ℕ) → 4 ≤ q → q ≤ limits .maxStates → (16 ≤ q * q) × (q * q ≤ 65536)
+square-of q h k = (mul-le-mul {n₁ = 4} {m₁ = 4} h h, product-le q q k k)
+
+pub layer-times : (x s : ℕ) → x ≤ 1 → x * s ≤ s
+layer-times x s h = let k = mul-le-mul {n₂ = 1} {m₂ = s} h (let z : s ≤ s = omega arith in z) in omega (arith, k)
+
+-- the plan from the numbers that the calls give
+abbrev pub planned : ℕ → ℕ → ℕ → ℕ → ℕ → ℕ → ℕ → ℕ → ℕ → ℕ → ℕ → Plan
+planned l r s n lf rf lb rb d c q = record {
+  left = l;
+  right = r;
+  shift = s;
+  total = n;
+  «left_from» = lf;
+  «right_from» = rf;
+  «left_base» = lb;
+  «right_base» = rb;
+  beside = d;
+  columns = c;
+  square = q;
+}
+
+pub plan-joined : (R : Rows) (t m Q i : ℕ) (x y : Side) (l r s p u v : ℕ)
+    → x ≡ sideOf (R .member) (R .first) (leftOf Q i) → y ≡ sideOf (R .member) (R .first) (rightOf Q i)
+    → l ≡ aloneOf (R .ahead) t m (layerOf Q i) x (rightOf Q i) → r ≡ aloneOf (R .ahead) t m (layerOf Q i) y (leftOf Q i)
+    → s ≡ shiftOf (R .ahead) t (layerOf Q i) (leftOf Q i) (rightOf Q i)
+    → p ≡ pairsOf (R .number) m (layerOf Q i) (leftOf Q i) (rightOf Q i) x y
+    → u ≡ layerAfter m (layerOf Q i) x → v ≡ layerAfter m (layerOf Q i) y
+    → planned l r s (l + r + s + p) (x .from) (y .from) (u * (Q * Q) + rightOf Q i) (v * (Q * Q) + leftOf Q i * Q) (i + Q + 1) (y .span) (Q * Q) ≡ planOf R t m Q i
+unfolding planOf
+plan-joined R t m Q i x y l r s p u v ex ey el er es ep eu ev =
+    ap (λ (n : ℕ). planned n r s (n + r + s + p) (x .from) (y .from) (u * (Q * Q) + rightOf Q i) (v * (Q * Q) + leftOf Q i * Q) (i + Q + 1) (y .span) (Q * Q)) el
+    ∙ ap (λ (n : ℕ). planned lx n s (lx + n + s + p) (x .from) (y .from) (u * (Q * Q) + rightOf Q i) (v * (Q * Q) + leftOf Q i * Q) (i + Q + 1) (y .span) (Q * Q)) er
+    ∙ ap (λ (n : ℕ). planned lx rx n (lx + rx + n + p) (x .from) (y .from) (u * (Q * Q) + rightOf Q i) (v * (Q * Q) + leftOf Q i * Q) (i + Q + 1) (y .span) (Q * Q)) es
+    ∙ ap (λ (n : ℕ). planned lx rx sx (lx + rx + sx + n) (x .from) (y .from) (u * (Q * Q) + rightOf Q i) (v * (Q * Q) + leftOf Q i * Q) (i + Q + 1) (y .span) (Q * Q)) ep
+    ∙ ap (λ (n : ℕ). planned lx rx sx (lx + rx + sx + px) (x .from) (y .from) (n * (Q * Q) + rightOf Q i) (v * (Q * Q) + leftOf Q i * Q) (i + Q + 1) (y .span) (Q * Q)) eu
+    ∙ ap (λ (n : ℕ). planned lx rx sx (lx + rx + sx + px) (x .from) (y .from) (layerAfter m (layerOf Q i) x * (Q * Q) + rightOf Q i) (n * (Q * Q) + leftOf Q i * Q) (i + Q + 1) (y .span) (Q * Q)) ev
+    ∙ ap (λ (z : Side). planFor R t m Q i (layerOf Q i) (leftOf Q i) (rightOf Q i) z y) ex
+    ∙ ap (planFor R t m Q i (layerOf Q i) (leftOf Q i) (rightOf Q i) (sideOf (R .member) (R .first) (leftOf Q i))) ey
+  where
+    lx : ℕ
+    lx = aloneOf (R .ahead) t m (layerOf Q i) x (rightOf Q i)
+
+    rx : ℕ
+    rx = aloneOf (R .ahead) t m (layerOf Q i) y (leftOf Q i)
+
+    sx : ℕ
+    sx = shiftOf (R .ahead) t (layerOf Q i) (leftOf Q i) (rightOf Q i)
+
+    px : ℕ
+    px = pairsOf (R .number) m (layerOf Q i) (leftOf Q i) (rightOf Q i) x y
+
+-- the k-th successor lies in the first block that reaches past k
+module _ (P : Plan) (targets : List ℕ) (Q k : ℕ) where
+  pub next-left : (w : ℕ) → k < P .left → w ≡ getD targets (P .«left_from» + k) 0 → P .«left_base» + w * Q ≡ nextOf P targets Q k
+  unfolding nextOf
+  next-left w h e = ap (λ (n : ℕ). P .«left_base» + n * Q) e ∙ simp (lt-ltb k (P .left) h)
+
+  pub next-right : (w : ℕ) → P .left ≤ k → k - P .left < P .right → w ≡ getD targets (P .«right_from» + (k - P .left)) 0
+      → P .«right_base» + w ≡ nextOf P targets Q k
+  unfolding nextOf
+  next-right w h l e = ap (λ (n : ℕ). P .«right_base» + n) e ∙ simp (le-ltb k (P .left) h, lt-ltb (k - P .left) (P .right) l)
+
+  pub next-shift : P .left ≤ k → P .right ≤ k - P .left → k - P .left - P .right < P .shift → P .beside ≡ nextOf P targets Q k
+  unfolding nextOf
+  next-shift h l o = simp (le-ltb k (P .left) h, le-ltb (k - P .left) (P .right) l, lt-ltb (k - P .left - P .right) (P .shift) o)
+
+  pub next-pair : (w z : ℕ) → P .left ≤ k → P .right ≤ k - P .left → P .shift ≤ k - P .left - P .right
+      → w ≡ getD targets (P .«left_from» + (k - P .left - P .right - P .shift) / P .columns) 0
+      → z ≡ getD targets (P .«right_from» + (k - P .left - P .right - P .shift) % P .columns) 0
+      → P .square + w * Q + z ≡ nextOf P targets Q k
+  unfolding nextOf
+  next-pair w z h l o e d =
+      ap (λ (n : ℕ). P .square + n * Q + z) e
+      ∙ ap (λ (n : ℕ). P .square + getD targets (P .«left_from» + (k - P .left - P .right - P .shift) / P .columns) 0 * Q + n) d
+      ∙ simp (le-ltb k (P .left) h, le-ltb (k - P .left) (P .right) l, le-ltb (k - P .left - P .right) (P .shift) o)
+
+-- the last two cases of a shift
+all-hold : (x y z w r : Bool) → x ≡ true → y ≡ true → z ≡ false → w ≡ r → x && (y && (z || w)) ≡ r
+all-hold x y z w r a b c d = rw (a, b, c) d
+
+pub shift-reads : (ahead : List ℕ) (t f a b : ℕ) (r : Bool) → 1 ≤ getD ahead a 0 → getD ahead a 0 ≡ getD ahead b 0 → (f ≡ 0 → ⊥)
+    → readsAt ahead t a ≡ r → choose r 1 0 ≡ shiftOf ahead t f a b
+unfolding shiftOf
+shift-reads ahead t f a b r h e n g =
+    ap (λ (z : Bool). choose {A = ℕ} z 1 0) (sym (all-hold (leb 1 (getD ahead a 0)) (eqb (getD ahead a 0) (getD ahead b 0)) (eqb f 0) (readsAt ahead t a) r
+    (le-leb 1 (getD ahead a 0) h) (eq-eqb (getD ahead a 0) (getD ahead b 0) e) (ne-eqb f 0 n) g))
+
+abbrev pub sideFrom : ℕ → ℕ → ℕ → Side
+sideFrom k f s = record { kind = k; from = f; span = s }
+
+-- a cell of a row of targets, times the number of states
+pub cell-times : (w q : ℕ) → q ≤ limits .maxStates → w ≤ 65535 → w * q ≤ 16776960
+cell-times w q h k = mul-le-mul {n₂ = 65535} {m₂ = 256} k h
+
+-- the pair that the k-th successor is, if it lies past the other blocks
+pub pair-fits : (P : Plan) (Q k : ℕ) → Safe P Q → k < P .total → P .left ≤ k → P .right ≤ k - P .left → P .shift ≤ k - P .left - P .right
+    → (0 < P .columns) × (P .«left_from» + (k - P .left - P .right - P .shift) / P .columns < limits .maxStates)
+    × (P .«right_from» + (k - P .left - P .right - P .shift) % P .columns < limits .maxStates)
+pair-fits P Q k s h a b d =
+    let r = s .pairs (k - P .left - P .right - P .shift) (omega arith) in
+    let m = mod-lt (k - P .left - P .right - P .shift) (r .0) in
+    (r .0, r .1, omega (arith, m, r .2))
+
+-- how large the parts of a plan are
+pub span-le : (member first : List ℕ) (p : ℕ) (x : Side) → SideFits member first p → x ≡ sideOf member first p → x .span ≤ limits .maxStates
+span-le member first p x h e =
+    let q : x .span ≡ getD first (getD member p 0 + 1) 0 - getD first (getD member p 0) 0 = ap (λ (s : Side). s .span) e in
+    omega (arith, q, h .inside)
+
+pub alone-small : (ahead : List ℕ) (t m f : ℕ) (s : Side) (o l : ℕ) → l ≡ aloneOf ahead t m f s o → s .span ≤ limits .maxStates → l ≤ limits .maxStates
+alone-small ahead t m f s o l e h = omega (arith, alone-le ahead t m f s o)
+
+pub shift-small : (ahead : List ℕ) (t f a b l : ℕ) → l ≡ shiftOf ahead t f a b → l ≤ 1
+shift-small ahead t f a b l e = omega (arith, shift-le ahead t f a b)
+
+pub pairs-small : (number : List ℕ) (m f a b : ℕ) (x y : Side) (l : ℕ) → l ≡ pairsOf number m f a b x y → x .span ≤ limits .maxStates → y .span ≤ limits .maxStates
+    → l ≤ 65536
+pairs-small number m f a b x y l e h k = omega (arith, pairs-le number m f a b x y, product-le (x .span) (y .span) h k)
+
+pub layer-small : (m f : ℕ) (s : Side) (l w : ℕ) → l ≡ layerAfter m f s → w ≤ 65536 → l * w ≤ 65536
+layer-small m f s l w e h = omega (arith, layer-times l w (let z : l ≤ 1 = omega (arith, layer-le m f s) in z))

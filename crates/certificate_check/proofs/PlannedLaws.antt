@@ -1,0 +1,425 @@
+-- The plans of the rows that crate moves builds list exactly the successors. Assumes nothing.
+use mathlib.Core.Path.{_≡_, refl, ap, sym, subst, subst₂, _∙_}
+use mathlib.Core.Logic.{_⊎_, inl, inr, _↔_}
+use mathlib.Core.Bool.{Bool, true, false, _&&_, _||_}
+use mathlib.Core.List.{List}
+use Prim.Native.Nat.{ℕ, zero, suc, _+_, _-_, _*_, _/_, _%_, _≤_, _<_}
+use native.Mathlib.Omega.{arith}
+use native.Mathlib.Decide.{decLt}
+use native.Mathlib.Nat.{suc-mul, mod-lt, div-lt-iff-lt-mul, mul-add-div-right, mul-add-mod-self-right, div-eq-of-lt, mod-eq-of-lt, mul-le-mul}
+use lib.Dec.{eqb, leb}
+use lib.ListN.{length, getD, take, drop, length-drop}
+use lib.Seq.{length-take-le, getD-take, getD-drop}
+use Rattle.grammar.specs.Basics.{Mem}
+use Rattle.grammar.specs.Limits.{limits}
+use Rattle.grammar.specs.Grammar.{Grammar, WellFormed}
+use Rattle.grammar.specs.Record.{recordOf}
+use Rattle.grammar.specs.declared.CheckedGrammar.{CheckedGrammar}
+use Rattle.automaton.specs.Items.{states}
+use Rattle.automaton.specs.Position.{Opens, Closes, Shifts, position}
+use Rattle.automaton.proofs.Items.{states-four}
+use Rattle.triples.specs.Index.{index, tripleCount, layerOf, leftOf, rightOf}
+use Rattle.triples.specs.Successor.{BeforeTerminal, StepTo, Successor, open-left, open-right, shift-both, part-both, part-left, part-right, close-left, close-right, read-both}
+use Rattle.triples.specs.Smallest.{successors}
+use Rattle.triples.specs.declared.Move.{Move}
+use Rattle.triples.specs.declared.Move.the-variants.{Opening, Closing, Symbol, Still}
+use Rattle.triples.proofs.Index.{Digits, digits}
+use Rattle.triple_laws.proofs.Members.{mem-place, place-mem}
+use Rattle.triple_laws.proofs.Moves.{shift-ahead, terminal-ahead}
+use Rattle.triple_laws.proofs.Records.{successors-exact, successors-below}
+use Rattle.moves.specs.Tables.{segment, targets, memberClass, Tables, Built}
+use Rattle.moves.proofs.Moves.{opens-class, closes-class, closes-number, targets-exactly, member-most}
+use Rattle.moves.proofs.Built.{ahead-at, number-at, member-at, segment-of, segment-order, segment-inside}
+use Rattle.certificate_check.specs.declared.Side.{Side}
+use Rattle.certificate_check.specs.declared.Plan.{Plan}
+use Rattle.certificate_check.specs.Plan.{Rows, rows, readsAt, sideOf, aloneOf, layerAfter, shiftOf, pairsOf, planFor, planOf, nextOf}
+use Rattle.certificate_check.specs.Contracts.{SideFits, Fits, Safe, Verified, Lists, Planned}
+use Rattle.certificate_check.proofs.PlanLaws.{alone-le, layer-le, pairs-le, layer-times, product-le, next-left, next-right, next-shift, next-pair}
+use Rattle.certificate_check.proofs.BlockLaws.{alone-opens, alone-later, alone-beside, alone-reads, layer-opens, layer-closes, layer-later, shift-facts, shift-is, any-symbol, a-terminal, terminal-a, pairs-facts, pairs-is, pairs-later, opens-layer}
+
+-- a product with something below it
+positive : (a b k : ℕ) → k < a * b → 0 < b
+positive a zero k h = absurd (omega arith)
+positive a (suc b) k h = omega arith
+
+-- sums in another order
+swapped : (x y z : ℕ) → x + y + z ≡ x + z + y
+swapped x y z = omega arith
+
+-- a pair of numbers as one, and back
+pair-below : (a b x y : ℕ) → x < a → y < b → x * b + y < a * b
+pair-below a b x y h k = omega (arith, mul-le-mul {n₁ = suc x} {m₁ = b} {n₂ = a} {m₂ = b} h (let z : b ≤ b = omega arith in z), suc-mul x b)
+
+quotient : (x b y : ℕ) → y < b → (x * b + y) / b ≡ x
+quotient x b y h = mul-add-div-right (omega arith) x y ∙ ap (λ (z : ℕ). x + z) (div-eq-of-lt h) ∙ omega arith
+
+module _ (G : Grammar) (W : WellFormed limits G) (old new : Tables) (X : Built G old new) (long : limits .maxStates ≤ length (new .targets)) where
+  apart : limits .maxTerminals < limits .nonterminalBase
+  apart = omega arith
+
+  abbrev Q : ℕ
+  Q = states G
+
+  abbrev R : Rows
+  R = rows (new .ahead) (new .number) (new .member) (new .first)
+
+  abbrev t : ℕ
+  t = G .terminals
+
+  abbrev m : ℕ
+  m = G .nonterminals + 1
+
+  abbrev ts : List ℕ
+  ts = new .targets
+
+  abbrev side : ℕ → Side
+  side p = sideOf (new .member) (new .first) p
+
+  pub fits-at : (p : ℕ) → p < Q → SideFits (new .member) (new .first) p
+  fits-at p h = record {
+    state = omega (arith, W .size);
+    class = omega (arith, member-at G old new X p h, member-most limits G W apart p h, W .nonterminals .1);
+    order = segment-order G old new X p h W;
+    inside = omega (arith, segment-inside G old new X p h W, W .size);
+  }
+
+  -- the targets of a state stand in its segment
+  abbrev part : ℕ → List ℕ
+  part p = take (side p .span) (drop (side p .from) ts)
+
+  part-is : (p : ℕ) → p < Q → part p ≡ targets limits G p
+  unfolding segment
+  part-is p h = segment-of G old new X p h W
+
+  part-length : (p : ℕ) → p < Q → length (part p) ≡ side p .span
+  part-length p h =
+      let f = fits-at p h in
+      length-take-le (side p .span) (drop (side p .from) ts) (omega (arith, length-drop (side p .from) ts, f .order, f .inside))
+
+  part-at : (p k : ℕ) → k < side p .span → getD (part p) k 0 ≡ getD ts (side p .from + k) 0
+  part-at p k h = getD-take (side p .span) (drop (side p .from) ts) k 0 h ∙ getD-drop (side p .from) ts k 0
+
+  abbrev cell : ℕ → ℕ → ℕ
+  cell p k = getD ts (side p .from + k) 0
+
+  cell-target : (p k : ℕ) → p < Q → k < side p .span → Mem (cell p k) (targets limits G p)
+  cell-target p k h l =
+      subst (Mem (cell p k)) (part-is p h)
+      (subst (λ (u : ℕ). Mem u (part p)) (part-at p k l) (place-mem (part p) k 0 (omega (arith, part-length p h))))
+
+  target-cell : (p u : ℕ) → p < Q → Mem u (targets limits G p) → (k : ℕ) × (k < side p .span) × (cell p k ≡ u)
+  target-cell p u h a =
+      let r = mem-place 0 (subst (Mem u) (sym (part-is p h)) a) in
+      let l : r .0 < side p .span = omega (arith, r .1, part-length p h) in
+      (r .0, l, sym (part-at p (r .0) l) ∙ r .2)
+
+  -- opening classes are not below m, closing classes are
+  opens-kind : {i p u : ℕ} → p < Q → Opens limits G i p u → m ≤ side p .kind
+  opens-kind {p = p} h o = omega (arith, opens-class limits G W apart o .0, member-at G old new X p h)
+
+  closes-kind : {i p u : ℕ} → p < Q → Closes limits G i p u → side p .kind < m
+  closes-kind {p = p} h o = omega (arith, closes-class limits G W apart o, member-at G old new X p h)
+
+  reads-before : (p : ℕ) → p < Q → readsAt (new .ahead) t p ≡ true → BeforeTerminal (position limits G) p
+  reads-before p h e = terminal-ahead limits G p .0 (sym (ap (λ (x : ℕ). leb 1 x && leb x t) (ahead-at G old new X p h)) ∙ e)
+
+  before-reads : (p : ℕ) → p < Q → BeforeTerminal (position limits G) p → readsAt (new .ahead) t p ≡ true
+  before-reads p h b = ap (λ (x : ℕ). leb 1 x && leb x t) (ahead-at G old new X p h) ∙ terminal-ahead limits G p .1 b
+
+  shift-at : (x p u : ℕ) → p < Q → Shifts limits G x p u ↔ ((getD (new .ahead) p 0 ≡ x) × (1 ≤ x) × (u ≡ suc p))
+  shift-at x p u h =
+      let e = ahead-at G old new X p h in
+      let s = shift-ahead limits G W apart x p u in
+      (λ a. let r = s .0 a in (e ∙ r .0, r .1, r .2), λ r. s .1 (sym e ∙ r .0, r .1, r .2))
+
+  number-of : {i p u : ℕ} → p < Q → Closes limits G i p u → getD (new .number) p 0 ≡ i
+  number-of {p = p} h o = number-at G old new X p h ∙ closes-number limits G W apart o
+
+  -- j is the index of a successor
+  abbrev Reaches : ℕ → ℕ → ℕ → ℕ → Type 0
+  Reaches f p q j = (g u v : ℕ) × (j ≡ index Q g u v) × Successor (position limits G) f p q g u v
+
+  -- ---- each entry of a plan is a successor
+
+  left-each : (f p q k : ℕ) → f < 2 → p < Q → q < Q → k < aloneOf (new .ahead) t m f (side p) q
+      → Reaches f p q (layerAfter m f (side p) * (Q * Q) + q + cell p k * Q)
+  left-each zero p q k hf hp hq l =
+      let u = cell p k in
+      let a = cell-target p k hp (omega (arith, alone-le (new .ahead) t m 0 (side p) q)) in
+      elim (targets-exactly limits G W apart p u hp .0 a) [
+        | inl o ↦ (
+          0,
+          u,
+          q,
+          ap (λ (n : ℕ). n * (Q * Q) + q + u * Q) (layer-opens (new .ahead) t m (side p) q (opens-kind hp (o .1))) ∙ swapped (0 * (Q * Q)) q (u * Q),
+          (Opening (o .0), Still, open-left (o .1)),
+        )
+        | inr o ↦ (
+          1,
+          u,
+          q,
+          ap (λ (n : ℕ). n * (Q * Q) + q + u * Q) (layer-closes (new .ahead) t m (side p) q (closes-kind hp (o .1))) ∙ swapped (1 * (Q * Q)) q (u * Q),
+          (Closing (o .0), Still, part-left (o .1) (reads-before q hq (alone-reads (new .ahead) t m (side p) q k l (closes-kind hp (o .1))))),
+        )
+      ]
+  left-each (suc zero) p q k hf hp hq l =
+      let u = cell p k in
+      let a = cell-target p k hp (omega (arith, alone-le (new .ahead) t m 1 (side p) q)) in
+      let e = ap (λ (n : ℕ). n * (Q * Q) + q + u * Q) (layer-later (new .ahead) t m (side p) q) ∙ swapped (1 * (Q * Q)) q (u * Q) in
+      elim (targets-exactly limits G W apart p u hp .0 a) [
+        | inl o ↦ (1, u, q, e, (Opening (o .0), Still, open-left (o .1)))
+        | inr o ↦ (1, u, q, e, (Closing (o .0), Still, close-left (o .1)))
+      ]
+  left-each (suc (suc f)) p q k hf hp hq l = absurd (omega arith)
+
+  right-each : (f p q k : ℕ) → f < 2 → p < Q → q < Q → k < aloneOf (new .ahead) t m f (side q) p
+      → Reaches f p q (layerAfter m f (side q) * (Q * Q) + p * Q + cell q k)
+  right-each zero p q k hf hp hq l =
+      let u = cell q k in
+      let a = cell-target q k hq (omega (arith, alone-le (new .ahead) t m 0 (side q) p)) in
+      elim (targets-exactly limits G W apart q u hq .0 a) [
+        | inl o ↦ (
+          0,
+          p,
+          u,
+          ap (λ (n : ℕ). n * (Q * Q) + p * Q + u) (layer-opens (new .ahead) t m (side q) p (opens-kind hq (o .1))),
+          (Still, Opening (o .0), open-right (o .1)),
+        )
+        | inr o ↦ (
+          1,
+          p,
+          u,
+          ap (λ (n : ℕ). n * (Q * Q) + p * Q + u) (layer-closes (new .ahead) t m (side q) p (closes-kind hq (o .1))),
+          (Still, Closing (o .0), part-right (o .1) (reads-before p hp (alone-reads (new .ahead) t m (side q) p k l (closes-kind hq (o .1))))),
+        )
+      ]
+  right-each (suc zero) p q k hf hp hq l =
+      let u = cell q k in
+      let a = cell-target q k hq (omega (arith, alone-le (new .ahead) t m 1 (side q) p)) in
+      let e = ap (λ (n : ℕ). n * (Q * Q) + p * Q + u) (layer-later (new .ahead) t m (side q) p) in
+      elim (targets-exactly limits G W apart q u hq .0 a) [
+        | inl o ↦ (1, p, u, e, (Still, Opening (o .0), open-right (o .1)))
+        | inr o ↦ (1, p, u, e, (Still, Closing (o .0), close-right (o .1)))
+      ]
+  right-each (suc (suc f)) p q k hf hp hq l = absurd (omega arith)
+
+  beside-is : (i f p q : ℕ) → i ≡ index Q f p q → i + Q + 1 ≡ index Q f (suc p) (suc q)
+  beside-is i f p q e = omega (arith, e, suc-mul p Q)
+
+  shift-each : (i f p q : ℕ) → i ≡ index Q f p q → f < 2 → p < Q → q < Q → 0 < shiftOf (new .ahead) t f p q → Reaches f p q (i + Q + 1)
+  shift-each i zero p q e hf hp hq l =
+      let x = getD (new .ahead) p 0 in
+      let s = shift-facts (new .ahead) t 0 p q l in
+      (0, suc p, suc q, beside-is i 0 p q e, (Symbol x, Symbol x, shift-both (shift-at x p (suc p) hp .1 (refl, s .0, refl)) (shift-at x q (suc q) hq .1 (sym (s .1), s .0, refl))))
+  shift-each i (suc zero) p q e hf hp hq l =
+      let x = getD (new .ahead) p 0 in
+      let s = shift-facts (new .ahead) t 1 p q l in
+      let b = reads-before p hp (a-terminal (readsAt (new .ahead) t p) (s .2)) in
+      let y = shift-at (b .0) p (b .2 .0) hp .0 (b .2 .1) in
+      (1, suc p, suc q, beside-is i 1 p q e, (Symbol x, Symbol x, read-both (subst (position limits G .Terminal) (sym (y .0)) (b .1)) (shift-at x p (suc p) hp .1 (refl, s .0, refl)) (shift-at x q (suc q) hq .1 (sym (s .1), s .0, refl))))
+  shift-each i (suc (suc f)) p q e hf hp hq l = absurd (omega arith)
+
+  closing-cell : (p k : ℕ) → p < Q → k < side p .span → side p .kind < m → (i : ℕ) × Closes limits G i p (cell p k)
+  closing-cell p k h l c = elim (targets-exactly limits G W apart p (cell p k) h .0 (cell-target p k h l)) [
+    | inl o ↦ absurd (let z : ⊥ = omega (arith, opens-kind h (o .1)) in z)
+    | inr o ↦ o
+  ]
+
+  pair-each : (f p q k : ℕ) → f < 2 → p < Q → q < Q → k < pairsOf (new .number) m f p q (side p) (side q)
+      → Reaches f p q (Q * Q + cell p (k / side q .span) * Q + cell q (k % side q .span))
+  pair-each zero p q k hf hp hq l =
+      let c = pairs-facts (new .number) m p q (side p) (side q) k l in
+      let z : 0 < side q .span = positive (side p .span) (side q .span) k (c .3) in
+      let x = closing-cell p (k / side q .span) hp (div-lt-iff-lt-mul z .1 (c .3)) (c .0) in
+      let y = closing-cell q (k % side q .span) hq (mod-lt k z) (c .1) in (
+        1,
+        cell p (k / side q .span),
+        cell q (k % side q .span),
+        omega arith,
+        (Closing (x .0), Closing (y .0), part-both (λ e. c .2 (number-of hp (x .1) ∙ e ∙ sym (number-of hq (y .1)))) (x .1) (y .1)),
+      )
+  pair-each (suc zero) p q k hf hp hq l = absurd (let z : ⊥ = omega (arith, pairs-later (new .number) m p q (side p) (side q)) in z)
+  pair-each (suc (suc f)) p q k hf hp hq l = absurd (omega arith)
+
+  abbrev plan : ℕ → ℕ → ℕ → ℕ → Plan
+  plan i f p q = planFor R t m Q i f p q (side p) (side q)
+
+  each-reaches : (i f p q k : ℕ) → i ≡ index Q f p q → f < 2 → p < Q → q < Q → k < plan i f p q .total → Reaches f p q (nextOf (plan i f p q) ts Q k)
+  each-reaches i f p q k e hf hp hq h = elim (decLt k (P .left)) [
+    | yes l ↦ subst (Reaches f p q) (next-left P ts Q k (cell p k) l refl) (left-each f p q k hf hp hq l)
+    | no a ↦ elim (decLt (k - P .left) (P .right)) [
+      | yes l ↦ subst (Reaches f p q) (next-right P ts Q k (cell q (k - P .left)) (omega arith) l refl) (right-each f p q (k - P .left) hf hp hq l)
+      | no b ↦ elim (decLt (k - P .left - P .right) (P .shift)) [
+        | yes l ↦ subst (Reaches f p q) (next-shift P ts Q k (omega arith) (omega arith) l) (shift-each i f p q e hf hp hq (omega arith))
+        | no c ↦
+            let o = k - P .left - P .right - P .shift in
+            subst (Reaches f p q) (next-pair P ts Q k (cell p (o / side q .span)) (cell q (o % side q .span)) (omega arith) (omega arith) (omega arith) refl refl)
+            (pair-each f p q o hf hp hq (omega arith))
+      ]
+    ]
+  ]
+    where
+      P : Plan
+      P = plan i f p q
+
+  -- ---- each successor is an entry of the plan
+
+  abbrev Listed : Plan → ℕ → Type 0
+  Listed P j = (k : ℕ) × (k < P .total) × (nextOf P ts Q k ≡ j)
+
+  left-listed : (i f p q u g : ℕ) → p < Q → aloneOf (new .ahead) t m f (side p) q ≡ side p .span → layerAfter m f (side p) ≡ g
+      → Mem u (targets limits G p) → Listed (plan i f p q) (index Q g u q)
+  left-listed i f p q u g hp a b x =
+      let c = target-cell p u hp x in
+      let l : c .0 < aloneOf (new .ahead) t m f (side p) q = omega (arith, a, c .1) in (
+        c .0,
+        omega (arith, l),
+        sym (next-left (plan i f p q) ts Q (c .0) u l (sym (c .2))) ∙ ap (λ (n : ℕ). n * (Q * Q) + q + u * Q) b ∙ swapped (g * (Q * Q)) q (u * Q),
+      )
+
+  right-listed : (i f p q u g : ℕ) → q < Q → aloneOf (new .ahead) t m f (side q) p ≡ side q .span → layerAfter m f (side q) ≡ g
+      → Mem u (targets limits G q) → Listed (plan i f p q) (index Q g p u)
+  right-listed i f p q u g hq a b x =
+      let c = target-cell q u hq x in
+      let x = aloneOf (new .ahead) t m f (side p) q in
+      let l : c .0 < aloneOf (new .ahead) t m f (side q) p = omega (arith, a, c .1) in
+      let e : x + c .0 - x ≡ c .0 = omega arith in (
+        x + c .0,
+        omega (arith, l),
+        sym (next-right (plan i f p q) ts Q (x + c .0) u (omega arith) (omega (arith, l, e)) (sym (ap (cell q) e ∙ c .2))) ∙ ap (λ (n : ℕ). n * (Q * Q) + p * Q + u) b,
+      )
+
+  shift-listed : (i f p q : ℕ) → i ≡ index Q f p q → shiftOf (new .ahead) t f p q ≡ 1 → Listed (plan i f p q) (index Q f (suc p) (suc q))
+  shift-listed i f p q e s =
+      let x = aloneOf (new .ahead) t m f (side p) q in
+      let y = aloneOf (new .ahead) t m f (side q) p in
+      (x + y, omega (arith, s), sym (next-shift (plan i f p q) ts Q (x + y) (omega arith) (omega arith) (omega (arith, s))) ∙ beside-is i f p q e)
+
+  pair-listed : (i p q u v : ℕ) → p < Q → q < Q → side p .kind < m → side q .kind < m → (getD (new .number) p 0 ≡ getD (new .number) q 0 → ⊥)
+      → Mem u (targets limits G p) → Mem v (targets limits G q) → Listed (plan i 0 p q) (index Q 1 u v)
+  pair-listed i p q u v hp hq kp kq n a b =
+      let c = target-cell p u hp a in
+      let d = target-cell q v hq b in
+      let s = side q .span in
+      let x = aloneOf (new .ahead) t m 0 (side p) q in
+      let y = aloneOf (new .ahead) t m 0 (side q) p in
+      let z = shiftOf (new .ahead) t 0 p q in
+      let k = c .0 * s + d .0 in
+      let K = x + y + z + k in
+      let o : K - x - y - z ≡ k = omega arith in
+      let l = pair-below (side p .span) s (c .0) (d .0) (c .1) (d .1) in
+      let w = pairs-is (new .number) m p q (side p) (side q) kp kq n in
+      let eu : (K - x - y - z) / s ≡ c .0 = ap (λ (j : ℕ). j / s) o ∙ quotient (c .0) s (d .0) (d .1) in
+      let ev : (K - x - y - z) % s ≡ d .0 = ap (λ (j : ℕ). j % s) o ∙ mul-add-mod-self-right (c .0) s (d .0) ∙ mod-eq-of-lt (d .1) in
+      let f : Q * Q + u * Q + v ≡ index Q 1 u v = omega arith in (
+        K,
+        omega (arith, l, w),
+        sym (next-pair (plan i 0 p q) ts Q K u v (omega arith) (omega arith) (omega arith) (sym (ap (cell p) eu ∙ c .2)) (sym (ap (cell q) ev ∙ d .2))) ∙ f,
+      )
+
+  moves-to : {i p u : ℕ} → p < Q → Opens limits G i p u → Mem u (targets limits G p)
+  moves-to {i} {p} {u} hp o = targets-exactly limits G W apart p u hp .1 (inl (i, o))
+
+  closes-to : {i p u : ℕ} → p < Q → Closes limits G i p u → Mem u (targets limits G p)
+  closes-to {i} {p} {u} hp o = targets-exactly limits G W apart p u hp .1 (inr (i, o))
+
+  all-listed : (i : ℕ) {f p q g u v : ℕ} {l r : Move} → i ≡ index Q f p q → f < 2 → p < Q → q < Q
+      → StepTo (position limits G) f p q g u v l r → Listed (plan i f p q) (index Q g u v)
+  all-listed i {f} {p} {q} {u = u} e hf hp hq (open-left o) =
+      left-listed i f p q u f hp (alone-opens (new .ahead) t m (side p) q f (opens-kind hp o)) (opens-layer (new .ahead) t m (side p) q f hf (opens-kind hp o)) (moves-to hp o)
+  all-listed i {f} {p} {q} {v = v} e hf hp hq (open-right o) =
+      right-listed i f p q v f hq (alone-opens (new .ahead) t m (side q) p f (opens-kind hq o)) (opens-layer (new .ahead) t m (side q) p f hf (opens-kind hq o)) (moves-to hq o)
+  all-listed i {p = p} {q = q} {u = u} {v = v} e hf hp hq (shift-both {x = x} a b) =
+      let c = shift-at x p u hp .0 a in
+      let d = shift-at x q v hq .0 b in
+      subst₂ (λ (u v : ℕ). Listed (plan i 0 p q) (index Q 0 u v)) (sym (c .2)) (sym (d .2))
+      (shift-listed i 0 p q e (shift-is (new .ahead) t 0 p q (omega (arith, c .0, c .1)) (c .0 ∙ sym (d .0)) (any-symbol (readsAt (new .ahead) t p))))
+  all-listed i {p = p} {q = q} {u = u} {v = v} e hf hp hq (part-both n a b) =
+      pair-listed i p q u v hp hq (closes-kind hp a) (closes-kind hq b) (λ x. n (sym (number-of hp a) ∙ x ∙ number-of hq b)) (closes-to hp a) (closes-to hq b)
+  all-listed i {p = p} {q = q} {u = u} e hf hp hq (part-left a b) =
+      left-listed i 0 p q u 1 hp (alone-beside (new .ahead) t m (side p) q (before-reads q hq b)) (layer-closes (new .ahead) t m (side p) q (closes-kind hp a)) (closes-to hp a)
+  all-listed i {p = p} {q = q} {v = v} e hf hp hq (part-right a b) =
+      right-listed i 0 p q v 1 hq (alone-beside (new .ahead) t m (side q) p (before-reads p hp b)) (layer-closes (new .ahead) t m (side q) p (closes-kind hq a)) (closes-to hq a)
+  all-listed i {p = p} {q = q} {u = u} e hf hp hq (close-left a) =
+      left-listed i 1 p q u 1 hp (alone-later (new .ahead) t m (side p) q) (layer-later (new .ahead) t m (side p) q) (closes-to hp a)
+  all-listed i {p = p} {q = q} {v = v} e hf hp hq (close-right a) =
+      right-listed i 1 p q v 1 hq (alone-later (new .ahead) t m (side q) p) (layer-later (new .ahead) t m (side q) p) (closes-to hq a)
+  all-listed i {p = p} {q = q} {u = u} {v = v} e hf hp hq (read-both {a = x} k a b) =
+      let c = shift-at x p u hp .0 a in
+      let d = shift-at x q v hq .0 b in
+      subst₂ (λ (u v : ℕ). Listed (plan i 1 p q) (index Q 1 u v)) (sym (c .2)) (sym (d .2))
+      (shift-listed i 1 p q e (shift-is (new .ahead) t 1 p q (omega (arith, c .0, c .1)) (c .0 ∙ sym (d .0))
+      (terminal-a (readsAt (new .ahead) t p) (before-reads p hp (x, k, (u, a))))))
+
+  some : 0 < Q
+  some = omega (arith, states-four limits G)
+
+  pub lists : (i : ℕ) → i < tripleCount Q → Lists (planOf R t m Q i) ts Q (successors limits G i)
+  unfolding planOf
+  lists i h = record {
+    each = λ k l. subst (λ (j : ℕ). Mem (nextOf (plan i f p q) ts Q k) (successors limits G j)) (d .whole)
+        (successors-exact limits G W apart f p q (d .layer) (d .left) (d .right) (nextOf (plan i f p q) ts Q k) .1
+        (each-reaches i f p q k (sym (d .whole)) (d .layer) (d .left) (d .right) l));
+    all = λ j a.
+        let x = successors-exact limits G W apart f p q (d .layer) (d .left) (d .right) j .0 (subst (λ (i : ℕ). Mem j (successors limits G i)) (sym (d .whole)) a) in
+        let r = all-listed i (sym (d .whole)) (d .layer) (d .left) (d .right) (x .4 .2) in
+        (r .0, r .1, r .2 ∙ sym (x .3));
+  }
+    where
+      d : Digits Q i
+      d = digits Q i some h
+
+      f : ℕ
+      f = layerOf Q i
+
+      p : ℕ
+      p = leftOf Q i
+
+      q : ℕ
+      q = rightOf Q i
+
+  plan-safe : (i f p q : ℕ) → p < Q → q < Q → Safe (plan i f p q) Q
+  plan-safe i f p q hp hq =
+      let x = fits-at p hp in
+      let y = fits-at q hq in
+      let few : Q ≤ limits .maxStates = W .size in
+      let w = product-le Q Q few few in
+      record {
+        few = few;
+        left = omega (arith, alone-le (new .ahead) t m f (side p) q, x .order, x .inside);
+        right = omega (arith, alone-le (new .ahead) t m f (side q) p, y .order, y .inside);
+        left-base = omega (arith, w, hq, few, layer-times (layerAfter m f (side p)) (Q * Q) (layer-le m f (side p)));
+        right-base = omega (arith, w, product-le p Q (omega arith) few, layer-times (layerAfter m f (side q)) (Q * Q) (layer-le m f (side q)));
+        square = w;
+        pairs = λ k h.
+            let l : k < side p .span * side q .span = omega (arith, pairs-le (new .number) m f p q (side p) (side q), h) in
+            let z = positive (side p .span) (side q .span) k l in
+            let e = div-lt-iff-lt-mul z .1 l in
+            (z, omega (arith, e, x .order, x .inside), omega (arith, y .order, y .inside));
+      }
+
+  pub safe-at : (i : ℕ) → i < tripleCount Q → Safe (planOf R t m Q i) Q
+  unfolding planOf
+  safe-at i h = let d = digits Q i some h in plan-safe i (layerOf Q i) (leftOf Q i) (rightOf Q i) (d .left) (d .right)
+
+  pub verified : Verified R ts t m Q
+  verified = record {
+    fits = record { four = states-four limits G; few = W .size; side = fits-at };
+    safe = safe-at;
+    inside = λ i k h l. successors-below limits G W apart i (nextOf (planOf R t m Q i) ts Q k) h (lists i h .each k l);
+  }
+
+-- the same for the record of the grammar
+module _ (g : CheckedGrammar) (G : Grammar) (W : WellFormed limits G) (e : g ≡ recordOf G) (old new : Tables) (X : Built G old new)
+    (long : limits .maxStates ≤ length (new .targets)) where
+  pub verified-of : Verified (rows (new .ahead) (new .number) (new .member) (new .first)) (new .targets) (g .terminals) (g .nonterminals + 1) (g .states)
+  unfolding recordOf
+  verified-of =
+      subst (λ (g : CheckedGrammar). Verified (rows (new .ahead) (new .number) (new .member) (new .first)) (new .targets) (g .terminals) (g .nonterminals + 1) (g .states))
+      (sym e) (verified G W old new X long)
+
+  pub planned-of : Planned G (rows (new .ahead) (new .number) (new .member) (new .first)) (new .targets) (g .terminals) (g .nonterminals + 1) (g .states)
+  unfolding recordOf
+  planned-of =
+      subst (λ (g : CheckedGrammar). Planned G (rows (new .ahead) (new .number) (new .member) (new .first)) (new .targets) (g .terminals) (g .nonterminals + 1) (g .states))
+      (sym e) (record { size = refl; lists = lists G W old new X long })

@@ -1,0 +1,70 @@
+-- check_built meets its contract: the built rows are those of the grammar that the record stands for.
+use borrow.Author.Needs.{needs}
+use native.Mathlib.Omega.{arith}
+use mathlib.Core.Path.{_≡_, refl, ap, sym, subst, _∙_}
+use Prim.Native.Nat.{ℕ, suc, _+_, _-_, _*_, _/_, _%_, _≤_, _<_}
+use lib.ListN.{length}
+use Rattle.grammar.specs.Limits.{limits}
+use Rattle.moves.proofs.Built.{few-nonterminals, room-of}
+use Rattle.certificate_check.proofs.PlannedLaws.{verified-of, planned-of}
+use Rattle.certificate_check.proofs.check_built.Statement.{statement}
+use Rattle.certificate_check.proofs.check_built.Tie as tie
+use Rattle.certificate_check.proofs.check_built.Reads as reads
+use Rattle.certificate_check.proofs.check_built.Lts as lts
+use Rattle.certificate_check.proofs.check_bits.Reads as check-bits-reads
+use Rattle.moves.proofs.build.Reads as build-reads
+
+-- src/lib.rt:333:9
+slice-aggregate-build : tie.Need-slice-aggregate-build
+slice-aggregate-build c = search needs
+
+-- src/lib.rt:334:9
+slice-aggregate-build-2 : tie.Need-slice-aggregate-build-2
+slice-aggregate-build-2 c = search needs
+
+-- src/lib.rt:335:9
+slice-aggregate-build-3 : tie.Need-slice-aggregate-build-3
+slice-aggregate-build-3 c = search needs
+
+-- src/lib.rt:336:9
+slice-aggregate-build-4 : tie.Need-slice-aggregate-build-4
+slice-aggregate-build-4 c = search needs
+
+-- src/lib.rt:337:9
+slice-aggregate-build-5 : tie.Need-slice-aggregate-build-5
+slice-aggregate-build-5 c = search needs
+
+-- src/lib.rt:338:9
+slice-aggregate-build-6 : tie.Need-slice-aggregate-build-6
+slice-aggregate-build-6 c = search needs
+
+-- src/lib.rt:331:5
+build-requires : tie.Need-build-requires
+build-requires c κs = (c .before .before .before .before .before .before .before .pre, room-of (c .before .before .before .before .before .before .before .args .g) _ (c .before .before .before .before .before .before .before .pre) (search needs) (search needs) (search needs) (search needs) (search needs) (search needs))
+
+-- src/lib.rt:341:13
+add-m : tie.Need-add-m
+add-m c = let g = c .before .before .before .before .before .before .before .before .before .before .before .before .before .before .before .args .g in let r = c .before .before .before .before .before .before .before .before .before .before .before .before .before .before .before .pre in omega (arith, few-nonterminals g r)
+
+-- src/lib.rt:343:5
+check-bits-requires : tie.Need-check-bits-requires
+check-bits-requires c κs = let g = c .before .before .before .before .before .before .before .before .before .before .before .before .before .before .before .before .before .before .before .before .args .g in let r = c .before .before .before .before .before .before .before .before .before .before .before .before .before .before .before .before .before .before .before .before .pre in verified-of g (r .grammar) (r .wellFormed) (r .same) _ _ (c .before .before .before .before .before .before .before .before .before .before .before .before .build .ensures (r .grammar) (r .same)) (search needs)
+
+-- src/lib.rt:321:1
+returns : tie.Need-returns
+returns c = λ G W e. c .check-bits .ensures G (planned-of (c .before .before .before .before .before .before .before .before .before .before .before .before .before .before .before .before .before .before .before .before .before .args .g) G W e _ _ (c .before .before .before .before .before .before .before .before .before .before .before .before .before .build .ensures G e) (search needs))
+
+pub check-built-spec : {M : Type 1} → statement M
+check-built-spec =
+    tie.close
+    (tie.spec
+    slice-aggregate-build
+    slice-aggregate-build-2
+    slice-aggregate-build-3
+    slice-aggregate-build-4
+    slice-aggregate-build-5
+    slice-aggregate-build-6
+    build-requires
+    add-m
+    check-bits-requires
+    returns)

@@ -1,0 +1,66 @@
+-- check_certificate meets its contract: the table check answers first; its record stands for the grammar of the definition.
+use borrow.Author.Needs.{needs}
+use native.Mathlib.Omega.{arith}
+use mathlib.Core.Path.{_≡_, refl, ap, sym, subst, _∙_}
+use Rattle.grammar.specs.Limits.{limits}
+use Rattle.grammar.proofs.Answers.{then-goes, then-stops}
+use Rattle.triples.specs.Certificate.{checkBytes, checkCertificate}
+use Rattle.triples.specs.Verdict.{checkVerdict}
+use Rattle.table_check.proofs.Callers.{PassedTable, passed-table, refused-table}
+use Rattle.certificate_check.proofs.check_certificate.Statement.{statement}
+use Rattle.certificate_check.proofs.check_certificate.Tie as tie
+use Rattle.certificate_check.proofs.check_certificate.Reads as reads
+use Rattle.certificate_check.proofs.check_certificate.Lts as lts
+use Rattle.certificate_check.proofs.check_built.Reads as check-built-reads
+use Rattle.table_check.proofs.check_table.Reads as check-table-reads
+
+-- src/lib.rt:350:9
+check-table-requires : tie.Need-check-table-requires
+check-table-requires c κs = search needs
+
+-- src/lib.rt:353:31
+enum-known-verdict : tie.Need-enum-known-verdict
+enum-known-verdict c = search needs
+
+-- src/lib.rt:354:13
+returns : tie.Need-returns
+unfolding checkCertificate
+returns c =
+    let a = c .before .before .before .before .before .before .args in
+    let v = c .before .verdict .given in
+    let r = refused-table (a .t) (a .n) (a .table .now) (c .before .before .before .check-table .result) (c .before .before .before .check-table .ensures) (v .0 .0) (v .0 .1 .0) (v .1) in
+    ap checkVerdict (sym (then-stops _ (λ G. checkBytes limits G (a .bytes .now)) (v .0 .0) (v .0 .1 .0) r))
+
+-- src/lib.rt:357:17
+enum-told : tie.Need-enum-told
+enum-told c = search needs
+
+-- the table passes with the grammar of the record
+passed : (c : tie.After-g) → let a = c .before .before .before .before .before .before .args in PassedTable (a .t) (a .n) (a .table .now) (c .before .before .before .check-table .result .grammar)
+passed c =
+    let a = c .before .before .before .before .before .before .args in
+    passed-table (a .t) (a .n) (a .table .now) (c .before .before .before .check-table .result) (c .before .before .before .check-table .ensures) (c .before .enum-told .given .1)
+
+-- src/lib.rt:358:13
+check-built-requires : tie.Need-check-built-requires
+check-built-requires c κs = let p = passed c in record { grammar = p .grammar; wellFormed = p .wellFormed; same = p .same }
+
+-- src/lib.rt:358:13
+returns-2 : tie.Need-returns-2
+unfolding checkCertificate
+returns-2 c =
+    let a = c .before .before .before .before .before .before .before .args in
+    let p = passed (c .before) in
+    c .check-built .ensures (p .grammar) (p .wellFormed) (p .same)
+    ∙ ap checkVerdict (sym (then-goes _ (λ G. checkBytes limits G (a .bytes .now)) (p .grammar) (p .checked)))
+
+pub check-certificate-spec : {M : Type 1} → statement M
+check-certificate-spec =
+    tie.close
+    (tie.spec
+    check-table-requires
+    enum-known-verdict
+    returns
+    enum-told
+    check-built-requires
+    returns-2)

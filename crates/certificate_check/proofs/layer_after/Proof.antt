@@ -1,0 +1,28 @@
+-- layer_after meets its contract: each return is one case of the definition.
+use borrow.Author.Needs.{needs}
+use native.Mathlib.Omega.{arith}
+use mathlib.Core.Path.{_≡_, refl, ap, sym, subst, _∙_}
+use borrow.Author.Tests.{lt-ltb, le-ltb, le-leb, lt-leb, eq-eqb, ne-eqb, not-true, not-false}
+use Rattle.certificate_check.specs.Plan.{layerAfter}
+use Rattle.certificate_check.proofs.layer_after.Statement.{statement}
+use Rattle.certificate_check.proofs.layer_after.Tie as tie
+use Rattle.certificate_check.proofs.layer_after.Reads as reads
+use Rattle.certificate_check.proofs.layer_after.Lts as lts
+
+-- src/lib.rt:134:9
+returns : tie.Need-returns
+unfolding layerAfter
+returns c = simp (ne-eqb _ 0 (c .if1 .taken))
+
+-- src/lib.rt:137:9
+returns-2 : tie.Need-returns-2
+unfolding layerAfter
+returns-2 c = simp (eq-eqb _ 0 (c .before .before .if1 .left), le-leb _ _ (c .if2 .taken))
+
+-- src/lib.rt:130:1
+returns-3 : tie.Need-returns-3
+unfolding layerAfter
+returns-3 c = simp (eq-eqb _ 0 (c .before .before .if1 .left), lt-leb _ _ (c .if2 .left))
+
+pub layer-after-spec : {M : Type 1} → statement M
+layer-after-spec = tie.close (tie.spec returns returns-2 returns-3)

@@ -1,0 +1,71 @@
+-- pairs_of meets its contract: each return is one case of the definition.
+use borrow.Author.Needs.{needs}
+use native.Mathlib.Omega.{arith}
+use mathlib.Core.Path.{_≡_, refl, ap, sym, subst, _∙_}
+use borrow.Author.Tests.{lt-ltb, le-ltb, le-leb, lt-leb, eq-eqb, ne-eqb, not-true, not-false}
+use Rattle.certificate_check.specs.Plan.{pairsOf}
+use Rattle.certificate_check.proofs.PlanLaws.{product-le}
+use Rattle.certificate_check.proofs.pairs_of.Statement.{statement}
+use Rattle.certificate_check.proofs.pairs_of.Tie as tie
+use Rattle.certificate_check.proofs.pairs_of.Reads as reads
+use Rattle.certificate_check.proofs.pairs_of.Lts as lts
+
+-- src/lib.rt:168:9
+returns : tie.Need-returns
+unfolding pairsOf
+returns c = simp (ne-eqb _ 0 (c .if1 .taken))
+
+-- src/lib.rt:171:9
+returns-2 : tie.Need-returns-2
+unfolding pairsOf
+returns-2 c = simp (eq-eqb _ 0 (c .before .before .if1 .left), le-ltb _ _ (c .if2 .taken))
+
+-- src/lib.rt:174:9
+returns-3 : tie.Need-returns-3
+unfolding pairsOf
+returns-3 c = simp (eq-eqb _ 0 (c .before .before .before .before .if1 .left), lt-ltb _ _ (c .before .before .if2 .left), le-ltb _ _ (c .if3 .taken))
+
+-- src/lib.rt:176:8
+mul-if4 : tie.Need-mul-if4
+mul-if4 c = search needs
+
+-- src/lib.rt:176:8
+element-copy-out-if4 : tie.Need-element-copy-out-if4
+element-copy-out-if4 c = search needs
+
+-- src/lib.rt:176:21
+mul-if4-2 : tie.Need-mul-if4-2
+mul-if4-2 c = search needs
+
+-- src/lib.rt:176:21
+element-copy-out-if4-2 : tie.Need-element-copy-out-if4-2
+element-copy-out-if4-2 c = search needs
+
+-- src/lib.rt:177:9
+returns-4 : tie.Need-returns-4
+unfolding pairsOf
+returns-4 c = simp (eq-eqb _ 0 (c .before .before .before .before .before .before .before .if1 .left), lt-ltb _ _ (c .before .before .before .before .before .if2 .left), lt-ltb _ _ (c .before .before .before .if3 .left), eq-eqb _ _ (c .if4 .taken))
+
+-- src/lib.rt:179:5
+mul-result : tie.Need-mul-result
+mul-result c = let e = c .before .before .before .before .before .before .before .before .before .before in omega (arith, product-le (e .args .left .span) (e .args .right .span) (e .pre .2) (e .pre .3))
+
+-- src/lib.rt:163:1
+returns-5 : tie.Need-returns-5
+unfolding pairsOf
+returns-5 c = simp (eq-eqb _ 0 (c .before .before .before .before .before .before .before .before .before .if1 .left), lt-ltb _ _ (c .before .before .before .before .before .before .before .if2 .left), lt-ltb _ _ (c .before .before .before .before .before .if3 .left), ne-eqb _ _ (c .before .before .if4 .left))
+
+pub pairs-of-spec : {M : Type 1} → statement M
+pairs-of-spec =
+    tie.close
+    (tie.spec
+    returns
+    returns-2
+    returns-3
+    mul-if4
+    element-copy-out-if4
+    mul-if4-2
+    element-copy-out-if4-2
+    returns-4
+    mul-result
+    returns-5)

@@ -1,0 +1,38 @@
+-- reads_next meets its contract: the code ahead is from 1 to t.
+use borrow.Author.Needs.{needs}
+use native.Mathlib.Omega.{arith}
+use mathlib.Core.Path.{_≡_, refl, ap, sym, subst, _∙_}
+use borrow.Author.Tests.{lt-ltb, le-ltb, le-leb, lt-leb, eq-eqb, ne-eqb, not-true, not-false}
+use Rattle.certificate_check.proofs.reads_next.Statement.{statement}
+use Rattle.certificate_check.proofs.reads_next.Tie as tie
+use Rattle.certificate_check.proofs.reads_next.Reads as reads
+use Rattle.certificate_check.proofs.reads_next.Lts as lts
+
+-- src/lib.rt:91:8
+mul-if1 : tie.Need-mul-if1
+mul-if1 c = search needs
+
+-- src/lib.rt:91:8
+element-copy-out-if1 : tie.Need-element-copy-out-if1
+element-copy-out-if1 c = search needs
+
+-- src/lib.rt:92:9
+returns : tie.Need-returns
+returns c = simp (lt-leb 1 _ (c .if1 .taken))
+
+-- src/lib.rt:94:5
+mul-result : tie.Need-mul-result
+mul-result c = search needs
+
+-- src/lib.rt:94:5
+element-copy-out-result : tie.Need-element-copy-out-result
+element-copy-out-result c = search needs
+
+-- src/lib.rt:87:1
+returns-2 : tie.Need-returns-2
+returns-2 c = simp (le-leb 1 _ (c .before .if1 .left))
+
+pub reads-next-spec : {M : Type 1} → statement M
+reads-next-spec =
+    tie.close
+    (tie.spec mul-if1 element-copy-out-if1 returns mul-result element-copy-out-result returns-2)

@@ -1,0 +1,87 @@
+-- side_of meets its contract: the class, and two entries of the row of beginnings.
+use borrow.Author.Needs.{needs}
+use native.Mathlib.Omega.{arith}
+use mathlib.Core.Path.{_≡_, refl, ap, sym, subst, _∙_}
+use Prim.Native.Nat.{ℕ, suc, _+_, _-_, _*_, _/_, _%_, _≤_, _<_}
+use lib.ListN.{getD}
+use Rattle.certificate_check.specs.declared.Side.{Side}
+use Rattle.certificate_check.proofs.PlanLaws.{sideFrom}
+use Rattle.certificate_check.proofs.side_of.Statement.{statement}
+use Rattle.certificate_check.proofs.side_of.Tie as tie
+use Rattle.certificate_check.proofs.side_of.Reads as reads
+use Rattle.certificate_check.proofs.side_of.Lts as lts
+use Rattle.certificate_check.proofs.wide.Reads as wide-reads
+
+-- src/lib.rt:101:16
+mul-kind : tie.Need-mul-kind
+mul-kind c = search needs
+
+-- src/lib.rt:101:16
+element-copy-out-kind : tie.Need-element-copy-out-kind
+element-copy-out-kind c = search needs
+
+-- src/lib.rt:102:9
+wide-requires : tie.Need-wide-requires
+wide-requires c κs = search needs
+
+-- src/lib.rt:103:21
+mul-wide : tie.Need-mul-wide
+mul-wide c = search needs
+
+-- src/lib.rt:103:21
+element-copy-out-wide : tie.Need-element-copy-out-wide
+element-copy-out-wide c = search needs
+
+-- src/lib.rt:103:9
+wide-requires-2 : tie.Need-wide-requires-2
+wide-requires-2 c κs = search needs
+
+-- src/lib.rt:104:26
+add-wide : tie.Need-add-wide
+add-wide c = search needs
+
+-- src/lib.rt:104:20
+mul-wide-2 : tie.Need-mul-wide-2
+mul-wide-2 c = search needs
+
+-- src/lib.rt:104:20
+element-copy-out-wide-2 : tie.Need-element-copy-out-wide-2
+element-copy-out-wide-2 c = search needs
+
+-- src/lib.rt:104:9
+wide-requires-3 : tie.Need-wide-requires-3
+wide-requires-3 c κs = search needs
+
+-- src/lib.rt:108:15
+sub-t8 : tie.Need-sub-t8
+sub-t8 c =
+    let a = c .before .before .before .before .before .before .args in
+    let x : c .before .before .wide2 .result ≡ getD (a .first .now) (getD (a .member .now) (a .p) 0) 0 = c .before .before .wide2 .ensures .0 ∙ ap (λ (n : ℕ). getD (a .first .now) n 0) (c .before .before .before .before .wide .ensures .0) in
+    let y : c .wide3 .result ≡ getD (a .first .now) (getD (a .member .now) (a .p) 0 + 1) 0 = c .wide3 .ensures .0 ∙ ap (λ (n : ℕ). getD (a .first .now) (n + 1) 0) (c .before .before .before .before .wide .ensures .0) in
+    omega (arith, x, y, c .before .before .before .before .before .before .pre .order)
+
+-- src/lib.rt:97:1
+returns : tie.Need-returns
+returns c =
+    let a = c .before .before .before .before .before .before .args in
+    let x : c .before .before .wide2 .result ≡ getD (a .first .now) (getD (a .member .now) (a .p) 0) 0 = c .before .before .wide2 .ensures .0 ∙ ap (λ (n : ℕ). getD (a .first .now) n 0) (c .before .before .before .before .wide .ensures .0) in
+    let y : c .wide3 .result ≡ getD (a .first .now) (getD (a .member .now) (a .p) 0 + 1) 0 = c .wide3 .ensures .0 ∙ ap (λ (n : ℕ). getD (a .first .now) (n + 1) 0) (c .before .before .before .before .wide .ensures .0) in
+    ap (λ (n : ℕ). sideFrom (getD (a .member .now) (a .p) 0) n (c .wide3 .result - n)) x
+    ∙ ap (λ (n : ℕ). sideFrom (getD (a .member .now) (a .p) 0) (getD (a .first .now) (getD (a .member .now) (a .p) 0) 0) (n - getD (a .first .now) (getD (a .member .now) (a .p) 0) 0)) y
+
+pub side-of-spec : {M : Type 1} → statement M
+side-of-spec =
+    tie.close
+    (tie.spec
+    mul-kind
+    element-copy-out-kind
+    wide-requires
+    mul-wide
+    element-copy-out-wide
+    wide-requires-2
+    add-wide
+    mul-wide-2
+    element-copy-out-wide-2
+    wide-requires-3
+    sub-t8
+    returns)

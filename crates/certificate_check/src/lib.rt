@@ -1,0 +1,369 @@
+// The certificate check: bits of triples, closed under successors, with (0,0,0) and without (1,1,1). The successors of a triple
+// are counted off the rows of crate moves: a block of left moves, one of right moves, a shift, and the pairs of two closings.
+ghost use mathlib.Core.Path.{_≡_};
+ghost use Prim.Native.Nat.{ℕ, _+_, _-_, _*_, _≤_, _<_};
+ghost use lib.ListN.{length};
+ghost use Rattle.grammar.specs.Limits.{limits};
+ghost use Rattle.triples.specs.Index.{tripleCount};
+ghost use Rattle.triples.specs.Certificate.{byteCount, isSet, lowest, checkCertificate};
+ghost use Rattle.triples.specs.Verdict.{checkVerdict};
+ghost use Rattle.moves.specs.Tables.{IsRecord};
+ghost use Rattle.certificate_check.specs.Plan.{rows, readsAt, sideOf, aloneOf, layerAfter, shiftOf, pairsOf, planOf, nextOf};
+ghost use Rattle.certificate_check.specs.Contracts.{Skips, SideFits, Safe, Fits, Scanned, Verified, Checked, BuiltChecked};
+use grammar::CERTIFICATE_LENGTH;
+use grammar::CheckedGrammar;
+use grammar::END_PRESENT;
+use grammar::MAX_STATES;
+use grammar::SPARE_BIT;
+use grammar::START_MISSING;
+use grammar::SUCCESSOR_MISSING;
+use grammar::TableVerdict;
+use moves::CLASSES;
+use triples::CheckVerdict;
+
+// The class of a state, where its targets begin, and how many they are.
+pub struct Side {
+    pub kind: u16,
+    pub from: usize,
+    pub span: usize,
+}
+
+// The successors of a triple, counted: `left` moves of the left side, `right` moves of the right side, `shift` shifts of both,
+// and the pairs of a left and a right target, `columns` for each left one. The other fields place them.
+pub struct Plan {
+    pub left: usize,
+    pub right: usize,
+    pub shift: usize,
+    pub total: usize,
+    pub left_from: usize,
+    pub right_from: usize,
+    pub left_base: usize,
+    pub right_base: usize,
+    pub beside: usize,
+    pub columns: usize,
+    pub square: usize,
+}
+
+fn wide(x: u16) -> usize
+    ensures { λ r. ⌜ (r ≡ x) × (r < 65536) ⌝ }
+{
+    x as usize
+}
+
+fn is_set(bytes: &[u8], i: usize) -> bool
+    requires { ⌜ i < 8 * length (now bytes) ⌝ }
+    ensures { λ r. ⌜ r ≡ isSet (now (bytes .entry)) i ⌝ }
+{
+    (bytes[i / 8] >> (i % 8)) % 2 == 1
+}
+
+// Where to look next after a clear bit: the next byte if the rest of this one is 0.
+fn skip(bytes: &[u8], i: usize) -> usize
+    requires { ⌜ (i < 8 * length (now bytes)) × (i < 8 * byteCount (limits .maxStates)) ⌝ }
+    ensures { λ r. ⌜ Skips (now (bytes .entry)) i r ⌝ }
+{
+    if bytes[i / 8] >> (i % 8) == 0 {
+        return i / 8 * 8 + 8;
+    }
+    i + 1
+}
+
+// The lowest set bit from `from` on and below `to`, or `to`.
+fn lowest_set(bytes: &[u8], from: usize, to: usize) -> usize
+    requires { ⌜ (from ≤ to) × (to ≤ 8 * length (now bytes)) × (to ≤ 8 * byteCount (limits .maxStates)) ⌝ }
+    ensures { λ r. ⌜ r ≡ lowest (isSet (now (bytes .entry))) (to - from) from ⌝ }
+{
+    let mut i = from;
+    while i < to {
+        if is_set(bytes, i) {
+            return i;
+        }
+        i = skip(bytes, i);
+    }
+    to
+}
+
+// Does a state stand before a terminal?
+fn reads_next(ahead: &[u16; MAX_STATES], t: u16, p: usize) -> bool
+    requires { ⌜ p < limits .maxStates ⌝ }
+    ensures { λ r. ⌜ r ≡ readsAt (now (ahead .entry)) t p ⌝ }
+{
+    if ahead[p] < 1 {
+        return false;
+    }
+    ahead[p] <= t
+}
+
+fn side_of<'a>(member: &'a [u16; MAX_STATES], first: &'a [u16; CLASSES], p: usize) -> Side
+    requires { ⌜ SideFits (now member) (now first) p ⌝ }
+    ensures { λ r. ⌜ r ≡ sideOf (now (member .entry)) (now (first .entry)) p ⌝ }
+{
+    let kind = member[p];
+    let c = wide(kind);
+    let from = wide(first[c]);
+    let end = wide(first[c + 1]);
+    Side {
+        kind: kind,
+        from: from,
+        span: end - from,
+    }
+}
+
+// The number of moves that a side makes alone: in layer 0 openings, and closings where the other side stands before a terminal.
+fn alone_of(ahead: &[u16; MAX_STATES], t: u16, m: u16, f: usize, s: Side, other: usize) -> usize
+    requires { ⌜ other < limits .maxStates ⌝ }
+    ensures { λ r. ⌜ r ≡ aloneOf (now (ahead .entry)) t m f s other ⌝ }
+{
+    if f != 0 {
+        return s.span;
+    }
+    if m <= s.kind {
+        return s.span;
+    }
+    if reads_next(ahead, t, other) {
+        return s.span;
+    }
+    0
+}
+
+// The layer after a move of one side alone.
+fn layer_after(m: u16, f: usize, s: Side) -> usize
+    ensures { λ r. ⌜ r ≡ layerAfter m f s ⌝ }
+{
+    if f != 0 {
+        return 1;
+    }
+    if m <= s.kind {
+        return 0;
+    }
+    1
+}
+
+// 1 if both shift the same symbol, in layer 1 the same terminal.
+fn shift_of(ahead: &[u16; MAX_STATES], t: u16, f: usize, a: usize, b: usize) -> usize
+    requires { ⌜ (a < limits .maxStates) × (b < limits .maxStates) ⌝ }
+    ensures { λ r. ⌜ r ≡ shiftOf (now (ahead .entry)) t f a b ⌝ }
+{
+    if ahead[a] < 1 {
+        return 0;
+    }
+    if ahead[a] != ahead[b] {
+        return 0;
+    }
+    if f == 0 {
+        return 1;
+    }
+    if reads_next(ahead, t, a) {
+        return 1;
+    }
+    0
+}
+
+// The number of pairs of closings by unequal rules.
+fn pairs_of(
+    number: &[u16; MAX_STATES],
+    m: u16,
+    f: usize,
+    a: usize,
+    b: usize,
+    left: Side,
+    right: Side,
+) -> usize
+    requires { ⌜ (a < limits .maxStates) × (b < limits .maxStates) × (left .span ≤ limits .maxStates) × (right .span ≤ limits .maxStates) ⌝ }
+    ensures { λ r. ⌜ r ≡ pairsOf (now (number .entry)) m f a b left right ⌝ }
+{
+    if f != 0 {
+        return 0;
+    }
+    if m <= left.kind {
+        return 0;
+    }
+    if m <= right.kind {
+        return 0;
+    }
+    if number[a] == number[b] {
+        return 0;
+    }
+    left.span * right.span
+}
+
+// The plan of the successors of an index.
+fn plan_of<'a>(
+    ahead: &'a [u16; MAX_STATES],
+    number: &'a [u16; MAX_STATES],
+    member: &'a [u16; MAX_STATES],
+    first: &'a [u16; CLASSES],
+    t: u16,
+    m: u16,
+    q: usize,
+    i: usize,
+) -> Plan
+    requires { ⌜ Fits (now member) (now first) q ⌝ }
+    requires { ⌜ i < tripleCount q ⌝ }
+    ensures { λ r. ⌜ r ≡ planOf (rows (now (ahead .entry)) (now (number .entry)) (now (member .entry)) (now (first .entry))) t m q i ⌝ }
+{
+    let square = q * q;
+    let f = i / square;
+    let a = i / q % q;
+    let b = i % q;
+    let x = side_of(member, first, a);
+    let y = side_of(member, first, b);
+    let left = alone_of(ahead, t, m, f, x, b);
+    let right = alone_of(ahead, t, m, f, y, a);
+    let shift = shift_of(ahead, t, f, a, b);
+    let pairs = pairs_of(number, m, f, a, b, x, y);
+    Plan {
+        left: left,
+        right: right,
+        shift: shift,
+        total: left + right + shift + pairs,
+        left_from: x.from,
+        right_from: y.from,
+        left_base: layer_after(m, f, x) * square + b,
+        right_base: layer_after(m, f, y) * square + a * q,
+        beside: i + q + 1,
+        columns: y.span,
+        square: square,
+    }
+}
+
+// The k-th successor of a plan.
+fn next_of(plan: Plan, targets: &[u16; MAX_STATES], q: usize, k: usize) -> usize
+    requires { ⌜ Safe plan q ⌝ }
+    requires { ⌜ k < plan .total ⌝ }
+    ensures { λ r. ⌜ r ≡ nextOf plan (now (targets .entry)) q k ⌝ }
+{
+    if k < plan.left {
+        return plan.left_base + wide(targets[plan.left_from + k]) * q;
+    }
+    let on_right = k - plan.left;
+    if on_right < plan.right {
+        return plan.right_base + wide(targets[plan.right_from + on_right]);
+    }
+    let on_both = on_right - plan.right;
+    if on_both < plan.shift {
+        return plan.beside;
+    }
+    let pair = on_both - plan.shift;
+    let u = wide(targets[plan.left_from + pair / plan.columns]);
+    let v = wide(targets[plan.right_from + pair % plan.columns]);
+    plan.square + u * q + v
+}
+
+// The lowest held index that lacks a successor, or 2Q².
+fn lowest_lacking<'a>(
+    ahead: &'a [u16; MAX_STATES],
+    number: &'a [u16; MAX_STATES],
+    member: &'a [u16; MAX_STATES],
+    first: &'a [u16; CLASSES],
+    targets: &'a [u16; MAX_STATES],
+    t: u16,
+    m: u16,
+    q: usize,
+    bytes: &'a [u8],
+) -> usize
+    requires { ⌜ Verified (rows (now ahead) (now number) (now member) (now first)) (now targets) t m q ⌝ }
+    requires { ⌜ tripleCount q ≤ 8 * length (now bytes) ⌝ }
+    ensures { λ r. ⌜ Scanned (rows (now (ahead .entry)) (now (number .entry)) (now (member .entry)) (now (first .entry))) (now (targets .entry)) t m q (now (bytes .entry)) r ⌝ }
+{
+    let count = 2 * (q * q);
+    let mut answer = count;
+    let mut i = lowest_set(bytes, 0, count);
+    'scan: while i < count {
+        let plan = plan_of(ahead, number, member, first, t, m, q, i);
+        let mut k = 0;
+        while k < plan.total {
+            let j = next_of(plan, targets, q, k);
+            if is_set(bytes, j) {
+                k += 1;
+            } else {
+                answer = i;
+                break 'scan;
+            }
+        }
+        i = lowest_set(bytes, i + 1, count);
+    }
+    answer
+}
+
+// The refusals 9 to 13, in this order, for the rows of a grammar with q states.
+fn check_bits<'a>(
+    ahead: &'a [u16; MAX_STATES],
+    number: &'a [u16; MAX_STATES],
+    member: &'a [u16; MAX_STATES],
+    first: &'a [u16; CLASSES],
+    targets: &'a [u16; MAX_STATES],
+    t: u16,
+    m: u16,
+    q: usize,
+    bytes: &'a [u8],
+) -> CheckVerdict
+    requires { ⌜ Verified (rows (now ahead) (now number) (now member) (now first)) (now targets) t m q ⌝ }
+    ensures { λ r. ⌜ Checked (rows (now (ahead .entry)) (now (number .entry)) (now (member .entry)) (now (first .entry))) (now (targets .entry)) t m q (now (bytes .entry)) r ⌝ }
+{
+    let square = q * q;
+    let count = 2 * square;
+    let size = (count + 7) / 8;
+    if bytes.len() != size {
+        return CheckVerdict::Refused(CERTIFICATE_LENGTH, 0);
+    }
+    let spare = lowest_set(bytes, count, 8 * size);
+    if spare != 8 * size {
+        return CheckVerdict::Refused(SPARE_BIT, spare);
+    }
+    if !is_set(bytes, 0) {
+        return CheckVerdict::Refused(START_MISSING, 0);
+    }
+    let end = square + q + 1;
+    if is_set(bytes, end) {
+        return CheckVerdict::Refused(END_PRESENT, end);
+    }
+    let lacking = lowest_lacking(ahead, number, member, first, targets, t, m, q, bytes);
+    if lacking != count {
+        return CheckVerdict::Refused(SUCCESSOR_MISSING, lacking);
+    }
+    CheckVerdict::Accepted
+}
+
+// Builds the rows of a checked grammar and checks the bytes.
+fn check_built(g: CheckedGrammar, bytes: &[u8]) -> CheckVerdict
+    requires { ⌜ IsRecord g ⌝ }
+    ensures { λ r. ⌜ BuiltChecked g (now (bytes .entry)) r ⌝ }
+{
+    let mut ahead = [0u16; MAX_STATES];
+    let mut number = [0u16; MAX_STATES];
+    let mut member = [0u16; MAX_STATES];
+    let mut target = [0u16; MAX_STATES];
+    let mut first = [0u16; CLASSES];
+    let mut targets = [0u16; MAX_STATES];
+    moves::build(
+        g,
+        &mut ahead,
+        &mut number,
+        &mut member,
+        &mut target,
+        &mut first,
+        &mut targets,
+    );
+    let t = g.terminals;
+    let m = g.nonterminals + 1;
+    let q = g.states;
+    check_bits(&ahead, &number, &member, &first, &targets, t, m, q, bytes)
+}
+
+// The certificate check: table faults first, then 9 to 13.
+pub fn check_certificate(t: usize, n: usize, table: &[u8], bytes: &[u8]) -> CheckVerdict
+    ensures { λ r. ⌜ r ≡ checkVerdict (checkCertificate limits t n (now (table .entry)) (now (bytes .entry))) ⌝ }
+{
+    let checked = table_check::check_table(t, n, table);
+    let verdict = checked.verdict;
+    match verdict {
+        TableVerdict::Refused(cause, at) => {
+            return CheckVerdict::Refused(cause, at);
+        }
+        TableVerdict::Passed => {
+            let g = checked.grammar;
+            return check_built(g, bytes);
+        }
+    }
+}
