@@ -1,9 +1,11 @@
 -- The front page holds. Assumes nothing.
-use Prim.Native.Nat.{ℕ}
+use Prim.Native.Nat.{ℕ, zero, suc}
 use mathlib.Core.Path.{_≡_, refl, ap, sym, subst, _∙_}
-use mathlib.Core.List.{List, []}
+use mathlib.Core.List.{List, [], _∷_}
 use mathlib.Core.Logic.{_↔_}
+use mathlib.Core.Option.{Option, none, some}
 use native.Mathlib.Omega.{arith}
+use Rattle.grammar.specs.Basics.{Mem, here, there}
 use Rattle.grammar.specs.Limits.{limits}
 use Rattle.grammar.specs.Grammar.{Grammar, WellFormed}
 use Rattle.grammar.specs.Tree.{HasTwoTrees}
@@ -22,12 +24,18 @@ use Rattle.triples.specs.Witness.{LeadsOn, ends, goes, Witness, begins, checkRo
 use Rattle.triples.specs.Verdict.{checkVerdict}
 use Rattle.triples.specs.declared.CheckVerdict.{CheckVerdict}
 use Rattle.triples.specs.declared.CheckVerdict.the-variants as check
+use Rattle.triples.specs.Records.{records}
+use Rattle.triples.specs.declared.Step.{Step}
+use Rattle.steps.specs.Steps.{nth, nthRecord, nthStep, recordAnswer, stepAnswer}
+use Rattle.steps.specs.declared.StepAnswer.{StepAnswer}
+use Rattle.steps.specs.declared.StepAnswer.the-variants as step
+use Rattle.triple_laws.proofs.Records.{records-exact}
 use Rattle.triple_laws.proofs.Laws.{accepts-exactly, witness-exactly}
 use Rattle.parting.proofs.Position.{potential-reached}
 use Rattle.soundness.proofs.Position.{one-tree}
 use Rattle.table_check.proofs.Callers.{passed-table, refused-table}
 use Rattle.ambiguity.proofs.Texts.{text-theorems}
-use Rattle.ambiguity.specs.FrontPage.{Stores, TableAnswer, WitnessAnswer, CertificateAnswer, TableTheorems, WitnessTheorems, CertificateTheorems, FrontPage}
+use Rattle.ambiguity.specs.FrontPage.{Stores, TableAnswer, StepAnswers, WitnessAnswer, CertificateAnswer, TableTheorems, StepTheorems, WitnessTheorems, CertificateTheorems, FrontPage}
 
 -- a verdict is accepted exactly if the answer is done
 accepted-done : (o : Answer Unit) → (checkVerdict o ≡ check.Accepted) ↔ (o ≡ done tt)
@@ -50,6 +58,22 @@ witness-reached G (begins e l) = leads-reached G origin l
 reached-held : (G : Grammar) (C : ℕ → ℕ → ℕ → Type 0) → Acceptable (position limits G) C → {f p q : ℕ} → Reached (position limits G) f p q → C f p q
 reached-held G C a origin = a .closed .holds
 reached-held G C a (next r s) = a .closed .step (reached-held G C a r) s
+
+-- what stands at a place of a list is in it, and the other way round
+nth-in : (l : List Step) (k : ℕ) (x : Step) → nth l k ≡ some x → Mem x l
+unfolding nth
+nth-in [] k x e = let z : _≡_ {A = ℕ} 0 1 = cc in absurd (let o : ⊥ = omega arith in o)
+nth-in (y ∷ l) zero x e = let z : y ≡ x = cc in subst (λ y. Mem x (y ∷ l)) (sym z) here
+nth-in (y ∷ l) (suc k) x e = there (nth-in l k x e)
+
+in-nth : (l : List Step) (x : Step) → Mem x l → (k : ℕ) × (nth l k ≡ some x)
+unfolding nth
+in-nth (y ∷ l) x here = (zero, refl)
+in-nth (y ∷ l) x (there m) = let r = in-nth l x m in (suc (r .0), r .1)
+
+answer-some : (o : Option Step) (x : Step) → recordAnswer o ≡ step.Record x → o ≡ some x
+answer-some none x e = let z : _≡_ {A = ℕ} 0 1 = cc in absurd (let o : ⊥ = omega arith in o)
+answer-some (some y) x e = let z : y ≡ x = cc in ap some z
 
 module _ (t n : ℕ) (table : List ℕ) where
   checked : (G : Grammar) → Stores t n table G → checkTable limits t n table ≡ done G
@@ -76,6 +100,22 @@ module _ (t n : ℕ) (table : List ℕ) where
     passes-only = λ v. let p = passed-table t n table r e v in let a = takes-only limits room t n table (p .grammar) (p .checked) in
         (p .grammar, record { wellFormed = a .wellFormed; terminals = a .terminals; nonterminals = a .nonterminals; stored = a .table }, p .same);
   }
+
+  module _ (f p q : ℕ) (ask : ℕ → StepAnswer) (h : StepAnswers t n table f p q ask) where
+    record-at : (G : Grammar) → Stores t n table G → (k : ℕ) → ask k ≡ recordAnswer (nthRecord limits G f p q k)
+    unfolding nthStep
+    record-at G s k = h k ∙ ap stepAnswer (then-goes (checkTable limits t n table) (λ G. done (nthRecord limits G f p q k)) G (checked G s))
+
+    step-theorems : StepTheorems t n table f p q ask
+    unfolding nthStep
+    step-theorems = record {
+      refused = λ r cause at e d k. h k
+          ∙ ap stepAnswer (then-stops (checkTable limits t n table) (λ G. done (nthRecord limits G f p q k)) cause at (refused-table t n table r e cause at d));
+      exact = λ G s hf hp hq x. let r = records-exact limits G (s .wellFormed) (omega arith) f p q hf hp hq x in (
+        λ (k, e). r .0 (nth-in (records limits G f p q) k x (answer-some _ x (sym (record-at G s k) ∙ e))),
+        λ y. let m = in-nth (records limits G f p q) x (r .1 y) in (m .0, record-at G s (m .0) ∙ ap recordAnswer (m .1)),
+      );
+    }
 
   module _ (row : List ℕ) (v : CheckVerdict) (h : WitnessAnswer t n table row v) where
     accepts-witness : (G : Grammar) → Stores t n table G → (v ≡ check.Accepted) ↔ Witness limits G row
@@ -112,4 +152,4 @@ module _ (t n : ℕ) (table : List ℕ) where
     }
 
 pub front-page : FrontPage
-front-page = record { tables = table-theorems; witnesses = witness-theorems; certificates = certificate-theorems; texts = text-theorems }
+front-page = record { tables = table-theorems; steps = step-theorems; witnesses = witness-theorems; certificates = certificate-theorems; texts = text-theorems }

@@ -1,7 +1,7 @@
 -- What holds of the library, whatever the input: theorems over what the public entries promise. A promise is the entry's
 -- `ensures`; it determines the answer. proofs/FrontPage.antt has the value of the record. Source: document 01; the demands of the
 -- mission by number. Assumes nothing.
-use Prim.Native.Nat.{ℕ, _+_, _≤_}
+use Prim.Native.Nat.{ℕ, _+_, _≤_, _<_}
 use mathlib.Core.Path.{_≡_}
 use mathlib.Core.List.{List}
 use mathlib.Core.Logic.{_↔_}
@@ -16,12 +16,18 @@ use Rattle.grammar.specs.TableCheck.{checkTable, tableChecked}
 use Rattle.grammar.specs.declared.TableChecked.{TableChecked}
 use Rattle.grammar.specs.declared.TableVerdict.the-variants.{Passed, Refused}
 use Rattle.automaton.specs.Strings.{Potential, Unambiguous}
+use Rattle.automaton.specs.Items.{states}
 use Rattle.automaton.specs.Position.{position}
+use Rattle.triples.specs.Successor.{StepTo}
 use Rattle.triples.specs.Certificate.{AcceptableCertificate, checkCertificate}
 use Rattle.triples.specs.Witness.{Witness, checkWitness}
 use Rattle.triples.specs.Verdict.{checkVerdict}
 use Rattle.triples.specs.declared.CheckVerdict.{CheckVerdict}
 use Rattle.triples.specs.declared.CheckVerdict.the-variants as check
+use Rattle.triples.specs.declared.Step.{Step}
+use Rattle.steps.specs.Steps.{nthStep, stepAnswer}
+use Rattle.steps.specs.declared.StepAnswer.{StepAnswer}
+use Rattle.steps.specs.declared.StepAnswer.the-variants as step
 use Rattle.text.specs.Read.{Source, symbolNames, readText}
 use Rattle.text.specs.Promise.{over, textRead, ReadsText, WritesText, SameAgain}
 use Rattle.text.specs.declared.TextRead.{TextRead}
@@ -48,10 +54,20 @@ module _ (t n : ℕ) (table : List ℕ) where
   abbrev pub CertificateAnswer : List ℕ → CheckVerdict → Type 0
   CertificateAnswer bytes v = v ≡ checkVerdict (checkCertificate limits t n table bytes)
 
+  -- and nth_step, asked for the k-th record of (f, p, q)
+  abbrev pub StepAnswers : ℕ → ℕ → ℕ → (ℕ → StepAnswer) → Type 0
+  StepAnswers f p q ask = (k : ℕ) → ask k ≡ stepAnswer (nthStep limits t n table f p q k)
+
   pub record TableTheorems (r : TableChecked) : Type 0 where
     -- demand 1: passed exactly if the table is that of a well-formed grammar, and then with that grammar's record
     pub passes : (G : Grammar) → Stores t n table G → (r .verdict ≡ Passed) × (r .grammar ≡ recordOf G)
     pub passes-only : r .verdict ≡ Passed → (G : Grammar) × Stores t n table G × (r .grammar ≡ recordOf G)
+
+  pub record StepTheorems (f p q : ℕ) (ask : ℕ → StepAnswer) : Type 0 where
+    pub refused : (r : TableChecked) (cause at : ℕ) → TableAnswer r → r .verdict ≡ Refused cause at → (k : ℕ) → ask k ≡ step.Refused cause at
+    -- of a triple in range the answers are exactly the steps to its successors
+    pub exact : (G : Grammar) → Stores t n table G → f < 2 → p < states G → q < states G → (s : Step)
+        → ((k : ℕ) × (ask k ≡ step.Record s)) ↔ StepTo (position limits G) f p q (s .layer) (s .left) (s .right) (s .«on_left») (s .«on_right»)
 
   pub record WitnessTheorems (row : List ℕ) (v : CheckVerdict) : Type 0 where
     -- demand 1: the faults of the table come first, as the table check gives them
@@ -103,6 +119,7 @@ pub record TextTheorems : Type 0 where
 -- whatever answers as the entries promise
 pub record FrontPage : Type 0 where
   pub tables : (t n : ℕ) (table : List ℕ) (r : TableChecked) → TableAnswer t n table r → TableTheorems t n table r
+  pub steps : (t n : ℕ) (table : List ℕ) (f p q : ℕ) (ask : ℕ → StepAnswer) → StepAnswers t n table f p q ask → StepTheorems t n table f p q ask
   pub witnesses : (t n : ℕ) (table row : List ℕ) (v : CheckVerdict) → WitnessAnswer t n table row v → WitnessTheorems t n table row v
   pub certificates : (t n : ℕ) (table bytes : List ℕ) (v : CheckVerdict) → CertificateAnswer t n table bytes v → CertificateTheorems t n table bytes v
   pub texts : TextTheorems

@@ -1,0 +1,10 @@
+pub mod Between
+pub mod Windows
+pub mod Alone
+pub mod Ways
+pub mod Ranks
+pub mod Says
+pub mod Planned
+pub mod Nth
+pub mod Layers
+pub mod Answers

@@ -1,0 +1,140 @@
+-- The two declaring lines: what each way through the code says of the whole text.
+-- Assumes nothing.
+use Prim.Native.Nat.{ℕ, zero, suc, _+_, _-_, _≤_, _<_}
+use mathlib.Core.Path.{_≡_, refl, ap, sym, subst, _∙_}
+use mathlib.Core.List.{List, [], _∷_}
+use native.Mathlib.Omega.{arith}
+use native.Mathlib.Nat.{zero-add}
+use lib.ListN.{length, take, drop, length-drop}
+use lib.Seq.{drop-drop, length-take-le, take-take}
+use Rattle.grammar.specs.Limits.{limits}
+use Rattle.grammar.specs.Refusal.{Answer, done, refused, andThen}
+use Rattle.grammar.proofs.Answers.{then-goes, then-stops}
+use Rattle.text.specs.Pieces.{splitOn}
+use Rattle.text.specs.Names.{hasDouble}
+use Rattle.text.specs.Read.{namesOf, declaration, wholeLine, readLines}
+use Rattle.text.proofs.Pieces.{split-pos}
+use Rattle.names.specs.Found.{index, part}
+use Rattle.names.proofs.Pieces.{piece-more, piece-last, length-piece}
+use Rattle.text_read.specs.declared.Declared.{Declared}
+use Rattle.text_read.specs.declared.Declared.the-variants.{Names, Fault}
+use Rattle.text_read.specs.Values.{NamesAt, DeclaredTold}
+use Rattle.text_read.specs.Texts.{readSecond, FirstHead, HeadsAt}
+
+-- what the answer of a declaring line tells
+pub told-names : (at k lo hi : ℕ) (earlier : List (List ℕ)) (line : List ℕ) (r : Declared) (start end count : ℕ) → r ≡ Names start end count
+    → DeclaredTold at k lo hi earlier line r → NamesAt at k lo hi earlier line start end count
+told-names at k lo hi earlier line r start end count e t = subst (λ (r : Declared). DeclaredTold at k lo hi earlier line r) e t
+
+pub told-fault : (at k lo hi : ℕ) (earlier : List (List ℕ)) (line : List ℕ) (r : Declared) (cause place : ℕ) → r ≡ Fault cause place
+    → DeclaredTold at k lo hi earlier line r → declaration at k lo hi earlier line ≡ refused cause place
+told-fault at k lo hi earlier line r cause place e t = subst (λ (r : Declared). DeclaredTold at k lo hi earlier line r) e t
+
+-- a whole line goes on
+whole-on : {B : Type 0} (at : ℕ) (p : List ℕ) (qs : List (List ℕ)) (go : List ℕ → List (List ℕ) → Answer B) → 0 < length qs
+    → wholeLine at (p ∷ qs) go ≡ go p qs
+unfolding wholeLine
+whole-on at p [] go h = absurd (omega arith)
+whole-on at p (q ∷ qs) go h = refl
+
+-- one that lacks its byte 10 is refused
+whole-last : {B : Type 0} (at : ℕ) (p : List ℕ) (go : List ℕ → List (List ℕ) → Answer B) → wholeLine at (p ∷ []) go ≡ refused 16 at
+unfolding wholeLine
+whole-last at p go = refl
+
+-- the value's part of a line's part of the text
+drop-take : (m s : ℕ) (l : List ℕ) → drop s (take m l) ≡ take (m - s) (drop s l)
+drop-take m zero l = ap (λ m. take m l) (let q : m ≡ m - 0 = omega arith in q)
+drop-take zero (suc s) l = (let q : 0 - suc s ≡ 0 = omega arith in ap (λ m. take m (drop (suc s) l)) (sym q))
+drop-take (suc m) (suc s) [] = sym (nil (suc m - suc s))
+  where
+    nil : (n : ℕ) → take {A = ℕ} n [] ≡ []
+    nil zero = refl
+    nil (suc n) = refl
+drop-take (suc m) (suc s) (x ∷ l) = drop-take m s l ∙ (let q : m - s ≡ suc m - suc s = omega arith in ap (λ m. take m (drop s l)) q)
+
+pub part-part : (text : List ℕ) (a e s : ℕ) → a + s ≤ e → e ≤ length text → part s (length (part a e text)) (part a e text) ≡ part (a + s) e text
+part-part text a e s h l =
+    let n : length (part a e text) ≡ e - a = length-take-le (e - a) (drop a text) (omega (arith, length-drop a text)) in
+    let q : e - a - s ≡ e - (a + s) = omega arith in
+    ap (λ m. take (m - s) (drop s (part a e text))) n ∙ ap (take (e - a - s)) (drop-take (e - a) s (drop a text))
+    ∙ take-take (e - a - s) (e - a - s) (drop s (drop a text)) (omega arith) ∙ ap (take (e - a - s)) (drop-drop s a text)
+    ∙ ap (λ m. take m (drop (a + s) text)) q
+
+-- ---- the first line
+
+module _ (text : List ℕ) (e : ℕ) (found : e ≡ 0 + index 10 (drop 0 text)) where
+  pub first-missing : length text ≤ e → readLines limits (splitOn 10 text) ≡ refused 16 1
+  unfolding readLines
+  first-missing h = ap (readLines limits) (piece-last 10 text 0 e (omega arith) found h) ∙ whole-last 1 (part 0 e text) _
+
+  module _ (inside : e < length text) where
+    first-on : readLines limits (splitOn 10 text)
+        ≡ andThen (declaration 1 0 0 127 [] (part 0 e text)) (λ ts. wholeLine 2 (splitOn 10 (drop (e + 1) text)) (readSecond ts))
+    unfolding readLines
+    first-on = ap (readLines limits) (piece-more 10 text 0 e (omega arith) found inside)
+        ∙ whole-on 1 (part 0 e text) (splitOn 10 (drop (e + 1) text)) _ (split-pos 10 _)
+
+    pub first-fault : (c p : ℕ) → declaration 1 0 0 127 [] (part 0 e text) ≡ refused c p
+        → readLines limits (splitOn 10 text) ≡ refused c p
+    first-fault c p q = first-on ∙ then-stops _ _ c p q
+
+    pub first-names : (start end count : ℕ) → NamesAt 1 0 0 127 [] (part 0 e text) start end count → length text ≤ 65536
+        → FirstHead text start e count
+    first-names start end count n short =
+        let l : length (part 0 e text) ≡ e - 0 = length-piece 10 text 0 e (omega arith) found in
+        let i : start ≤ e = omega (arith, n .inside, n .ends) in
+        let v : part start end (part 0 e text) ≡ part start e text
+        = ap (λ m. part start m (part 0 e text)) (n .ends) ∙ part-part text 0 e start (omega arith) (omega arith)
+        ∙ ap (λ m. part m e text) (zero-add start) in
+        record {
+          starts = n .starts;
+          inside = i;
+          ends = inside;
+          counts = n .counts ∙ ap (λ v. length (namesOf v)) v;
+          most = n .most;
+          once = sym (ap (λ v. hasDouble (namesOf v)) v) ∙ n .once;
+          short = short;
+          lines = first-on ∙ then-goes _ _ _ (n .read ∙ ap (λ v. done (namesOf v)) v);
+        }
+
+-- ---- the second line
+
+module _ (text : List ℕ) (a e t : ℕ) (h : FirstHead text a e t) (f : ℕ) (found : f ≡ e + 1 + index 10 (drop (e + 1) text)) where
+  pub second-missing : length text ≤ f → readLines limits (splitOn 10 text) ≡ refused 16 2
+  second-missing k =
+      h .lines
+      ∙ ap (λ ls. wholeLine 2 ls (readSecond (namesOf (part a e text)))) (piece-last 10 text (e + 1) f (omega (arith, h .ends)) found k)
+      ∙ whole-last 2 (part (e + 1) f text) (readSecond (namesOf (part a e text)))
+
+  module _ (inside : f < length text) where
+    second-on : readLines limits (splitOn 10 text)
+        ≡ readSecond (namesOf (part a e text)) (part (e + 1) f text) (splitOn 10 (drop (f + 1) text))
+    second-on =
+        h .lines
+        ∙ ap (λ ls. wholeLine 2 ls (readSecond (namesOf (part a e text)))) (piece-more 10 text (e + 1) f (omega (arith, h .ends)) found inside)
+        ∙ whole-on 2 (part (e + 1) f text) (splitOn 10 (drop (f + 1) text)) (readSecond (namesOf (part a e text))) (split-pos 10 _)
+
+    pub second-fault : (c p : ℕ) → declaration 2 1 1 127 (namesOf (part a e text)) (part (e + 1) f text) ≡ refused c p
+        → readLines limits (splitOn 10 text) ≡ refused c p
+    second-fault c p q = second-on ∙ then-stops _ _ c p q
+
+    pub second-names : (start end count : ℕ) → NamesAt 2 1 1 127 (namesOf (part a e text)) (part (e + 1) f text) start end count
+        → HeadsAt text a e (e + 1 + start) f t count
+    second-names start end count n =
+        let l : length (part (e + 1) f text) ≡ f - (e + 1) = length-piece 10 text (e + 1) f (omega (arith, h .ends)) found in
+        let i : e + 1 + start ≤ f = omega (arith, n .inside, n .ends) in
+        let v : part start end (part (e + 1) f text) ≡ part (e + 1 + start) f text
+        = ap (λ m. part start m (part (e + 1) f text)) (n .ends) ∙ part-part text (e + 1) f start i (omega arith) in
+        record {
+          first = h .starts;
+          first-inside = h .inside;
+          second = ap (λ m. e + 1 + m) (n .starts);
+          second-inside = i;
+          ends = inside;
+          terminals = h .counts;
+          nonterminals = n .counts ∙ ap (λ v. length (namesOf v)) v;
+          terminals-most = h .most;
+          nonterminals-most = n .most;
+          lines = second-on ∙ then-goes _ _ _ (n .read ∙ ap (λ v. done (namesOf v)) v);
+        }

@@ -1,0 +1,9 @@
+pub mod Values
+pub mod Declarations
+pub mod Rows
+pub mod Lookups
+pub mod Shapes
+pub mod RuleLines
+pub mod Places
+pub mod Whole
+pub mod Written

@@ -1,0 +1,361 @@
+-- The whole text: the last tests look at the first 101 rules only, and what each way through the code says of the reader's answer.
+-- Assumes nothing.
+use Prim.Native.Nat.{ℕ, zero, suc, _+_, _-_, _≤_, _<_}
+use mathlib.Core.Path.{_≡_, refl, ap, ap₂, sym, subst, _∙_}
+use mathlib.Core.List.{List, [], _∷_, _++_, map}
+use mathlib.Core.Bool.{not}
+use native.Mathlib.Omega.{arith}
+use borrow.Author.Tests.{le-leb, lt-leb}
+use lib.Dec.{leb}
+use lib.ListN.{length, take, drop, length-append, length-drop}
+use lib.Seq.{take-all, length-take-le}
+use Rattle.grammar.specs.Basics.{Mem, here, there}
+use Rattle.grammar.specs.Limits.{Limits, limits}
+use Rattle.grammar.specs.Grammar.{Rule, Grammar, stateCount}
+use Rattle.grammar.specs.Table.{encode}
+use Rattle.grammar.specs.Refusal.{Answer, done, refused, refuseUnless, andThen}
+use Rattle.grammar.specs.Record.{recordOf}
+use Rattle.grammar.specs.TableCheck.{isAmong, checkTable, tableChecked}
+use Rattle.grammar.specs.declared.TableChecked.{TableChecked}
+use Rattle.grammar.specs.declared.TableVerdict.the-variants.{Passed, Refused as TableRefused}
+use Rattle.grammar.proofs.Answers.{no-answer, done-inj, unless-holds, unless-fails, unless-done, then-done, then-goes, then-stops}
+use Rattle.grammar.proofs.Steps.{grammarOf}
+use Rattle.text.specs.Pieces.{splitOn, join, endedBy}
+use Rattle.text.specs.Keys.{key}
+use Rattle.text.specs.Read.{Source, symbolNames, namesOf, ruleLines, readLines, readText}
+use Rattle.text.specs.Rules.{admit, checkText}
+use Rattle.text.specs.Print.{printLine, printRule, printed}
+use Rattle.text.specs.Promise.{startsFrom, nameStarts, nameLengths, textRead}
+use Rattle.text.specs.declared.TextRead.{TextRead}
+use Rattle.text.specs.declared.TextRead.the-variants.{Read, Refused}
+use Rattle.text.proofs.WellNamed.{WellNamedSource, mem-each, mem-none}
+use Rattle.text.proofs.PrintRead.{read-well}
+use Rattle.text.proofs.Admit.{admit-same, table-admit, text-checked}
+use Rattle.text.proofs.RoundTrip.{apart}
+use Rattle.text.proofs.Spans.{spelled}
+use Rattle.names.specs.Found.{part}
+use Rattle.text_read.specs.declared.Kept.{Kept}
+use Rattle.text_read.specs.declared.Kept.the-variants.{Entries, Fault}
+use Rattle.text_read.specs.declared.Heads.{Heads}
+use Rattle.text_read.specs.declared.Heads.the-variants as H
+use Rattle.text_read.specs.Lines.{RulesReady, RulesKept, RulesTold}
+use Rattle.text_read.specs.Texts.{HeadsAt, HeadsTold, NamesFit, tableRead, Ready, TableTold, ChecksText}
+use Rattle.text_read.proofs.Places.{join-names, lengths-append, heads-spelled, heads-spans}
+
+-- ---- the first rules
+
+-- one rule past the limit decides like all
+admit-first : (L : Limits) (m : ℕ) (earlier : List Rule) (at : ℕ) (rs : List Rule)
+    → admit L m earlier at (take (suc m) rs) ≡ admit L m earlier at rs
+unfolding admit
+admit-first L zero earlier at [] = refl
+admit-first L zero earlier at (r ∷ rs) = refl
+admit-first L (suc m) earlier at [] = refl
+admit-first L (suc m) earlier at (r ∷ rs) =
+    ap (λ o. refuseUnless 6 at (not (isAmong r earlier)) (refuseUnless 8 at (leb (stateCount earlier + (length (r .right) + 1)) (L .maxStates)) o))
+    (admit-first L m (earlier ++ (r ∷ [])) (at + 2 + length (r .right)) rs)
+
+-- rules that pass are not too many
+admit-few : (L : Limits) (m : ℕ) (earlier : List Rule) (at : ℕ) (rs q : List Rule) → admit L m earlier at rs ≡ done q → length rs ≤ m
+unfolding admit
+admit-few L m earlier at [] q e = omega arith
+admit-few L zero earlier at (r ∷ rs) q e = no-answer e
+admit-few L (suc m) earlier at (r ∷ rs) q e =
+    let a = unless-done _ _ _ _ _ e in
+    let b = unless-done _ _ _ _ _ (a .1) in
+    let h = admit-few L m (earlier ++ (r ∷ [])) (at + 2 + length (r .right)) rs q (b .1) in
+    omega arith
+
+mem-take : (k : ℕ) (rs : List Rule) (r : Rule) → Mem r (take k rs) → Mem r rs
+mem-take zero rs r m = mem-none m
+mem-take (suc k) [] r m = m
+mem-take (suc k) (x ∷ rs) r m = mem-each (λ y. Mem y (x ∷ rs)) x (take k rs) here (λ y m. there (mem-take k rs y m)) r m
+
+ended-less : (f : Rule → List ℕ) (k : ℕ) (rs : List Rule) → length (endedBy 10 (map f (take k rs))) ≤ length (endedBy 10 (map f rs))
+unfolding endedBy
+ended-less f zero rs = omega arith
+ended-less f (suc k) [] = omega arith
+ended-less f (suc k) (r ∷ rs) =
+    omega (
+      arith,
+      length-append (f r) (10 ∷ endedBy 10 (map f (take k rs))),
+      length-append (f r) (10 ∷ endedBy 10 (map f rs)),
+      ended-less f k rs,
+    )
+
+-- a source with the first rules only
+abbrev firstRules : ℕ → Source → Source
+firstRules k s = record { terminals = s .terminals; nonterminals = s .nonterminals; rules = take k (s .rules) }
+
+printed-less : (k : ℕ) (s : Source) → length (printed limits (firstRules k s)) ≤ length (printed limits s)
+unfolding printed endedBy
+printed-less k s =
+    let f = printRule limits (length (s .terminals)) (symbolNames s) in
+    let a = printLine 0 (join 44 (s .terminals)) in
+    let b = printLine 1 (join 44 (s .nonterminals)) in
+    let x = endedBy 10 (map f (take k (s .rules))) in
+    let y = endedBy 10 (map f (s .rules)) in
+    omega (
+      arith,
+      length-append a (10 ∷ (b ++ 10 ∷ x)),
+      length-append b (10 ∷ x),
+      length-append a (10 ∷ (b ++ 10 ∷ y)),
+      length-append b (10 ∷ y),
+      ended-less f k (s .rules),
+    )
+
+first-well : (k : ℕ) (s : Source) → WellNamedSource limits s → WellNamedSource limits (firstRules k s)
+first-well k s w = record {
+  named = w .named;
+  once = w .once;
+  terminals-most = w .terminals-most;
+  nonterminals-least = w .nonterminals-least;
+  nonterminals-most = w .nonterminals-most;
+  fit = λ r m. w .fit r (mem-take k (s .rules) r m);
+  short = omega (arith, w .short, printed-less k s);
+}
+
+-- ---- the last tests of a text that was read
+
+-- an answer of the table check of the first 101 rules
+module _ (text : List ℕ) (s : Source) (read : readText limits text ≡ done s) where
+  first-admit : checkTable limits (length (s .terminals)) (length (s .nonterminals)) (encode (take 101 (s .rules)))
+      ≡ andThen (admit limits 100 [] 0 (s .rules))
+      (λ rules. done (grammarOf (length (s .terminals)) (length (s .nonterminals)) rules))
+  first-admit =
+      table-admit limits (firstRules 101 s) (first-well 101 s (read-well limits apart text s read))
+      ∙ ap (λ o. andThen o (λ rules. done (grammarOf (length (s .terminals)) (length (s .nonterminals)) rules)))
+      (admit-first limits 100 [] 0 (s .rules))
+
+  check-on : checkText limits text ≡ andThen (admit limits 100 [] 0 (s .rules)) (λ rules. done s)
+  unfolding checkText
+  check-on = then-goes (readText limits text) (λ s. andThen (admit limits 100 [] 0 (s .rules)) (λ rules. done s)) s read
+
+  module _ (t n end : ℕ) (row : List ℕ) (r : TextRead) (p : t ≡ length (s .terminals)) (q : n ≡ length (s .nonterminals))
+      (used : end ≡ length (encode (take 101 (s .rules)))) (front : take end row ≡ encode (take 101 (s .rules)))
+      (told : r ≡ tableRead t n end (checkTable limits t n (take end row))) where
+    table-is : checkTable limits t n (take end row)
+        ≡ andThen (admit limits 100 [] 0 (s .rules)) (λ rules. done (grammarOf (length (s .terminals)) (length (s .nonterminals)) rules))
+    table-is = (λ d. checkTable limits (p d) (q d) (front d)) ∙ first-admit
+
+    pub last-told : TableTold text r row
+    last-told = go (admit limits 100 [] 0 (s .rules)) refl
+      where
+        go : (o : Answer (List Rule)) → admit limits 100 [] 0 (s .rules) ≡ o → TableTold text r row
+        go (refused c i) e =
+            let x : checkText limits text ≡ refused c i = check-on ∙ then-stops _ _ c i e in
+            record {
+              answer = told ∙ ap (tableRead t n end) (table-is ∙ then-stops _ _ c i e) ∙ sym (ap textRead x);
+              table = λ z w. no-answer (sym x ∙ w);
+            }
+        go (done rules) e =
+            let same : rules ≡ s .rules = admit-same limits 100 [] 0 (s .rules) rules e in
+            let few = admit-few limits 100 [] 0 (s .rules) rules e in
+            let all : take 101 (s .rules) ≡ s .rules = take-all 101 (s .rules) (omega arith) in
+            let x : checkText limits text ≡ done s = check-on ∙ then-goes _ _ rules e in
+            let size : end ≡ length (encode (s .rules)) = used ∙ ap (λ rs. length (encode rs)) all in
+            record {
+              answer = told ∙ ap (tableRead t n end) (table-is ∙ then-goes _ _ rules e)
+                  ∙ (λ d. Read (p d) (q d) (size d) (stateCount (same d))) ∙ sym (ap textRead x);
+              table = λ z w. subst (λ (z : Source). take (length (encode (z .rules))) row ≡ encode (z .rules)) (done-inj (sym x ∙ w))
+                  (ap (λ m. take m row) (sym size) ∙ front ∙ ap encode all);
+            }
+
+-- ---- refusals before the last tests
+
+-- a refusal, as the rows' contract has it
+pub refused-told : (text : List ℕ) (c i : ℕ) (row : List ℕ) → checkText limits text ≡ refused c i → TableTold text (Refused c i) row
+refused-told text c i row e = record { answer = sym (ap textRead e); table = λ s w. no-answer (sym e ∙ w) }
+
+pub refused-checks : (text : List ℕ) (c i : ℕ) (row starts lengths : List ℕ) → checkText limits text ≡ refused c i
+    → ChecksText text (Refused c i) row starts lengths
+refused-checks text c i row starts lengths e = record {
+  answer = sym (ap textRead e);
+  table = λ s w. no-answer (sym e ∙ w);
+  starts-front = λ s w. no-answer (sym e ∙ w);
+  lengths-front = λ s w. no-answer (sym e ∙ w);
+}
+
+pub text-long : (text : List ℕ) → 65536 < length text → checkText limits text ≡ refused 16 0
+unfolding checkText readText
+text-long text h = then-stops _ _ 16 0 (unless-fails 16 0 (leb (length text) 65536) (readLines limits (splitOn 10 text)) (lt-leb (length text) 65536 h))
+
+module _ (text : List ℕ) (short : length text ≤ 65536) where
+  read-lines : readText limits text ≡ readLines limits (splitOn 10 text)
+  unfolding readText
+  read-lines = unless-holds 16 0 (leb (length text) 65536) (readLines limits (splitOn 10 text)) (le-leb (length text) 65536 short)
+
+  pub lines-refused : (c i : ℕ) → readLines limits (splitOn 10 text) ≡ refused c i → checkText limits text ≡ refused c i
+  unfolding checkText
+  lines-refused c i e = then-stops _ _ c i (read-lines ∙ e)
+
+  -- ---- the rule lines, after both declaring lines
+
+  module _ (a e b f t n : ℕ) (h : HeadsAt text a e b f t n) where
+    pub rules-refused : (c i : ℕ)
+        → ruleLines limits 3 (length (namesOf (part a e text))) (namesOf (part a e text) ++ namesOf (part b f text)) (splitOn 10 (drop (f + 1) text)) ≡ refused c i
+        → checkText limits text ≡ refused c i
+    rules-refused c i q = lines-refused c i (h .lines ∙ then-stops _ _ c i q)
+
+    pub rules-read : (rules : List Rule)
+        → ruleLines limits 3 (length (namesOf (part a e text))) (namesOf (part a e text) ++ namesOf (part b f text)) (splitOn 10 (drop (f + 1) text)) ≡ done rules
+        → readText limits text ≡ done (record { terminals = namesOf (part a e text); nonterminals = namesOf (part b f text); rules = rules })
+    rules-read rules q = read-lines ∙ h .lines ∙ then-goes _ _ rules q
+
+    -- the names of a text that passes
+    pub heads-names : (s : Source) → checkText limits text ≡ done s
+        → (s .terminals ≡ namesOf (part a e text)) × (s .nonterminals ≡ namesOf (part b f text))
+    heads-names s q =
+        let r = then-done _ _ s (sym (h .lines) ∙ sym read-lines ∙ text-checked limits apart text s q .read) in
+        let x = done-inj (r .2) in
+        (sym (ap (λ (s : Source). s .terminals) x), sym (ap (λ (s : Source). s .nonterminals) x))
+
+    -- their starts
+    heads-places : startsFrom a (namesOf (part a e text)) ++ startsFrom b (namesOf (part b f text))
+        ≡ startsFrom (length (key 0) + 1) (namesOf (part a e text))
+        ++ startsFrom (length (printLine 0 (join 44 (namesOf (part a e text)))) + 1 + (length (key 1) + 1)) (namesOf (part b f text))
+    unfolding printLine
+    heads-places =
+        let v = part a e text in
+        let l : length v ≡ e - a = length-take-le (e - a) (drop a text) (omega (arith, h .first-inside, h .second, h .second-inside, h .ends, length-drop a text)) in
+        let m : length (key 0 ++ 61 ∷ join 44 (namesOf v)) ≡ e
+        = length-append (key 0) (61 ∷ join 44 (namesOf v)) ∙ omega (arith, ap length (join-names v), h .first, h .first-inside) in
+        let x : b ≡ length (key 0 ++ 61 ∷ join 44 (namesOf v)) + 1 + (length (key 1) + 1) = h .second ∙ ap (λ m. m + 1 + (length (key 1) + 1)) (sym m) in
+        ap₂ (λ x y. startsFrom x (namesOf v) ++ startsFrom y (namesOf (part b f text))) (h .first) x
+
+    module _ (starts lengths : List ℕ) (s : Source) (q : checkText limits text ≡ done s) where
+      count-is : length (symbolNames s) ≡ t + length (namesOf (part b f text))
+      count-is =
+          let x = heads-names s q in
+          length-append (s .terminals) (s .nonterminals)
+          ∙ ap₂ (λ xs ys. length xs + length ys) (x .0) (x .1) ∙ ap (λ m. m + length (namesOf (part b f text))) (sym (h .terminals))
+
+      pub starts-told : take (t + length (namesOf (part b f text))) starts
+          ≡ startsFrom a (namesOf (part a e text)) ++ startsFrom b (namesOf (part b f text))
+          → take (length (symbolNames s)) starts ≡ nameStarts s
+      unfolding nameStarts
+      starts-told g =
+          let x = heads-names s q in
+          ap (λ m. take m starts) count-is ∙ g ∙ heads-places
+          ∙ ap₂ (λ ts ns. startsFrom (length (key 0) + 1) ts ++ startsFrom (length (printLine 0 (join 44 ts)) + 1 + (length (key 1) + 1)) ns)
+          (sym (x .0)) (sym (x .1))
+
+      pub lengths-told : take (t + length (namesOf (part b f text))) lengths
+          ≡ nameLengths (namesOf (part a e text)) ++ nameLengths (namesOf (part b f text))
+          → take (length (symbolNames s)) lengths ≡ nameLengths (symbolNames s)
+      lengths-told g =
+          let x = heads-names s q in
+          ap (λ m. take m lengths) count-is ∙ g ∙ sym (lengths-append (namesOf (part a e text)) (namesOf (part b f text)))
+          ∙ ap₂ (λ ts ns. nameLengths (ts ++ ns)) (sym (x .0)) (sym (x .1))
+
+-- ---- from the table check's answer to the reader's
+
+pub checked-refused : (t n end : ℕ) (o : Answer Grammar) (x : TableChecked) (c i : ℕ) → x ≡ tableChecked o → x .verdict ≡ TableRefused c i
+    → Refused c i ≡ tableRead t n end o
+checked-refused t n end (done G) x c i e v =
+    let z : Passed ≡ TableRefused c i = sym (ap (λ (x : TableChecked). x .verdict) e) ∙ v in
+    absurd (let y : _≡_ {A = ℕ} 0 1 = cc z in omega arith)
+checked-refused t n end (refused d j) x c i e v =
+    let z : TableRefused d j ≡ TableRefused c i = sym (ap (λ (x : TableChecked). x .verdict) e) ∙ v in
+    let p : c ≡ d = cc z in
+    let q : i ≡ j = cc z in
+    ap₂ (λ c i. Refused c i) p q
+
+pub checked-passed : (t n end : ℕ) (o : Answer Grammar) (x : TableChecked) → x ≡ tableChecked o → x .verdict ≡ Passed
+    → Read t n end (x .grammar .states) ≡ tableRead t n end o
+unfolding recordOf
+checked-passed t n end (done G) x e v = ap (λ (x : TableChecked). Read t n end (x .grammar .states)) e
+checked-passed t n end (refused d j) x e v =
+    let z : TableRefused d j ≡ Passed = sym (ap (λ (x : TableChecked). x .verdict) e) ∙ v in
+    absurd (let y : _≡_ {A = ℕ} 0 1 = cc z in omega arith)
+
+-- ---- the rule lines at the code's places
+
+module _ (text : List ℕ) (from t n : ℕ) (starts lengths row : List ℕ) (p : Ready text from t n starts lengths row) where
+  pub ready-rules : RulesReady text (take (t + n) starts) (take (t + n) lengths) t row
+  ready-rules = record {
+    spans = heads-spans text (p .a) (p .e) (p .b) (p .f) t n (p .heads) starts lengths (p .starts-front) (p .lengths-front);
+    few = p .heads .terminals-most;
+    most = omega (arith, length-take-le (t + n) starts (p .starts-room), p .heads .nonterminals-most);
+    size = p .size;
+    short = p .short;
+  }
+
+  ready-lines : ruleLines limits 3 t (spelled text (take (t + n) starts) (take (t + n) lengths)) (splitOn 10 (drop from text))
+      ≡ ruleLines limits 3 (length (namesOf (part (p .a) (p .e) text)))
+      (namesOf (part (p .a) (p .e) text) ++ namesOf (part (p .b) (p .f) text)) (splitOn 10 (drop (p .f + 1) text))
+  ready-lines =
+      let x = p .heads .terminals in
+      let y = heads-spelled text (p .a) (p .e) (p .b) (p .f) t n (p .heads) starts lengths (p .starts-front) (p .lengths-front) in
+      let z = p .begins in
+      λ d. ruleLines limits 3 (x d) (y d) (splitOn 10 (drop (z d) text))
+
+  pub ready-refused : (c i : ℕ) (row′ : List ℕ)
+      → ruleLines limits 3 t (spelled text (take (t + n) starts) (take (t + n) lengths)) (splitOn 10 (drop from text)) ≡ refused c i
+      → TableTold text (Refused c i) row′
+  ready-refused c i row′ q =
+      refused-told text c i row′
+      (rules-refused text (p .short) (p .a) (p .e) (p .b) (p .f) t n (p .heads) c i (sym ready-lines ∙ q))
+
+  pub ready-told : (row′ : List ℕ) (end : ℕ) (r : TextRead)
+      → RulesKept (ruleLines limits 3 t (spelled text (take (t + n) starts) (take (t + n) lengths)) (splitOn 10 (drop from text))) row′ end
+      → r ≡ tableRead t n end (checkTable limits t n (take end row′)) → TableTold text r row′
+  ready-told row′ end r k q =
+      let h = p .heads in
+      last-told text _ (rules-read text (p .short) (p .a) (p .e) (p .b) (p .f) t n h (k .rules) (sym ready-lines ∙ k .read)) t n end row′ r
+      (h .terminals) (h .nonterminals) (k .used) (k .front) q
+
+-- what the answer of all rule lines tells
+pub told-rules : (o : Answer (List Rule)) (row : List ℕ) (r : Kept) (end : ℕ) → r ≡ Entries end → RulesTold o row r → RulesKept o row end
+told-rules o row r end e t = subst (λ (r : Kept). RulesTold o row r) e t
+
+pub told-fault : (o : Answer (List Rule)) (row : List ℕ) (r : Kept) (c i : ℕ) → r ≡ Fault c i → RulesTold o row r → o ≡ refused c i
+told-fault o row r c i e t = subst (λ (r : Kept). RulesTold o row r) e t
+
+-- and of the two declaring lines
+pub told-heads : (text : List ℕ) (r : Heads) (a e b f t n : ℕ) → r ≡ H.Names a e b f t n → HeadsTold text r → HeadsAt text a e b f t n
+told-heads text r a e b f t n q h = subst (λ (r : Heads). HeadsTold text r) q h
+
+pub told-headless : (text : List ℕ) (r : Heads) (c i : ℕ) → r ≡ H.Fault c i → HeadsTold text r → readLines limits (splitOn 10 text) ≡ refused c i
+told-headless text r c i q h = subst (λ (r : Heads). HeadsTold text r) q h
+
+-- the rows that the names' places were put into
+module _ (text : List ℕ) (a e b f t n : ℕ) (h : HeadsAt text a e b f t n) (short : length text ≤ 65536) (starts lengths : List ℕ)
+    (x : take (t + length (namesOf (part b f text))) starts ≡ startsFrom a (namesOf (part a e text)) ++ startsFrom b (namesOf (part b f text)))
+    (y : take (t + length (namesOf (part b f text))) lengths ≡ nameLengths (namesOf (part a e text)) ++ nameLengths (namesOf (part b f text))) where
+  pub ready : (row : List ℕ) → 254 ≤ length starts → 254 ≤ length lengths → length row ≡ 1414 → Ready text (f + 1) t n starts lengths row
+  ready row p q z = record {
+    a = a;
+    e = e;
+    b = b;
+    f = f;
+    heads = h;
+    begins = refl;
+    short = short;
+    starts-front = ap (λ m. take (t + m) starts) (h .nonterminals) ∙ x;
+    lengths-front = ap (λ m. take (t + m) lengths) (h .nonterminals) ∙ y;
+    starts-room = omega (arith, h .terminals-most, h .nonterminals-most);
+    lengths-room = omega (arith, h .terminals-most, h .nonterminals-most);
+    size = z;
+  }
+
+  pub checks : (r : TextRead) (row : List ℕ) → TableTold text r row → ChecksText text r row starts lengths
+  checks r row told = record {
+    answer = told .answer;
+    table = told .table;
+    starts-front = λ s w. starts-told text short a e b f t n h starts lengths s w x;
+    lengths-front = λ s w. lengths-told text short a e b f t n h starts lengths s w y;
+  }
+
+pub names-fit : (text : List ℕ) (a e b f t n : ℕ) (starts lengths : List ℕ) → HeadsAt text a e b f t n → length text ≤ 65536
+    → 254 ≤ length starts → 254 ≤ length lengths → NamesFit text a e b f t starts lengths
+names-fit text a e b f t n starts lengths h short p q = record {
+  first = h .first-inside;
+  second = h .second-inside;
+  first-inside = omega (arith, h .second, h .second-inside, h .ends);
+  second-inside = omega (arith, h .ends);
+  short = short;
+  counts = h .terminals;
+  starts-room = omega (arith, h .nonterminals, h .terminals-most, h .nonterminals-most);
+  lengths-room = omega (arith, h .nonterminals, h .terminals-most, h .nonterminals-most);
+}

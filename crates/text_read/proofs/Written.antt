@@ -1,0 +1,150 @@
+-- The lent rows: a refusal changes nothing, a text that passes is written if there is room.
+-- Assumes nothing.
+use Prim.Native.Nat.{ℕ, _+_, _≤_, _<_}
+use mathlib.Core.Path.{_≡_, refl, ap, ap₂, sym, _∙_}
+use mathlib.Core.List.{List}
+use mathlib.Core.Bool.{Bool, true, false, _&&_}
+use native.Mathlib.Omega.{arith}
+use borrow.Author.Tests.{le-leb, lt-leb, ltb-true, ltb-false}
+use lib.Dec.{leb, ltb}
+use lib.ListN.{length, take, length-append}
+use lib.Seq.{take-all}
+use Rattle.grammar.specs.Limits.{limits}
+use Rattle.grammar.specs.Grammar.{stateCount}
+use Rattle.grammar.specs.Table.{encode}
+use Rattle.grammar.specs.Refusal.{Answer, done, refused, refuseUnless}
+use Rattle.grammar.proofs.Answers.{both-and, unless-holds, unless-fails, then-goes, then-stops}
+use Rattle.text.specs.Read.{Source, symbolNames}
+use Rattle.text.specs.Rules.{checkText, readInto}
+use Rattle.text.specs.Promise.{over, nameStarts, nameLengths, textRead, afterwards, ReadsText}
+use Rattle.text.specs.declared.TextRead.{TextRead}
+use Rattle.text.specs.declared.TextRead.the-variants.{Read, Refused}
+use Rattle.text.proofs.Spans.{length-lengths, length-name-starts}
+use Rattle.text_read.specs.Texts.{ChecksText}
+
+-- ---- what an answer of the code says of the definition's
+
+text-refused : (o : Answer Source) (c i : ℕ) → Refused c i ≡ textRead o → o ≡ refused c i
+text-refused (done s) c i h = absurd (let z : _≡_ {A = ℕ} 0 1 = cc in omega arith)
+text-refused (refused d j) c i h = cc
+
+record ReadAs (o : Answer Source) (t n e q : ℕ) : Type 0 where
+  source : Source
+  whole : o ≡ done source
+  terminals : length (source .terminals) ≡ t
+  nonterminals : length (source .nonterminals) ≡ n
+  entries : length (encode (source .rules)) ≡ e
+  states : stateCount (source .rules) ≡ q
+
+text-read : (o : Answer Source) (t n e q : ℕ) → Read t n e q ≡ textRead o → ReadAs o t n e q
+text-read (done s) t n e q h = record { source = s; whole = refl; terminals = cc; nonterminals = cc; entries = cc; states = cc }
+text-read (refused c i) t n e q h = absurd (let z : _≡_ {A = ℕ} 0 1 = cc in omega arith)
+
+and-false : (b : Bool) → b && false ≡ false
+and-false true = refl
+and-false false = refl
+
+-- a row that begins with a list is at least as long
+front-fits : (m : ℕ) (row xs : List ℕ) → take m row ≡ xs → length xs ≡ m → m ≤ length row
+front-fits m row xs e n = go (ltb (length row) m) refl
+  where
+    go : (b : Bool) → ltb (length row) m ≡ b → m ≤ length row
+    go true q =
+        let l = ltb-true (length row) m q in
+        absurd (omega (arith, ap length (sym (take-all m row (omega arith)) ∙ e)))
+    go false q = ltb-false (length row) m q
+
+-- ---- a refusal
+
+module _ (text table starts lengths : List ℕ) where
+  into-refused : (r : TextRead) (c i : ℕ) → r ≡ Refused c i
+      → readInto limits (length table) (length starts) (length lengths) text ≡ refused c i
+      → ReadsText text table starts lengths r table starts lengths
+  into-refused r c i e q = record {
+    answer = e ∙ sym (ap textRead q);
+    table-after = sym (ap (λ o. afterwards o (λ s. encode (s .rules)) table) q);
+    starts-after = sym (ap (λ o. afterwards o nameStarts starts) q);
+    lengths-after = sym (ap (λ o. afterwards o (λ s. nameLengths (symbolNames s)) lengths) q);
+  }
+
+  module _ (row ks kl : List ℕ) (r : TextRead) (h : ChecksText text r row ks kl) where
+    -- the tests before 14 refuse
+    pub read-refused : (c i : ℕ) → r ≡ Refused c i → ReadsText text table starts lengths r table starts lengths
+    unfolding readInto
+    read-refused c i e =
+        into-refused r c i e (then-stops _ _ c i (text-refused (checkText limits text) c i (sym e ∙ h .answer)))
+
+    module _ (t n e q : ℕ) (g : r ≡ Read t n e q) where
+      known : ReadAs (checkText limits text) t n e q
+      known = text-read (checkText limits text) t n e q (sym g ∙ h .answer)
+
+      count : length (symbolNames (known .source)) ≡ t + n
+      count =
+          length-append (known .source .terminals) (known .source .nonterminals)
+          ∙ ap₂ (λ t n. t + n) (known .terminals) (known .nonterminals)
+
+      abbrev room : Bool
+      room = leb (length (encode (known .source .rules))) (length table)
+          && (leb (length (symbolNames (known .source))) (length starts) && leb (length (symbolNames (known .source))) (length lengths))
+
+      into-is : readInto limits (length table) (length starts) (length lengths) text ≡ refuseUnless 14 0 room (done (known .source))
+      unfolding readInto
+      into-is = then-goes _ _ (known .source) (known .whole)
+
+      no-room : room ≡ false → ReadsText text table starts lengths (Refused 14 0) table starts lengths
+      no-room z = into-refused (Refused 14 0) 14 0 refl (into-is ∙ unless-fails 14 0 room _ z)
+
+      -- the local rows hold what is copied
+      pub entries-kept : e ≤ length row
+      entries-kept =
+          front-fits e row (encode (known .source .rules))
+          (ap (λ m. take m row) (sym (known .entries)) ∙ h .table (known .source) (known .whole)) (known .entries)
+
+      pub starts-kept : t + n ≤ length ks
+      starts-kept =
+          front-fits (t + n) ks (nameStarts (known .source))
+          (ap (λ m. take m ks) (sym count) ∙ h .starts-front (known .source) (known .whole)) (length-name-starts (known .source) ∙ count)
+
+      pub lengths-kept : t + n ≤ length kl
+      lengths-kept =
+          front-fits (t + n) kl (nameLengths (symbolNames (known .source)))
+          (ap (λ m. take m kl) (sym count) ∙ h .lengths-front (known .source) (known .whole))
+          (length-lengths (symbolNames (known .source)) ∙ count)
+
+      -- 14 for each row
+      pub short-table : length table < e → ReadsText text table starts lengths (Refused 14 0) table starts lengths
+      short-table l = no-room (rw (lt-leb (length (encode (known .source .rules))) (length table) (omega (arith, known .entries))))
+
+      pub short-starts : length starts < t + n → ReadsText text table starts lengths (Refused 14 0) table starts lengths
+      short-starts l =
+          no-room (rw (lt-leb (length (symbolNames (known .source))) (length starts) (omega (arith, count)))
+          (and-false (leb (length (encode (known .source .rules))) (length table))))
+
+      pub short-lengths : length lengths < t + n → ReadsText text table starts lengths (Refused 14 0) table starts lengths
+      short-lengths l =
+          no-room (rw (
+            lt-leb (length (symbolNames (known .source))) (length lengths) (omega (arith, count)),
+            and-false (leb (length (symbolNames (known .source))) (length starts)),
+          ) (and-false (leb (length (encode (known .source .rules))) (length table))))
+
+      -- room for all
+      pub read-all : e ≤ length table → t + n ≤ length starts → t + n ≤ length lengths → (table′ starts′ lengths′ : List ℕ)
+          → table′ ≡ over (take e row) table → starts′ ≡ over (take (t + n) ks) starts → lengths′ ≡ over (take (t + n) kl) lengths
+          → ReadsText text table starts lengths (Read t n e q) table′ starts′ lengths′
+      read-all x y z table′ starts′ lengths′ xs ys zs =
+          let s = known .source in
+          let w = known .whole in
+          let b : room ≡ true
+          = both-and _ _ (le-leb (length (encode (s .rules))) (length table) (omega (arith, known .entries)))
+          (both-and _ _ (le-leb (length (symbolNames s)) (length starts) (omega (arith, count)))
+          (le-leb (length (symbolNames s)) (length lengths) (omega (arith, count)))) in
+          let o : readInto limits (length table) (length starts) (length lengths) text ≡ done s = into-is ∙ unless-holds 14 0 room _ b in
+          record {
+            answer = sym g ∙ h .answer ∙ ap textRead (w ∙ sym o);
+            table-after = xs ∙ ap (λ xs. over xs table) (ap (λ m. take m row) (sym (known .entries)) ∙ h .table s w)
+                ∙ sym (ap (λ o. afterwards o (λ s. encode (s .rules)) table) o);
+            starts-after = ys ∙ ap (λ xs. over xs starts) (ap (λ m. take m ks) (sym count) ∙ h .starts-front s w)
+                ∙ sym (ap (λ o. afterwards o nameStarts starts) o);
+            lengths-after = zs ∙ ap (λ xs. over xs lengths) (ap (λ m. take m kl) (sym count) ∙ h .lengths-front s w)
+                ∙ sym (ap (λ o. afterwards o (λ s. nameLengths (symbolNames s)) lengths) o);
+          }

@@ -1,0 +1,140 @@
+-- What the reader's functions tell of rule lines.
+-- Names are looked up among those that two rows of starts and lengths spell in the text.
+-- Assumes nothing.
+use Prim.Native.Nat.{ℕ, _+_, _*_, _≤_, _<_}
+use mathlib.Core.Path.{_≡_}
+use mathlib.Core.Bool.{true, _&&_}
+use mathlib.Core.List.{List, [], _∷_, _++_, map}
+use mathlib.Core.Option.{Option, some}
+use lib.Dec.{ltb, leb}
+use lib.ListN.{length, take, drop}
+use Rattle.grammar.specs.Basics.{choose}
+use Rattle.grammar.specs.Limits.{limits}
+use Rattle.grammar.specs.Grammar.{Rule}
+use Rattle.grammar.specs.Table.{encode}
+use Rattle.grammar.specs.Refusal.{Answer, done, refused, refuseUnless}
+use Rattle.text.specs.Pieces.{splitOn}
+use Rattle.text.specs.Names.{all, isName}
+use Rattle.text.specs.Read.{refuseNone, Sides, sidesOf, numberOf, isKnown, codeOf, ruleOf}
+use Rattle.text.proofs.Spans.{spelled, Inside}
+use Rattle.text_read.specs.declared.Shape.{Shape}
+use Rattle.text_read.specs.declared.Shape.the-variants.{Found, Malformed}
+use Rattle.text_read.specs.declared.Kept.{Kept}
+use Rattle.text_read.specs.declared.Kept.the-variants.{Entries, Fault}
+
+-- the rows are equally long, and what they say lies in the text
+pub record Spans (text starts lengths : List ℕ) : Type 0 where
+  pub paired : length starts ≡ length lengths
+  pub inside : Inside text starts lengths
+
+-- ---- the definition of a rule's line, in steps
+
+-- sides and well formed names: 16; then the rest
+unfoldable pub shaped : ℕ → Option Sides → (Sides → Answer Rule) → Answer Rule
+shaped at o go = refuseNone 16 at o (λ s. refuseUnless 16 at (isName (s .head) && all isName (s .body)) (go s))
+
+-- then 17, 4
+unfoldable pub knownRule : ℕ → ℕ → List (List ℕ) → Sides → Answer Rule
+knownRule at t names s =
+    refuseUnless 17 at (isKnown t names (s .head) && all (isKnown 0 names) (s .body))
+    (refuseUnless 4 at (leb (length (s .body)) 12)
+    (done (ruleOf limits t names s)))
+
+-- the value of a rule's line
+unfoldable pub ruleValue : ℕ → ℕ → List (List ℕ) → List ℕ → Answer Rule
+ruleValue at t names v = shaped at (sidesOf (splitOn 58 v)) (knownRule at t names)
+
+-- ---- its shape
+
+-- the sides of a value, all names well formed: the left name ends at the colon, and so many names follow
+pub record ShapeAt (v : List ℕ) (colon count : ℕ) : Type 0 where
+  pub sides : Sides
+  pub cut : sidesOf (splitOn 58 v) ≡ some sides
+  pub named : isName (sides .head) && all isName (sides .body) ≡ true
+  pub inside : colon < length v
+  pub head : sides .head ≡ take colon v
+  pub body : splitOn 32 (drop (colon + 1) v) ≡ [] ∷ sides .body
+  pub counts : count ≡ length (sides .body)
+
+-- the shape of a value
+abbrev pub ShapeTold : List ℕ → Shape → Type 0
+ShapeTold v Malformed = (at : ℕ) (go : Sides → Answer Rule) → shaped at (sidesOf (splitOn 58 v)) go ≡ refused 16 at
+ShapeTold v (Found colon count) = ShapeAt v colon count
+
+-- ---- its entries
+
+-- the codes of names
+unfoldable pub codesOf : ℕ → List (List ℕ) → List (List ℕ) → List ℕ
+codesOf t names xs = map (λ x. codeOf limits t (numberOf names x)) xs
+
+-- the pieces from a place on are known names, and the row has room for their codes
+pub record CodesFit (r : List ℕ) (from : ℕ) (text starts lengths : List ℕ) (t : ℕ) (row : List ℕ) (at : ℕ) : Type 0 where
+  pub low : from ≤ length r
+  pub spans : Spans text starts lengths
+  pub few : t ≤ 127
+  pub most : length starts ≤ t + 127
+  pub known : all (isKnown 0 (spelled text starts lengths)) (splitOn 32 (drop from r)) ≡ true
+  pub room : at + length (splitOn 32 (drop from r)) ≤ length row
+
+-- a rule of known names, and a row that has room for its entries
+pub record RuleFits (left count : ℕ) (r text starts lengths : List ℕ) (t : ℕ) (row : List ℕ) (at : ℕ) : Type 0 where
+  pub spans : Spans text starts lengths
+  pub few : t ≤ 127
+  pub most : length starts ≤ t + 127
+  pub left-known : left < length starts
+  pub names : List (List ℕ)
+  pub body : splitOn 32 r ≡ [] ∷ names
+  pub counts : count ≡ length names
+  pub short : count ≤ 12
+  pub known : all (isKnown 0 (spelled text starts lengths)) names ≡ true
+  pub room : at + 2 + count ≤ length row
+
+-- ---- what is kept of the rules: the first 101
+
+-- what is kept of a rule after k others
+unfoldable pub kept : ℕ → Rule → List Rule
+kept k r = choose (ltb k 101) (r ∷ []) []
+
+-- the row for the table has `end` entries in use after k rules
+pub record LineReady (text starts lengths : List ℕ) (t : ℕ) (row : List ℕ) (k end : ℕ) : Type 0 where
+  pub spans : Spans text starts lengths
+  pub few : t ≤ 127
+  pub most : length starts ≤ t + 127
+  pub size : length row ≡ 1414
+  pub near : end ≤ 14 * k
+  pub inside : end ≤ length row
+
+-- the rule is read, and what is kept of it stands in the row, which has `next` entries in use
+pub record RuleKept (o : Answer Rule) (k end : ℕ) (row row′ : List ℕ) (next : ℕ) : Type 0 where
+  pub rule : Rule
+  pub read : o ≡ done rule
+  pub used : next ≡ end + length (encode (kept k rule))
+  pub front : take next row′ ≡ take end row ++ encode (kept k rule)
+  pub most : next ≤ end + 14
+  pub inside : next ≤ length row′
+
+-- a rule's line
+abbrev pub KeptTold : Answer Rule → ℕ → ℕ → List ℕ → List ℕ → Kept → Type 0
+KeptTold o k end row row′ (Fault cause place) = o ≡ refused cause place
+KeptTold o k end row row′ (Entries next) = RuleKept o k end row row′ next
+
+-- before the first rule line
+pub record RulesReady (text starts lengths : List ℕ) (t : ℕ) (row : List ℕ) : Type 0 where
+  pub spans : Spans text starts lengths
+  pub few : t ≤ 127
+  pub most : length starts ≤ t + 127
+  pub size : length row ≡ 1414
+  pub short : length text ≤ 65536
+
+-- the rules are read, and what is kept of them stands in the row
+pub record RulesKept (o : Answer (List Rule)) (row : List ℕ) (end : ℕ) : Type 0 where
+  pub rules : List Rule
+  pub read : o ≡ done rules
+  pub used : end ≡ length (encode (take 101 rules))
+  pub front : take end row ≡ encode (take 101 rules)
+  pub inside : end ≤ length row
+
+-- all rule lines
+abbrev pub RulesTold : Answer (List Rule) → List ℕ → Kept → Type 0
+RulesTold o row (Fault cause place) = o ≡ refused cause place
+RulesTold o row (Entries end) = RulesKept o row end

@@ -1,0 +1,105 @@
+-- What the reader's functions tell of a whole text.
+-- Assumes nothing.
+use Prim.Native.Nat.{ℕ, _+_, _≤_, _<_}
+use mathlib.Core.Path.{_≡_}
+use mathlib.Core.Bool.{false}
+use mathlib.Core.List.{List, _++_}
+use lib.ListN.{length, take, drop}
+use Rattle.grammar.specs.Limits.{limits}
+use Rattle.grammar.specs.Grammar.{Grammar, stateCount}
+use Rattle.grammar.specs.Table.{encode}
+use Rattle.grammar.specs.Refusal.{Answer, done, refused, andThen}
+use Rattle.text.specs.Pieces.{splitOn}
+use Rattle.text.specs.Names.{hasDouble}
+use Rattle.text.specs.Keys.{key}
+use Rattle.text.specs.Read.{Source, symbolNames, namesOf, declaration, ruleLines, wholeLine, readLines}
+use Rattle.text.specs.Rules.{checkText}
+use Rattle.text.specs.Promise.{startsFrom, nameStarts, nameLengths, textRead}
+use Rattle.text.specs.declared.TextRead.{TextRead}
+use Rattle.text.specs.declared.TextRead.the-variants.{Read, Refused}
+use Rattle.names.specs.Found.{part}
+use Rattle.text_read.specs.declared.Heads.{Heads}
+use Rattle.text_read.specs.declared.Heads.the-variants.{Names, Fault}
+
+-- what the rule lines make of a text with these names
+abbrev pub readRest : List (List ℕ) → List (List ℕ) → List (List ℕ) → Answer Source
+readRest ts ns rest =
+    andThen (ruleLines limits 3 (length ts) (ts ++ ns) rest) (λ rs.
+    done (record { terminals = ts; nonterminals = ns; rules = rs }))
+
+-- what the second line and those after it make of a text with these terminals
+abbrev pub readSecond : List (List ℕ) → List ℕ → List (List ℕ) → Answer Source
+readSecond ts second rest = andThen (declaration 2 1 1 127 ts second) (λ ns. readRest ts ns rest)
+
+-- the first line is read: its value stands from a to e and has t names; what the lines after it make of the text
+pub record FirstHead (text : List ℕ) (a e t : ℕ) : Type 0 where
+  pub starts : a ≡ length (key 0) + 1
+  pub inside : a ≤ e
+  pub ends : e < length text
+  pub counts : t ≡ length (namesOf (part a e text))
+  pub most : t ≤ 127
+  pub once : hasDouble (namesOf (part a e text)) ≡ false
+  pub short : length text ≤ 65536
+  pub lines : readLines limits (splitOn 10 text) ≡ wholeLine 2 (splitOn 10 (drop (e + 1) text)) (readSecond (namesOf (part a e text)))
+
+-- both lines are read: their values stand from a to e and from b to f, and have t and n names
+pub record HeadsAt (text : List ℕ) (a e b f t n : ℕ) : Type 0 where
+  pub first : a ≡ length (key 0) + 1
+  pub first-inside : a ≤ e
+  pub second : b ≡ e + 1 + (length (key 1) + 1)
+  pub second-inside : b ≤ f
+  pub ends : f < length text
+  pub terminals : t ≡ length (namesOf (part a e text))
+  pub nonterminals : n ≡ length (namesOf (part b f text))
+  pub terminals-most : t ≤ 127
+  pub nonterminals-most : n ≤ 127
+  pub lines : readLines limits (splitOn 10 text) ≡ readRest (namesOf (part a e text)) (namesOf (part b f text)) (splitOn 10 (drop (f + 1) text))
+
+-- the two declaring lines
+abbrev pub HeadsTold : List ℕ → Heads → Type 0
+HeadsTold text (Fault cause place) = readLines limits (splitOn 10 text) ≡ refused cause place
+HeadsTold text (Names a e b f t n) = HeadsAt text a e b f t n
+
+-- the rows have room for all names, whose values stand from a to e and from b to f
+pub record NamesFit (text : List ℕ) (a e b f t : ℕ) (starts lengths : List ℕ) : Type 0 where
+  pub first : a ≤ e
+  pub second : b ≤ f
+  pub first-inside : e ≤ length text
+  pub second-inside : f ≤ length text
+  pub short : length text ≤ 65536
+  pub counts : t ≡ length (namesOf (part a e text))
+  pub starts-room : t + length (namesOf (part b f text)) ≤ length starts
+  pub lengths-room : t + length (namesOf (part b f text)) ≤ length lengths
+
+-- the last tests' answer: that of the table check of the first `end` entries
+abbrev pub tableRead : ℕ → ℕ → ℕ → Answer Grammar → TextRead
+tableRead t n end (done G) = Read t n end (stateCount (G .rules))
+tableRead t n end (refused cause place) = Refused cause place
+
+-- before the rule lines, which start at `from`: both declaring lines are read, and the rows have the names' places
+pub record Ready (text : List ℕ) (from t n : ℕ) (starts lengths row : List ℕ) : Type 0 where
+  pub a : ℕ
+  pub e : ℕ
+  pub b : ℕ
+  pub f : ℕ
+  pub heads : HeadsAt text a e b f t n
+  pub begins : from ≡ f + 1
+  pub short : length text ≤ 65536
+  pub starts-front : take (t + n) starts ≡ startsFrom a (namesOf (part a e text)) ++ startsFrom b (namesOf (part b f text))
+  pub lengths-front : take (t + n) lengths ≡ nameLengths (namesOf (part a e text)) ++ nameLengths (namesOf (part b f text))
+  pub starts-room : t + n ≤ length starts
+  pub lengths-room : t + n ≤ length lengths
+  pub size : length row ≡ 1414
+
+-- all tests but 14: the answer, and for a text that passes the row begins with the table
+pub record TableTold (text : List ℕ) (r : TextRead) (row : List ℕ) : Type 0 where
+  pub answer : r ≡ textRead (checkText limits text)
+  pub table : (s : Source) → checkText limits text ≡ done s → take (length (encode (s .rules))) row ≡ encode (s .rules)
+
+-- and the other rows begin with the names' starts and lengths
+pub record ChecksText (text : List ℕ) (r : TextRead) (row starts lengths : List ℕ) : Type 0 where
+  pub answer : r ≡ textRead (checkText limits text)
+  pub table : (s : Source) → checkText limits text ≡ done s → take (length (encode (s .rules))) row ≡ encode (s .rules)
+  pub starts-front : (s : Source) → checkText limits text ≡ done s → take (length (symbolNames s)) starts ≡ nameStarts s
+  pub lengths-front : (s : Source) → checkText limits text ≡ done s
+      → take (length (symbolNames s)) lengths ≡ nameLengths (symbolNames s)
