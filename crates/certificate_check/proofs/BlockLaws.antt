@@ -1,15 +1,14 @@
 -- When a block of a plan is empty and when it is not. Assumes nothing.
-use mathlib.Core.Path.{_≡_, refl, ap, sym, _∙_}
-use mathlib.Core.Logic.{_⊎_, inl, inr}
+use mathlib.Core.Path.{_≡_, refl, ap}
 use mathlib.Core.Bool.{Bool, true, false, not, _&&_, _||_}
 use mathlib.Core.List.{List}
-use Prim.Native.Nat.{ℕ, zero, suc, _+_, _*_, _≤_, _<_}
+use Prim.Native.Nat.{ℕ, zero, suc, _*_, _≤_, _<_}
 use native.Mathlib.Omega.{arith}
 use lib.Dec.{eqb, leb, ltb}
 use lib.ListN.{getD}
 use borrow.Author.Tests.{lt-ltb, le-ltb, le-leb, lt-leb, eq-eqb, ne-eqb, eqb-true, eqb-false, leb-true, ltb-true, not-true}
 use Rattle.grammar.specs.Basics.{choose}
-use Rattle.grammar.proofs.Answers.{no-bool, and-both, both-and}
+use Rattle.grammar.proofs.Answers.{and-both, both-and}
 use Rattle.certificate_check.specs.declared.Side.{Side}
 use Rattle.certificate_check.specs.Plan.{readsAt, aloneOf, layerAfter, shiftOf, pairsOf}
 

@@ -1,8 +1,8 @@
 -- A plan's numbers: how large they are, and which successor is the k-th. Assumes nothing.
-use mathlib.Core.Path.{_≡_, refl, ap, sym, _∙_}
+use mathlib.Core.Path.{_≡_, ap, sym, _∙_}
 use mathlib.Core.Bool.{Bool, true, false, not, _&&_, _||_}
 use mathlib.Core.List.{List}
-use Prim.Native.Nat.{ℕ, zero, suc, _+_, _-_, _*_, _/_, _%_, _≤_, _<_}
+use Prim.Native.Nat.{ℕ, _+_, _-_, _*_, _/_, _%_, _≤_, _<_}
 use native.Mathlib.Omega.{arith}
 use native.Mathlib.Nat.{mul-le-mul, mod-lt}
 use lib.Dec.{eqb, leb, ltb}
@@ -14,7 +14,7 @@ use Rattle.triples.specs.Index.{layerOf, leftOf, rightOf}
 use Rattle.certificate_check.specs.declared.Side.{Side}
 use Rattle.certificate_check.specs.declared.Plan.{Plan}
 use Rattle.certificate_check.specs.Contracts.{SideFits, Safe}
-use Rattle.certificate_check.specs.Plan.{Rows, readsAt, sideOf, aloneOf, layerAfter, shiftOf, pairsOf, planFor, planOf, pairAt, nextOf}
+use Rattle.certificate_check.specs.Plan.{Rows, readsAt, sideOf, aloneOf, layerAfter, shiftOf, pairsOf, planFor, planOf, nextOf}
 
 choose-le : (b : Bool) (x y n : ℕ) → x ≤ n → y ≤ n → choose b x y ≤ n
 choose-le true x y n h k = h

@@ -1,13 +1,13 @@
 -- The plans of the rows that crate moves builds list exactly the successors. Assumes nothing.
 use mathlib.Core.Path.{_≡_, refl, ap, sym, subst, subst₂, _∙_}
-use mathlib.Core.Logic.{_⊎_, inl, inr, _↔_}
-use mathlib.Core.Bool.{Bool, true, false, _&&_, _||_}
+use mathlib.Core.Logic.{inl, inr, _↔_}
+use mathlib.Core.Bool.{true, _&&_}
 use mathlib.Core.List.{List}
 use Prim.Native.Nat.{ℕ, zero, suc, _+_, _-_, _*_, _/_, _%_, _≤_, _<_}
 use native.Mathlib.Omega.{arith}
 use native.Mathlib.Decide.{decLt}
 use native.Mathlib.Nat.{suc-mul, mod-lt, div-lt-iff-lt-mul, mul-add-div-right, mul-add-mod-self-right, div-eq-of-lt, mod-eq-of-lt, mul-le-mul}
-use lib.Dec.{eqb, leb}
+use lib.Dec.{leb}
 use lib.ListN.{length, getD, take, drop, length-drop}
 use lib.Seq.{length-take-le, getD-take, getD-drop}
 use Rattle.grammar.specs.Basics.{Mem}
@@ -27,13 +27,13 @@ use Rattle.triples.proofs.Index.{Digits, digits}
 use Rattle.triple_laws.proofs.Members.{mem-place, place-mem}
 use Rattle.triple_laws.proofs.Moves.{shift-ahead, terminal-ahead}
 use Rattle.triple_laws.proofs.Records.{successors-exact, successors-below}
-use Rattle.moves.specs.Tables.{segment, targets, memberClass, Tables, Built}
+use Rattle.moves.specs.Tables.{segment, targets, Tables, Built}
 use Rattle.moves.proofs.Moves.{opens-class, closes-class, closes-number, targets-exactly, member-most}
 use Rattle.moves.proofs.Built.{ahead-at, number-at, member-at, segment-of, segment-order, segment-inside}
 use Rattle.certificate_check.specs.declared.Side.{Side}
 use Rattle.certificate_check.specs.declared.Plan.{Plan}
 use Rattle.certificate_check.specs.Plan.{Rows, rows, readsAt, sideOf, aloneOf, layerAfter, shiftOf, pairsOf, planFor, planOf, nextOf}
-use Rattle.certificate_check.specs.Contracts.{SideFits, Fits, Safe, Verified, Lists, Planned}
+use Rattle.certificate_check.specs.Contracts.{SideFits, Safe, Verified, Lists, Planned}
 use Rattle.certificate_check.proofs.PlanLaws.{alone-le, layer-le, pairs-le, layer-times, product-le, next-left, next-right, next-shift, next-pair}
 use Rattle.certificate_check.proofs.BlockLaws.{alone-opens, alone-later, alone-beside, alone-reads, layer-opens, layer-closes, layer-later, shift-facts, shift-is, any-symbol, a-terminal, terminal-a, pairs-facts, pairs-is, pairs-later, opens-layer}
 

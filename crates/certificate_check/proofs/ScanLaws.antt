@@ -2,13 +2,12 @@
 use mathlib.Core.Path.{_≡_, refl, ap, sym, subst, _∙_}
 use mathlib.Core.Bool.{Bool, true, false, not, _&&_}
 use mathlib.Core.List.{List}
-use Prim.Native.Nat.{ℕ, _+_, _-_, _*_, _≤_, _<_}
+use Prim.Native.Nat.{ℕ, _+_, _-_, _≤_, _<_}
 use native.Mathlib.Omega.{arith}
 use native.Mathlib.Decide.{decLt}
 use Rattle.grammar.specs.Limits.{limits}
 use Rattle.grammar.specs.Grammar.{Grammar}
 use Rattle.grammar.proofs.Answers.{no-bool}
-use Rattle.automaton.specs.Items.{states}
 use Rattle.triples.specs.Index.{tripleCount}
 use Rattle.triples.specs.Smallest.{successors}
 use Rattle.triples.specs.Certificate.{isSet, areSet, lowest, lowestLacking}

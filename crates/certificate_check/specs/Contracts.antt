@@ -1,5 +1,5 @@
 -- What the contracts of the certificate check's inner functions say. Assumes nothing.
-use Prim.Native.Nat.{ℕ, _+_, _-_, _*_, _/_, _≤_, _<_}
+use Prim.Native.Nat.{ℕ, _+_, _-_, _/_, _≤_, _<_}
 use mathlib.Core.Path.{_≡_}
 use mathlib.Core.Bool.{false}
 use mathlib.Core.List.{List}
@@ -15,7 +15,6 @@ use Rattle.triples.specs.Smallest.{successors}
 use Rattle.triples.specs.Certificate.{isSet, lowestLacking, checkBytes}
 use Rattle.triples.specs.Verdict.{checkVerdict}
 use Rattle.triples.specs.declared.CheckVerdict.{CheckVerdict}
-use Rattle.moves.specs.Tables.{IsRecord}
 use Rattle.certificate_check.specs.Plan.{Rows, planOf, nextOf}
 use Rattle.certificate_check.specs.declared.Plan.{Plan}
 

@@ -1,7 +1,7 @@
 -- The successors of a triple counted off the rows of crate moves: first the moves of the left side alone, then those of the right
 -- side, then the shift of both, then the pairs of two closings. Assumes nothing.
 use Prim.Native.Nat.{ℕ, _+_, _-_, _*_, _/_, _%_}
-use mathlib.Core.Bool.{Bool, true, false, not, _&&_, _||_}
+use mathlib.Core.Bool.{Bool, not, _&&_, _||_}
 use mathlib.Core.List.{List}
 use lib.Dec.{eqb, leb, ltb}
 use lib.ListN.{getD}

@@ -1,7 +1,7 @@
 // The certificate check: bits of triples, closed under successors, with (0,0,0) and without (1,1,1). The successors of a triple
 // are counted off the rows of crate moves: a block of left moves, one of right moves, a shift, and the pairs of two closings.
 ghost use mathlib.Core.Path.{_≡_};
-ghost use Prim.Native.Nat.{ℕ, _+_, _-_, _*_, _≤_, _<_};
+ghost use Prim.Native.Nat.{_+_, _-_, _*_, _≤_, _<_};
 ghost use lib.ListN.{length};
 ghost use Rattle.grammar.specs.Limits.{limits};
 ghost use Rattle.triples.specs.Index.{tripleCount};

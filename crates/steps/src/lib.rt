@@ -538,14 +538,12 @@ fn nth_rows<'a>(
     let d = end_of(member, first, q);
     let lc = ends_at(ahead, member, m, p);
     let rc = ends_at(ahead, member, m, q);
-    let x = ahead[p];
-    let y = ahead[q];
     nth_layer(
         f,
         number,
         t,
-        x,
-        y,
+        ahead[p],
+        ahead[q],
         lc,
         rc,
         p,

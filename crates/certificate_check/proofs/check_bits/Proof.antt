@@ -1,12 +1,8 @@
 -- check_bits meets its contract: each return is one refusal of the definition, in its order.
-use borrow.Author.Needs.{needs}
 use native.Mathlib.Omega.{arith}
-use mathlib.Core.Path.{_≡_, refl, ap, sym, subst, _∙_}
-use Prim.Native.Nat.{ℕ, suc, _+_, _-_, _*_, _/_, _%_, _≤_, _<_}
-use borrow.Author.Tests.{lt-ltb, le-ltb, le-leb, lt-leb, eq-eqb, ne-eqb, not-true, not-false}
-use mathlib.Core.Bool.{true, false}
-use lib.ListN.{length}
-use Rattle.certificate_check.specs.Plan.{rows}
+use mathlib.Core.Path.{sym, _∙_}
+use Prim.Native.Nat.{ℕ, _+_, _-_, _*_, _/_, _≤_}
+use borrow.Author.Tests.{not-true, not-false}
 use native.Mathlib.Nat.{mul-le-mul}
 use Rattle.certificate_check.proofs.PlanLaws.{square-of}
 use Rattle.certificate_check.proofs.CheckLaws.{wrong-length, spare-set, start-clear, end-set, some-lacks, none-lacks}

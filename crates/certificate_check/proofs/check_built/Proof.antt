@@ -1,10 +1,7 @@
 -- check_built meets its contract: the built rows are those of the grammar that the record stands for.
 use borrow.Author.Needs.{needs}
 use native.Mathlib.Omega.{arith}
-use mathlib.Core.Path.{_≡_, refl, ap, sym, subst, _∙_}
-use Prim.Native.Nat.{ℕ, suc, _+_, _-_, _*_, _/_, _%_, _≤_, _<_}
-use lib.ListN.{length}
-use Rattle.grammar.specs.Limits.{limits}
+use Prim.Native.Nat.{_-_, _/_}
 use Rattle.moves.proofs.Built.{few-nonterminals, room-of}
 use Rattle.certificate_check.proofs.PlannedLaws.{verified-of, planned-of}
 use Rattle.certificate_check.proofs.check_built.Statement.{statement}

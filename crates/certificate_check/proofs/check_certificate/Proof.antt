@@ -1,7 +1,6 @@
 -- check_certificate meets its contract: the table check answers first; its record stands for the grammar of the definition.
 use borrow.Author.Needs.{needs}
-use native.Mathlib.Omega.{arith}
-use mathlib.Core.Path.{_≡_, refl, ap, sym, subst, _∙_}
+use mathlib.Core.Path.{ap, sym, _∙_}
 use Rattle.grammar.specs.Limits.{limits}
 use Rattle.grammar.proofs.Answers.{then-goes, then-stops}
 use Rattle.triples.specs.Certificate.{checkBytes, checkCertificate}

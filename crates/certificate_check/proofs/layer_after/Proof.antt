@@ -1,8 +1,5 @@
 -- layer_after meets its contract: each return is one case of the definition.
-use borrow.Author.Needs.{needs}
-use native.Mathlib.Omega.{arith}
-use mathlib.Core.Path.{_≡_, refl, ap, sym, subst, _∙_}
-use borrow.Author.Tests.{lt-ltb, le-ltb, le-leb, lt-leb, eq-eqb, ne-eqb, not-true, not-false}
+use borrow.Author.Tests.{le-leb, lt-leb, eq-eqb, ne-eqb}
 use Rattle.certificate_check.specs.Plan.{layerAfter}
 use Rattle.certificate_check.proofs.layer_after.Statement.{statement}
 use Rattle.certificate_check.proofs.layer_after.Tie as tie

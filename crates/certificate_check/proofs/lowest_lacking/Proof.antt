@@ -1,15 +1,15 @@
 -- lowest_lacking meets its contract: no index below the one looked at lacks a successor; the plan counts its successors off.
 use borrow.Author.Needs.{needs}
 use native.Mathlib.Omega.{arith}
-use mathlib.Core.Path.{_≡_, refl, ap, sym, subst, _∙_}
-use Prim.Native.Nat.{ℕ, suc, _+_, _-_, _*_, _/_, _%_, _≤_, _<_}
-use mathlib.Core.Bool.{true, false}
+use mathlib.Core.Path.{_≡_, refl, sym, subst, _∙_}
+use Prim.Native.Nat.{_+_, _-_, _*_, _/_, _≤_, _<_}
+use mathlib.Core.Bool.{true}
 use Rattle.triples.specs.Certificate.{isSet}
 use Rattle.certificate_check.specs.declared.Plan.{Plan}
 use Rattle.certificate_check.specs.Contracts.{Safe}
-use Rattle.certificate_check.specs.Plan.{rows, planOf, nextOf}
+use Rattle.certificate_check.specs.Plan.{rows}
 use Rattle.certificate_check.proofs.PlanLaws.{square-of}
-use Rattle.certificate_check.proofs.ScanLaws.{HeldTo, NoneBelow, held-more, next-inside, NextSet, next-set, none-start, none-more, scan-found, scan-none}
+use Rattle.certificate_check.proofs.ScanLaws.{HeldTo, NoneBelow, held-more, next-inside, next-set, none-start, none-more, scan-found, scan-none}
 use Rattle.certificate_check.proofs.lowest_lacking.Statement.{statement}
 use Rattle.certificate_check.proofs.lowest_lacking.Tie as tie
 use Rattle.certificate_check.proofs.lowest_lacking.Reads as reads

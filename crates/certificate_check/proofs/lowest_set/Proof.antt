@@ -1,9 +1,9 @@
 -- lowest_set meets its contract: every bit before the one looked at is clear.
 use borrow.Author.Needs.{needs}
 use native.Mathlib.Omega.{arith}
-use mathlib.Core.Path.{_≡_, refl, ap, sym, subst, _∙_}
-use Prim.Native.Nat.{ℕ, suc, _+_, _-_, _*_, _/_, _%_, _≤_, _<_}
-use mathlib.Core.Bool.{true, false}
+use mathlib.Core.Path.{_≡_, sym, _∙_}
+use Prim.Native.Nat.{ℕ, _+_, _-_, _/_, _≤_, _<_}
+use mathlib.Core.Bool.{false}
 use Rattle.triples.specs.Certificate.{isSet}
 use Rattle.certificate_check.proofs.BitLaws.{clear-more, set-found, set-none}
 use Rattle.certificate_check.proofs.lowest_set.Statement.{statement}

@@ -1,8 +1,7 @@
 -- next_of meets its contract: each return is the block that the count falls into.
 use borrow.Author.Needs.{needs}
 use native.Mathlib.Omega.{arith}
-use mathlib.Core.Path.{_≡_, refl, ap, sym, subst, _∙_}
-use Prim.Native.Nat.{ℕ, suc, _+_, _-_, _*_, _/_, _%_, _≤_, _<_}
+use Prim.Native.Nat.{_-_, _/_}
 use Rattle.certificate_check.proofs.PlanLaws.{next-left, next-right, next-shift, next-pair, cell-times, pair-fits}
 use Rattle.certificate_check.proofs.next_of.Statement.{statement}
 use Rattle.certificate_check.proofs.next_of.Tie as tie

@@ -1,8 +1,7 @@
 -- pairs_of meets its contract: each return is one case of the definition.
 use borrow.Author.Needs.{needs}
 use native.Mathlib.Omega.{arith}
-use mathlib.Core.Path.{_≡_, refl, ap, sym, subst, _∙_}
-use borrow.Author.Tests.{lt-ltb, le-ltb, le-leb, lt-leb, eq-eqb, ne-eqb, not-true, not-false}
+use borrow.Author.Tests.{lt-ltb, le-ltb, eq-eqb, ne-eqb}
 use Rattle.certificate_check.specs.Plan.{pairsOf}
 use Rattle.certificate_check.proofs.PlanLaws.{product-le}
 use Rattle.certificate_check.proofs.pairs_of.Statement.{statement}

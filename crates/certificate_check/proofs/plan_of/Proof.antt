@@ -1,8 +1,7 @@
 -- plan_of meets its contract: each part is what a call promises.
 use borrow.Author.Needs.{needs}
 use native.Mathlib.Omega.{arith}
-use mathlib.Core.Path.{_≡_, refl, ap, sym, subst, _∙_}
-use Prim.Native.Nat.{ℕ, suc, _+_, _-_, _*_, _/_, _%_, _≤_, _<_}
+use Prim.Native.Nat.{_-_, _*_, _/_, _%_, _≤_, _<_}
 use native.Mathlib.Nat.{mod-lt}
 use Rattle.grammar.specs.Limits.{limits}
 use Rattle.certificate_check.specs.Plan.{rows}

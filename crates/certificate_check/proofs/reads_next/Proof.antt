@@ -1,8 +1,6 @@
 -- reads_next meets its contract: the code ahead is from 1 to t.
 use borrow.Author.Needs.{needs}
-use native.Mathlib.Omega.{arith}
-use mathlib.Core.Path.{_≡_, refl, ap, sym, subst, _∙_}
-use borrow.Author.Tests.{lt-ltb, le-ltb, le-leb, lt-leb, eq-eqb, ne-eqb, not-true, not-false}
+use borrow.Author.Tests.{le-leb, lt-leb}
 use Rattle.certificate_check.proofs.reads_next.Statement.{statement}
 use Rattle.certificate_check.proofs.reads_next.Tie as tie
 use Rattle.certificate_check.proofs.reads_next.Reads as reads

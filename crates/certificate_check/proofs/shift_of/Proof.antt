@@ -1,8 +1,7 @@
 -- shift_of meets its contract: each return is one case of the definition.
 use borrow.Author.Needs.{needs}
-use native.Mathlib.Omega.{arith}
-use mathlib.Core.Path.{_≡_, refl, ap, sym, subst, _∙_}
-use borrow.Author.Tests.{lt-ltb, le-ltb, le-leb, lt-leb, eq-eqb, ne-eqb, not-true, not-false}
+use mathlib.Core.Path.{sym, _∙_}
+use borrow.Author.Tests.{le-leb, lt-leb, eq-eqb, ne-eqb}
 use Rattle.certificate_check.specs.Plan.{shiftOf}
 use mathlib.Core.Bool.{true, false}
 use Rattle.certificate_check.proofs.PlanLaws.{shift-reads}

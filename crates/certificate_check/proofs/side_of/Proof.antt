@@ -1,10 +1,9 @@
 -- side_of meets its contract: the class, and two entries of the row of beginnings.
 use borrow.Author.Needs.{needs}
 use native.Mathlib.Omega.{arith}
-use mathlib.Core.Path.{_≡_, refl, ap, sym, subst, _∙_}
-use Prim.Native.Nat.{ℕ, suc, _+_, _-_, _*_, _/_, _%_, _≤_, _<_}
+use mathlib.Core.Path.{_≡_, ap, _∙_}
+use Prim.Native.Nat.{ℕ, _+_, _-_, _/_}
 use lib.ListN.{getD}
-use Rattle.certificate_check.specs.declared.Side.{Side}
 use Rattle.certificate_check.proofs.PlanLaws.{sideFrom}
 use Rattle.certificate_check.proofs.side_of.Statement.{statement}
 use Rattle.certificate_check.proofs.side_of.Tie as tie

@@ -1,7 +1,5 @@
 -- skip meets its contract: the rest of a byte that is 0 has no set bit.
 use borrow.Author.Needs.{needs}
-use native.Mathlib.Omega.{arith}
-use mathlib.Core.Path.{_≡_, refl, ap, sym, subst, _∙_}
 use Rattle.certificate_check.proofs.BitLaws.{skip-byte, skip-one}
 use Rattle.certificate_check.proofs.skip.Statement.{statement}
 use Rattle.certificate_check.proofs.skip.Tie as tie

@@ -9,31 +9,31 @@ use Rattle.steps.proofs.begin_of.Reads as reads
 use Rattle.steps.proofs.begin_of.Lts as lts
 use Rattle.steps.proofs.wide.Reads as wide-reads
 
--- src/lib.rt:515:18
+-- src/lib.rt:494:18
 mul-wide : tie.Need-mul-wide
 mul-wide c = search needs
 
--- src/lib.rt:515:18
+-- src/lib.rt:494:18
 element-copy-out-wide : tie.Need-element-copy-out-wide
 element-copy-out-wide c = search needs
 
--- src/lib.rt:515:9
+-- src/lib.rt:494:9
 wide-requires : tie.Need-wide-requires
 wide-requires c κs = search needs
 
--- src/lib.rt:516:10
+-- src/lib.rt:495:10
 mul-wide-2 : tie.Need-mul-wide-2
 mul-wide-2 c = search needs
 
--- src/lib.rt:516:10
+-- src/lib.rt:495:10
 element-copy-out-wide-2 : tie.Need-element-copy-out-wide-2
 element-copy-out-wide-2 c = search needs
 
--- src/lib.rt:516:5
+-- src/lib.rt:495:5
 wide-requires-2 : tie.Need-wide-requires-2
 wide-requires-2 c κs = search needs
 
--- src/lib.rt:506:1
+-- src/lib.rt:485:1
 returns : tie.Need-returns
 returns c = let a = c .before .before .before .before .args in c .wide2 .ensures ∙ ap (λ (z : ℕ). getD (a .first .now) (z) 0) (c .before .before .wide .ensures)
 

@@ -6,15 +6,15 @@ use Rattle.steps.proofs.counts.Tie as tie
 use Rattle.steps.proofs.counts.Reads as reads
 use Rattle.steps.proofs.counts.Lts as lts
 
--- src/lib.rt:52:9
+-- src/lib.rt:53:9
 returns : tie.Need-returns
 returns c = simp (lt-leb _ _ (c .if1 .taken))
 
--- src/lib.rt:55:9
+-- src/lib.rt:56:9
 returns-2 : tie.Need-returns-2
 returns-2 c = simp (le-leb _ _ (c .before .if1 .left), le-ltb _ _ (c .if2 .taken))
 
--- src/lib.rt:48:1
+-- src/lib.rt:49:1
 returns-3 : tie.Need-returns-3
 returns-3 c = simp (le-leb _ _ (c .before .if1 .left), lt-ltb _ _ (c .if2 .left))
 

@@ -9,35 +9,35 @@ use Rattle.steps.proofs.end_of.Reads as reads
 use Rattle.steps.proofs.end_of.Lts as lts
 use Rattle.steps.proofs.wide.Reads as wide-reads
 
--- src/lib.rt:528:18
+-- src/lib.rt:503:18
 mul-wide : tie.Need-mul-wide
 mul-wide c = search needs
 
--- src/lib.rt:528:18
+-- src/lib.rt:503:18
 element-copy-out-wide : tie.Need-element-copy-out-wide
 element-copy-out-wide c = search needs
 
--- src/lib.rt:528:9
+-- src/lib.rt:503:9
 wide-requires : tie.Need-wide-requires
 wide-requires c κs = search needs
 
--- src/lib.rt:529:16
+-- src/lib.rt:504:16
 add-wide : tie.Need-add-wide
 add-wide c = search needs
 
--- src/lib.rt:529:10
+-- src/lib.rt:504:10
 mul-wide-2 : tie.Need-mul-wide-2
 mul-wide-2 c = search needs
 
--- src/lib.rt:529:10
+-- src/lib.rt:504:10
 element-copy-out-wide-2 : tie.Need-element-copy-out-wide-2
 element-copy-out-wide-2 c = search needs
 
--- src/lib.rt:529:5
+-- src/lib.rt:504:5
 wide-requires-2 : tie.Need-wide-requires-2
 wide-requires-2 c κs = search needs
 
--- src/lib.rt:519:1
+-- src/lib.rt:494:1
 returns : tie.Need-returns
 returns c = let a = c .before .before .before .before .args in c .wide2 .ensures ∙ ap (λ (z : ℕ). getD (a .first .now) (z + 1) 0) (c .before .before .wide .ensures)
 

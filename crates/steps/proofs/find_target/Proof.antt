@@ -19,23 +19,23 @@ Inv-loop row from to k rest₀ i₀ rest i = (i ≤ length row) × (pickOf (betw
 abbrev μ-loop : tie.MeasureT-loop
 μ-loop row from to k rest₀ i₀ rest i = length row - i
 
--- src/lib.rt:66:5
+-- src/lib.rt:67:5
 loop-holds : tie.Need-loop-holds Inv-loop μ-loop
 loop-holds c = (omega arith, refl)
 
--- src/lib.rt:67:17
+-- src/lib.rt:68:17
 mul-u : tie.Need-mul-u Inv-loop μ-loop
 mul-u c = search needs
 
--- src/lib.rt:67:17
+-- src/lib.rt:68:17
 shared-slice-read-u : tie.Need-shared-slice-read-u Inv-loop μ-loop
 shared-slice-read-u c = search needs
 
--- src/lib.rt:68:34
+-- src/lib.rt:69:34
 wide-requires : tie.Need-wide-requires Inv-loop μ-loop
 wide-requires c κs = search needs
 
--- src/lib.rt:68:13
+-- src/lib.rt:69:13
 counts-requires : tie.Need-counts-requires Inv-loop μ-loop
 counts-requires c κs = search needs
 
@@ -46,7 +46,7 @@ told c =
     let a = c .before .before .before .before .before .before .args in
     c .counts .ensures ∙ ap (weight (a .from) (a .to)) (c .before .wide .ensures)
 
--- src/lib.rt:70:13
+-- src/lib.rt:71:13
 returns : tie.Need-returns Inv-loop μ-loop
 returns c =
     let a = c .before .before .before .before .before .before .before .args in
@@ -54,15 +54,15 @@ returns c =
     let z = told (c .before) in
     sym (pick-here (a .from) (a .to) (a .row .now) (l .i) (l .rest) (c .before .before .before .before .loop-test .taken) (omega (arith, z, c .if1 .taken))) ∙ l .inv .1
 
--- src/lib.rt:77:9
+-- src/lib.rt:78:9
 add-i : tie.Need-add-i Inv-loop μ-loop
 add-i c = search needs
 
--- src/lib.rt:66:5
+-- src/lib.rt:67:5
 loop-less : tie.Need-loop-less Inv-loop μ-loop
 loop-less c = search needs
 
--- src/lib.rt:66:5
+-- src/lib.rt:67:5
 loop-again : tie.Need-loop-again Inv-loop μ-loop
 loop-again c =
     let a = c .before .before .before .before .before .before .before .args in
@@ -73,7 +73,7 @@ loop-again c =
           ∙ pick-on (a .from) (a .to) (a .row .now) (l .i) (l .rest) (c .before .before .before .before .loop-test .taken) (omega (arith, z, c .if1 .left)) ∙ l .inv .1,
     )
 
--- src/lib.rt:61:1
+-- src/lib.rt:62:1
 returns-2 : tie.Need-returns-2 Inv-loop μ-loop
 returns-2 c =
     let a = c .before .before .before .args in

@@ -6,11 +6,11 @@ use Rattle.steps.proofs.is_end.Tie as tie
 use Rattle.steps.proofs.is_end.Reads as reads
 use Rattle.steps.proofs.is_end.Lts as lts
 
--- src/lib.rt:349:9
+-- src/lib.rt:335:9
 returns : tie.Need-returns
 returns c = simp (ne-eqb _ _ (c .if1 .taken))
 
--- src/lib.rt:345:1
+-- src/lib.rt:331:1
 returns-2 : tie.Need-returns-2
 returns-2 c = simp (eq-eqb _ _ (c .if1 .left))
 

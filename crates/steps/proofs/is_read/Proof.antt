@@ -6,11 +6,11 @@ use Rattle.steps.proofs.is_read.Tie as tie
 use Rattle.steps.proofs.is_read.Reads as reads
 use Rattle.steps.proofs.is_read.Lts as lts
 
--- src/lib.rt:320:9
+-- src/lib.rt:306:9
 returns : tie.Need-returns
 returns c = simp (lt-leb 1 _ (c .if1 .taken))
 
--- src/lib.rt:316:1
+-- src/lib.rt:302:1
 returns-2 : tie.Need-returns-2
 returns-2 c = simp (le-leb 1 _ (c .if1 .left))
 

@@ -12,19 +12,19 @@ use Rattle.steps.proofs.left_to.Lts as lts
 use Rattle.steps.proofs.move_of.Reads as move-of-reads
 use Rattle.steps.proofs.wide.Reads as wide-reads
 
--- src/lib.rt:103:58
+-- src/lib.rt:104:58
 wide-requires : tie.Need-wide-requires
 wide-requires c κs = search needs
 
--- src/lib.rt:103:9
+-- src/lib.rt:104:9
 move-of-requires : tie.Need-move-of-requires
 move-of-requires c κs = search needs
 
--- src/lib.rt:107:16
+-- src/lib.rt:108:16
 cast-t6 : tie.Need-cast-t6
 cast-t6 c = search needs
 
--- src/lib.rt:98:1
+-- src/lib.rt:99:1
 returns : tie.Need-returns
 returns c =
     let a = c .before .before .before .args in

@@ -13,24 +13,24 @@ use Rattle.steps.proofs.nth_above.Lts as lts
 use Rattle.steps.proofs.find_target.Reads as find-target-reads
 use Rattle.steps.proofs.left_to.Reads as left-to-reads
 
--- src/lib.rt:156:29
+-- src/lib.rt:157:29
 add-find-target : tie.Need-add-find-target
 add-find-target c = search needs
 
--- src/lib.rt:156:9
+-- src/lib.rt:157:9
 find-target-requires : tie.Need-find-target-requires
 find-target-requires c κs = search needs
 
--- src/lib.rt:158:35
+-- src/lib.rt:159:35
 left-to-requires : tie.Need-left-to-requires
 left-to-requires c κs = let a = c .before .before .before .before .args in (c .before .before .before .before .pre .0, found-low (a .s .left + 2) (limits .maxStates) (a .ls .now) (a .k) (c .before .find-target .result) (c .before .before .before .before .pre .1) (c .before .find-target .ensures) (c .if1 .taken))
 
--- src/lib.rt:158:9
+-- src/lib.rt:159:9
 returns : tie.Need-returns
 unfolding above
 returns c = let a = c .before .before .before .before .before .args in found-here (between (a .s .left + 2) (limits .maxStates) (a .ls .now)) (a .k) (c .before .before .find-target .result) (c .before .before .find-target .ensures) (leftTo (a .number .now) (a .s)) [] (c .left-to .result) (c .before .if1 .taken) (c .left-to .ensures)
 
--- src/lib.rt:146:1
+-- src/lib.rt:147:1
 returns-2 : tie.Need-returns-2
 unfolding above
 returns-2 c = let a = c .before .before .before .before .args in not-here (between (a .s .left + 2) (limits .maxStates) (a .ls .now)) (a .k) (c .before .find-target .result) (c .before .find-target .ensures) (leftTo (a .number .now) (a .s)) [] (NoMore) (c .if1 .left)

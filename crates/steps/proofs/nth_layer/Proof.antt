@@ -10,23 +10,23 @@ use Rattle.steps.proofs.nth_layer.Lts as lts
 use Rattle.steps.proofs.nth_one.Reads as nth-one-reads
 use Rattle.steps.proofs.nth_zero.Reads as nth-zero-reads
 
--- src/lib.rt:497:9
+-- src/lib.rt:476:9
 nth-zero-requires : tie.Need-nth-zero-requires
 nth-zero-requires c κs = search needs
 
--- src/lib.rt:497:9
+-- src/lib.rt:476:9
 returns : tie.Need-returns
 returns c = let a = c .before .before .before .before .args in c .nth-zero .ensures ∙ ap recordAnswer (layer-zero (a .number .now) (a .t) (a .x) (a .y) (a .p) (a .q) (a .ls .now) (a .rs .now) (a .k) (a .lc) (a .rc) (a .layer) (c .before .if1 .taken))
 
--- src/lib.rt:500:9
+-- src/lib.rt:479:9
 nth-one-requires : tie.Need-nth-one-requires
 nth-one-requires c κs = search needs
 
--- src/lib.rt:500:9
+-- src/lib.rt:479:9
 returns-2 : tie.Need-returns-2
 returns-2 c = let a = c .before .before .before .before .before .args in c .nth-one .ensures ∙ ap recordAnswer (layer-one (a .number .now) (a .t) (a .x) (a .y) (a .p) (a .q) (a .ls .now) (a .rs .now) (a .k) (a .lc) (a .rc) (a .layer) (c .before .if2 .taken))
 
--- src/lib.rt:477:1
+-- src/lib.rt:456:1
 returns-3 : tie.Need-returns-3
 returns-3 c = let a = c .before .before .before .before .args in layer-none (a .number .now) (a .t) (a .x) (a .y) (a .p) (a .q) (a .ls .now) (a .rs .now) (a .k) (a .lc) (a .rc) (a .layer) (c .before .if1 .left) (c .if2 .left)
 

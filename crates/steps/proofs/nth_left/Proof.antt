@@ -13,23 +13,23 @@ use Rattle.steps.proofs.nth_left.Reads as reads
 use Rattle.steps.proofs.nth_left.Lts as lts
 use Rattle.steps.proofs.left_to.Reads as left-to-reads
 
--- src/lib.rt:293:9
+-- src/lib.rt:289:9
 returns : tie.Need-returns
 returns c = let a = c .before .before .args in image-ends (leftTo (a .number .now) (a .s)) (a .ls .now) (a .k) (c .if1 .taken)
 
--- src/lib.rt:295:43
+-- src/lib.rt:291:43
 mul-left-to : tie.Need-mul-left-to
 mul-left-to c = search needs
 
--- src/lib.rt:295:43
+-- src/lib.rt:291:43
 shared-slice-read-left-to : tie.Need-shared-slice-read-left-to
 shared-slice-read-left-to c = search needs
 
--- src/lib.rt:295:24
+-- src/lib.rt:291:24
 left-to-requires : tie.Need-left-to-requires
 left-to-requires c κs = (c .before .before .before .pre .0, c .before .before .before .pre .1 (c .before .before .before .args .k) (c .before .if1 .left))
 
--- src/lib.rt:282:1
+-- src/lib.rt:278:1
 returns-2 : tie.Need-returns-2
 returns-2 c =
     let a = c .before .before .before .before .args in

@@ -18,49 +18,49 @@ use Rattle.steps.proofs.nth_left.Reads as nth-left-reads
 use Rattle.steps.proofs.shared_code.Reads as shared-code-reads
 use Rattle.steps.proofs.sides_of.Reads as sides-of-reads
 
--- src/lib.rt:390:8
+-- src/lib.rt:369:8
 is-read-requires : tie.Need-is-read-requires
 is-read-requires c κs = search needs
 
--- src/lib.rt:391:37
+-- src/lib.rt:370:37
 sides-of-requires : tie.Need-sides-of-requires
 sides-of-requires c κs = search needs
 
--- src/lib.rt:391:9
+-- src/lib.rt:370:9
 nth-left-requires : tie.Need-nth-left-requires
 nth-left-requires c κs = let a = c .before .before .before .before .before .args in (both-in 1 (a .p) (a .q) true true (c .sides-of .result) (c .sides-of .ensures) (c .before .before .before .before .before .pre .0), c .before .before .before .before .before .pre .1 .0)
 
--- src/lib.rt:391:9
+-- src/lib.rt:370:9
 returns : tie.Need-returns
 returns c = let a = c .before .before .before .before .before .before .args in
     c .nth-left .ensures ∙ ap (λ (s : Sides). recordAnswer (nth (map (leftTo (a .number .now) s) (a .ls .now) ++ []) (a .k))) (c .before .sides-of .ensures)
     ∙ ap recordAnswer (left-reads (a .number .now) (a .t) (a .x) (a .y) (a .p) (a .q) (a .ls .now) (a .rs .now) (a .k) (sym (c .before .before .before .is-read .ensures) ∙ c .before .before .if1 .taken))
 
--- src/lib.rt:393:9
+-- src/lib.rt:372:9
 sides-of-requires-2 : tie.Need-sides-of-requires-2
 sides-of-requires-2 c κs = search needs
 
--- src/lib.rt:394:23
+-- src/lib.rt:373:23
 sub-nth-alone : tie.Need-sub-nth-alone
 sub-nth-alone c = search needs
 
--- src/lib.rt:394:23
+-- src/lib.rt:373:23
 part-nth-alone-start : tie.Need-part-nth-alone-start
 part-nth-alone-start c = search needs
 
--- src/lib.rt:394:23
+-- src/lib.rt:373:23
 part-nth-alone-end : tie.Need-part-nth-alone-end
 part-nth-alone-end c = search needs
 
--- src/lib.rt:394:41
+-- src/lib.rt:373:41
 shared-code-requires : tie.Need-shared-code-requires
 shared-code-requires c κs = search needs
 
--- src/lib.rt:394:5
+-- src/lib.rt:373:5
 nth-alone-requires : tie.Need-nth-alone-requires
 nth-alone-requires c κs = let a = c .before .before .before .before .before .before .before .args in (both-in 0 (a .p) (a .q) false false (c .before .before .sides-of2 .result) (c .before .before .sides-of2 .ensures) (c .before .before .before .before .before .before .before .pre .0), (low-none, c .before .before .before .before .before .before .before .pre .1 .1))
 
--- src/lib.rt:374:1
+-- src/lib.rt:353:1
 returns-2 : tie.Need-returns-2
 returns-2 c = let a = c .before .before .before .before .before .before .before .before .args in
     c .nth-alone .ensures ∙ ap (λ (s : Sides). recordAnswer (nth (alone (a .number .now) [] (a .rs .now) s (c .before .shared-code .result)) (a .k))) (c .before .before .before .sides-of2 .ensures)

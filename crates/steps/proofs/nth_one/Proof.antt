@@ -14,19 +14,19 @@ use Rattle.steps.proofs.nth_alone.Reads as nth-alone-reads
 use Rattle.steps.proofs.shared_terminal.Reads as shared-terminal-reads
 use Rattle.steps.proofs.sides_of.Reads as sides-of-reads
 
--- src/lib.rt:472:9
+-- src/lib.rt:451:9
 sides-of-requires : tie.Need-sides-of-requires
 sides-of-requires c κs = search needs
 
--- src/lib.rt:473:34
+-- src/lib.rt:452:34
 shared-terminal-requires : tie.Need-shared-terminal-requires
 shared-terminal-requires c κs = search needs
 
--- src/lib.rt:473:5
+-- src/lib.rt:452:5
 nth-alone-requires : tie.Need-nth-alone-requires
 nth-alone-requires c κs = let a = c .before .before .before .before .args in (both-in 1 (a .p) (a .q) (a .lc) (a .rc) (c .before .sides-of .result) (c .before .sides-of .ensures) (c .before .before .before .before .pre .0), c .before .before .before .before .pre .1)
 
--- src/lib.rt:454:1
+-- src/lib.rt:433:1
 returns : tie.Need-returns
 unfolding planOne
 returns c = let a = c .before .before .before .before .before .args in

@@ -12,47 +12,47 @@ use Rattle.steps.proofs.nth_pair.Tie as tie
 use Rattle.steps.proofs.nth_pair.Reads as reads
 use Rattle.steps.proofs.nth_pair.Lts as lts
 
--- src/lib.rt:262:9
+-- src/lib.rt:258:9
 returns : tie.Need-returns
 returns c = let a = c .before .args in pairs-equal (a .i) (a .j) (a .ls .now) (a .rs .now) (a .k) (c .if1 .taken)
 
--- src/lib.rt:266:9
+-- src/lib.rt:262:9
 returns-2 : tie.Need-returns-2
 returns-2 c =
     let a = c .before .before .args in
     pairs-unequal (a .i) (a .j) (a .ls .now) (a .rs .now) (a .k) none (c .before .if1 .left) (pair-none (a .i) (a .j) (a .rs .now) (a .ls .now) (a .k) (c .if2 .taken))
 
--- src/lib.rt:268:14
+-- src/lib.rt:264:14
 div-at : tie.Need-div-at
 div-at c = search needs
 
--- src/lib.rt:270:9
+-- src/lib.rt:266:9
 returns-3 : tie.Need-returns-3
 returns-3 c =
     let a = c .before .before .before .args in
     pairs-unequal (a .i) (a .j) (a .ls .now) (a .rs .now) (a .k) none (c .before .before .if1 .left) (pair-past (a .i) (a .j) (a .rs .now) (a .ls .now) (a .k) (c .if3 .taken))
 
--- src/lib.rt:274:15
+-- src/lib.rt:270:15
 mul-t9 : tie.Need-mul-t9
 mul-t9 c = search needs
 
--- src/lib.rt:274:15
+-- src/lib.rt:270:15
 shared-slice-read-t11 : tie.Need-shared-slice-read-t11
 shared-slice-read-t11 c = search needs
 
--- src/lib.rt:275:19
+-- src/lib.rt:271:19
 rem-t12 : tie.Need-rem-t12
 rem-t12 c = search needs
 
--- src/lib.rt:275:16
+-- src/lib.rt:271:16
 mul-t13 : tie.Need-mul-t13
 mul-t13 c = let a = c .before .before .before .before .args in omega (arith, mod-lt (a .k) (positive (length (a .rs .now)) (c .before .before .if2 .left)))
 
--- src/lib.rt:275:16
+-- src/lib.rt:271:16
 shared-slice-read-t15 : tie.Need-shared-slice-read-t15
 shared-slice-read-t15 c = let a = c .before .before .before .before .before .args in omega (arith, mod-lt (a .k) (positive (length (a .rs .now)) (c .before .before .before .if2 .left)))
 
--- src/lib.rt:258:1
+-- src/lib.rt:254:1
 returns-4 : tie.Need-returns-4
 returns-4 c =
     let a = c .before .before .before .before .before .args in

@@ -13,23 +13,23 @@ use Rattle.steps.proofs.nth_right.Reads as reads
 use Rattle.steps.proofs.nth_right.Lts as lts
 use Rattle.steps.proofs.right_to.Reads as right-to-reads
 
--- src/lib.rt:310:9
+-- src/lib.rt:301:9
 returns : tie.Need-returns
 returns c = let a = c .before .before .args in image-ends (rightTo (a .number .now) (a .s)) (a .rs .now) (a .k) (c .if1 .taken)
 
--- src/lib.rt:312:44
+-- src/lib.rt:303:44
 mul-right-to : tie.Need-mul-right-to
 mul-right-to c = search needs
 
--- src/lib.rt:312:44
+-- src/lib.rt:303:44
 shared-slice-read-right-to : tie.Need-shared-slice-read-right-to
 shared-slice-read-right-to c = search needs
 
--- src/lib.rt:312:24
+-- src/lib.rt:303:24
 right-to-requires : tie.Need-right-to-requires
 right-to-requires c κs = (c .before .before .before .pre .0, c .before .before .before .pre .1 (c .before .before .before .args .k) (c .before .if1 .left))
 
--- src/lib.rt:299:1
+-- src/lib.rt:290:1
 returns-2 : tie.Need-returns-2
 returns-2 c =
     let a = c .before .before .before .before .args in

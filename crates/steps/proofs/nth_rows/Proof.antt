@@ -12,79 +12,79 @@ use Rattle.steps.proofs.end_of.Reads as end-of-reads
 use Rattle.steps.proofs.ends_at.Reads as ends-at-reads
 use Rattle.steps.proofs.nth_layer.Reads as nth-layer-reads
 
--- src/lib.rt:564:9
+-- src/lib.rt:535:9
 begin-of-requires : tie.Need-begin-of-requires
 begin-of-requires c κs = search needs
 
--- src/lib.rt:565:9
+-- src/lib.rt:536:9
 end-of-requires : tie.Need-end-of-requires
 end-of-requires c κs = search needs
 
--- src/lib.rt:566:9
+-- src/lib.rt:537:9
 begin-of-requires-2 : tie.Need-begin-of-requires-2
 begin-of-requires-2 c κs = search needs
 
--- src/lib.rt:567:9
+-- src/lib.rt:538:9
 end-of-requires-2 : tie.Need-end-of-requires-2
 end-of-requires-2 c κs = search needs
 
--- src/lib.rt:568:9
+-- src/lib.rt:539:9
 ends-at-requires : tie.Need-ends-at-requires
 ends-at-requires c κs = search needs
 
--- src/lib.rt:569:9
+-- src/lib.rt:540:9
 ends-at-requires-2 : tie.Need-ends-at-requires-2
 ends-at-requires-2 c κs = search needs
 
--- src/lib.rt:570:13
-mul-x : tie.Need-mul-x
-mul-x c = search needs
-
--- src/lib.rt:570:13
-element-copy-out-x : tie.Need-element-copy-out-x
-element-copy-out-x c = search needs
-
--- src/lib.rt:571:13
-mul-y : tie.Need-mul-y
-mul-y c = search needs
-
--- src/lib.rt:571:13
-element-copy-out-y : tie.Need-element-copy-out-y
-element-copy-out-y c = search needs
-
--- src/lib.rt:582:9
+-- src/lib.rt:545:9
 mul-nth-layer : tie.Need-mul-nth-layer
 mul-nth-layer c = search needs
 
--- src/lib.rt:582:9
-sub-nth-layer : tie.Need-sub-nth-layer
-sub-nth-layer c = search needs
+-- src/lib.rt:545:9
+element-copy-out-nth-layer : tie.Need-element-copy-out-nth-layer
+element-copy-out-nth-layer c = search needs
 
--- src/lib.rt:582:9
-part-nth-layer-start : tie.Need-part-nth-layer-start
-part-nth-layer-start c = search needs
-
--- src/lib.rt:582:9
-part-nth-layer-end : tie.Need-part-nth-layer-end
-part-nth-layer-end c = search needs
-
--- src/lib.rt:583:9
+-- src/lib.rt:546:9
 mul-nth-layer-2 : tie.Need-mul-nth-layer-2
 mul-nth-layer-2 c = search needs
 
--- src/lib.rt:583:9
+-- src/lib.rt:546:9
+element-copy-out-nth-layer-2 : tie.Need-element-copy-out-nth-layer-2
+element-copy-out-nth-layer-2 c = search needs
+
+-- src/lib.rt:551:9
+mul-nth-layer-3 : tie.Need-mul-nth-layer-3
+mul-nth-layer-3 c = search needs
+
+-- src/lib.rt:551:9
+sub-nth-layer : tie.Need-sub-nth-layer
+sub-nth-layer c = search needs
+
+-- src/lib.rt:551:9
+part-nth-layer-start : tie.Need-part-nth-layer-start
+part-nth-layer-start c = search needs
+
+-- src/lib.rt:551:9
+part-nth-layer-end : tie.Need-part-nth-layer-end
+part-nth-layer-end c = search needs
+
+-- src/lib.rt:552:9
+mul-nth-layer-4 : tie.Need-mul-nth-layer-4
+mul-nth-layer-4 c = search needs
+
+-- src/lib.rt:552:9
 sub-nth-layer-2 : tie.Need-sub-nth-layer-2
 sub-nth-layer-2 c = search needs
 
--- src/lib.rt:583:9
+-- src/lib.rt:552:9
 part-nth-layer-start-2 : tie.Need-part-nth-layer-start-2
 part-nth-layer-start-2 c = search needs
 
--- src/lib.rt:583:9
+-- src/lib.rt:552:9
 part-nth-layer-end-2 : tie.Need-part-nth-layer-end-2
 part-nth-layer-end-2 c = search needs
 
--- src/lib.rt:572:5
+-- src/lib.rt:541:5
 nth-layer-requires : tie.Need-nth-layer-requires
 nth-layer-requires c κs = let a = c .before .before .before .before .before .before .before .before .before .before .before .args in (
   c .before .before .before .before .before .before .before .before .before .before .before .pre .0,
@@ -94,7 +94,7 @@ nth-layer-requires c κs = let a = c .before .before .before .before .before .be
   ),
 )
 
--- src/lib.rt:546:1
+-- src/lib.rt:517:1
 returns : tie.Need-returns
 returns c = let a = c .before .before .before .before .before .before .before .before .before .before .before .before .args in
     c .nth-layer .ensures ∙ ap recordAnswer (rows-read (a .ahead .now) (a .number .now) (a .member .now) (a .first .now) (a .targets .now) (a .t) (a .m) (a .f) (a .p) (a .q) (a .k)
@@ -111,15 +111,15 @@ nth-rows-spec =
     end-of-requires-2
     ends-at-requires
     ends-at-requires-2
-    mul-x
-    element-copy-out-x
-    mul-y
-    element-copy-out-y
     mul-nth-layer
+    element-copy-out-nth-layer
+    mul-nth-layer-2
+    element-copy-out-nth-layer-2
+    mul-nth-layer-3
     sub-nth-layer
     part-nth-layer-start
     part-nth-layer-end
-    mul-nth-layer-2
+    mul-nth-layer-4
     sub-nth-layer-2
     part-nth-layer-start-2
     part-nth-layer-end-2

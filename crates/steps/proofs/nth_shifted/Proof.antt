@@ -12,31 +12,31 @@ use Rattle.steps.proofs.nth_shifted.Lts as lts
 use Rattle.steps.proofs.nth_above.Reads as nth-above-reads
 use Rattle.steps.proofs.shift_of.Reads as shift-of-reads
 
--- src/lib.rt:176:9
+-- src/lib.rt:172:9
 nth-above-requires : tie.Need-nth-above-requires
 nth-above-requires c κs = search needs
 
--- src/lib.rt:176:9
+-- src/lib.rt:172:9
 returns : tie.Need-returns
 returns c = let a = c .before .before .before .args in c .nth-above .ensures ∙ ap recordAnswer (shift-none (a .number .now) (a .ls .now) (a .s) (a .x) (a .k) (c .before .if1 .taken))
 
--- src/lib.rt:179:35
+-- src/lib.rt:175:35
 shift-of-requires : tie.Need-shift-of-requires
 shift-of-requires c κs = search needs
 
--- src/lib.rt:179:9
+-- src/lib.rt:175:9
 returns-2 : tie.Need-returns-2
 returns-2 c = let a = c .before .before .before .before .args in ap (λ (s : Step). Record s) (c .shift-of .ensures) ∙ ap recordAnswer (shift-first (a .number .now) (a .ls .now) (a .s) (a .x) (a .k) (c .before .before .if1 .left) (c .before .if2 .taken))
 
--- src/lib.rt:181:30
+-- src/lib.rt:177:30
 sub-nth-above : tie.Need-sub-nth-above
 sub-nth-above c = search needs
 
--- src/lib.rt:181:5
+-- src/lib.rt:177:5
 nth-above-requires-2 : tie.Need-nth-above-requires-2
 nth-above-requires-2 c κs = search needs
 
--- src/lib.rt:164:1
+-- src/lib.rt:160:1
 returns-3 : tie.Need-returns-3
 returns-3 c = let a = c .before .before .before .before .args in c .nth-above2 .ensures ∙ ap recordAnswer (shift-later (a .number .now) (a .ls .now) (a .s) (a .x) (a .k) (c .before .before .if1 .left) (c .before .if2 .left))
 

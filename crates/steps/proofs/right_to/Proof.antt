@@ -12,19 +12,19 @@ use Rattle.steps.proofs.right_to.Lts as lts
 use Rattle.steps.proofs.move_of.Reads as move-of-reads
 use Rattle.steps.proofs.wide.Reads as wide-reads
 
--- src/lib.rt:119:61
+-- src/lib.rt:120:61
 wide-requires : tie.Need-wide-requires
 wide-requires c κs = search needs
 
--- src/lib.rt:119:9
+-- src/lib.rt:120:9
 move-of-requires : tie.Need-move-of-requires
 move-of-requires c κs = search needs
 
--- src/lib.rt:122:15
+-- src/lib.rt:123:15
 cast-t6 : tie.Need-cast-t6
 cast-t6 c = search needs
 
--- src/lib.rt:114:1
+-- src/lib.rt:115:1
 returns : tie.Need-returns
 returns c =
     let a = c .before .before .before .args in

@@ -7,15 +7,15 @@ use Rattle.steps.proofs.shared_terminal.Reads as reads
 use Rattle.steps.proofs.shared_terminal.Lts as lts
 use Rattle.steps.proofs.shared_code.Reads as shared-code-reads
 
--- src/lib.rt:339:9
+-- src/lib.rt:325:9
 returns : tie.Need-returns
 returns c = simp (lt-leb _ _ (c .if1 .taken))
 
--- src/lib.rt:341:5
+-- src/lib.rt:327:5
 shared-code-requires : tie.Need-shared-code-requires
 shared-code-requires c κs = search needs
 
--- src/lib.rt:335:1
+-- src/lib.rt:321:1
 returns-2 : tie.Need-returns-2
 returns-2 c = simp (le-leb _ _ (c .before .if1 .left)) (c .shared-code .ensures)
 
