@@ -11,26 +11,26 @@ use super::lent::wide;
 use names::COMMA;
 use names::EQUALS;
 
-pub fn put_byte(out: &mut [u8], at: usize, b: u8) -> usize
-    requires { ⌜ at < length (now out) ⌝ }
-    ensures { λ r. ⌜ Wrote at (b ∷ []) (now (out .entry)) r (now (out .exit)) ⌝ }
-{
-    out[at] = b;
-    at + 1
-}
-
+// Bytes as they are. Every byte of a text is stored here.
 fn put_bytes(out: &mut [u8], at: usize, src: &[u8]) -> usize
     requires { ⌜ at + length (now src) ≤ length (now out) ⌝ }
     ensures { λ r. ⌜ Wrote at (now (src .entry)) (now (out .entry)) r (now (out .exit)) ⌝ }
 {
+    let n = src.len();
     let mut i = 0;
-    let mut j = at;
-    while i < src.len() {
-        out[j] = src[i];
+    while i < n {
+        out[at + i] = src[i];
         i += 1;
-        j += 1;
     }
-    j
+    at + n
+}
+
+pub fn put_byte(out: &mut [u8], at: usize, b: u8) -> usize
+    requires { ⌜ at < length (now out) ⌝ }
+    ensures { λ r. ⌜ Wrote at (b ∷ []) (now (out .entry)) r (now (out .exit)) ⌝ }
+{
+    let one = [b];
+    put_bytes(out, at, &one)
 }
 
 fn put_word(out: &mut [u8], at: usize, k: usize) -> usize
@@ -41,9 +41,8 @@ fn put_word(out: &mut [u8], at: usize, k: usize) -> usize
     let mut i = 0;
     let mut j = at;
     while i < m {
-        out[j] = names::key_byte(k, i);
+        j = put_byte(out, j, names::key_byte(k, i));
         i += 1;
-        j += 1;
     }
     j
 }

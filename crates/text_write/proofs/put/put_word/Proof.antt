@@ -1,13 +1,13 @@
 -- `text_write::put::put_word` meets its contract: what the key has from the cursor on is still to come. Assumes nothing.
-use mathlib.Core.Path.{ap, sym, _∙_}
-use mathlib.Core.List.{_∷_}
+use mathlib.Core.Path.{_≡_, ap, sym, _∙_}
+use mathlib.Core.List.{[], _∷_, _++_}
 use Prim.Native.Nat.{_+_, _-_, _≤_}
 use native.Mathlib.Omega.{arith}
 use borrow.Author.Needs.{needs}
 use lib.ListN.{drop, length-drop, drop-of-length-le}
 use Rattle.text.specs.Keys.{key}
 use Rattle.names.proofs.Keys.{key-length-most, length-key, key-at}
-use Rattle.text_write.proofs.Filling.{Filling, filling-start, filling-put, filling-done}
+use Rattle.text_write.proofs.Filling.{Filling, filling-start, filling-room, filling-ran, filling-done}
 use Rattle.text_write.proofs.PutLaws.{drop-next}
 use Rattle.text_write.proofs.put.put_word.Statement.{statement}
 use Rattle.text_write.proofs.put.put_word.Tie as tie
@@ -17,6 +17,19 @@ Inv-loop out₀ at k m i₀ j₀ out i j = (i ≤ m) × Filling at out₀ (key k
 
 abbrev μ-loop : tie.MeasureT-loop
 μ-loop out₀ at k m i₀ j₀ out i j = m - i
+
+-- a byte of the key comes next
+next : (c : tie.After-key-byte Inv-loop μ-loop) →
+    let a = c .before .before .before .before .before .before .args in
+    let l = c .before .before .before .loop in
+    drop (l .i) (key (a .k)) ≡ (c .key-byte .result ∷ []) ++ drop (l .i + 1) (key (a .k))
+next c =
+    let s = c .before .before .before .before .before .before in
+    let a = s .args in
+    let l = c .before .before .before .loop in
+    let m = c .before .before .before .before .key-length .ensures in
+    drop-next (key (a .k)) (l .i) (omega (arith, length-key (a .k) (s .pre .0), m))
+    ∙ ap (λ x. x ∷ drop (l .i + 1) (key (a .k))) (key-at (a .k) (l .i) (omega (arith, m)) ∙ sym (c .key-byte .ensures))
 
 key-length-requires : tie.Need-key-length-requires Inv-loop μ-loop
 key-length-requires c κs = search needs
@@ -29,58 +42,24 @@ loop-holds c =
 
 key-byte-requires : tie.Need-key-byte-requires Inv-loop μ-loop
 key-byte-requires c κs =
-    let s = c .before .before .before .before in
-    let a = s .args in
-    (s .pre .0, omega (arith, key-length-most (a .k) (s .pre .0), c .before .before .key-length .ensures))
-
-slice-write-out : tie.Need-slice-write-out Inv-loop μ-loop
-slice-write-out c =
     let s = c .before .before .before .before .before in
     let a = s .args in
-    let l = c .before .before .loop in
-    omega (
-      arith,
-      l .inv .1,
-      length-drop (l .i) (key (a .k)),
-      length-key (a .k) (s .pre .0),
-      c .before .before .before .key-length .ensures,
-    )
+    (s .pre .0, omega (arith, key-length-most (a .k) (s .pre .0), c .before .before .before .key-length .ensures))
+
+put-byte-requires : tie.Need-put-byte-requires Inv-loop μ-loop
+put-byte-requires c κs = omega (arith, filling-room (c .key-byte .result ∷ []) _ (next c) (c .before .before .before .loop .inv .1))
 
 add-i : tie.Need-add-i Inv-loop μ-loop
 add-i c = search needs
-
-add-j : tie.Need-add-j Inv-loop μ-loop
-add-j c =
-    let s = c .before .before .before .before .before in
-    let a = s .args in
-    let l = c .before .before .loop in
-    omega (
-      arith,
-      l .inv .1,
-      length-drop (l .i) (key (a .k)),
-      length-key (a .k) (s .pre .0),
-      c .before .before .before .key-length .ensures,
-    )
 
 loop-less : tie.Need-loop-less Inv-loop μ-loop
 loop-less c = search needs
 
 loop-again : tie.Need-loop-again Inv-loop μ-loop
 loop-again c =
-    let s = c .before .before .before .before .before in
-    let a = s .args in
-    let l = c .before .before .loop in (
+    let k = c .before .before .before in (
       omega arith,
-      filling-put (c .key-byte .result) (drop (l .i + 1) (key (a .k)))
-          (drop-next (key (a .k)) (l .i) (omega (
-            arith,
-            length-drop (l .i) (key (a .k)),
-            length-key (a .k) (s .pre .0),
-            c .before .before .before .key-length .ensures,
-          ))
-          ∙ ap (λ x. x ∷ drop (l .i + 1) (key (a .k)))
-          (key-at (a .k) (l .i) (omega (arith, c .before .before .before .key-length .ensures)) ∙ sym (c .key-byte .ensures)))
-          (l .inv .1),
+      filling-ran (k .key-byte .result ∷ []) _ (next k) (c .before .before .put-byte .ensures) (k .before .before .before .loop .inv .1),
     )
 
 same-length : tie.Need-same-length Inv-loop μ-loop
@@ -104,9 +83,8 @@ put-word-spec =
     key-length-requires
     loop-holds
     key-byte-requires
-    slice-write-out
+    put-byte-requires
     add-i
-    add-j
     loop-less
     loop-again
     same-length
