@@ -6,6 +6,7 @@ use mathlib.Core.Path.{_≡_}
 use mathlib.Core.List.{List}
 use mathlib.Core.Logic.{_↔_}
 use lib.ListN.{length, take}
+use Rattle.grammar.specs.Basics.{over}
 use Rattle.grammar.specs.Limits.{limits}
 use Rattle.grammar.specs.Grammar.{Grammar, WellFormed}
 use Rattle.grammar.specs.Table.{encode}
@@ -29,7 +30,7 @@ use Rattle.steps.specs.Steps.{nthStep, stepAnswer}
 use Rattle.steps.specs.declared.StepAnswer.{StepAnswer}
 use Rattle.steps.specs.declared.StepAnswer.the-variants as step
 use Rattle.text.specs.Read.{Source, symbolNames, readText}
-use Rattle.text.specs.Promise.{over, textRead, ReadsText, WritesText, SameAgain}
+use Rattle.text.specs.Promise.{textRead, ReadsText, WritesText, SameAgain}
 use Rattle.text.specs.declared.TextRead.{TextRead}
 use Rattle.text.specs.declared.TextRead.the-variants as reader
 use Rattle.text.specs.declared.TextRead.the-variants.{Read}

@@ -6,13 +6,14 @@ use mathlib.Core.List.{List, [], _∷_, _++_}
 use native.Mathlib.Omega.{arith}
 use lib.ListN.{length, getD, take, drop, List·getD-append}
 use lib.Seq.{take-append-seam, append-snoc}
+use Rattle.grammar.specs.Basics.{over}
 use Rattle.grammar.specs.Limits.{Limits, limits}
 use Rattle.grammar.specs.Grammar.{Rule, Grammar, WellFormed, start}
 use Rattle.grammar.specs.Record.{recordOf}
 use Rattle.grammar.specs.declared.CheckedGrammar.{CheckedGrammar}
 use Rattle.automaton.specs.Items.{states}
 use Rattle.triples.specs.Records.{aheads, aheadRow}
-use Rattle.moves.specs.Tables.{rowFrom, kinds, lines, memberLine, targetLine, numberLine, memberRow, targetRow, numberRow, memberClass, targets, over, Sorted, segment, Tables, Built, IsRecord, Room, BuiltOf}
+use Rattle.moves.specs.Tables.{rowFrom, kinds, lines, memberLine, targetLine, numberLine, memberRow, targetRow, numberRow, memberClass, targets, Sorted, segment, Tables, Built, IsRecord, Room, BuiltOf}
 use Rattle.moves.specs.Contracts.{classes, write, frontClasses, frontItems, aheadLine, stored, columnStates, Columns, StateRows, stateRows, Wide, AllWritten}
 use Rattle.moves.proofs.Moves.{member-length, target-length, number-length, ahead-length, member-most, target-most}
 use Rattle.moves.proofs.Segments.{segment-is, segments-follow, segments-inside}

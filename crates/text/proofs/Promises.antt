@@ -6,6 +6,7 @@ use mathlib.Core.List.{List, _++_}
 use native.Mathlib.Omega.{arith}
 use lib.ListN.{length, take, drop, length-append}
 use lib.Seq.{take-at}
+use Rattle.grammar.specs.Basics.{over}
 use Rattle.grammar.specs.Limits.{limits}
 use Rattle.grammar.specs.Grammar.{stateCount}
 use Rattle.grammar.specs.Table.{encode, decode}
@@ -14,7 +15,7 @@ use Rattle.grammar.proofs.Rules.{decode-encode}
 use Rattle.text.specs.Read.{Source, symbolNames}
 use Rattle.text.specs.Rules.{readInto}
 use Rattle.text.specs.Print.{gather, writeInto}
-use Rattle.text.specs.Promise.{over, nameStarts, nameLengths, textRead, textWritten, afterwards, ReadsText, WritesText, SameAgain}
+use Rattle.text.specs.Promise.{nameStarts, nameLengths, textRead, textWritten, afterwards, ReadsText, WritesText, SameAgain}
 use Rattle.text.specs.declared.TextRead.{TextRead}
 use Rattle.text.specs.declared.TextRead.the-variants.{Read}
 use Rattle.text.specs.declared.TextWritten.{TextWritten}
@@ -45,6 +46,7 @@ written-as (refused c p) m h = absurd (let z : _≡_ {A = ℕ} 0 1 = cc in omega
 -- a row after a result has it at its front
 after-done : {A : Type 0} (o : Answer A) (front : A → List ℕ) (old new : List ℕ) (a : A) → o ≡ done a
     → new ≡ afterwards o front old → new ≡ front a ++ drop (length (front a)) old
+unfolding over
 after-done o front old new a e h = h ∙ ap (λ o. afterwards o front old) e
 
 -- what the reader's rows have at their fronts
@@ -95,7 +97,7 @@ read-write text table starts lengths table′ starts′ lengths′ t n e q out o
     ∙ write-front limits k l (encode (s .rules)) text xs ys xs′ ys′ room (omega (arith, length-name-starts s))
     (omega (arith, length-lengths (symbolNames s)))
     ∙ limits-read-then-write (length table) (length starts) (length lengths) text s room (a .whole) h in
-    (w .answer ∙ ap textWritten o, after-done _ (λ text. text) out out′ text o (w .out-after))
+    (w .answer ∙ ap textWritten o, w .out-after ∙ ap (λ o. afterwards o (λ text. text) out) o)
 
 -- a table and names written and read again with enough room are the same
 pub write-read : (t n : ℕ) (table bytes starts lengths out : List ℕ) (m : ℕ) (out′ table₂ starts₂ lengths₂ : List ℕ)

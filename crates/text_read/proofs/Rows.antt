@@ -9,6 +9,7 @@ use native.Mathlib.Numerals.{add-one}
 use native.Mathlib.Nat.{add-zero}
 use lib.ListN.{length, take, drop, getD, set, length-set}
 use lib.Seq.{take-suc-set, take-suc, take-length, length-take-le, drop-cons, append-snoc, set-at}
+use Rattle.grammar.specs.Basics.{over}
 use Rattle.text.specs.Pieces.{splitOn}
 use Rattle.text.specs.Promise.{startsFrom, nameLengths}
 use Rattle.names.specs.Found.{index}
@@ -101,7 +102,8 @@ module _ (front old : List ℕ) (i : ℕ) (h : length front ≤ length old) wher
       ∙ sym (append-snoc (take i front) (getD front i 0) (drop (suc i) old))
       ∙ rw add-one (ap (λ w. w ++ drop (suc i) old) (sym (take-suc front i 0 l)))
 
-  pub copy-all : length front ≤ i → i ≤ length front → take i front ++ drop i old ≡ front ++ drop (length front) old
+  pub copy-all : length front ≤ i → i ≤ length front → take i front ++ drop i old ≡ over front old
+  unfolding over
   copy-all l k =
       let m : i ≡ length front = omega arith in
       ap (λ i. take i front ++ drop i old) m ∙ ap (λ w. w ++ drop (length front) old) (take-length front)

@@ -9,6 +9,7 @@ use borrow.Author.Tests.{le-leb, lt-leb, ltb-true, ltb-false}
 use lib.Dec.{leb, ltb}
 use lib.ListN.{length, take, length-append}
 use lib.Seq.{take-all}
+use Rattle.grammar.specs.Basics.{over}
 use Rattle.grammar.specs.Limits.{limits}
 use Rattle.grammar.specs.Grammar.{stateCount}
 use Rattle.grammar.specs.Table.{encode}
@@ -16,7 +17,7 @@ use Rattle.grammar.specs.Refusal.{Answer, done, refused, refuseUnless}
 use Rattle.grammar.proofs.Answers.{both-and, unless-holds, unless-fails, then-goes, then-stops}
 use Rattle.text.specs.Read.{Source, symbolNames}
 use Rattle.text.specs.Rules.{checkText, readInto}
-use Rattle.text.specs.Promise.{over, nameStarts, nameLengths, textRead, afterwards, ReadsText}
+use Rattle.text.specs.Promise.{nameStarts, nameLengths, textRead, afterwards, ReadsText}
 use Rattle.text.specs.declared.TextRead.{TextRead}
 use Rattle.text.specs.declared.TextRead.the-variants.{Read, Refused}
 use Rattle.text.proofs.Spans.{length-lengths, length-name-starts}

@@ -10,6 +10,7 @@ use borrow.Author.Tests.{le-leb, lt-leb, eq-eqb, ne-eqb}
 use lib.Dec.{eqb}
 use lib.ListN.{length, take, drop, take-append-drop}
 use lib.Seq.{length-take-le}
+use Rattle.grammar.specs.Basics.{over}
 use Rattle.grammar.specs.Limits.{limits}
 use Rattle.grammar.specs.Grammar.{Rule, Grammar}
 use Rattle.grammar.specs.Table.{decode}
@@ -37,6 +38,7 @@ answers-refused o out c p e =
 
 answers-done : (o : Answer (List ℕ)) (out text : List ℕ) (n : ℕ) (out′ : List ℕ) → o ≡ done text → Wrote 0 text out n out′
     → Answers o out (Written n) out′
+unfolding over
 answers-done o out text n out′ e w =
     let k : n ≡ length text = w .place ∙ zero-add (length text) in
     subst (λ o. Answers o out (Written n) out′) (sym e)
