@@ -1,5 +1,5 @@
--- The sizes of a number and of a refusal's line, in bytes. Assumes nothing.
-use Prim.Native.Nat.{ℕ}
+-- The sizes of a number, of a refusal's line and of a list, in bytes. Assumes nothing.
+use Prim.Native.Nat.{ℕ, _+_, _*_}
 
 -- the most digits of a number
 abbrev pub numberSize : ℕ
@@ -8,3 +8,7 @@ numberSize = 20
 -- room for the longest refusal
 abbrev pub refusalSize : ℕ
 refusalSize = 64
+
+-- a list of so many numbers, with commas between
+abbrev pub listSize : ℕ → ℕ
+listSize count = (numberSize + 1) * count

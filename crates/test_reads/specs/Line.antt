@@ -1,14 +1,10 @@
 -- The sizes of a line and of its parts, in bytes. Assumes nothing.
-use Prim.Native.Nat.{ℕ, _+_, _*_}
-use Rattle.case_lines.specs.Line.{numberSize}
+use Prim.Native.Nat.{ℕ, _+_}
+use Rattle.case_lines.specs.Line.{listSize}
 
 -- the front of the line of a text that is read
 abbrev pub countsSize : ℕ
 countsSize = 128
-
--- a list of so many numbers, with commas between
-abbrev pub listSize : ℕ → ℕ
-listSize count = (numberSize + 1) * count
 
 -- the lists of so many entries, starts and lengths, with their words and the line's end
 abbrev pub listsSize : ℕ → ℕ → ℕ → ℕ

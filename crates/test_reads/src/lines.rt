@@ -2,11 +2,13 @@
 ghost use mathlib.Core.Path.{_≡_};
 ghost use Prim.Native.Nat.{_+_, _≤_};
 ghost use lib.ListN.{length};
-ghost use Rattle.test_reads.specs.Line.{countsSize, lineSize, listSize, listsSize};
+ghost use Rattle.case_lines.specs.Line.{listSize};
+ghost use Rattle.test_reads.specs.Line.{countsSize, lineSize, listsSize};
+use case_lines::lesser;
+use case_lines::put_comma;
+use case_lines::same_bytes;
 
-// What lent rows hold before.
-pub const FILL_BYTE: u8 = 0xAA;
-
+// What lent rows of words hold before.
 pub const FILL_WORD: u32 = 0xAAAAAAAA;
 
 // The most entries of a table and of a row of names that a line has room for.
@@ -22,27 +24,7 @@ fn wide_word(x: u32) -> u64 {
     x as u64
 }
 
-fn lesser(a: usize, b: usize) -> usize
-    ensures { λ r. ⌜ (r ≤ a) × (r ≤ b) ⌝ }
-{
-    if b < a {
-        return b;
-    }
-    a
-}
-
-// Are all bytes as they were lent?
-fn same_bytes(row: &[u8]) -> bool {
-    let mut i = 0;
-    while i < row.len() {
-        if row[i] != FILL_BYTE {
-            return false;
-        }
-        i += 1;
-    }
-    true
-}
-
+// Are all entries as they were lent?
 fn same_words(row: &[u32]) -> bool {
     let mut i = 0;
     while i < row.len() {
@@ -62,18 +44,6 @@ fn same_rows(table: &[u8], starts: &[u32], lengths: &[u32]) -> bool {
         return false;
     }
     same_words(lengths)
-}
-
-// A comma before each number of a list but the first.
-fn put_comma(line: &mut [u8], at: usize, i: usize) -> usize
-    requires { ⌜ at + 1 ≤ length (now line) ⌝ }
-    ensures { λ r. ⌜ r ≤ at + 1 ⌝ }
-{
-    if i == 0 {
-        return at;
-    }
-    line[at] = b',';
-    at + 1
 }
 
 // Bytes in decimal, with commas between.

@@ -13,9 +13,9 @@ mod lines;
 ghost use Prim.Native.Nat.{_≤_};
 ghost use lib.ListN.{length};
 ghost use Rattle.test_reads.specs.Line.{lineSize};
+use case_lines::FILL;
 use libc::STDIN_FILENO;
 use libc::STDOUT_FILENO;
-use lines::FILL_BYTE;
 use lines::FILL_WORD;
 use text::TextRead;
 
@@ -81,7 +81,7 @@ fn answer_sizes(text: &[u8], entries: usize, first: usize, second: usize) -> boo
     if MOST < second {
         return false;
     }
-    let mut table = [FILL_BYTE; MOST];
+    let mut table = [FILL; MOST];
     let mut starts = [FILL_WORD; MOST];
     let mut lengths = [FILL_WORD; MOST];
     answer_rows(

@@ -1,12 +1,8 @@
 -- The sizes of a line and of its parts, in bytes. Assumes nothing.
 use Prim.Native.Nat.{ℕ, _+_, _*_, _≤_}
 use Rattle.grammar.specs.Limits.{limits}
-use Rattle.case_lines.specs.Line.{numberSize}
+use Rattle.case_lines.specs.Line.{listSize}
 use Rattle.grammar.specs.declared.CheckedGrammar.{CheckedGrammar}
-
--- a list of so many numbers, with commas between
-abbrev pub listSize : ℕ → ℕ
-listSize count = (numberSize + 1) * count
 
 -- three columns with their words
 abbrev pub columnsSize : ℕ

@@ -7,7 +7,9 @@
 ghost use mathlib.Core.Path.{_≡_};
 ghost use Prim.Native.Nat.{_+_, _≤_};
 ghost use lib.ListN.{length};
-ghost use Rattle.test_tables.specs.Line.{lineSize, listSize, columnsSize, Few};
+ghost use Rattle.case_lines.specs.Line.{listSize};
+ghost use Rattle.test_tables.specs.Line.{lineSize, columnsSize, Few};
+use case_lines::put_comma;
 use grammar::CheckedGrammar;
 use grammar::TableVerdict;
 use libc::STDIN_FILENO;
@@ -22,18 +24,6 @@ const LINE: usize = 12288;
 
 fn wide_code(x: u16) -> u64 {
     x as u64
-}
-
-// A comma before each number of a list but the first.
-fn put_comma(line: &mut [u8], at: usize, i: usize) -> usize
-    requires { ⌜ at + 1 ≤ length (now line) ⌝ }
-    ensures { λ r. ⌜ r ≤ at + 1 ⌝ }
-{
-    if i == 0 {
-        return at;
-    }
-    line[at] = b',';
-    at + 1
 }
 
 // The first `count` values, with commas between.

@@ -5,8 +5,7 @@
 //     accepted
 //     refused=CAUSE at=POSITION
 // A case that is cut, a table over 65,536 bytes, a row over 4,096 entries and a failed write end the program.
-ghost use mathlib.Core.Path.{_≡_};
-ghost use Prim.Native.Nat.{_+_, _≤_};
+ghost use Prim.Native.Nat.{_≤_};
 ghost use lib.ListN.{length};
 ghost use Rattle.case_lines.specs.Line.{refusalSize};
 use libc::STDIN_FILENO;
@@ -20,40 +19,6 @@ const MAX_TABLE: usize = 65536;
 const MAX_ENTRIES: usize = 4096;
 
 const LINE: usize = 64;
-
-fn wide(x: u8) -> u32
-    ensures { λ r. ⌜ r ≤ 255 ⌝ }
-{
-    x as u32
-}
-
-// The number that four bytes store, the lowest byte first.
-fn entry(bytes: &[u8], at: usize) -> u32
-    requires { ⌜ at + 4 ≤ length (now bytes) ⌝ }
-{
-    let low = wide(bytes[at]) + 256 * wide(bytes[at + 1]);
-    let high = wide(bytes[at + 2]) + 256 * wide(bytes[at + 3]);
-    low + 65536 * high
-}
-
-fn lesser(a: usize, b: usize) -> usize
-    ensures { λ r. ⌜ (r ≤ a) × (r ≤ b) ⌝ }
-{
-    if b < a {
-        return b;
-    }
-    a
-}
-
-// The entries that bytes store, four bytes each, as many as both have.
-fn read_entries(bytes: &[u8], row: &mut [u32]) {
-    let count = lesser(bytes.len() / 4, row.len());
-    let mut i = 0;
-    while i < count {
-        row[i] = entry(bytes, 4 * i);
-        i += 1;
-    }
-}
 
 // The line of one case.
 fn put_answer(line: &mut [u8], t: usize, n: usize, table: &[u8], row: &[u32]) -> usize
@@ -72,7 +37,7 @@ fn answer_row(t: usize, n: usize, table: &[u8], bytes: &mut [u8], row: &mut [u32
     if io::read_full(STDIN_FILENO, bytes) < bytes.len() {
         return false;
     }
-    read_entries(bytes, row);
+    case_lines::read_entries(bytes, row);
     let mut line = [0u8; LINE];
     let end = put_answer(&mut line, t, n, table, row);
     io::write_all(STDOUT_FILENO, &line[0..end])

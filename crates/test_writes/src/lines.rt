@@ -3,33 +3,11 @@ ghost use mathlib.Core.Path.{_≡_};
 ghost use Prim.Native.Nat.{_+_, _*_, _≤_};
 ghost use lib.ListN.{length};
 ghost use Rattle.test_writes.specs.Line.{lineSize, textSize};
-
-// What the output holds before.
-pub const FILL: u8 = 0xAA;
+use case_lines::lesser;
+use case_lines::same_bytes;
 
 // The most bytes of a text that a line has room for; specs/Line.antt has it too.
 const MAX_TEXT: usize = 65536;
-
-pub fn lesser(a: usize, b: usize) -> usize
-    ensures { λ r. ⌜ (r ≤ a) × (r ≤ b) ⌝ }
-{
-    if b < a {
-        return b;
-    }
-    a
-}
-
-// Are all bytes as they were lent?
-fn same_bytes(row: &[u8]) -> bool {
-    let mut i = 0;
-    while i < row.len() {
-        if row[i] != FILL {
-            return false;
-        }
-        i += 1;
-    }
-    true
-}
 
 // The lower half of a byte as a digit.
 fn digit(x: u8) -> u8 {

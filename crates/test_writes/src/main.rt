@@ -11,13 +11,13 @@
 // bytes, names or a row over 70,000 and a failed write end the program.
 mod lines;
 
-ghost use Prim.Native.Nat.{_+_, _≤_};
+ghost use Prim.Native.Nat.{_≤_};
 ghost use lib.ListN.{length};
 ghost use Rattle.test_writes.specs.Line.{lineSize};
+use case_lines::FILL;
+use case_lines::lesser;
 use libc::STDIN_FILENO;
 use libc::STDOUT_FILENO;
-use lines::FILL;
-use lines::lesser;
 use text::TextWritten;
 
 const HEADER: usize = 20;
@@ -29,31 +29,6 @@ const MOST: usize = 70000;
 
 // The bytes of a line; specs/Line.antt has them too.
 const LINE: usize = 131136;
-
-fn wide(x: u8) -> u32
-    ensures { λ r. ⌜ r ≤ 255 ⌝ }
-{
-    x as u32
-}
-
-// The number that four bytes store, the lowest byte first.
-fn entry(bytes: &[u8], at: usize) -> u32
-    requires { ⌜ at + 4 ≤ length (now bytes) ⌝ }
-{
-    let low = wide(bytes[at]) + 256 * wide(bytes[at + 1]);
-    let high = wide(bytes[at + 2]) + 256 * wide(bytes[at + 3]);
-    low + 65536 * high
-}
-
-// The entries that bytes store, four bytes each, as many as both have.
-fn read_entries(bytes: &[u8], row: &mut [u32]) {
-    let count = lesser(bytes.len() / 4, row.len());
-    let mut i = 0;
-    while i < count {
-        row[i] = entry(bytes, 4 * i);
-        i += 1;
-    }
-}
 
 // The line of one case.
 fn put_answer(
@@ -105,7 +80,7 @@ fn fill_row(bytes: &mut [u8], row: &mut [u32]) -> bool {
     if io::read_full(STDIN_FILENO, bytes) < bytes.len() {
         return false;
     }
-    read_entries(bytes, row);
+    case_lines::read_entries(bytes, row);
     true
 }
 

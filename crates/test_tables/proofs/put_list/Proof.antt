@@ -4,7 +4,7 @@ use Prim.Native.Nat.{_+_, _-_, _≤_}
 use native.Mathlib.Omega.{arith}
 use borrow.Author.Needs.{needs}
 use lib.ListN.{length}
-use Rattle.test_tables.specs.Line.{listSize}
+use Rattle.case_lines.specs.Line.{listSize}
 use Rattle.test_tables.proofs.put_list.Statement.{statement}
 use Rattle.test_tables.proofs.put_list.Tie as tie
 

@@ -3,7 +3,7 @@ use borrow.Author.Needs.{needs}
 use mathlib.Core.Path.{_≡_}
 use Prim.Native.Nat.{_+_, _-_, _≤_}
 use lib.ListN.{length}
-use Rattle.test_reads.specs.Line.{listSize}
+use Rattle.case_lines.specs.Line.{listSize}
 use Rattle.test_reads.proofs.lines.put_bytes.Statement.{statement}
 use Rattle.test_reads.proofs.lines.put_bytes.Tie as tie
 

@@ -2,8 +2,8 @@
 use borrow.Author.Needs.{needs}
 use Prim.Native.Nat.{_-_}
 use lib.ListN.{length}
-use Rattle.test_reads.proofs.lines.same_bytes.Statement.{statement}
-use Rattle.test_reads.proofs.lines.same_bytes.Tie as tie
+use Rattle.case_lines.proofs.same_bytes.Statement.{statement}
+use Rattle.case_lines.proofs.same_bytes.Tie as tie
 
 abbrev Inv-loop : tie.InvT-loop
 Inv-loop row i₀ i = Unit {0}

@@ -3,8 +3,8 @@ use borrow.Author.Needs.{needs}
 use Prim.Native.Nat.{_-_, _*_, _≤_}
 use mathlib.Core.Path.{_≡_}
 use lib.ListN.{length}
-use Rattle.test_writes.proofs.read_entries.Statement.{statement}
-use Rattle.test_writes.proofs.read_entries.Tie as tie
+use Rattle.case_lines.proofs.read_entries.Statement.{statement}
+use Rattle.case_lines.proofs.read_entries.Tie as tie
 
 abbrev Inv-loop : tie.InvT-loop
 Inv-loop bytes row₀ count i₀ row i = (length row ≡ length row₀) × (4 * count ≤ length bytes) × (count ≤ length row₀)
