@@ -4,3 +4,4 @@ pub mod ScanLaws
 pub mod CheckLaws
 pub mod BlockLaws
 pub mod PlannedLaws
+pub mod RestLaws

@@ -1,22 +1,23 @@
 -- A plan's numbers: how large they are, and which successor is the k-th. Assumes nothing.
-use mathlib.Core.Path.{_≡_, ap, sym, _∙_}
+use mathlib.Core.Path.{_≡_, refl, ap, sym, subst, _∙_}
 use mathlib.Core.Bool.{Bool, true, false, not, _&&_, _||_}
 use mathlib.Core.List.{List}
-use Prim.Native.Nat.{ℕ, _+_, _-_, _*_, _/_, _%_, _≤_, _<_}
+use Prim.Native.Nat.{ℕ, zero, suc, _+_, _-_, _*_, _/_, _%_, _≤_, _<_}
 use native.Mathlib.Omega.{arith}
-use native.Mathlib.Nat.{mul-le-mul, mod-lt}
+use native.Mathlib.Nat.{mul-le-mul, mod-lt, div-div-eq-div-mul, div-add-mod'}
 use lib.Dec.{eqb, leb, ltb}
 use lib.ListN.{getD}
 use borrow.Author.Tests.{lt-ltb, le-ltb, le-leb, eq-eqb, ne-eqb}
 use Rattle.grammar.specs.Basics.{choose}
 use Rattle.grammar.specs.Limits.{limits}
-use Rattle.triples.specs.Index.{layerOf, leftOf, rightOf}
+use Rattle.triples.specs.Index.{index, tripleCount, layerOf, leftOf, rightOf}
+use Rattle.triples.proofs.Index.{digits}
 use Rattle.certificate_check.specs.declared.Side.{Side}
 use Rattle.certificate_check.specs.declared.Plan.{Plan}
-use Rattle.certificate_check.specs.Contracts.{SideFits, Safe}
-use Rattle.certificate_check.specs.Plan.{Rows, readsAt, sideOf, aloneOf, layerAfter, shiftOf, pairsOf, planFor, planOf, nextOf}
+use Rattle.certificate_check.specs.Contracts.{SideFits, Fits, Safe}
+use Rattle.certificate_check.specs.Plan.{Rows, readsAt, sideOf, aloneOf, layerAfter, shiftOf, pairsOf, planFor, planned, nextOf}
 
-choose-le : (b : Bool) (x y n : ℕ) → x ≤ n → y ≤ n → choose b x y ≤ n
+pub choose-le : (b : Bool) (x y n : ℕ) → x ≤ n → y ≤ n → choose b x y ≤ n
 choose-le true x y n h k = h
 choose-le false x y n h k = k
 
@@ -48,50 +49,32 @@ pub layer-times : (x s : ℕ) → x ≤ 1 → x * s ≤ s
 layer-times x s h = let k = mul-le-mul {n₂ = 1} {m₂ = s} h (let z : s ≤ s = omega arith in z) in omega (arith, k)
 
 -- the plan from the numbers that the calls give
-abbrev pub planned : ℕ → ℕ → ℕ → ℕ → ℕ → ℕ → ℕ → ℕ → ℕ → ℕ → ℕ → Plan
-planned l r s n lf rf lb rb d c q = record {
-  left = l;
-  right = r;
-  shift = s;
-  total = n;
-  «left_from» = lf;
-  «right_from» = rf;
-  «left_base» = lb;
-  «right_base» = rb;
-  beside = d;
-  columns = c;
-  square = q;
-}
-
-pub plan-joined : (R : Rows) (t m Q i : ℕ) (x y : Side) (l r s p u v : ℕ)
-    → x ≡ sideOf (R .member) (R .first) (leftOf Q i) → y ≡ sideOf (R .member) (R .first) (rightOf Q i)
-    → l ≡ aloneOf (R .ahead) t m (layerOf Q i) x (rightOf Q i) → r ≡ aloneOf (R .ahead) t m (layerOf Q i) y (leftOf Q i)
-    → s ≡ shiftOf (R .ahead) t (layerOf Q i) (leftOf Q i) (rightOf Q i)
-    → p ≡ pairsOf (R .number) m (layerOf Q i) (leftOf Q i) (rightOf Q i) x y
-    → u ≡ layerAfter m (layerOf Q i) x → v ≡ layerAfter m (layerOf Q i) y
-    → planned l r s (l + r + s + p) (x .from) (y .from) (u * (Q * Q) + rightOf Q i) (v * (Q * Q) + leftOf Q i * Q) (i + Q + 1) (y .span) (Q * Q) ≡ planOf R t m Q i
-unfolding planOf
-plan-joined R t m Q i x y l r s p u v ex ey el er es ep eu ev =
-    ap (λ (n : ℕ). planned n r s (n + r + s + p) (x .from) (y .from) (u * (Q * Q) + rightOf Q i) (v * (Q * Q) + leftOf Q i * Q) (i + Q + 1) (y .span) (Q * Q)) el
-    ∙ ap (λ (n : ℕ). planned lx n s (lx + n + s + p) (x .from) (y .from) (u * (Q * Q) + rightOf Q i) (v * (Q * Q) + leftOf Q i * Q) (i + Q + 1) (y .span) (Q * Q)) er
-    ∙ ap (λ (n : ℕ). planned lx rx n (lx + rx + n + p) (x .from) (y .from) (u * (Q * Q) + rightOf Q i) (v * (Q * Q) + leftOf Q i * Q) (i + Q + 1) (y .span) (Q * Q)) es
-    ∙ ap (λ (n : ℕ). planned lx rx sx (lx + rx + sx + n) (x .from) (y .from) (u * (Q * Q) + rightOf Q i) (v * (Q * Q) + leftOf Q i * Q) (i + Q + 1) (y .span) (Q * Q)) ep
-    ∙ ap (λ (n : ℕ). planned lx rx sx (lx + rx + sx + px) (x .from) (y .from) (n * (Q * Q) + rightOf Q i) (v * (Q * Q) + leftOf Q i * Q) (i + Q + 1) (y .span) (Q * Q)) eu
-    ∙ ap (λ (n : ℕ). planned lx rx sx (lx + rx + sx + px) (x .from) (y .from) (layerAfter m (layerOf Q i) x * (Q * Q) + rightOf Q i) (n * (Q * Q) + leftOf Q i * Q) (i + Q + 1) (y .span) (Q * Q)) ev
-    ∙ ap (λ (z : Side). planFor R t m Q i (layerOf Q i) (leftOf Q i) (rightOf Q i) z y) ex
-    ∙ ap (planFor R t m Q i (layerOf Q i) (leftOf Q i) (rightOf Q i) (sideOf (R .member) (R .first) (leftOf Q i))) ey
+pub plan-joined : (R : Rows) (t m Q i f a b : ℕ) (x y : Side) (l r s p u v : ℕ)
+    → x ≡ sideOf (R .member) (R .first) a → y ≡ sideOf (R .member) (R .first) b → l ≡ aloneOf (R .ahead) t m f x b → r ≡ aloneOf (R .ahead) t m f y a
+    → s ≡ shiftOf (R .ahead) t f a b → p ≡ pairsOf (R .number) m f a b x y → u ≡ layerAfter m f x → v ≡ layerAfter m f y
+    → planned l r s (l + r + s + p) (x .from) (y .from) (u * (Q * Q) + b) (v * (Q * Q) + a * Q) (i + Q + 1) (y .span) (Q * Q)
+    ≡ planFor R t m Q i f a b (sideOf (R .member) (R .first) a) (sideOf (R .member) (R .first) b)
+plan-joined R t m Q i f a b x y l r s p u v ex ey el er es ep eu ev =
+    ap (λ (n : ℕ). planned n r s (n + r + s + p) (x .from) (y .from) (u * (Q * Q) + b) (v * (Q * Q) + a * Q) (i + Q + 1) (y .span) (Q * Q)) el
+    ∙ ap (λ (n : ℕ). planned lx n s (lx + n + s + p) (x .from) (y .from) (u * (Q * Q) + b) (v * (Q * Q) + a * Q) (i + Q + 1) (y .span) (Q * Q)) er
+    ∙ ap (λ (n : ℕ). planned lx rx n (lx + rx + n + p) (x .from) (y .from) (u * (Q * Q) + b) (v * (Q * Q) + a * Q) (i + Q + 1) (y .span) (Q * Q)) es
+    ∙ ap (λ (n : ℕ). planned lx rx sx (lx + rx + sx + n) (x .from) (y .from) (u * (Q * Q) + b) (v * (Q * Q) + a * Q) (i + Q + 1) (y .span) (Q * Q)) ep
+    ∙ ap (λ (n : ℕ). planned lx rx sx (lx + rx + sx + px) (x .from) (y .from) (n * (Q * Q) + b) (v * (Q * Q) + a * Q) (i + Q + 1) (y .span) (Q * Q)) eu
+    ∙ ap (λ (n : ℕ). planned lx rx sx (lx + rx + sx + px) (x .from) (y .from) (layerAfter m f x * (Q * Q) + b) (n * (Q * Q) + a * Q) (i + Q + 1) (y .span) (Q * Q)) ev
+    ∙ ap (λ (z : Side). planFor R t m Q i f a b z y) ex
+    ∙ ap (planFor R t m Q i f a b (sideOf (R .member) (R .first) a)) ey
   where
     lx : ℕ
-    lx = aloneOf (R .ahead) t m (layerOf Q i) x (rightOf Q i)
+    lx = aloneOf (R .ahead) t m f x b
 
     rx : ℕ
-    rx = aloneOf (R .ahead) t m (layerOf Q i) y (leftOf Q i)
+    rx = aloneOf (R .ahead) t m f y a
 
     sx : ℕ
-    sx = shiftOf (R .ahead) t (layerOf Q i) (leftOf Q i) (rightOf Q i)
+    sx = shiftOf (R .ahead) t f a b
 
     px : ℕ
-    px = pairsOf (R .number) m (layerOf Q i) (leftOf Q i) (rightOf Q i) x y
+    px = pairsOf (R .number) m f a b x y
 
 -- the k-th successor lies in the first block that reaches past k
 module _ (P : Plan) (targets : List ℕ) (Q k : ℕ) where
@@ -163,3 +146,57 @@ pairs-small number m f a b x y l e h k = omega (arith, pairs-le number m f a b x
 
 pub layer-small : (m f : ℕ) (s : Side) (l w : ℕ) → l ≡ layerAfter m f s → w ≤ 65536 → l * w ≤ 65536
 layer-small m f s l w e h = omega (arith, layer-times l w (let z : l ≤ 1 = omega (arith, layer-le m f s) in z))
+
+pub plan-sizes : (R : Rows) (t m Q i f a b : ℕ) (P : Plan) → Fits (R .member) (R .first) Q → a < Q → b < Q
+    → P ≡ planFor R t m Q i f a b (sideOf (R .member) (R .first) a) (sideOf (R .member) (R .first) b)
+    → (P .left + P .right + P .shift ≤ P .total) × (P .total ≤ 131072)
+plan-sizes R t m Q i f a b P fits ha hb e =
+    subst (λ (P : Plan). (P .left + P .right + P .shift ≤ P .total) × (P .total ≤ 131072)) (sym e) (omega arith, omega (arith, l, r, s, p))
+  where
+    x : Side
+    x = sideOf (R .member) (R .first) a
+
+    y : Side
+    y = sideOf (R .member) (R .first) b
+
+    xs : x .span ≤ limits .maxStates
+    xs = span-le (R .member) (R .first) a x (fits .side a ha) refl
+
+    ys : y .span ≤ limits .maxStates
+    ys = span-le (R .member) (R .first) b y (fits .side b hb) refl
+
+    l : aloneOf (R .ahead) t m f x b ≤ limits .maxStates
+    l = alone-small (R .ahead) t m f x b (aloneOf (R .ahead) t m f x b) refl xs
+
+    r : aloneOf (R .ahead) t m f y a ≤ limits .maxStates
+    r = alone-small (R .ahead) t m f y a (aloneOf (R .ahead) t m f y a) refl ys
+
+    s : shiftOf (R .ahead) t f a b ≤ 1
+    s = shift-le (R .ahead) t f a b
+
+    p : pairsOf (R .number) m f a b x y ≤ 65536
+    p = pairs-small (R .number) m f a b x y (pairsOf (R .number) m f a b x y) refl xs ys
+
+-- the digits of an index, from one division
+one-layer : (L a row Q f : ℕ) → L < 2 → a < Q → L * Q + a ≡ row → f ≡ choose (ltb row Q) 0 1 → (f ≡ L) × (f * Q ≤ row) × (row - f * Q ≡ a)
+one-layer zero a row Q f h l e g =
+    let z : f ≡ 0 = g ∙ simp (lt-ltb row Q (omega arith)) in
+    let w : f * Q ≡ 0 * Q = ap (λ (n : ℕ). n * Q) z in
+    (z, omega (arith, w), omega (arith, w, e))
+one-layer (suc zero) a row Q f h l e g =
+    let z : f ≡ 1 = g ∙ simp (le-ltb row Q (omega arith)) in
+    let w : f * Q ≡ 1 * Q = ap (λ (n : ℕ). n * Q) z in
+    (z, omega (arith, w, e), omega (arith, w, e))
+one-layer (suc (suc L)) a row Q f h l e g = absurd (omega arith)
+
+pub one-division : (Q i f : ℕ) → 0 < Q → i < tripleCount Q → f ≡ choose (ltb (i / Q) Q) 0 1
+    → (f * Q ≤ i / Q) × (i / Q - f * Q < Q) × (i % Q < Q) × (index Q f (i / Q - f * Q) (i % Q) ≡ i)
+one-division Q i f h l e =
+    let d = digits Q i h l in
+    let w : layerOf Q i * Q + leftOf Q i ≡ i / Q = ap (λ (n : ℕ). n * Q + leftOf Q i) (sym (div-div-eq-div-mul i Q Q)) ∙ div-add-mod' (i / Q) Q in
+    let r = one-layer (layerOf Q i) (leftOf Q i) (i / Q) Q f (d .layer) (d .left) w e in (
+      r .1,
+      omega (arith, r .2, d .left),
+      d .right,
+      ap (λ (n : ℕ). index Q n (i / Q - f * Q) (i % Q)) (r .0) ∙ ap (λ (n : ℕ). index Q (layerOf Q i) n (i % Q)) (r .2) ∙ d .whole,
+    )

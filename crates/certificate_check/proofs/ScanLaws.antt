@@ -2,9 +2,11 @@
 use mathlib.Core.Path.{_≡_, refl, ap, sym, subst, _∙_}
 use mathlib.Core.Bool.{Bool, true, false, not, _&&_}
 use mathlib.Core.List.{List}
+use mathlib.Core.Logic.{inl, inr}
 use Prim.Native.Nat.{ℕ, _+_, _-_, _≤_, _<_}
 use native.Mathlib.Omega.{arith}
 use native.Mathlib.Decide.{decLt}
+use Rattle.grammar.specs.Basics.{Mem}
 use Rattle.grammar.specs.Limits.{limits}
 use Rattle.grammar.specs.Grammar.{Grammar}
 use Rattle.grammar.proofs.Answers.{no-bool}
@@ -14,7 +16,7 @@ use Rattle.triples.specs.Certificate.{isSet, areSet, lowest, lowestLacking}
 use Rattle.triple_laws.proofs.Lowest.{lowest-is, lowest-none, are-set, set-all}
 use Rattle.certificate_check.specs.declared.Plan.{Plan}
 use Rattle.certificate_check.specs.Plan.{Rows, planOf, nextOf}
-use Rattle.certificate_check.specs.Contracts.{Verified, Lists, Planned}
+use Rattle.certificate_check.specs.Contracts.{Verified, Planned, Has, Rest}
 use Rattle.certificate_check.proofs.BitLaws.{lowest-at}
 
 -- the index is held and lacks a successor
@@ -36,14 +38,12 @@ held-more bytes P targets Q k j old e f h l = elim (decLt h k) [
   | no n ↦ let q : h ≡ k = omega arith in ap (λ (h : ℕ). isSet bytes (nextOf P targets Q h)) q ∙ ap (isSet bytes) (sym e) ∙ f
 ]
 
-abbrev Inside : List ℕ → ℕ → ℕ → Plan → Type 0
-Inside targets Q k P = k < P .total → nextOf P targets Q k < tripleCount Q
-
-pub next-inside : (R : Rows) (targets : List ℕ) (t m Q i k j : ℕ) (P : Plan) → Verified R targets t m Q → i < tripleCount Q → P ≡ planOf R t m Q i
-    → k < P .total → j ≡ nextOf P targets Q k → j < tripleCount Q
-next-inside R targets t m Q i k j P v h e l q =
-    subst (λ (j : ℕ). j < tripleCount Q) (sym q)
-    (subst (Inside targets Q k) (sym e) (v .inside i k h) l)
+-- a plan's successors are triples
+pub next-inside : (R : Rows) (targets : List ℕ) (t m Q : ℕ) (bytes : List ℕ) (i k j : ℕ) (P : Plan) → Verified R targets t m Q → i < tripleCount Q
+    → Rest R t m Q bytes i P → k < P .total → j ≡ nextOf P targets Q k → j < tripleCount Q
+next-inside R targets t m Q bytes i k j P v h e l q =
+    let r = e .each targets j (k, l, sym q) in
+    subst (λ (j : ℕ). j < tripleCount Q) (r .2) (v .inside i (r .0) h (r .1))
 
 lacks-clear : (a b : Bool) → a ≡ false → a && not b ≡ false
 lacks-clear true b e = no-bool e
@@ -58,6 +58,11 @@ lacks-open : (a b : Bool) → a ≡ true → b ≡ false → a && not b ≡ true
 lacks-open true false e f = refl
 lacks-open true true e f = no-bool f
 lacks-open false b e f = no-bool (sym e)
+
+lacks-none : (a b : Bool) → a ≡ true → a && not b ≡ false → b ≡ true
+lacks-none true true e f = refl
+lacks-none true false e f = no-bool f
+lacks-none false b e f = no-bool (sym e)
 
 -- what the lowest set bit says
 pub record NextSet (bytes : List ℕ) (from to i : ℕ) : Type 0 where
@@ -76,8 +81,8 @@ module _ (R : Rows) (targets : List ℕ) (t m Q : ℕ) (bytes : List ℕ) where
   pub none-start : (to i : ℕ) → NextSet bytes 0 to i → NoneBelow R targets t m Q bytes i
   none-start to i n G p j l = lacks-clear (isSet bytes j) (areSet bytes (successors limits G j)) (n .clear j (omega arith) l)
 
-  -- one turn: all successors of i are held
-  pub none-more : (i k i′ to : ℕ) (P : Plan) → i < tripleCount Q → P ≡ planOf R t m Q i → HeldTo bytes P targets Q k → P .total ≤ k
+  -- one turn: the successors of i that are tried are held, and the others have been tried before
+  pub none-more : (i k i′ to : ℕ) (P : Plan) → i < tripleCount Q → Rest R t m Q bytes i P → HeldTo bytes P targets Q k → P .total ≤ k
       → NextSet bytes (i + 1) to i′ → NoneBelow R targets t m Q bytes i → NoneBelow R targets t m Q bytes i′
   none-more i k i′ to P h e held whole n old G p j l = elim (decLt j i) [
     | yes b ↦ old G p j b
@@ -87,14 +92,20 @@ module _ (R : Rows) (targets : List ℕ) (t m Q : ℕ) (bytes : List ℕ) where
     ]
   ]
     where
-      lists : Lists P targets Q (successors limits G i)
-      lists = subst (λ (P : Plan). Lists P targets Q (successors limits G i)) (sym e) (p .lists i h)
+      tried : (j : ℕ) → Has P targets Q j → isSet bytes j ≡ true
+      tried j x = ap (isSet bytes) (sym (x .2)) ∙ held (x .0) (omega (arith, x .1, whole))
+
+      before : (j g : ℕ) → g < i → isSet bytes g ≡ true → Has (planOf R t m Q g) targets Q j → isSet bytes j ≡ true
+      before j g l s x =
+          are-set bytes (successors limits G g) (lacks-none (isSet bytes g) (areSet bytes (successors limits G g)) s (old G p g l))
+          (subst (λ (j : ℕ). Mem j (successors limits G g)) (x .2) (p .lists g (omega arith) .each (x .0) (x .1)))
 
       full : areSet bytes (successors limits G i) ≡ true
-      full = set-all bytes (successors limits G i) (λ j a. let r = lists .all j a in ap (isSet bytes) (sym (r .2)) ∙ held (r .0) (omega (arith, r .1)))
+      full = set-all bytes (successors limits G i)
+          (λ j a. elim (e .all targets j (p .lists i h .all j a)) [ inl x ↦ tried j x | inr y ↦ before j (y .0) (y .1) (y .2) (y .3) ])
 
   -- a successor of i is not held
-  pub scan-found : (i k j : ℕ) (P : Plan) → i < tripleCount Q → P ≡ planOf R t m Q i → isSet bytes i ≡ true → k < P .total
+  pub scan-found : (i k j : ℕ) (P : Plan) → i < tripleCount Q → Rest R t m Q bytes i P → isSet bytes i ≡ true → k < P .total
       → j ≡ nextOf P targets Q k → isSet bytes j ≡ false → NoneBelow R targets t m Q bytes i
       → (G : Grammar) → Planned G R targets t m Q → i ≡ lowestLacking limits G bytes
   scan-found i k j P h e s l q f old G p =
@@ -102,11 +113,13 @@ module _ (R : Rows) (targets : List ℕ) (t m Q : ℕ) (bytes : List ℕ) where
       (lowest-at (lacks G bytes) (tripleCount Q) 0 i (omega arith) (omega arith) (λ k a b. old G p k b)
       (lacks-open (isSet bytes i) (areSet bytes (successors limits G i)) s (missing (areSet bytes (successors limits G i)) refl)))
     where
-      lists : Lists P targets Q (successors limits G i)
-      lists = subst (λ (P : Plan). Lists P targets Q (successors limits G i)) (sym e) (p .lists i h)
+      among : Mem j (successors limits G i)
+      among =
+          let r = e .each targets j (k, l, sym q) in
+          subst (λ (j : ℕ). Mem j (successors limits G i)) (r .2) (p .lists i h .each (r .0) (r .1))
 
       missing : (b : Bool) → areSet bytes (successors limits G i) ≡ b → b ≡ false
-      missing true a = no-bool (sym (are-set bytes (successors limits G i) a (lists .each k l)) ∙ ap (isSet bytes) (sym q) ∙ f)
+      missing true a = no-bool (sym (are-set bytes (successors limits G i) a among) ∙ f)
       missing false a = refl
 
   -- none lacks one

@@ -1,7 +1,8 @@
 -- What the contracts of the certificate check's inner functions say. Assumes nothing.
-use Prim.Native.Nat.{ℕ, _+_, _-_, _/_, _≤_, _<_}
+use Prim.Native.Nat.{ℕ, _+_, _-_, _*_, _/_, _≤_, _<_}
 use mathlib.Core.Path.{_≡_}
-use mathlib.Core.Bool.{false}
+use mathlib.Core.Bool.{true, false}
+use mathlib.Core.Logic.{_⊎_}
 use mathlib.Core.List.{List}
 use lib.ListN.{getD}
 use Rattle.grammar.specs.Basics.{Mem}
@@ -53,6 +54,23 @@ pub record Verified (R : Rows) (targets : List ℕ) (t m Q : ℕ) : Type 0 where
   pub fits : Fits (R .member) (R .first) Q
   pub safe : (i : ℕ) → i < tripleCount Q → Safe (planOf R t m Q i) Q
   pub inside : (i k : ℕ) → i < tripleCount Q → k < planOf R t m Q i .total → nextOf (planOf R t m Q i) targets Q k < tripleCount Q
+
+-- r is a member of p's class, not after p, and the index that is `step` lower for each state between them is held
+pub record HeldWith (member bytes : List ℕ) (i p step r : ℕ) : Type 0 where
+  pub most : r ≤ p
+  pub class : getD member r 0 ≡ getD member p 0
+  pub held : isSet bytes (i - (p - r) * step) ≡ true
+
+-- j is one of a plan's successors
+abbrev pub Has : Plan → List ℕ → ℕ → ℕ → Type 0
+Has P targets Q j = (k : ℕ) × (k < P .total) × (nextOf P targets Q k ≡ j)
+
+-- a plan is that of index i, but for successors that a held index before i has too
+pub record Rest (R : Rows) (t m Q : ℕ) (bytes : List ℕ) (i : ℕ) (P : Plan) : Type 0 where
+  pub safe : Safe (planOf R t m Q i) Q → Safe P Q
+  pub each : (targets : List ℕ) (j : ℕ) → Has P targets Q j → Has (planOf R t m Q i) targets Q j
+  pub all : (targets : List ℕ) (j : ℕ) → Has (planOf R t m Q i) targets Q j
+      → Has P targets Q j ⊎ ((h : ℕ) × (h < i) × (isSet bytes h ≡ true) × Has (planOf R t m Q h) targets Q j)
 
 -- a plan lists what a list has
 pub record Lists (P : Plan) (targets : List ℕ) (Q : ℕ) (l : List ℕ) : Type 0 where

@@ -49,6 +49,22 @@ unfoldable pub pairsOf : List ℕ → ℕ → ℕ → ℕ → ℕ → Side → S
 pairsOf number m f a b x y =
     choose (eqb f 0 && (ltb (x .kind) m && (ltb (y .kind) m && not (eqb (getD number a 0) (getD number b 0))))) (x .span * y .span) 0
 
+-- the plan with these numbers, in the order of the fields
+abbrev pub planned : ℕ → ℕ → ℕ → ℕ → ℕ → ℕ → ℕ → ℕ → ℕ → ℕ → ℕ → Plan
+planned l r s n lf rf lb rb d c q = record {
+  left = l;
+  right = r;
+  shift = s;
+  total = n;
+  «left_from» = lf;
+  «right_from» = rf;
+  «left_base» = lb;
+  «right_base» = rb;
+  beside = d;
+  columns = c;
+  square = q;
+}
+
 -- the plan of the triple (f, a, b) with index i, where x and y are the sides
 abbrev pub planFor : Rows → ℕ → ℕ → ℕ → ℕ → ℕ → ℕ → ℕ → Side → Side → Plan
 planFor R t m Q i f a b x y =
@@ -86,3 +102,19 @@ nextOf P targets Q k =
     (choose (ltb (k - P .left) (P .right)) (P .«right_base» + getD targets (P .«right_from» + (k - P .left)) 0)
     (choose (ltb (k - P .left - P .right) (P .shift)) (P .beside)
     (pairAt P targets Q (k - P .left - P .right - P .shift))))
+
+-- blocks of these lengths, of the left moves, the right moves and the pairs
+abbrev pub cut : Plan → ℕ → ℕ → ℕ → Plan
+cut P l r p =
+    planned l r (P .shift) (l + r + P .shift + p) (P .«left_from») (P .«right_from») (P .«left_base») (P .«right_base») (P .beside) (P .columns) (P .square)
+
+-- none of n pairs of a and b, where r is before a, or s before b, and its rule is not the other side's either
+unfoldable pub keptPairs : List ℕ → ℕ → ℕ → ℕ → ℕ → ℕ → ℕ
+keptPairs number a b r s n =
+    choose ((ltb r a && not (eqb (getD number r 0) (getD number b 0))) || (ltb s b && not (eqb (getD number s 0) (getD number a 0)))) 0 n
+
+-- the plan of a and b without the blocks that r in place of a, or s in place of b, has too
+unfoldable pub shortened : List ℕ → ℕ → ℕ → ℕ → ℕ → Plan → Plan
+shortened number a b r s P =
+    cut P (choose (ltb r a) 0 (P .left)) (choose (ltb s b) 0 (P .right))
+    (keptPairs number a b r s (P .total - P .left - P .right - P .shift))

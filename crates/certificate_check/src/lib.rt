@@ -1,15 +1,19 @@
 // The certificate check: bits of triples, closed under successors, with (0,0,0) and without (1,1,1). The successors of a triple
 // are counted off the rows of crate moves: a block of left moves, one of right moves, a shift, and the pairs of two closings.
+// States of one class have the same targets: a block that a held triple with an earlier member has too was tried there.
 ghost use mathlib.Core.Path.{_≡_};
-ghost use Prim.Native.Nat.{_+_, _-_, _*_, _≤_, _<_};
-ghost use lib.ListN.{length};
+ghost use Prim.Native.Nat.{ℕ, _+_, _-_, _*_, _≤_, _<_};
+ghost use mathlib.Core.Bool.{true, not, _&&_};
+ghost use lib.Dec.{eqb, ltb};
+ghost use lib.ListN.{length, getD};
+ghost use Rattle.grammar.specs.Basics.{choose};
 ghost use Rattle.grammar.specs.Limits.{limits};
 ghost use Rattle.triples.specs.Index.{tripleCount};
 ghost use Rattle.triples.specs.Certificate.{byteCount, isSet, lowest, checkCertificate};
 ghost use Rattle.triples.specs.Verdict.{checkVerdict};
 ghost use Rattle.moves.specs.Tables.{IsRecord};
-ghost use Rattle.certificate_check.specs.Plan.{rows, readsAt, sideOf, aloneOf, layerAfter, shiftOf, pairsOf, planOf, nextOf};
-ghost use Rattle.certificate_check.specs.Contracts.{Skips, SideFits, Safe, Fits, Scanned, Verified, Checked, BuiltChecked};
+ghost use Rattle.certificate_check.specs.Plan.{rows, readsAt, sideOf, aloneOf, layerAfter, shiftOf, pairsOf, planFor, planned, nextOf, keptPairs, shortened};
+ghost use Rattle.certificate_check.specs.Contracts.{Skips, SideFits, Safe, Fits, HeldWith, Rest, Scanned, Verified, Checked, BuiltChecked};
 use grammar::CERTIFICATE_LENGTH;
 use grammar::CheckedGrammar;
 use grammar::END_PRESENT;
@@ -20,6 +24,9 @@ use grammar::SUCCESSOR_MISSING;
 use grammar::TableVerdict;
 use moves::CLASSES;
 use triples::CheckVerdict;
+
+// A plan with fewer successors is tried as it is: looking for an earlier member would cost more than it spares.
+const WORTH: usize = 6;
 
 // The class of a state, where its targets begin, and how many they are.
 pub struct Side {
@@ -187,7 +194,7 @@ fn pairs_of(
     left.span * right.span
 }
 
-// The plan of the successors of an index.
+// The plan of the successors of the index i of (f, a, b).
 fn plan_of<'a>(
     ahead: &'a [u16; MAX_STATES],
     number: &'a [u16; MAX_STATES],
@@ -197,15 +204,16 @@ fn plan_of<'a>(
     m: u16,
     q: usize,
     i: usize,
+    f: usize,
+    a: usize,
+    b: usize,
 ) -> Plan
     requires { ⌜ Fits (now member) (now first) q ⌝ }
-    requires { ⌜ i < tripleCount q ⌝ }
-    ensures { λ r. ⌜ r ≡ planOf (rows (now (ahead .entry)) (now (number .entry)) (now (member .entry)) (now (first .entry))) t m q i ⌝ }
+    requires { ⌜ (i < tripleCount q) × (a < q) × (b < q) ⌝ }
+    ensures { λ r. ⌜ r ≡ planFor (rows (now (ahead .entry)) (now (number .entry)) (now (member .entry)) (now (first .entry))) t m q i f a b
+        (sideOf (now (member .entry)) (now (first .entry)) a) (sideOf (now (member .entry)) (now (first .entry)) b) ⌝ }
 {
     let square = q * q;
-    let f = i / square;
-    let a = i / q % q;
-    let b = i % q;
     let x = side_of(member, first, a);
     let y = side_of(member, first, b);
     let left = alone_of(ahead, t, m, f, x, b);
@@ -227,36 +235,181 @@ fn plan_of<'a>(
     }
 }
 
-// The k-th successor of a plan.
-fn next_of(plan: Plan, targets: &[u16; MAX_STATES], q: usize, k: usize) -> usize
-    requires { ⌜ Safe plan q ⌝ }
-    requires { ⌜ k < plan .total ⌝ }
-    ensures { λ r. ⌜ r ≡ nextOf plan (now (targets .entry)) q k ⌝ }
+// An earlier member r of the class of p such that the index with r in place of p is held too; without one, p.
+fn held_with<'a>(
+    member: &'a [u16; MAX_STATES],
+    earlier: &'a [u16; MAX_STATES],
+    bytes: &'a [u8],
+    i: usize,
+    p: usize,
+    step: usize,
+) -> usize
+    requires { ⌜ (p < limits .maxStates) × (p * step ≤ i) × (i < 8 * length (now bytes)) × (isSet (now bytes) i ≡ true) ⌝ }
+    ensures { λ r. ⌜ HeldWith (now (member .entry)) (now (bytes .entry)) i p step r ⌝ }
 {
-    if k < plan.left {
-        return plan.left_base + wide(targets[plan.left_from + k]) * q;
+    let r = wide(earlier[p]);
+    if p <= r {
+        return p;
     }
-    let on_right = k - plan.left;
-    if on_right < plan.right {
-        return plan.right_base + wide(targets[plan.right_from + on_right]);
+    if member[r] != member[p] {
+        return p;
     }
-    let on_both = on_right - plan.right;
-    if on_both < plan.shift {
-        return plan.beside;
+    if is_set(bytes, i - (p - r) * step) {
+        return r;
     }
-    let pair = on_both - plan.shift;
-    let u = wide(targets[plan.left_from + pair / plan.columns]);
-    let v = wide(targets[plan.right_from + pair % plan.columns]);
-    plan.square + u * q + v
+    p
 }
 
-// The lowest held index that lacks a successor, or 2Q².
+// A block's length, or 0 if r is before p: the index with r in place of p has the block too.
+fn kept(n: usize, p: usize, r: usize) -> usize
+    ensures { λ k. ⌜ k ≡ choose (ltb r p) 0 n ⌝ }
+{
+    if r < p {
+        return 0;
+    }
+    n
+}
+
+// Is r before p, and of another rule than the other side?
+fn parts_before(number: &[u16; MAX_STATES], p: usize, r: usize, other: usize) -> bool
+    requires { ⌜ (r < limits .maxStates) × (other < limits .maxStates) ⌝ }
+    ensures { λ k. ⌜ k ≡ ltb r p && not (eqb (getD (now (number .entry)) r 0) (getD (now (number .entry)) other 0)) ⌝ }
+{
+    if r < p {
+        return number[r] != number[other];
+    }
+    false
+}
+
+// The number of pairs of a and b, or 0 if r in place of a, or s in place of b, has them too.
+fn pairs_kept(number: &[u16; MAX_STATES], n: usize, a: usize, b: usize, r: usize, s: usize) -> usize
+    requires { ⌜ (a < limits .maxStates) × (b < limits .maxStates) × (r < limits .maxStates) × (s < limits .maxStates) ⌝ }
+    ensures { λ k. ⌜ k ≡ keptPairs (now (number .entry)) a b r s n ⌝ }
+{
+    if parts_before(number, a, r, b) {
+        return 0;
+    }
+    if parts_before(number, b, s, a) {
+        return 0;
+    }
+    n
+}
+
+// The plan without the blocks that r in place of a, or s in place of b, has too.
+fn shorten(plan: Plan, number: &[u16; MAX_STATES], a: usize, b: usize, r: usize, s: usize) -> Plan
+    requires { ⌜ (a < limits .maxStates) × (b < limits .maxStates) × (r < limits .maxStates) × (s < limits .maxStates) ⌝ }
+    requires { ⌜ (plan .left + plan .right + plan .shift ≤ plan .total) × (plan .total ≤ 131072) ⌝ }
+    ensures { λ k. ⌜ k ≡ shortened (now (number .entry)) a b r s plan ⌝ }
+{
+    let left = kept(plan.left, a, r);
+    let right = kept(plan.right, b, s);
+    let pairs = pairs_kept(
+        number,
+        plan.total - plan.left - plan.right - plan.shift,
+        a,
+        b,
+        r,
+        s,
+    );
+    Plan {
+        left: left,
+        right: right,
+        shift: plan.shift,
+        total: left + right + plan.shift + pairs,
+        left_from: plan.left_from,
+        right_from: plan.right_from,
+        left_base: plan.left_base,
+        right_base: plan.right_base,
+        beside: plan.beside,
+        columns: plan.columns,
+        square: plan.square,
+    }
+}
+
+// The layer of the index i, where row is i / q.
+fn layer_of(row: usize, q: usize) -> usize
+    ensures { λ r. ⌜ r ≡ choose (ltb row q) 0 1 ⌝ }
+{
+    if row < q {
+        return 0;
+    }
+    1
+}
+
+// The successors of a held index that are to be tried: a held index with an earlier member of a class has had the others.
+fn rest_of<'a>(
+    ahead: &'a [u16; MAX_STATES],
+    number: &'a [u16; MAX_STATES],
+    member: &'a [u16; MAX_STATES],
+    first: &'a [u16; CLASSES],
+    earlier: &'a [u16; MAX_STATES],
+    t: u16,
+    m: u16,
+    q: usize,
+    bytes: &'a [u8],
+    i: usize,
+) -> Plan
+    requires { ⌜ Fits (now member) (now first) q ⌝ }
+    requires { ⌜ (i < tripleCount q) × (tripleCount q ≤ 8 * length (now bytes)) × (isSet (now bytes) i ≡ true) ⌝ }
+    ensures { λ r. ⌜ Rest (rows (now (ahead .entry)) (now (number .entry)) (now (member .entry)) (now (first .entry))) t m q (now (bytes .entry)) i r ⌝ }
+{
+    let row = i / q;
+    let f = layer_of(row, q);
+    let a = row - f * q;
+    let b = i % q;
+    let plan = plan_of(ahead, number, member, first, t, m, q, i, f, a, b);
+    if plan.total < WORTH {
+        return plan;
+    }
+    let r = held_with(member, earlier, bytes, i, a, q);
+    let s = held_with(member, earlier, bytes, i, b, 1);
+    shorten(plan, number, a, b, r, s)
+}
+
+// The k-th successor of the plan with these numbers.
+fn next_of(
+    left: usize,
+    right: usize,
+    shift: usize,
+    left_from: usize,
+    right_from: usize,
+    left_base: usize,
+    right_base: usize,
+    beside: usize,
+    columns: usize,
+    square: usize,
+    targets: &[u16; MAX_STATES],
+    q: usize,
+    k: usize,
+) -> usize
+    requires { ⌜ Safe (planned left right shift (k + 1) «left_from» «right_from» «left_base» «right_base» beside columns square) q ⌝ }
+    ensures { λ r. ⌜ r ≡ nextOf (planned left right shift (k + 1) «left_from» «right_from» «left_base» «right_base» beside columns square) (now (targets .entry)) q k ⌝ }
+{
+    if k < left {
+        return left_base + wide(targets[left_from + k]) * q;
+    }
+    let on_right = k - left;
+    if on_right < right {
+        return right_base + wide(targets[right_from + on_right]);
+    }
+    let on_both = on_right - right;
+    if on_both < shift {
+        return beside;
+    }
+    let pair = on_both - shift;
+    let u = wide(targets[left_from + pair / columns]);
+    let v = wide(targets[right_from + pair % columns]);
+    square + u * q + v
+}
+
+// The lowest held index that lacks a successor, or 2Q². `earlier` is a hint: any row gives the same answer.
 fn lowest_lacking<'a>(
     ahead: &'a [u16; MAX_STATES],
     number: &'a [u16; MAX_STATES],
     member: &'a [u16; MAX_STATES],
     first: &'a [u16; CLASSES],
     targets: &'a [u16; MAX_STATES],
+    earlier: &'a [u16; MAX_STATES],
     t: u16,
     m: u16,
     q: usize,
@@ -270,10 +423,24 @@ fn lowest_lacking<'a>(
     let mut answer = count;
     let mut i = lowest_set(bytes, 0, count);
     'scan: while i < count {
-        let plan = plan_of(ahead, number, member, first, t, m, q, i);
+        let plan = rest_of(ahead, number, member, first, earlier, t, m, q, bytes, i);
         let mut k = 0;
         while k < plan.total {
-            let j = next_of(plan, targets, q, k);
+            let j = next_of(
+                plan.left,
+                plan.right,
+                plan.shift,
+                plan.left_from,
+                plan.right_from,
+                plan.left_base,
+                plan.right_base,
+                plan.beside,
+                plan.columns,
+                plan.square,
+                targets,
+                q,
+                k,
+            );
             if is_set(bytes, j) {
                 k += 1;
             } else {
@@ -284,6 +451,21 @@ fn lowest_lacking<'a>(
         i = lowest_set(bytes, i + 1, count);
     }
     answer
+}
+
+// Notes for each of q states the last state of its class before it; without one, state 0.
+fn note_earlier(member: &[u16; MAX_STATES], q: usize, earlier: &mut [u16])
+    requires { ⌜ (q ≤ limits .maxStates) × (q ≤ length (now earlier)) ⌝ }
+    requires { ⌜ ((p : ℕ) → p < q → getD (now member) p 0 ≤ 256) ⌝ }
+{
+    let mut last = [0u16; CLASSES];
+    let mut p = 0;
+    while p < q {
+        let c = wide(member[p]);
+        earlier[p] = last[c];
+        last[c] = p as u16;
+        p += 1;
+    }
 }
 
 // The refusals 9 to 13, in this order, for the rows of a grammar with q states.
@@ -318,7 +500,20 @@ fn check_bits<'a>(
     if is_set(bytes, end) {
         return CheckVerdict::Refused(END_PRESENT, end);
     }
-    let lacking = lowest_lacking(ahead, number, member, first, targets, t, m, q, bytes);
+    let mut earlier = [0u16; MAX_STATES];
+    note_earlier(member, q, &mut earlier);
+    let lacking = lowest_lacking(
+        ahead,
+        number,
+        member,
+        first,
+        targets,
+        &earlier,
+        t,
+        m,
+        q,
+        bytes,
+    );
     if lacking != count {
         return CheckVerdict::Refused(SUCCESSOR_MISSING, lacking);
     }

@@ -19,30 +19,30 @@ Inv-loop bytes from to i₀ i = (from ≤ i) × (i < to + 8) × ((k : ℕ) → f
 abbrev μ-loop : tie.MeasureT-loop
 μ-loop bytes from to i₀ i = to + 8 - i
 
--- src/lib.rt:77:5
+-- src/lib.rt:84:5
 loop-holds : tie.Need-loop-holds Inv-loop μ-loop
 loop-holds c = (omega arith, omega (arith, c .before .pre .0), λ k h l u. absurd (omega arith))
 
--- src/lib.rt:78:12
+-- src/lib.rt:85:12
 is-set-requires : tie.Need-is-set-requires Inv-loop μ-loop
 is-set-requires c κs = search needs
 
--- src/lib.rt:79:13
+-- src/lib.rt:86:13
 returns : tie.Need-returns Inv-loop μ-loop
 returns c =
     let a = c .before .before .before .before .before .args in
     let l = c .before .before .before .loop in
     set-found (a .bytes .now) (a .from) (a .to) (l .i) (l .inv .0) (c .before .before .loop-test .taken) (l .inv .2) (sym (c .before .is-set .ensures) ∙ c .if1 .taken)
 
--- src/lib.rt:81:9
+-- src/lib.rt:88:9
 skip-requires : tie.Need-skip-requires Inv-loop μ-loop
 skip-requires c κs = search needs
 
--- src/lib.rt:77:5
+-- src/lib.rt:84:5
 loop-less : tie.Need-loop-less Inv-loop μ-loop
 loop-less c = let s = c .skip .ensures in omega (arith, s .more, s .near)
 
--- src/lib.rt:77:5
+-- src/lib.rt:84:5
 loop-again : tie.Need-loop-again Inv-loop μ-loop
 loop-again c =
     let a = c .before .before .before .before .before .before .args in
@@ -53,7 +53,7 @@ loop-again c =
       clear-more (a .bytes .now) (a .from) (a .to) (l .i) (c .skip .result) (l .inv .2) (sym (c .before .before .is-set .ensures) ∙ c .before .if1 .left) s,
     )
 
--- src/lib.rt:72:1
+-- src/lib.rt:79:1
 returns-2 : tie.Need-returns-2 Inv-loop μ-loop
 returns-2 c =
     let a = c .before .before .before .args in

@@ -1,7 +1,9 @@
 -- next_of meets its contract: each return is the block that the count falls into.
 use borrow.Author.Needs.{needs}
 use native.Mathlib.Omega.{arith}
-use Prim.Native.Nat.{_-_, _/_}
+use Prim.Native.Nat.{_+_, _-_, _/_}
+use Rattle.certificate_check.specs.declared.Plan.{Plan}
+use Rattle.certificate_check.specs.Plan.{planned}
 use Rattle.certificate_check.proofs.PlanLaws.{next-left, next-right, next-shift, next-pair, cell-times, pair-fits}
 use Rattle.certificate_check.proofs.next_of.Statement.{statement}
 use Rattle.certificate_check.proofs.next_of.Tie as tie
@@ -9,117 +11,123 @@ use Rattle.certificate_check.proofs.next_of.Reads as reads
 use Rattle.certificate_check.proofs.next_of.Lts as lts
 use Rattle.certificate_check.proofs.wide.Reads as wide-reads
 
--- src/lib.rt:229:46
+-- the plan with the numbers at hand
+abbrev plan : tie.Start → Plan
+plan e =
+    let a = e .args in
+    planned (a .left) (a .right) (a .shift) (a .k + 1) (a .left-from) (a .right-from) (a .left-base) (a .right-base) (a .beside) (a .columns) (a .square)
+
+-- src/lib.rt:389:41
 add-wide : tie.Need-add-wide
-add-wide c = let a = c .before .before .before .args in let s = c .before .before .before .pre .0 in omega (arith, s .left)
+add-wide c = let e = c .before in omega (arith, e .pre .left, c .if1 .taken)
 
--- src/lib.rt:229:38
+-- src/lib.rt:389:33
 mul-wide : tie.Need-mul-wide
-mul-wide c = let a = c .before .before .before .args in let s = c .before .before .before .pre .0 in omega (arith, s .left)
+mul-wide c = let e = c .before in omega (arith, e .pre .left, c .if1 .taken)
 
--- src/lib.rt:229:38
+-- src/lib.rt:389:33
 element-copy-out-wide : tie.Need-element-copy-out-wide
-element-copy-out-wide c = let a = c .before .before .before .args in let s = c .before .before .before .pre .0 in omega (arith, s .left)
+element-copy-out-wide c = let e = c .before in omega (arith, e .pre .left, c .if1 .taken)
 
--- src/lib.rt:229:33
+-- src/lib.rt:389:28
 wide-requires : tie.Need-wide-requires
 wide-requires c κs = search needs
 
--- src/lib.rt:229:33
+-- src/lib.rt:389:28
 mul-result : tie.Need-mul-result
-mul-result c = let a = c .before .before .before .before .before .args in let s = c .before .before .before .before .before .pre .0 in omega (arith, cell-times (c .wide .result) (a .q) (s .few) (omega (arith, c .wide .ensures .1)))
+mul-result c = let e = c .before .before .before in omega (arith, cell-times (c .wide .result) (e .args .q) (e .pre .few) (omega (arith, c .wide .ensures .1)))
 
--- src/lib.rt:229:16
+-- src/lib.rt:389:16
 add-result : tie.Need-add-result
-add-result c = let a = c .before .before .before .before .before .before .args in let s = c .before .before .before .before .before .before .pre .0 in omega (arith, s .left-base, cell-times (c .before .wide .result) (a .q) (s .few) (omega (arith, c .before .wide .ensures .1)))
+add-result c = let e = c .before .before .before in omega (arith, e .pre .left-base, cell-times (c .wide .result) (e .args .q) (e .pre .few) (omega (arith, c .wide .ensures .1)))
 
--- src/lib.rt:229:9
+-- src/lib.rt:389:9
 returns : tie.Need-returns
-returns c = let a = c .before .before .before .before .before .before .args in let s = c .before .before .before .before .before .before .pre .0 in next-left (a .plan) (a .targets .now) (a .q) (a .k) (c .before .wide .result) (c .before .before .before .before .if1 .taken) (c .before .wide .ensures .0)
+returns c = let e = c .before .before .before in next-left (plan e) (e .args .targets .now) (e .args .q) (e .args .k) (c .wide .result) (c .before .before .if1 .taken) (c .wide .ensures .0)
 
--- src/lib.rt:233:47
+-- src/lib.rt:393:42
 add-wide-2 : tie.Need-add-wide-2
-add-wide-2 c = let a = c .before .before .before .before .before .before .args in let s = c .before .before .before .before .before .before .pre .0 in omega (arith, s .right)
+add-wide-2 c = let e = c .before .before in omega (arith, e .pre .right, c .if2 .taken)
 
--- src/lib.rt:233:39
+-- src/lib.rt:393:34
 mul-wide-2 : tie.Need-mul-wide-2
-mul-wide-2 c = let a = c .before .before .before .before .before .before .args in let s = c .before .before .before .before .before .before .pre .0 in omega (arith, s .right)
+mul-wide-2 c = let e = c .before .before in omega (arith, e .pre .right, c .if2 .taken)
 
--- src/lib.rt:233:39
+-- src/lib.rt:393:34
 element-copy-out-wide-2 : tie.Need-element-copy-out-wide-2
-element-copy-out-wide-2 c = let a = c .before .before .before .before .before .before .args in let s = c .before .before .before .before .before .before .pre .0 in omega (arith, s .right)
+element-copy-out-wide-2 c = let e = c .before .before in omega (arith, e .pre .right, c .if2 .taken)
 
--- src/lib.rt:233:34
+-- src/lib.rt:393:29
 wide-requires-2 : tie.Need-wide-requires-2
 wide-requires-2 c κs = search needs
 
--- src/lib.rt:233:16
+-- src/lib.rt:393:16
 add-result-2 : tie.Need-add-result-2
-add-result-2 c = let a = c .before .before .before .before .before .before .before .before .before .args in let s = c .before .before .before .before .before .before .before .before .before .pre .0 in omega (arith, s .right-base, c .before .wide2 .ensures .1)
+add-result-2 c = let e = c .before .before .before .before in omega (arith, e .pre .right-base, c .wide2 .ensures .1)
 
--- src/lib.rt:233:9
+-- src/lib.rt:393:9
 returns-2 : tie.Need-returns-2
-returns-2 c = let a = c .before .before .before .before .before .before .before .before .before .args in let s = c .before .before .before .before .before .before .before .before .before .pre .0 in next-right (a .plan) (a .targets .now) (a .q) (a .k) (c .before .wide2 .result) (c .before .before .before .before .before .before .before .if1 .left) (c .before .before .before .before .if2 .taken) (c .before .wide2 .ensures .0)
+returns-2 c = let e = c .before .before .before .before in next-right (plan e) (e .args .targets .now) (e .args .q) (e .args .k) (c .wide2 .result) (c .before .before .before .if1 .left) (c .before .before .if2 .taken) (c .wide2 .ensures .0)
 
--- src/lib.rt:237:9
+-- src/lib.rt:397:9
 returns-3 : tie.Need-returns-3
-returns-3 c = let a = c .before .before .before .before .before .before .before .before .args in let s = c .before .before .before .before .before .before .before .before .pre .0 in next-shift (a .plan) (a .targets .now) (a .q) (a .k) (c .before .before .before .before .before .before .if1 .left) (c .before .before .before .if2 .left) (c .if3 .taken)
+returns-3 c = let e = c .before .before .before in next-shift (plan e) (e .args .targets .now) (e .args .q) (e .args .k) (c .before .before .if1 .left) (c .before .if2 .left) (c .if3 .taken)
 
--- src/lib.rt:240:43
+-- src/lib.rt:400:38
 div-wide : tie.Need-div-wide
-div-wide c = let a = c .before .before .before .before .before .before .before .before .before .before .args in let s = c .before .before .before .before .before .before .before .before .before .before .pre .0 in let w = pair-fits (a .plan) (a .q) (a .k) s (c .before .before .before .before .before .before .before .before .before .before .pre .1) (c .before .before .before .before .before .before .before .before .if1 .left) (c .before .before .before .before .before .if2 .left) (c .before .before .if3 .left) in omega (arith, w .0)
+div-wide c = let e = c .before .before .before in let w = pair-fits (plan e) (e .args .q) (e .args .k) (e .pre) (omega arith) (c .before .before .if1 .left) (c .before .if2 .left) (c .if3 .left) in omega (arith, w .0)
 
--- src/lib.rt:240:26
+-- src/lib.rt:400:26
 add-wide-3 : tie.Need-add-wide-3
-add-wide-3 c = let a = c .before .before .before .before .before .before .before .before .before .before .before .args in let s = c .before .before .before .before .before .before .before .before .before .before .before .pre .0 in let w = pair-fits (a .plan) (a .q) (a .k) s (c .before .before .before .before .before .before .before .before .before .before .before .pre .1) (c .before .before .before .before .before .before .before .before .before .if1 .left) (c .before .before .before .before .before .before .if2 .left) (c .before .before .before .if3 .left) in omega (arith, w .1)
+add-wide-3 c = let e = c .before .before .before in let w = pair-fits (plan e) (e .args .q) (e .args .k) (e .pre) (omega arith) (c .before .before .if1 .left) (c .before .if2 .left) (c .if3 .left) in omega (arith, w .1)
 
--- src/lib.rt:240:18
+-- src/lib.rt:400:18
 mul-wide-3 : tie.Need-mul-wide-3
-mul-wide-3 c = let a = c .before .before .before .before .before .before .before .before .before .before .before .args in let s = c .before .before .before .before .before .before .before .before .before .before .before .pre .0 in let w = pair-fits (a .plan) (a .q) (a .k) s (c .before .before .before .before .before .before .before .before .before .before .before .pre .1) (c .before .before .before .before .before .before .before .before .before .if1 .left) (c .before .before .before .before .before .before .if2 .left) (c .before .before .before .if3 .left) in omega (arith, w .1)
+mul-wide-3 c = let e = c .before .before .before in let w = pair-fits (plan e) (e .args .q) (e .args .k) (e .pre) (omega arith) (c .before .before .if1 .left) (c .before .if2 .left) (c .if3 .left) in omega (arith, w .1)
 
--- src/lib.rt:240:18
+-- src/lib.rt:400:18
 element-copy-out-wide-3 : tie.Need-element-copy-out-wide-3
-element-copy-out-wide-3 c = let a = c .before .before .before .before .before .before .before .before .before .before .before .args in let s = c .before .before .before .before .before .before .before .before .before .before .before .pre .0 in let w = pair-fits (a .plan) (a .q) (a .k) s (c .before .before .before .before .before .before .before .before .before .before .before .pre .1) (c .before .before .before .before .before .before .before .before .before .if1 .left) (c .before .before .before .before .before .before .if2 .left) (c .before .before .before .if3 .left) in omega (arith, w .1)
+element-copy-out-wide-3 c = let e = c .before .before .before in let w = pair-fits (plan e) (e .args .q) (e .args .k) (e .pre) (omega arith) (c .before .before .if1 .left) (c .before .if2 .left) (c .if3 .left) in omega (arith, w .1)
 
--- src/lib.rt:240:9
+-- src/lib.rt:400:9
 wide-requires-3 : tie.Need-wide-requires-3
 wide-requires-3 c κs = search needs
 
--- src/lib.rt:241:44
+-- src/lib.rt:401:39
 rem-wide : tie.Need-rem-wide
-rem-wide c = let a = c .before .before .before .before .before .before .before .before .before .before .before .before .before .before .args in let s = c .before .before .before .before .before .before .before .before .before .before .before .before .before .before .pre .0 in let w = pair-fits (a .plan) (a .q) (a .k) s (c .before .before .before .before .before .before .before .before .before .before .before .before .before .before .pre .1) (c .before .before .before .before .before .before .before .before .before .before .before .before .if1 .left) (c .before .before .before .before .before .before .before .before .before .if2 .left) (c .before .before .before .before .before .before .if3 .left) in omega (arith, w .0)
+rem-wide c = let e = c .before .before .before .before .before in let w = pair-fits (plan e) (e .args .q) (e .args .k) (e .pre) (omega arith) (c .before .before .before .before .if1 .left) (c .before .before .before .if2 .left) (c .before .before .if3 .left) in omega (arith, w .0)
 
--- src/lib.rt:241:26
+-- src/lib.rt:401:26
 add-wide-4 : tie.Need-add-wide-4
-add-wide-4 c = let a = c .before .before .before .before .before .before .before .before .before .before .before .before .before .before .before .args in let s = c .before .before .before .before .before .before .before .before .before .before .before .before .before .before .before .pre .0 in let w = pair-fits (a .plan) (a .q) (a .k) s (c .before .before .before .before .before .before .before .before .before .before .before .before .before .before .before .pre .1) (c .before .before .before .before .before .before .before .before .before .before .before .before .before .if1 .left) (c .before .before .before .before .before .before .before .before .before .before .if2 .left) (c .before .before .before .before .before .before .before .if3 .left) in omega (arith, w .2)
+add-wide-4 c = let e = c .before .before .before .before .before in let w = pair-fits (plan e) (e .args .q) (e .args .k) (e .pre) (omega arith) (c .before .before .before .before .if1 .left) (c .before .before .before .if2 .left) (c .before .before .if3 .left) in omega (arith, w .2)
 
--- src/lib.rt:241:18
+-- src/lib.rt:401:18
 mul-wide-4 : tie.Need-mul-wide-4
-mul-wide-4 c = let a = c .before .before .before .before .before .before .before .before .before .before .before .before .before .before .before .args in let s = c .before .before .before .before .before .before .before .before .before .before .before .before .before .before .before .pre .0 in let w = pair-fits (a .plan) (a .q) (a .k) s (c .before .before .before .before .before .before .before .before .before .before .before .before .before .before .before .pre .1) (c .before .before .before .before .before .before .before .before .before .before .before .before .before .if1 .left) (c .before .before .before .before .before .before .before .before .before .before .if2 .left) (c .before .before .before .before .before .before .before .if3 .left) in omega (arith, w .2)
+mul-wide-4 c = let e = c .before .before .before .before .before in let w = pair-fits (plan e) (e .args .q) (e .args .k) (e .pre) (omega arith) (c .before .before .before .before .if1 .left) (c .before .before .before .if2 .left) (c .before .before .if3 .left) in omega (arith, w .2)
 
--- src/lib.rt:241:18
+-- src/lib.rt:401:18
 element-copy-out-wide-4 : tie.Need-element-copy-out-wide-4
-element-copy-out-wide-4 c = let a = c .before .before .before .before .before .before .before .before .before .before .before .before .before .before .before .args in let s = c .before .before .before .before .before .before .before .before .before .before .before .before .before .before .before .pre .0 in let w = pair-fits (a .plan) (a .q) (a .k) s (c .before .before .before .before .before .before .before .before .before .before .before .before .before .before .before .pre .1) (c .before .before .before .before .before .before .before .before .before .before .before .before .before .if1 .left) (c .before .before .before .before .before .before .before .before .before .before .if2 .left) (c .before .before .before .before .before .before .before .if3 .left) in omega (arith, w .2)
+element-copy-out-wide-4 c = let e = c .before .before .before .before .before in let w = pair-fits (plan e) (e .args .q) (e .args .k) (e .pre) (omega arith) (c .before .before .before .before .if1 .left) (c .before .before .before .if2 .left) (c .before .before .if3 .left) in omega (arith, w .2)
 
--- src/lib.rt:241:9
+-- src/lib.rt:401:9
 wide-requires-4 : tie.Need-wide-requires-4
 wide-requires-4 c κs = search needs
 
--- src/lib.rt:242:19
+-- src/lib.rt:402:14
 mul-result-2 : tie.Need-mul-result-2
-mul-result-2 c = let a = c .before .before .before .before .before .before .before .before .before .before .before .before .before .before .before .before .before .args in let s = c .before .before .before .before .before .before .before .before .before .before .before .before .before .before .before .before .before .pre .0 in omega (arith, cell-times (c .before .before .before .before .wide3 .result) (a .q) (s .few) (omega (arith, c .before .before .before .before .wide3 .ensures .1)))
+mul-result-2 c = let e = c .before .before .before .before .before .before .before in omega (arith, cell-times (c .before .before .wide3 .result) (e .args .q) (e .pre .few) (omega (arith, c .before .before .wide3 .ensures .1)))
 
--- src/lib.rt:242:5
+-- src/lib.rt:402:5
 add-result-3 : tie.Need-add-result-3
-add-result-3 c = let a = c .before .before .before .before .before .before .before .before .before .before .before .before .before .before .before .before .before .before .args in let s = c .before .before .before .before .before .before .before .before .before .before .before .before .before .before .before .before .before .before .pre .0 in omega (arith, s .square, cell-times (c .before .before .before .before .before .wide3 .result) (a .q) (s .few) (omega (arith, c .before .before .before .before .before .wide3 .ensures .1)))
+add-result-3 c = let e = c .before .before .before .before .before .before .before in omega (arith, e .pre .square, cell-times (c .before .before .wide3 .result) (e .args .q) (e .pre .few) (omega (arith, c .before .before .wide3 .ensures .1)))
 
--- src/lib.rt:242:5
+-- src/lib.rt:402:5
 add-result-4 : tie.Need-add-result-4
-add-result-4 c = let a = c .before .before .before .before .before .before .before .before .before .before .before .before .before .before .before .before .before .before .args in let s = c .before .before .before .before .before .before .before .before .before .before .before .before .before .before .before .before .before .before .pre .0 in omega (arith, s .square, c .before .wide4 .ensures .1, cell-times (c .before .before .before .before .before .wide3 .result) (a .q) (s .few) (omega (arith, c .before .before .before .before .before .wide3 .ensures .1)))
+add-result-4 c = let e = c .before .before .before .before .before .before .before in omega (arith, e .pre .square, c .wide4 .ensures .1, cell-times (c .before .before .wide3 .result) (e .args .q) (e .pre .few) (omega (arith, c .before .before .wide3 .ensures .1)))
 
--- src/lib.rt:223:1
+-- src/lib.rt:370:1
 returns-4 : tie.Need-returns-4
-returns-4 c = let a = c .before .before .before .before .before .before .before .before .before .before .before .before .before .before .before .before .before .before .args in let s = c .before .before .before .before .before .before .before .before .before .before .before .before .before .before .before .before .before .before .pre .0 in next-pair (a .plan) (a .targets .now) (a .q) (a .k) (c .before .before .before .before .before .wide3 .result) (c .before .wide4 .result) (c .before .before .before .before .before .before .before .before .before .before .before .before .before .before .before .before .if1 .left) (c .before .before .before .before .before .before .before .before .before .before .before .before .before .if2 .left) (c .before .before .before .before .before .before .before .before .before .before .if3 .left) (c .before .before .before .before .before .wide3 .ensures .0) (c .before .wide4 .ensures .0)
+returns-4 c = let e = c .before .before .before .before .before .before .before in next-pair (plan e) (e .args .targets .now) (e .args .q) (e .args .k) (c .before .before .wide3 .result) (c .wide4 .result) (c .before .before .before .before .before .before .if1 .left) (c .before .before .before .before .before .if2 .left) (c .before .before .before .before .if3 .left) (c .before .before .wide3 .ensures .0) (c .wide4 .ensures .0)
 
 pub next-of-spec : {M : Type 1} → statement M
 next-of-spec =

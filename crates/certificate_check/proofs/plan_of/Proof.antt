@@ -16,122 +16,106 @@ use Rattle.certificate_check.proofs.pairs_of.Reads as pairs-of-reads
 use Rattle.certificate_check.proofs.shift_of.Reads as shift-of-reads
 use Rattle.certificate_check.proofs.side_of.Reads as side-of-reads
 
--- src/lib.rt:197:18
+-- src/lib.rt:216:18
 mul-square : tie.Need-mul-square
 mul-square c = let a = c .args in let s = c .pre .0 in let z : 0 < a .q = omega (arith, s .four) in let w = square-of (a .q) (s .four) (s .few) in omega (arith, w .1)
 
--- src/lib.rt:198:13
-div-f : tie.Need-div-f
-div-f c = let a = c .args in let s = c .pre .0 in let z : 0 < a .q = omega (arith, s .four) in let w = square-of (a .q) (s .four) (s .few) in omega (arith, w .0)
-
--- src/lib.rt:199:13
-div-a : tie.Need-div-a
-div-a c = let a = c .args in let s = c .pre .0 in let z : 0 < a .q = omega (arith, s .four) in let w = square-of (a .q) (s .four) (s .few) in omega (arith, z)
-
--- src/lib.rt:199:13
-rem-a : tie.Need-rem-a
-rem-a c = let a = c .args in let s = c .pre .0 in let z : 0 < a .q = omega (arith, s .four) in let w = square-of (a .q) (s .four) (s .few) in omega (arith, z)
-
--- src/lib.rt:200:13
-rem-b : tie.Need-rem-b
-rem-b c = let a = c .args in let s = c .pre .0 in let z : 0 < a .q = omega (arith, s .four) in let w = square-of (a .q) (s .four) (s .few) in omega (arith, z)
-
--- src/lib.rt:201:9
+-- src/lib.rt:217:9
 side-of-requires : tie.Need-side-of-requires
-side-of-requires c κs = let a = c .args in let s = c .pre .0 in let z : 0 < a .q = omega (arith, s .four) in let w = square-of (a .q) (s .four) (s .few) in s .side (a .i / a .q % a .q) (mod-lt (a .i / a .q) z)
+side-of-requires c κs = let a = c .args in let s = c .pre .0 in let z : 0 < a .q = omega (arith, s .four) in let w = square-of (a .q) (s .four) (s .few) in s .side (a .a) (c .pre .1 .1)
 
--- src/lib.rt:202:9
+-- src/lib.rt:218:9
 side-of-requires-2 : tie.Need-side-of-requires-2
-side-of-requires-2 c κs = let a = c .before .args in let s = c .before .pre .0 in let z : 0 < a .q = omega (arith, s .four) in let w = square-of (a .q) (s .four) (s .few) in s .side (a .i % a .q) (mod-lt (a .i) z)
+side-of-requires-2 c κs = let a = c .before .args in let s = c .before .pre .0 in let z : 0 < a .q = omega (arith, s .four) in let w = square-of (a .q) (s .four) (s .few) in s .side (a .b) (c .before .pre .1 .2)
 
--- src/lib.rt:203:9
+-- src/lib.rt:219:9
 alone-of-requires : tie.Need-alone-of-requires
-alone-of-requires c κs = let a = c .before .before .args in let s = c .before .before .pre .0 in let z : 0 < a .q = omega (arith, s .four) in let w = square-of (a .q) (s .four) (s .few) in let hl = mod-lt (a .i / a .q) z in let hr = mod-lt (a .i) z in omega (arith, hr, s .few)
+alone-of-requires c κs = let a = c .before .before .args in let s = c .before .before .pre .0 in let z : 0 < a .q = omega (arith, s .four) in let w = square-of (a .q) (s .four) (s .few) in let hl = c .before .before .pre .1 .1 in let hr = c .before .before .pre .1 .2 in omega (arith, hr, s .few)
 
--- src/lib.rt:204:9
+-- src/lib.rt:220:9
 alone-of-requires-2 : tie.Need-alone-of-requires-2
-alone-of-requires-2 c κs = let a = c .before .before .before .args in let s = c .before .before .before .pre .0 in let z : 0 < a .q = omega (arith, s .four) in let w = square-of (a .q) (s .four) (s .few) in let hl = mod-lt (a .i / a .q) z in let hr = mod-lt (a .i) z in omega (arith, hl, s .few)
+alone-of-requires-2 c κs = let a = c .before .before .before .args in let s = c .before .before .before .pre .0 in let z : 0 < a .q = omega (arith, s .four) in let w = square-of (a .q) (s .four) (s .few) in let hl = c .before .before .before .pre .1 .1 in let hr = c .before .before .before .pre .1 .2 in omega (arith, hl, s .few)
 
--- src/lib.rt:205:9
+-- src/lib.rt:221:9
 shift-of-requires : tie.Need-shift-of-requires
-shift-of-requires c κs = let a = c .before .before .before .before .args in let s = c .before .before .before .before .pre .0 in let z : 0 < a .q = omega (arith, s .four) in let w = square-of (a .q) (s .four) (s .few) in let hl = mod-lt (a .i / a .q) z in let hr = mod-lt (a .i) z in (omega (arith, hl, s .few), omega (arith, hr, s .few))
+shift-of-requires c κs = let a = c .before .before .before .before .args in let s = c .before .before .before .before .pre .0 in let z : 0 < a .q = omega (arith, s .four) in let w = square-of (a .q) (s .four) (s .few) in let hl = c .before .before .before .before .pre .1 .1 in let hr = c .before .before .before .before .pre .1 .2 in (omega (arith, hl, s .few), omega (arith, hr, s .few))
 
--- src/lib.rt:206:9
+-- src/lib.rt:222:9
 pairs-of-requires : tie.Need-pairs-of-requires
 pairs-of-requires c κs =
     let a = c .before .before .before .before .before .args in let s = c .before .before .before .before .before .pre .0 in let z : 0 < a .q = omega (arith, s .four) in let w = square-of (a .q) (s .four) (s .few) in
-    let hl = mod-lt (a .i / a .q) z in let hr = mod-lt (a .i) z in (
+    let hl = c .before .before .before .before .before .pre .1 .1 in let hr = c .before .before .before .before .before .pre .1 .2 in (
       omega (arith, hl, s .few),
       omega (arith, hr, s .few),
-      span-le (a .member .now) (a .first .now) (a .i / a .q % a .q) (c .before .before .before .before .side-of .result) (s .side (a .i / a .q % a .q) hl) (c .before .before .before .before .side-of .ensures),
-      span-le (a .member .now) (a .first .now) (a .i % a .q) (c .before .before .before .side-of2 .result) (s .side (a .i % a .q) hr) (c .before .before .before .side-of2 .ensures),
+      span-le (a .member .now) (a .first .now) (a .a) (c .before .before .before .before .side-of .result) (s .side (a .a) hl) (c .before .before .before .before .side-of .ensures),
+      span-le (a .member .now) (a .first .now) (a .b) (c .before .before .before .side-of2 .result) (s .side (a .b) hr) (c .before .before .before .side-of2 .ensures),
     )
 
 sizes : (c : tie.After-pairs-of) → (c .before .before .before .alone-of .result ≤ limits .maxStates) × (c .before .before .alone-of2 .result ≤ limits .maxStates) × (c .before .shift-of .result ≤ 1) × (c .pairs-of .result ≤ 65536)
 sizes c =
     let a = c .before .before .before .before .before .before .args in let s = c .before .before .before .before .before .before .pre .0 in let z : 0 < a .q = omega (arith, s .four) in let w = square-of (a .q) (s .four) (s .few) in
-    let hl = mod-lt (a .i / a .q) z in let hr = mod-lt (a .i) z in
-    let x = span-le (a .member .now) (a .first .now) (a .i / a .q % a .q) (c .before .before .before .before .before .side-of .result) (s .side (a .i / a .q % a .q) hl) (c .before .before .before .before .before .side-of .ensures) in
-    let y = span-le (a .member .now) (a .first .now) (a .i % a .q) (c .before .before .before .before .side-of2 .result) (s .side (a .i % a .q) hr) (c .before .before .before .before .side-of2 .ensures) in (
+    let hl = c .before .before .before .before .before .before .pre .1 .1 in let hr = c .before .before .before .before .before .before .pre .1 .2 in
+    let x = span-le (a .member .now) (a .first .now) (a .a) (c .before .before .before .before .before .side-of .result) (s .side (a .a) hl) (c .before .before .before .before .before .side-of .ensures) in
+    let y = span-le (a .member .now) (a .first .now) (a .b) (c .before .before .before .before .side-of2 .result) (s .side (a .b) hr) (c .before .before .before .before .side-of2 .ensures) in (
       alone-small _ _ _ _ _ _ (c .before .before .before .alone-of .result) (c .before .before .before .alone-of .ensures) x,
       alone-small _ _ _ _ _ _ (c .before .before .alone-of2 .result) (c .before .before .alone-of2 .ensures) y,
       shift-small _ _ _ _ _ (c .before .shift-of .result) (c .before .shift-of .ensures),
       pairs-small _ _ _ _ _ (c .before .before .before .before .before .side-of .result) (c .before .before .before .before .side-of2 .result) (c .pairs-of .result) (c .pairs-of .ensures) x y,
     )
 
--- src/lib.rt:211:16
+-- src/lib.rt:227:16
 add-t19 : tie.Need-add-t19
 add-t19 c = let n = sizes (c) in omega (arith, n .0, n .1)
 
--- src/lib.rt:211:16
+-- src/lib.rt:227:16
 add-t20 : tie.Need-add-t20
 add-t20 c = let n = sizes (c) in omega (arith, n .0, n .1, n .2)
 
--- src/lib.rt:211:16
+-- src/lib.rt:227:16
 add-t21 : tie.Need-add-t21
 add-t21 c = let n = sizes (c) in omega (arith, n .0, n .1, n .2, n .3)
 
--- src/lib.rt:214:20
+-- src/lib.rt:230:20
 layer-after-requires : tie.Need-layer-after-requires
 layer-after-requires c κs = search needs
 
--- src/lib.rt:214:20
+-- src/lib.rt:230:20
 mul-t23 : tie.Need-mul-t23
 mul-t23 c = let a = c .before .before .before .before .before .before .before .args in let s = c .before .before .before .before .before .before .before .pre .0 in let z : 0 < a .q = omega (arith, s .four) in let w = square-of (a .q) (s .four) (s .few) in omega (arith, layer-small _ _ _ (c .layer-after .result) (a .q * a .q) (c .layer-after .ensures) (w .1))
 
--- src/lib.rt:214:20
+-- src/lib.rt:230:20
 add-t24 : tie.Need-add-t24
-add-t24 c = let a = c .before .before .before .before .before .before .before .args in let s = c .before .before .before .before .before .before .before .pre .0 in let z : 0 < a .q = omega (arith, s .four) in let w = square-of (a .q) (s .four) (s .few) in let hl = mod-lt (a .i / a .q) z in let hr = mod-lt (a .i) z in omega (arith, hr, s .few, layer-small _ _ _ (c .layer-after .result) (a .q * a .q) (c .layer-after .ensures) (w .1))
+add-t24 c = let a = c .before .before .before .before .before .before .before .args in let s = c .before .before .before .before .before .before .before .pre .0 in let z : 0 < a .q = omega (arith, s .four) in let w = square-of (a .q) (s .four) (s .few) in let hl = c .before .before .before .before .before .before .before .pre .1 .1 in let hr = c .before .before .before .before .before .before .before .pre .1 .2 in omega (arith, hr, s .few, layer-small _ _ _ (c .layer-after .result) (a .q * a .q) (c .layer-after .ensures) (w .1))
 
--- src/lib.rt:215:21
+-- src/lib.rt:231:21
 layer-after-requires-2 : tie.Need-layer-after-requires-2
 layer-after-requires-2 c κs = search needs
 
--- src/lib.rt:215:21
+-- src/lib.rt:231:21
 mul-t26 : tie.Need-mul-t26
 mul-t26 c = let a = c .before .before .before .before .before .before .before .before .args in let s = c .before .before .before .before .before .before .before .before .pre .0 in let z : 0 < a .q = omega (arith, s .four) in let w = square-of (a .q) (s .four) (s .few) in omega (arith, layer-small _ _ _ (c .layer-after2 .result) (a .q * a .q) (c .layer-after2 .ensures) (w .1))
 
--- src/lib.rt:215:53
+-- src/lib.rt:231:53
 mul-t27 : tie.Need-mul-t27
-mul-t27 c = let a = c .before .before .before .before .before .before .before .before .args in let s = c .before .before .before .before .before .before .before .before .pre .0 in let z : 0 < a .q = omega (arith, s .four) in let w = square-of (a .q) (s .four) (s .few) in let hl = mod-lt (a .i / a .q) z in let hr = mod-lt (a .i) z in omega (arith, product-le (a .i / a .q % a .q) (a .q) (omega (arith, hl, s .few)) (s .few))
+mul-t27 c = let a = c .before .before .before .before .before .before .before .before .args in let s = c .before .before .before .before .before .before .before .before .pre .0 in let z : 0 < a .q = omega (arith, s .four) in let w = square-of (a .q) (s .four) (s .few) in let hl = c .before .before .before .before .before .before .before .before .pre .1 .1 in let hr = c .before .before .before .before .before .before .before .before .pre .1 .2 in omega (arith, product-le (a .a) (a .q) (omega (arith, hl, s .few)) (s .few))
 
--- src/lib.rt:215:21
+-- src/lib.rt:231:21
 add-t28 : tie.Need-add-t28
-add-t28 c = let a = c .before .before .before .before .before .before .before .before .args in let s = c .before .before .before .before .before .before .before .before .pre .0 in let z : 0 < a .q = omega (arith, s .four) in let w = square-of (a .q) (s .four) (s .few) in let hl = mod-lt (a .i / a .q) z in let hr = mod-lt (a .i) z in omega (arith, product-le (a .i / a .q % a .q) (a .q) (omega (arith, hl, s .few)) (s .few), layer-small _ _ _ (c .layer-after2 .result) (a .q * a .q) (c .layer-after2 .ensures) (w .1))
+add-t28 c = let a = c .before .before .before .before .before .before .before .before .args in let s = c .before .before .before .before .before .before .before .before .pre .0 in let z : 0 < a .q = omega (arith, s .four) in let w = square-of (a .q) (s .four) (s .few) in let hl = c .before .before .before .before .before .before .before .before .pre .1 .1 in let hr = c .before .before .before .before .before .before .before .before .pre .1 .2 in omega (arith, product-le (a .a) (a .q) (omega (arith, hl, s .few)) (s .few), layer-small _ _ _ (c .layer-after2 .result) (a .q * a .q) (c .layer-after2 .ensures) (w .1))
 
--- src/lib.rt:216:17
+-- src/lib.rt:232:17
 add-t29 : tie.Need-add-t29
-add-t29 c = let a = c .before .before .before .before .before .before .before .before .args in let s = c .before .before .before .before .before .before .before .before .pre .0 in let z : 0 < a .q = omega (arith, s .four) in let w = square-of (a .q) (s .four) (s .few) in omega (arith, w .1, s .few, c .before .before .before .before .before .before .before .before .pre .1)
+add-t29 c = let a = c .before .before .before .before .before .before .before .before .args in let s = c .before .before .before .before .before .before .before .before .pre .0 in let z : 0 < a .q = omega (arith, s .four) in let w = square-of (a .q) (s .four) (s .few) in omega (arith, w .1, s .few, c .before .before .before .before .before .before .before .before .pre .1 .0)
 
--- src/lib.rt:216:17
+-- src/lib.rt:232:17
 add-t30 : tie.Need-add-t30
-add-t30 c = let a = c .before .before .before .before .before .before .before .before .args in let s = c .before .before .before .before .before .before .before .before .pre .0 in let z : 0 < a .q = omega (arith, s .four) in let w = square-of (a .q) (s .four) (s .few) in omega (arith, w .1, s .few, c .before .before .before .before .before .before .before .before .pre .1)
+add-t30 c = let a = c .before .before .before .before .before .before .before .before .args in let s = c .before .before .before .before .before .before .before .before .pre .0 in let z : 0 < a .q = omega (arith, s .four) in let w = square-of (a .q) (s .four) (s .few) in omega (arith, w .1, s .few, c .before .before .before .before .before .before .before .before .pre .1 .0)
 
--- src/lib.rt:183:1
+-- src/lib.rt:198:1
 returns : tie.Need-returns
 returns c =
     let a = c .before .before .before .before .before .before .before .before .args in
-    plan-joined (rows (a .ahead .now) (a .number .now) (a .member .now) (a .first .now)) (a .t) (a .m) (a .q) (a .i)
+    plan-joined (rows (a .ahead .now) (a .number .now) (a .member .now) (a .first .now)) (a .t) (a .m) (a .q) (a .i) (a .f) (a .a) (a .b)
     (c .before .before .before .before .before .before .before .side-of .result) (c .before .before .before .before .before .before .side-of2 .result) (c .before .before .before .before .before .alone-of .result) (c .before .before .before .before .alone-of2 .result) (c .before .before .before .shift-of .result) (c .before .before .pairs-of .result) (c .before .layer-after .result) (c .layer-after2 .result)
     (c .before .before .before .before .before .before .before .side-of .ensures) (c .before .before .before .before .before .before .side-of2 .ensures) (c .before .before .before .before .before .alone-of .ensures) (c .before .before .before .before .alone-of2 .ensures) (c .before .before .before .shift-of .ensures) (c .before .before .pairs-of .ensures) (c .before .layer-after .ensures) (c .layer-after2 .ensures)
 
@@ -140,10 +124,6 @@ plan-of-spec =
     tie.close
     (tie.spec
     mul-square
-    div-f
-    div-a
-    rem-a
-    rem-b
     side-of-requires
     side-of-requires-2
     alone-of-requires

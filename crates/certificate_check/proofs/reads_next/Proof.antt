@@ -6,27 +6,27 @@ use Rattle.certificate_check.proofs.reads_next.Tie as tie
 use Rattle.certificate_check.proofs.reads_next.Reads as reads
 use Rattle.certificate_check.proofs.reads_next.Lts as lts
 
--- src/lib.rt:91:8
+-- src/lib.rt:98:8
 mul-if1 : tie.Need-mul-if1
 mul-if1 c = search needs
 
--- src/lib.rt:91:8
+-- src/lib.rt:98:8
 element-copy-out-if1 : tie.Need-element-copy-out-if1
 element-copy-out-if1 c = search needs
 
--- src/lib.rt:92:9
+-- src/lib.rt:99:9
 returns : tie.Need-returns
 returns c = simp (lt-leb 1 _ (c .if1 .taken))
 
--- src/lib.rt:94:5
+-- src/lib.rt:101:5
 mul-result : tie.Need-mul-result
 mul-result c = search needs
 
--- src/lib.rt:94:5
+-- src/lib.rt:101:5
 element-copy-out-result : tie.Need-element-copy-out-result
 element-copy-out-result c = search needs
 
--- src/lib.rt:87:1
+-- src/lib.rt:94:1
 returns-2 : tie.Need-returns-2
 returns-2 c = simp (le-leb 1 _ (c .before .if1 .left))
 

@@ -1,0 +1,17 @@
+-- kept meets its contract: the two returns are the two cases.
+use borrow.Author.Tests.{lt-ltb, le-ltb}
+use Rattle.certificate_check.proofs.kept.Statement.{statement}
+use Rattle.certificate_check.proofs.kept.Tie as tie
+use Rattle.certificate_check.proofs.kept.Reads as reads
+use Rattle.certificate_check.proofs.kept.Lts as lts
+
+-- src/lib.rt:268:9
+returns : tie.Need-returns
+returns c = simp (lt-ltb _ _ (c .if1 .taken))
+
+-- src/lib.rt:264:1
+returns-2 : tie.Need-returns-2
+returns-2 c = simp (le-ltb _ _ (c .if1 .left))
+
+pub kept-spec : {M : Type 1} → statement M
+kept-spec = tie.close (tie.spec returns returns-2)
