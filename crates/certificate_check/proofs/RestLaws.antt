@@ -16,11 +16,13 @@ use Rattle.grammar.proofs.Answers.{and-both}
 use Rattle.triples.specs.Index.{index, leftOf, rightOf}
 use Rattle.triples.specs.Certificate.{isSet}
 use Rattle.triples.proofs.Index.{left-of, right-of, layer-of}
-use Rattle.certificate_check.specs.declared.Side.{Side}
-use Rattle.certificate_check.specs.declared.Plan.{Plan}
-use Rattle.certificate_check.specs.Plan.{Rows, sideOf, pairsOf, planFor, planOf, planned, pairAt, nextOf, cut, keptPairs, shortened}
-use Rattle.certificate_check.specs.Contracts.{Safe, HeldWith, Has, Rest}
-use Rattle.certificate_check.proofs.PlanLaws.{choose-le, next-left, next-right, next-shift, next-pair}
+use Rattle.plans.specs.declared.Side.{Side}
+use Rattle.plans.specs.declared.Plan.{Plan}
+use Rattle.plans.specs.Plan.{Rows, sideOf, pairsOf, planFor, planOf, planned, pairAt, nextOf}
+use Rattle.certificate_check.specs.Shorter.{cut, keptPairs, shortened}
+use Rattle.plans.specs.Contracts.{Safe, Has}
+use Rattle.certificate_check.specs.Contracts.{HeldWith, Rest}
+use Rattle.plans.proofs.PlanLaws.{plan-digits, choose-le, next-left, next-right, next-shift, next-pair}
 
 -- the k-th entry of the left block and of the right block
 abbrev leftAt : Plan → List ℕ → ℕ → ℕ → ℕ
@@ -189,14 +191,7 @@ module _ (R : Rows) (t m Q : ℕ) (bytes : List ℕ) (f a b : ℕ) (ha : a < Q) 
   Before ts j = (h : ℕ) × (h < i) × (isSet bytes h ≡ true) × Has (planOf R t m Q h) ts Q j
 
   plan-at : (p q : ℕ) → p < Q → q < Q → planFor R t m Q (index Q f p q) f p q (side p) (side q) ≡ planOf R t m Q (index Q f p q)
-  unfolding planOf
-  plan-at p q hp hq =
-      sym (ap (λ (f : ℕ). planFor R t m Q (index Q f₀ p q) f (leftOf Q (index Q f₀ p q)) (rightOf Q (index Q f₀ p q)) (side (leftOf Q (index Q f₀ p q))) (side (rightOf Q (index Q f₀ p q)))) (layer-of Q f₀ p q hp hq)
-      ∙ ap (λ (p′ : ℕ). planFor R t m Q (index Q f₀ p q) f₀ p′ (rightOf Q (index Q f₀ p q)) (side p′) (side (rightOf Q (index Q f₀ p q)))) (left-of Q f₀ p q hp hq)
-      ∙ ap (λ (q′ : ℕ). planFor R t m Q (index Q f₀ p q) f₀ p q′ (side p) (side q′)) (right-of Q f₀ p q hq))
-    where
-      f₀ : ℕ
-      f₀ = f
+  plan-at p q hp hq = plan-digits R t m Q (index Q f p q) f p q hp hq refl
 
   -- the plan of two other members has the sides of a and b
   plan-same : (p q : ℕ) → p < Q → q < Q → getD (R .member) p 0 ≡ getD (R .member) a 0 → getD (R .member) q 0 ≡ getD (R .member) b 0

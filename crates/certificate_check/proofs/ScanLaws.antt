@@ -14,9 +14,10 @@ use Rattle.triples.specs.Index.{tripleCount}
 use Rattle.triples.specs.Smallest.{successors}
 use Rattle.triples.specs.Certificate.{isSet, areSet, lowest, lowestLacking}
 use Rattle.triple_laws.proofs.Lowest.{lowest-is, lowest-none, are-set, set-all}
-use Rattle.certificate_check.specs.declared.Plan.{Plan}
-use Rattle.certificate_check.specs.Plan.{Rows, planOf, nextOf}
-use Rattle.certificate_check.specs.Contracts.{Verified, Planned, Has, Rest}
+use Rattle.plans.specs.declared.Plan.{Plan}
+use Rattle.plans.specs.Plan.{Rows, planOf, nextOf}
+use Rattle.plans.specs.Contracts.{Verified, Planned, Has}
+use Rattle.certificate_check.specs.Contracts.{Rest}
 use Rattle.certificate_check.proofs.BitLaws.{lowest-at}
 
 -- the index is held and lacks a successor

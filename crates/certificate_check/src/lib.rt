@@ -12,8 +12,10 @@ ghost use Rattle.triples.specs.Index.{tripleCount};
 ghost use Rattle.triples.specs.Certificate.{byteCount, isSet, lowest, checkCertificate};
 ghost use Rattle.triples.specs.Verdict.{checkVerdict};
 ghost use Rattle.moves.specs.Tables.{IsRecord};
-ghost use Rattle.certificate_check.specs.Plan.{rows, readsAt, sideOf, aloneOf, layerAfter, shiftOf, pairsOf, planFor, planned, nextOf, keptPairs, shortened};
-ghost use Rattle.certificate_check.specs.Contracts.{Skips, SideFits, Safe, Fits, HeldWith, Rest, Scanned, Verified, Checked, BuiltChecked};
+ghost use Rattle.plans.specs.Plan.{rows, planned, nextOf};
+ghost use Rattle.plans.specs.Contracts.{Safe, Fits, Verified};
+ghost use Rattle.certificate_check.specs.Shorter.{keptPairs, shortened};
+ghost use Rattle.certificate_check.specs.Contracts.{Skips, HeldWith, Rest, Scanned, Checked, BuiltChecked};
 use grammar::CERTIFICATE_LENGTH;
 use grammar::CheckedGrammar;
 use grammar::END_PRESENT;
@@ -23,46 +25,11 @@ use grammar::START_MISSING;
 use grammar::SUCCESSOR_MISSING;
 use grammar::TableVerdict;
 use moves::CLASSES;
+use plans::Plan;
 use triples::CheckVerdict;
 
 // A plan with fewer successors is tried as it is: looking for an earlier member would cost more than it spares.
 const WORTH: usize = 6;
-
-// The class of a state, where its targets begin, and how many they are.
-pub struct Side {
-    pub kind: u16,
-    pub from: usize,
-    pub span: usize,
-}
-
-// The successors of a triple, counted: `left` moves of the left side, `right` moves of the right side, `shift` shifts of both,
-// and the pairs of a left and a right target, `columns` for each left one. The other fields place them.
-pub struct Plan {
-    pub left: usize,
-    pub right: usize,
-    pub shift: usize,
-    pub total: usize,
-    pub left_from: usize,
-    pub right_from: usize,
-    pub left_base: usize,
-    pub right_base: usize,
-    pub beside: usize,
-    pub columns: usize,
-    pub square: usize,
-}
-
-fn wide(x: u16) -> usize
-    ensures { λ r. ⌜ (r ≡ x) × (r < 65536) ⌝ }
-{
-    x as usize
-}
-
-fn is_set(bytes: &[u8], i: usize) -> bool
-    requires { ⌜ i < 8 * length (now bytes) ⌝ }
-    ensures { λ r. ⌜ r ≡ isSet (now (bytes .entry)) i ⌝ }
-{
-    (bytes[i / 8] >> (i % 8)) % 2 == 1
-}
 
 // Where to look next after a clear bit: the next byte if the rest of this one is 0.
 fn skip(bytes: &[u8], i: usize) -> usize
@@ -82,157 +49,12 @@ fn lowest_set(bytes: &[u8], from: usize, to: usize) -> usize
 {
     let mut i = from;
     while i < to {
-        if is_set(bytes, i) {
+        if bits::is_set(bytes, i) {
             return i;
         }
         i = skip(bytes, i);
     }
     to
-}
-
-// Does a state stand before a terminal?
-fn reads_next(ahead: &[u16; MAX_STATES], t: u16, p: usize) -> bool
-    requires { ⌜ p < limits .maxStates ⌝ }
-    ensures { λ r. ⌜ r ≡ readsAt (now (ahead .entry)) t p ⌝ }
-{
-    if ahead[p] < 1 {
-        return false;
-    }
-    ahead[p] <= t
-}
-
-fn side_of<'a>(member: &'a [u16; MAX_STATES], first: &'a [u16; CLASSES], p: usize) -> Side
-    requires { ⌜ SideFits (now member) (now first) p ⌝ }
-    ensures { λ r. ⌜ r ≡ sideOf (now (member .entry)) (now (first .entry)) p ⌝ }
-{
-    let kind = member[p];
-    let c = wide(kind);
-    let from = wide(first[c]);
-    let end = wide(first[c + 1]);
-    Side {
-        kind: kind,
-        from: from,
-        span: end - from,
-    }
-}
-
-// The number of moves that a side makes alone: in layer 0 openings, and closings where the other side stands before a terminal.
-fn alone_of(ahead: &[u16; MAX_STATES], t: u16, m: u16, f: usize, s: Side, other: usize) -> usize
-    requires { ⌜ other < limits .maxStates ⌝ }
-    ensures { λ r. ⌜ r ≡ aloneOf (now (ahead .entry)) t m f s other ⌝ }
-{
-    if f != 0 {
-        return s.span;
-    }
-    if m <= s.kind {
-        return s.span;
-    }
-    if reads_next(ahead, t, other) {
-        return s.span;
-    }
-    0
-}
-
-// The layer after a move of one side alone.
-fn layer_after(m: u16, f: usize, s: Side) -> usize
-    ensures { λ r. ⌜ r ≡ layerAfter m f s ⌝ }
-{
-    if f != 0 {
-        return 1;
-    }
-    if m <= s.kind {
-        return 0;
-    }
-    1
-}
-
-// 1 if both shift the same symbol, in layer 1 the same terminal.
-fn shift_of(ahead: &[u16; MAX_STATES], t: u16, f: usize, a: usize, b: usize) -> usize
-    requires { ⌜ (a < limits .maxStates) × (b < limits .maxStates) ⌝ }
-    ensures { λ r. ⌜ r ≡ shiftOf (now (ahead .entry)) t f a b ⌝ }
-{
-    if ahead[a] < 1 {
-        return 0;
-    }
-    if ahead[a] != ahead[b] {
-        return 0;
-    }
-    if f == 0 {
-        return 1;
-    }
-    if reads_next(ahead, t, a) {
-        return 1;
-    }
-    0
-}
-
-// The number of pairs of closings by unequal rules.
-fn pairs_of(
-    number: &[u16; MAX_STATES],
-    m: u16,
-    f: usize,
-    a: usize,
-    b: usize,
-    left: Side,
-    right: Side,
-) -> usize
-    requires { ⌜ (a < limits .maxStates) × (b < limits .maxStates) × (left .span ≤ limits .maxStates) × (right .span ≤ limits .maxStates) ⌝ }
-    ensures { λ r. ⌜ r ≡ pairsOf (now (number .entry)) m f a b left right ⌝ }
-{
-    if f != 0 {
-        return 0;
-    }
-    if m <= left.kind {
-        return 0;
-    }
-    if m <= right.kind {
-        return 0;
-    }
-    if number[a] == number[b] {
-        return 0;
-    }
-    left.span * right.span
-}
-
-// The plan of the successors of the index i of (f, a, b).
-fn plan_of<'a>(
-    ahead: &'a [u16; MAX_STATES],
-    number: &'a [u16; MAX_STATES],
-    member: &'a [u16; MAX_STATES],
-    first: &'a [u16; CLASSES],
-    t: u16,
-    m: u16,
-    q: usize,
-    i: usize,
-    f: usize,
-    a: usize,
-    b: usize,
-) -> Plan
-    requires { ⌜ Fits (now member) (now first) q ⌝ }
-    requires { ⌜ (i < tripleCount q) × (a < q) × (b < q) ⌝ }
-    ensures { λ r. ⌜ r ≡ planFor (rows (now (ahead .entry)) (now (number .entry)) (now (member .entry)) (now (first .entry))) t m q i f a b
-        (sideOf (now (member .entry)) (now (first .entry)) a) (sideOf (now (member .entry)) (now (first .entry)) b) ⌝ }
-{
-    let square = q * q;
-    let x = side_of(member, first, a);
-    let y = side_of(member, first, b);
-    let left = alone_of(ahead, t, m, f, x, b);
-    let right = alone_of(ahead, t, m, f, y, a);
-    let shift = shift_of(ahead, t, f, a, b);
-    let pairs = pairs_of(number, m, f, a, b, x, y);
-    Plan {
-        left: left,
-        right: right,
-        shift: shift,
-        total: left + right + shift + pairs,
-        left_from: x.from,
-        right_from: y.from,
-        left_base: layer_after(m, f, x) * square + b,
-        right_base: layer_after(m, f, y) * square + a * q,
-        beside: i + q + 1,
-        columns: y.span,
-        square: square,
-    }
 }
 
 // An earlier member r of the class of p such that the index with r in place of p is held too; without one, p.
@@ -247,14 +69,14 @@ fn held_with<'a>(
     requires { ⌜ (p < limits .maxStates) × (p * step ≤ i) × (i < 8 * length (now bytes)) × (isSet (now bytes) i ≡ true) ⌝ }
     ensures { λ r. ⌜ HeldWith (now (member .entry)) (now (bytes .entry)) i p step r ⌝ }
 {
-    let r = wide(earlier[p]);
+    let r = plans::wide(earlier[p]);
     if p <= r {
         return p;
     }
     if member[r] != member[p] {
         return p;
     }
-    if is_set(bytes, i - (p - r) * step) {
+    if bits::is_set(bytes, i - (p - r) * step) {
         return r;
     }
     p
@@ -326,16 +148,6 @@ fn shorten(plan: Plan, number: &[u16; MAX_STATES], a: usize, b: usize, r: usize,
     }
 }
 
-// The layer of the index i, where row is i / q.
-fn layer_of(row: usize, q: usize) -> usize
-    ensures { λ r. ⌜ r ≡ choose (ltb row q) 0 1 ⌝ }
-{
-    if row < q {
-        return 0;
-    }
-    1
-}
-
 // The successors of a held index that are to be tried: a held index with an earlier member of a class has had the others.
 fn rest_of<'a>(
     ahead: &'a [u16; MAX_STATES],
@@ -354,10 +166,10 @@ fn rest_of<'a>(
     ensures { λ r. ⌜ Rest (rows (now (ahead .entry)) (now (number .entry)) (now (member .entry)) (now (first .entry))) t m q (now (bytes .entry)) i r ⌝ }
 {
     let row = i / q;
-    let f = layer_of(row, q);
+    let f = plans::layer_of(row, q);
     let a = row - f * q;
     let b = i % q;
-    let plan = plan_of(ahead, number, member, first, t, m, q, i, f, a, b);
+    let plan = plans::plan_of(ahead, number, member, first, t, m, q, i, f, a, b);
     if plan.total < WORTH {
         return plan;
     }
@@ -386,19 +198,19 @@ fn next_of(
     ensures { λ r. ⌜ r ≡ nextOf (planned left right shift (k + 1) «left_from» «right_from» «left_base» «right_base» beside columns square) (now (targets .entry)) q k ⌝ }
 {
     if k < left {
-        return left_base + wide(targets[left_from + k]) * q;
+        return left_base + plans::wide(targets[left_from + k]) * q;
     }
     let on_right = k - left;
     if on_right < right {
-        return right_base + wide(targets[right_from + on_right]);
+        return right_base + plans::wide(targets[right_from + on_right]);
     }
     let on_both = on_right - right;
     if on_both < shift {
         return beside;
     }
     let pair = on_both - shift;
-    let u = wide(targets[left_from + pair / columns]);
-    let v = wide(targets[right_from + pair % columns]);
+    let u = plans::wide(targets[left_from + pair / columns]);
+    let v = plans::wide(targets[right_from + pair % columns]);
     square + u * q + v
 }
 
@@ -441,7 +253,7 @@ fn lowest_lacking<'a>(
                 q,
                 k,
             );
-            if is_set(bytes, j) {
+            if bits::is_set(bytes, j) {
                 k += 1;
             } else {
                 answer = i;
@@ -461,7 +273,7 @@ fn note_earlier(member: &[u16; MAX_STATES], q: usize, earlier: &mut [u16])
     let mut last = [0u16; CLASSES];
     let mut p = 0;
     while p < q {
-        let c = wide(member[p]);
+        let c = plans::wide(member[p]);
         earlier[p] = last[c];
         last[c] = p as u16;
         p += 1;
@@ -493,11 +305,11 @@ fn check_bits<'a>(
     if spare != 8 * size {
         return CheckVerdict::Refused(SPARE_BIT, spare);
     }
-    if !is_set(bytes, 0) {
+    if !bits::is_set(bytes, 0) {
         return CheckVerdict::Refused(START_MISSING, 0);
     }
     let end = square + q + 1;
-    if is_set(bytes, end) {
+    if bits::is_set(bytes, end) {
         return CheckVerdict::Refused(END_PRESENT, end);
     }
     let mut earlier = [0u16; MAX_STATES];

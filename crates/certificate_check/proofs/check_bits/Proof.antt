@@ -5,13 +5,13 @@ use mathlib.Core.Path.{sym, _∙_}
 use Prim.Native.Nat.{ℕ, _+_, _-_, _*_, _/_, _≤_}
 use borrow.Author.Tests.{not-true, not-false}
 use native.Mathlib.Nat.{mul-le-mul}
-use Rattle.certificate_check.proofs.PlanLaws.{square-of}
+use Rattle.plans.proofs.PlanLaws.{square-of}
 use Rattle.certificate_check.proofs.CheckLaws.{wrong-length, spare-set, start-clear, end-set, some-lacks, none-lacks}
 use Rattle.certificate_check.proofs.check_bits.Statement.{statement}
 use Rattle.certificate_check.proofs.check_bits.Tie as tie
 use Rattle.certificate_check.proofs.check_bits.Reads as reads
 use Rattle.certificate_check.proofs.check_bits.Lts as lts
-use Rattle.certificate_check.proofs.is_set.Reads as is-set-reads
+use Rattle.bits.proofs.is_set.Reads as is-set-reads
 use Rattle.certificate_check.proofs.lowest_lacking.Reads as lowest-lacking-reads
 use Rattle.certificate_check.proofs.lowest_set.Reads as lowest-set-reads
 use Rattle.certificate_check.proofs.note_earlier.Reads as note-earlier-reads

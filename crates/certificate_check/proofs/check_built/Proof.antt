@@ -3,7 +3,7 @@ use borrow.Author.Needs.{needs}
 use native.Mathlib.Omega.{arith}
 use Prim.Native.Nat.{_-_, _/_}
 use Rattle.moves.proofs.Built.{few-nonterminals, room-of}
-use Rattle.certificate_check.proofs.PlannedLaws.{verified-of, planned-of}
+use Rattle.plans.proofs.PlannedLaws.{verified-of, planned-of}
 use Rattle.certificate_check.proofs.check_built.Statement.{statement}
 use Rattle.certificate_check.proofs.check_built.Tie as tie
 use Rattle.certificate_check.proofs.check_built.Reads as reads

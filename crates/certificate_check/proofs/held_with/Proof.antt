@@ -8,8 +8,8 @@ use Rattle.certificate_check.proofs.held_with.Statement.{statement}
 use Rattle.certificate_check.proofs.held_with.Tie as tie
 use Rattle.certificate_check.proofs.held_with.Reads as reads
 use Rattle.certificate_check.proofs.held_with.Lts as lts
-use Rattle.certificate_check.proofs.is_set.Reads as is-set-reads
-use Rattle.certificate_check.proofs.wide.Reads as wide-reads
+use Rattle.bits.proofs.is_set.Reads as is-set-reads
+use Rattle.plans.proofs.wide.Reads as wide-reads
 
 -- src/lib.rt:250:18
 mul-wide : tie.Need-mul-wide

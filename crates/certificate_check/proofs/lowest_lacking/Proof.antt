@@ -5,15 +5,15 @@ use mathlib.Core.Path.{_≡_, refl, sym, _∙_}
 use Prim.Native.Nat.{_+_, _-_, _*_, _/_, _≤_, _<_}
 use mathlib.Core.Bool.{true}
 use Rattle.triples.specs.Certificate.{isSet}
-use Rattle.certificate_check.specs.Plan.{rows}
-use Rattle.certificate_check.proofs.PlanLaws.{square-of}
+use Rattle.plans.specs.Plan.{rows}
+use Rattle.plans.proofs.PlanLaws.{square-of}
 use Rattle.certificate_check.proofs.RestLaws.{upto-safe, upto-next}
 use Rattle.certificate_check.proofs.ScanLaws.{HeldTo, NoneBelow, held-more, next-inside, next-set, none-start, none-more, scan-found, scan-none}
 use Rattle.certificate_check.proofs.lowest_lacking.Statement.{statement}
 use Rattle.certificate_check.proofs.lowest_lacking.Tie as tie
 use Rattle.certificate_check.proofs.lowest_lacking.Reads as reads
 use Rattle.certificate_check.proofs.lowest_lacking.Lts as lts
-use Rattle.certificate_check.proofs.is_set.Reads as is-set-reads
+use Rattle.bits.proofs.is_set.Reads as is-set-reads
 use Rattle.certificate_check.proofs.lowest_set.Reads as lowest-set-reads
 use Rattle.certificate_check.proofs.next_of.Reads as next-of-reads
 use Rattle.certificate_check.proofs.rest_of.Reads as rest-of-reads

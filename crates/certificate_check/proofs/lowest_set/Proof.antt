@@ -10,7 +10,7 @@ use Rattle.certificate_check.proofs.lowest_set.Statement.{statement}
 use Rattle.certificate_check.proofs.lowest_set.Tie as tie
 use Rattle.certificate_check.proofs.lowest_set.Reads as reads
 use Rattle.certificate_check.proofs.lowest_set.Lts as lts
-use Rattle.certificate_check.proofs.is_set.Reads as is-set-reads
+use Rattle.bits.proofs.is_set.Reads as is-set-reads
 use Rattle.certificate_check.proofs.skip.Reads as skip-reads
 
 abbrev Inv-loop : tie.InvT-loop

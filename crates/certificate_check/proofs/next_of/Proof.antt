@@ -2,14 +2,14 @@
 use borrow.Author.Needs.{needs}
 use native.Mathlib.Omega.{arith}
 use Prim.Native.Nat.{_+_, _-_, _/_}
-use Rattle.certificate_check.specs.declared.Plan.{Plan}
-use Rattle.certificate_check.specs.Plan.{planned}
-use Rattle.certificate_check.proofs.PlanLaws.{next-left, next-right, next-shift, next-pair, cell-times, pair-fits}
+use Rattle.plans.specs.declared.Plan.{Plan}
+use Rattle.plans.specs.Plan.{planned}
+use Rattle.plans.proofs.PlanLaws.{next-left, next-right, next-shift, next-pair, cell-times, pair-fits}
 use Rattle.certificate_check.proofs.next_of.Statement.{statement}
 use Rattle.certificate_check.proofs.next_of.Tie as tie
 use Rattle.certificate_check.proofs.next_of.Reads as reads
 use Rattle.certificate_check.proofs.next_of.Lts as lts
-use Rattle.certificate_check.proofs.wide.Reads as wide-reads
+use Rattle.plans.proofs.wide.Reads as wide-reads
 
 -- the plan with the numbers at hand
 abbrev plan : tie.Start → Plan

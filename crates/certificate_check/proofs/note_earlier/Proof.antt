@@ -8,7 +8,7 @@ use Rattle.certificate_check.proofs.note_earlier.Statement.{statement}
 use Rattle.certificate_check.proofs.note_earlier.Tie as tie
 use Rattle.certificate_check.proofs.note_earlier.Reads as reads
 use Rattle.certificate_check.proofs.note_earlier.Lts as lts
-use Rattle.certificate_check.proofs.wide.Reads as wide-reads
+use Rattle.plans.proofs.wide.Reads as wide-reads
 
 abbrev Inv-loop : tie.InvT-loop
 Inv-loop member q earlier₀ last₀ p₀ earlier last p = (p ≤ q) × (length earlier ≡ length earlier₀) × (length last ≡ 258)

@@ -1,6 +1,6 @@
 -- pairs_kept meets its contract: each return is one case of the definition.
 use mathlib.Core.Path.{sym, _∙_}
-use Rattle.certificate_check.specs.Plan.{keptPairs}
+use Rattle.certificate_check.specs.Shorter.{keptPairs}
 use borrow.Author.Needs.{needs}
 use Rattle.certificate_check.proofs.pairs_kept.Statement.{statement}
 use Rattle.certificate_check.proofs.pairs_kept.Tie as tie

@@ -5,16 +5,16 @@ use mathlib.Core.Path.{_≡_}
 use Prim.Native.Nat.{_-_, _*_, _/_, _%_, _≤_, _<_}
 use lib.Dec.{ltb}
 use Rattle.triples.specs.Index.{index}
-use Rattle.certificate_check.specs.Plan.{rows}
-use Rattle.certificate_check.proofs.PlanLaws.{choose-le, layer-times, plan-sizes, one-division}
+use Rattle.plans.specs.Plan.{rows}
+use Rattle.plans.proofs.PlanLaws.{choose-le, layer-times, plan-sizes, one-division}
 use Rattle.certificate_check.proofs.RestLaws.{rest-whole, rest-at}
 use Rattle.certificate_check.proofs.rest_of.Statement.{statement}
 use Rattle.certificate_check.proofs.rest_of.Tie as tie
 use Rattle.certificate_check.proofs.rest_of.Reads as reads
 use Rattle.certificate_check.proofs.rest_of.Lts as lts
 use Rattle.certificate_check.proofs.held_with.Reads as held-with-reads
-use Rattle.certificate_check.proofs.layer_of.Reads as layer-of-reads
-use Rattle.certificate_check.proofs.plan_of.Reads as plan-of-reads
+use Rattle.plans.proofs.layer_of.Reads as layer-of-reads
+use Rattle.plans.proofs.plan_of.Reads as plan-of-reads
 use Rattle.certificate_check.proofs.shorten.Reads as shorten-reads
 
 -- src/lib.rt:356:15

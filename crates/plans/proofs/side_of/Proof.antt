@@ -4,12 +4,12 @@ use native.Mathlib.Omega.{arith}
 use mathlib.Core.Path.{_≡_, ap, _∙_}
 use Prim.Native.Nat.{ℕ, _+_, _-_, _/_}
 use lib.ListN.{getD}
-use Rattle.certificate_check.proofs.PlanLaws.{sideFrom}
-use Rattle.certificate_check.proofs.side_of.Statement.{statement}
-use Rattle.certificate_check.proofs.side_of.Tie as tie
-use Rattle.certificate_check.proofs.side_of.Reads as reads
-use Rattle.certificate_check.proofs.side_of.Lts as lts
-use Rattle.certificate_check.proofs.wide.Reads as wide-reads
+use Rattle.plans.proofs.PlanLaws.{sideFrom}
+use Rattle.plans.proofs.side_of.Statement.{statement}
+use Rattle.plans.proofs.side_of.Tie as tie
+use Rattle.plans.proofs.side_of.Reads as reads
+use Rattle.plans.proofs.side_of.Lts as lts
+use Rattle.plans.proofs.wide.Reads as wide-reads
 
 -- src/lib.rt:108:16
 mul-kind : tie.Need-mul-kind

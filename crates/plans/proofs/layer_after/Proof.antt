@@ -1,10 +1,10 @@
 -- layer_after meets its contract: each return is one case of the definition.
 use borrow.Author.Tests.{le-leb, lt-leb, eq-eqb, ne-eqb}
-use Rattle.certificate_check.specs.Plan.{layerAfter}
-use Rattle.certificate_check.proofs.layer_after.Statement.{statement}
-use Rattle.certificate_check.proofs.layer_after.Tie as tie
-use Rattle.certificate_check.proofs.layer_after.Reads as reads
-use Rattle.certificate_check.proofs.layer_after.Lts as lts
+use Rattle.plans.specs.Plan.{layerAfter}
+use Rattle.plans.proofs.layer_after.Statement.{statement}
+use Rattle.plans.proofs.layer_after.Tie as tie
+use Rattle.plans.proofs.layer_after.Reads as reads
+use Rattle.plans.proofs.layer_after.Lts as lts
 
 -- src/lib.rt:141:9
 returns : tie.Need-returns

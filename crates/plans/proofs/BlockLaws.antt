@@ -9,8 +9,8 @@ use lib.ListN.{getD}
 use borrow.Author.Tests.{lt-ltb, le-ltb, le-leb, lt-leb, eq-eqb, ne-eqb, eqb-true, eqb-false, leb-true, ltb-true, not-true}
 use Rattle.grammar.specs.Basics.{choose}
 use Rattle.grammar.proofs.Answers.{and-both, both-and}
-use Rattle.certificate_check.specs.declared.Side.{Side}
-use Rattle.certificate_check.specs.Plan.{readsAt, aloneOf, layerAfter, shiftOf, pairsOf}
+use Rattle.plans.specs.declared.Side.{Side}
+use Rattle.plans.specs.Plan.{readsAt, aloneOf, layerAfter, shiftOf, pairsOf}
 
 -- a count below a chosen number: the test holds
 chosen : (b : Bool) (x k : ℕ) → k < choose b x 0 → (b ≡ true) × (k < x)

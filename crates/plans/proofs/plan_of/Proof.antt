@@ -4,17 +4,17 @@ use native.Mathlib.Omega.{arith}
 use Prim.Native.Nat.{_-_, _*_, _/_, _%_, _≤_, _<_}
 use native.Mathlib.Nat.{mod-lt}
 use Rattle.grammar.specs.Limits.{limits}
-use Rattle.certificate_check.specs.Plan.{rows}
-use Rattle.certificate_check.proofs.PlanLaws.{square-of, product-le, plan-joined, span-le, alone-small, shift-small, pairs-small, layer-small}
-use Rattle.certificate_check.proofs.plan_of.Statement.{statement}
-use Rattle.certificate_check.proofs.plan_of.Tie as tie
-use Rattle.certificate_check.proofs.plan_of.Reads as reads
-use Rattle.certificate_check.proofs.plan_of.Lts as lts
-use Rattle.certificate_check.proofs.alone_of.Reads as alone-of-reads
-use Rattle.certificate_check.proofs.layer_after.Reads as layer-after-reads
-use Rattle.certificate_check.proofs.pairs_of.Reads as pairs-of-reads
-use Rattle.certificate_check.proofs.shift_of.Reads as shift-of-reads
-use Rattle.certificate_check.proofs.side_of.Reads as side-of-reads
+use Rattle.plans.specs.Plan.{rows}
+use Rattle.plans.proofs.PlanLaws.{square-of, product-le, plan-joined, span-le, alone-small, shift-small, pairs-small, layer-small}
+use Rattle.plans.proofs.plan_of.Statement.{statement}
+use Rattle.plans.proofs.plan_of.Tie as tie
+use Rattle.plans.proofs.plan_of.Reads as reads
+use Rattle.plans.proofs.plan_of.Lts as lts
+use Rattle.plans.proofs.alone_of.Reads as alone-of-reads
+use Rattle.plans.proofs.layer_after.Reads as layer-after-reads
+use Rattle.plans.proofs.pairs_of.Reads as pairs-of-reads
+use Rattle.plans.proofs.shift_of.Reads as shift-of-reads
+use Rattle.plans.proofs.side_of.Reads as side-of-reads
 
 -- src/lib.rt:216:18
 mul-square : tie.Need-mul-square

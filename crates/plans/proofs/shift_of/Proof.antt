@@ -2,14 +2,14 @@
 use borrow.Author.Needs.{needs}
 use mathlib.Core.Path.{sym, _∙_}
 use borrow.Author.Tests.{le-leb, lt-leb, eq-eqb, ne-eqb}
-use Rattle.certificate_check.specs.Plan.{shiftOf}
+use Rattle.plans.specs.Plan.{shiftOf}
 use mathlib.Core.Bool.{true, false}
-use Rattle.certificate_check.proofs.PlanLaws.{shift-reads}
-use Rattle.certificate_check.proofs.shift_of.Statement.{statement}
-use Rattle.certificate_check.proofs.shift_of.Tie as tie
-use Rattle.certificate_check.proofs.shift_of.Reads as reads
-use Rattle.certificate_check.proofs.shift_of.Lts as lts
-use Rattle.certificate_check.proofs.reads_next.Reads as reads-next-reads
+use Rattle.plans.proofs.PlanLaws.{shift-reads}
+use Rattle.plans.proofs.shift_of.Statement.{statement}
+use Rattle.plans.proofs.shift_of.Tie as tie
+use Rattle.plans.proofs.shift_of.Reads as reads
+use Rattle.plans.proofs.shift_of.Lts as lts
+use Rattle.plans.proofs.reads_next.Reads as reads-next-reads
 
 -- src/lib.rt:154:8
 mul-if1 : tie.Need-mul-if1

@@ -2,12 +2,12 @@
 use borrow.Author.Needs.{needs}
 use mathlib.Core.Path.{sym, _∙_}
 use borrow.Author.Tests.{lt-ltb, le-ltb, eq-eqb, ne-eqb}
-use Rattle.certificate_check.specs.Plan.{aloneOf}
-use Rattle.certificate_check.proofs.alone_of.Statement.{statement}
-use Rattle.certificate_check.proofs.alone_of.Tie as tie
-use Rattle.certificate_check.proofs.alone_of.Reads as reads
-use Rattle.certificate_check.proofs.alone_of.Lts as lts
-use Rattle.certificate_check.proofs.reads_next.Reads as reads-next-reads
+use Rattle.plans.specs.Plan.{aloneOf}
+use Rattle.plans.proofs.alone_of.Statement.{statement}
+use Rattle.plans.proofs.alone_of.Tie as tie
+use Rattle.plans.proofs.alone_of.Reads as reads
+use Rattle.plans.proofs.alone_of.Lts as lts
+use Rattle.plans.proofs.reads_next.Reads as reads-next-reads
 
 -- src/lib.rt:125:9
 returns : tie.Need-returns

@@ -1,10 +1,10 @@
 -- reads_next meets its contract: the code ahead is from 1 to t.
 use borrow.Author.Needs.{needs}
 use borrow.Author.Tests.{le-leb, lt-leb}
-use Rattle.certificate_check.proofs.reads_next.Statement.{statement}
-use Rattle.certificate_check.proofs.reads_next.Tie as tie
-use Rattle.certificate_check.proofs.reads_next.Reads as reads
-use Rattle.certificate_check.proofs.reads_next.Lts as lts
+use Rattle.plans.proofs.reads_next.Statement.{statement}
+use Rattle.plans.proofs.reads_next.Tie as tie
+use Rattle.plans.proofs.reads_next.Reads as reads
+use Rattle.plans.proofs.reads_next.Lts as lts
 
 -- src/lib.rt:98:8
 mul-if1 : tie.Need-mul-if1

@@ -11,11 +11,11 @@ use borrow.Author.Tests.{lt-ltb, le-ltb, le-leb, eq-eqb, ne-eqb}
 use Rattle.grammar.specs.Basics.{choose}
 use Rattle.grammar.specs.Limits.{limits}
 use Rattle.triples.specs.Index.{index, tripleCount, layerOf, leftOf, rightOf}
-use Rattle.triples.proofs.Index.{digits}
-use Rattle.certificate_check.specs.declared.Side.{Side}
-use Rattle.certificate_check.specs.declared.Plan.{Plan}
-use Rattle.certificate_check.specs.Contracts.{SideFits, Fits, Safe}
-use Rattle.certificate_check.specs.Plan.{Rows, readsAt, sideOf, aloneOf, layerAfter, shiftOf, pairsOf, planFor, planned, nextOf}
+use Rattle.triples.proofs.Index.{digits, layer-of, left-of, right-of}
+use Rattle.plans.specs.declared.Side.{Side}
+use Rattle.plans.specs.declared.Plan.{Plan}
+use Rattle.plans.specs.Contracts.{SideFits, Fits, Safe}
+use Rattle.plans.specs.Plan.{Rows, readsAt, sideOf, aloneOf, layerAfter, shiftOf, pairsOf, planFor, planned, nextOf, planOf}
 
 pub choose-le : (b : Bool) (x y n : ℕ) → x ≤ n → y ≤ n → choose b x y ≤ n
 choose-le true x y n h k = h
@@ -200,3 +200,16 @@ one-division Q i f h l e =
       d .right,
       ap (λ (n : ℕ). index Q n (i / Q - f * Q) (i % Q)) (r .0) ∙ ap (λ (n : ℕ). index Q (layerOf Q i) n (i % Q)) (r .2) ∙ d .whole,
     )
+
+-- the plan by the digits of an index is the plan of the index
+pub plan-digits : (R : Rows) (t m Q i f a b : ℕ) → a < Q → b < Q → index Q f a b ≡ i
+    → planFor R t m Q i f a b (sideOf (R .member) (R .first) a) (sideOf (R .member) (R .first) b) ≡ planOf R t m Q i
+unfolding planOf
+plan-digits R t m Q i f a b ha hb e =
+    let side : ℕ → Side = sideOf (R .member) (R .first) in
+    let fe : layerOf Q i ≡ f = ap (layerOf Q) (sym e) ∙ layer-of Q f a b ha hb in
+    let ae : leftOf Q i ≡ a = ap (leftOf Q) (sym e) ∙ left-of Q f a b ha hb in
+    let be : rightOf Q i ≡ b = ap (rightOf Q) (sym e) ∙ right-of Q f a b hb in
+    sym (ap (λ (g : ℕ). planFor R t m Q i g (leftOf Q i) (rightOf Q i) (side (leftOf Q i)) (side (rightOf Q i))) fe
+    ∙ ap (λ (p : ℕ). planFor R t m Q i f p (rightOf Q i) (side p) (side (rightOf Q i))) ae
+    ∙ ap (λ (q : ℕ). planFor R t m Q i f a q (side a) (side q)) be)

@@ -7,8 +7,8 @@ use lib.Dec.{eqb, leb, ltb}
 use lib.ListN.{getD}
 use Rattle.grammar.specs.Basics.{choose}
 use Rattle.triples.specs.Index.{layerOf, leftOf, rightOf}
-use Rattle.certificate_check.specs.declared.Side.{Side}
-use Rattle.certificate_check.specs.declared.Plan.{Plan}
+use Rattle.plans.specs.declared.Side.{Side}
+use Rattle.plans.specs.declared.Plan.{Plan}
 
 -- of each state the code ahead, the rule's number and the class, and of each class where its targets begin
 pub record Rows : Type 0 where
@@ -102,19 +102,3 @@ nextOf P targets Q k =
     (choose (ltb (k - P .left) (P .right)) (P .«right_base» + getD targets (P .«right_from» + (k - P .left)) 0)
     (choose (ltb (k - P .left - P .right) (P .shift)) (P .beside)
     (pairAt P targets Q (k - P .left - P .right - P .shift))))
-
--- blocks of these lengths, of the left moves, the right moves and the pairs
-abbrev pub cut : Plan → ℕ → ℕ → ℕ → Plan
-cut P l r p =
-    planned l r (P .shift) (l + r + P .shift + p) (P .«left_from») (P .«right_from») (P .«left_base») (P .«right_base») (P .beside) (P .columns) (P .square)
-
--- none of n pairs of a and b, where r is before a, or s before b, and its rule is not the other side's either
-unfoldable pub keptPairs : List ℕ → ℕ → ℕ → ℕ → ℕ → ℕ → ℕ
-keptPairs number a b r s n =
-    choose ((ltb r a && not (eqb (getD number r 0) (getD number b 0))) || (ltb s b && not (eqb (getD number s 0) (getD number a 0)))) 0 n
-
--- the plan of a and b without the blocks that r in place of a, or s in place of b, has too
-unfoldable pub shortened : List ℕ → ℕ → ℕ → ℕ → ℕ → Plan → Plan
-shortened number a b r s P =
-    cut P (choose (ltb r a) 0 (P .left)) (choose (ltb s b) 0 (P .right))
-    (keptPairs number a b r s (P .total - P .left - P .right - P .shift))

@@ -2,12 +2,12 @@
 use borrow.Author.Needs.{needs}
 use native.Mathlib.Omega.{arith}
 use borrow.Author.Tests.{lt-ltb, le-ltb, eq-eqb, ne-eqb}
-use Rattle.certificate_check.specs.Plan.{pairsOf}
-use Rattle.certificate_check.proofs.PlanLaws.{product-le}
-use Rattle.certificate_check.proofs.pairs_of.Statement.{statement}
-use Rattle.certificate_check.proofs.pairs_of.Tie as tie
-use Rattle.certificate_check.proofs.pairs_of.Reads as reads
-use Rattle.certificate_check.proofs.pairs_of.Lts as lts
+use Rattle.plans.specs.Plan.{pairsOf}
+use Rattle.plans.proofs.PlanLaws.{product-le}
+use Rattle.plans.proofs.pairs_of.Statement.{statement}
+use Rattle.plans.proofs.pairs_of.Tie as tie
+use Rattle.plans.proofs.pairs_of.Reads as reads
+use Rattle.plans.proofs.pairs_of.Lts as lts
 
 -- src/lib.rt:183:9
 returns : tie.Need-returns

@@ -1,9 +1,9 @@
 -- layer_of meets its contract: the two returns are the two cases.
 use borrow.Author.Tests.{lt-ltb, le-ltb}
-use Rattle.certificate_check.proofs.layer_of.Statement.{statement}
-use Rattle.certificate_check.proofs.layer_of.Tie as tie
-use Rattle.certificate_check.proofs.layer_of.Reads as reads
-use Rattle.certificate_check.proofs.layer_of.Lts as lts
+use Rattle.plans.proofs.layer_of.Statement.{statement}
+use Rattle.plans.proofs.layer_of.Tie as tie
+use Rattle.plans.proofs.layer_of.Reads as reads
+use Rattle.plans.proofs.layer_of.Lts as lts
 
 -- src/lib.rt:334:9
 returns : tie.Need-returns
