@@ -102,7 +102,7 @@ module _ (G : Grammar) (W : WellFormed limits G) (old new : Tables) (X : Built G
   abbrev cell : ℕ → ℕ → ℕ
   cell p k = getD ts (side p .from + k) 0
 
-  cell-target : (p k : ℕ) → p < Q → k < side p .span → Mem (cell p k) (targets limits G p)
+  pub cell-target : (p k : ℕ) → p < Q → k < side p .span → Mem (cell p k) (targets limits G p)
   cell-target p k h l =
       subst (Mem (cell p k)) (part-is p h)
       (subst (λ (u : ℕ). Mem u (part p)) (part-at p k l) (place-mem (part p) k 0 (omega (arith, part-length p h))))

@@ -1,0 +1,247 @@
+-- A finished search has found the smallest closed set. Assumes nothing.
+use mathlib.Core.Path.{_≡_, refl, ap, ap₂, sym, subst, _∙_}
+use mathlib.Core.Logic.{_↔_}
+use mathlib.Core.Bool.{Bool, true, false}
+use mathlib.Core.List.{List, _∷_, _++_}
+use Prim.Native.Nat.{ℕ, zero, suc, _+_, _*_, _/_, _%_, _^_, _≤_, _<_}
+use native.Mathlib.Omega.{arith}
+use native.Mathlib.Nat.{pow-zero, pow-succ', div-one, div-div-eq-div-mul, mul-le-mul}
+use native.Mathlib.Decide.{ℕ-discrete}
+use lib.ListN.{length, getD, take, drop, replicate, length-replicate}
+use lib.Seq.{length-take-le, getD-take, drop-cons}
+use borrow.Author.Tests.{eq-eqb}
+use Rattle.grammar.specs.Basics.{choose, Mem, over}
+use Rattle.grammar.specs.Limits.{limits}
+use Rattle.grammar.specs.Grammar.{Grammar, WellFormed}
+use Rattle.grammar.specs.Refusal.{done}
+use Rattle.grammar.proofs.Answers.{no-bool, unless-holds}
+use Rattle.automaton.specs.Items.{states}
+use Rattle.automaton.proofs.Items.{states-four}
+use Rattle.triples.specs.Index.{index, tripleCount}
+use Rattle.triples.specs.Smallest.{isElement, successors, smallest, size}
+use Rattle.triples.specs.Certificate.{byteCount, bit, isSet, bitsFrom, bytesFrom, certificateOf}
+use Rattle.triples.specs.Witness.{checkOn, checkRow}
+use Rattle.triples.proofs.Index.{index-below}
+use Rattle.triple_laws.proofs.Members.{mem-place, place-mem}
+use Rattle.triple_laws.proofs.Explore.{is-element, not-element, explore-start, explore-closed, explore-least}
+use Rattle.triple_laws.proofs.Lowest.{set-bit, clear-bit}
+use Rattle.triple_laws.proofs.CertificateCheck.{bits-fit, index-zero}
+use Rattle.triple_laws.proofs.Records.{successors-below}
+use Rattle.triple_laws.proofs.Laws.{size-cardinal}
+use Rattle.plans.specs.Plan.{Rows}
+use Rattle.plans.specs.Contracts.{Planned}
+use Rattle.search.specs.Promise.{Told, isPotential, lent, cleared}
+use Rattle.search.specs.State.{State, used, flagBase, NextOf, Marked, Explored}
+use Rattle.search.specs.Finish.{Ahead, here, back, Answered}
+use Rattle.search.specs.declared.SearchVerdict.{SearchVerdict}
+use Rattle.search.specs.declared.SearchVerdict.the-variants.{Unambiguous, Potential, Refused}
+
+-- a number of c bits is that of the indices that these bits tell
+bits-are : (held : List ℕ) (c i x : ℕ) → x < 2 ^ c
+    → ((k : ℕ) → k < c → x / 2 ^ k % 2 ≡ choose (isElement (i + k) held) 1 0) → x ≡ bitsFrom held i c
+unfolding bitsFrom
+bits-are held zero i x h e = let z : x < 1 = subst (λ (y : ℕ). x < y) (pow-zero 2) h in omega arith
+bits-are held (suc c) i x h e =
+    let z : x < 2 * 2 ^ c = subst (λ (y : ℕ). x < y) (pow-succ' 2 c) h in
+    let low : x % 2 ≡ choose (isElement i held) 1 0
+    = ap (λ (y : ℕ). y % 2) (sym (div-one x)) ∙ ap (λ (y : ℕ). x / y % 2) (sym (pow-zero 2)) ∙ e 0 (omega arith)
+    ∙ ap (λ (j : ℕ). choose {A = ℕ} (isElement j held) 1 0) (let q : i + 0 ≡ i = omega arith in q) in
+    let high : x / 2 ≡ bitsFrom held (suc i) c
+    = bits-are held c (suc i) (x / 2) (omega arith) (λ k l.
+    ap (λ (y : ℕ). y % 2) (div-div-eq-div-mul x 2 (2 ^ k)) ∙ ap (λ (y : ℕ). x / y % 2) (sym (pow-succ' 2 k)) ∙ e (suc k) (omega arith)
+    ∙ ap (λ (j : ℕ). choose {A = ℕ} (isElement j held) 1 0) (let q : i + suc k ≡ suc i + k = omega arith in q)) in
+    halves x (choose (isElement i held) 1 0) (bitsFrom held (suc i) c) low high
+  where
+    halves : (x a b : ℕ) → x % 2 ≡ a → x / 2 ≡ b → x ≡ a + 2 * b
+    halves x a b p q = omega arith
+
+-- m bytes from byte b on are those of the indices that their bits tell
+bytes-are : (held marks : List ℕ) (m b : ℕ) → b + m ≤ length marks → ((a : ℕ) → getD marks a 0 < 256)
+    → ((i : ℕ) → i < 8 * (b + m) → bit marks i ≡ choose (isElement i held) 1 0) → take m (drop b marks) ≡ bytesFrom held b m
+unfolding bytesFrom
+bytes-are held marks zero b h small e = refl
+bytes-are held marks (suc m) b h small e =
+    ap (take (suc m)) (drop-cons marks b 0 (omega arith))
+    ∙ ap₂ (λ (x : ℕ) (l : List ℕ). x ∷ l)
+    (bits-are held 8 (8 * b) (getD marks b 0) (small b) (λ k l. sym (place k l) ∙ e (8 * b + k) (omega arith)))
+    (bytes-are held marks m (suc b) (omega arith) small (λ i l. e i (omega arith)))
+  where
+    place : (k : ℕ) → k < 8 → bit marks (8 * b + k) ≡ getD marks b 0 / 2 ^ k % 2
+    place k l =
+        let q : (8 * b + k) / 8 ≡ b = omega arith in
+        let r : (8 * b + k) % 8 ≡ k = omega arith in
+        ap (λ (z : ℕ). getD marks z 0 / 2 ^ ((8 * b + k) % 8) % 2) q ∙ ap (λ (z : ℕ). getD marks b 0 / 2 ^ z % 2) r
+
+module _ (G : Grammar) (W : WellFormed limits G) (R : Rows) (targets : List ℕ) (t m Q : ℕ) (p : Planned G R targets t m Q)
+    (queue parents : List ℕ) (s : State) (x : Explored R targets t m Q queue parents s) where
+  marked : Marked Q s
+  marked = x .going .marked
+
+  count-used : length (used s) ≡ s .count
+  count-used = length-take-le (s .count) (s .queue) (omega (arith, marked .fits, marked .queue-room))
+
+  -- what stands at a place of the queue in use
+  used-at : (k : ℕ) → k < s .count → Mem (getD (s .queue) k 0) (used s)
+  used-at k h =
+      subst (λ (i : ℕ). Mem i (used s)) (getD-take (s .count) (s .queue) k 0 h)
+      (place-mem (used s) k 0 (omega (arith, count-used)))
+
+  some : 0 < tripleCount (states G)
+  some = let h = mul-le-mul {n₁ = 4} {m₁ = 4} (states-four limits G) (states-four limits G) in omega (arith, h)
+
+  inside : (i j : ℕ) → i < tripleCount (states G) → Mem j (successors limits G i) → j < tripleCount (states G)
+  inside = successors-below limits G W (omega arith)
+
+  -- what follows an index is a successor
+  next-listed : (i j : ℕ) → i < tripleCount Q → NextOf R targets t m Q i j → Mem j (successors limits G i)
+  next-listed i j h (k, l, e) = subst (λ (j : ℕ). Mem j (successors limits G i)) e (p .lists i h .each k l)
+
+  queue-below : (k : ℕ) → k < s .count → getD (s .queue) k 0 < tripleCount Q
+  queue-below k h = marked .below (getD (s .queue) k 0) (used-at k h)
+
+  -- by the places: 0 is the first index, each further one follows an earlier one
+  found-at : (n k : ℕ) → k < n → k < s .count → Mem (getD (s .queue) k 0) (smallest limits G)
+  unfolding smallest
+  found-at zero k h l = absurd (let o : ⊥ = omega arith in o)
+  found-at (suc n) k h l = go (ℕ-discrete k 0) (found-at n)
+    where
+      go : Dec (k ≡ 0) → ((k : ℕ) → k < n → k < s .count → Mem (getD (s .queue) k 0) (smallest limits G)) → Mem (getD (s .queue) k 0) (smallest limits G)
+      go (yes e) again =
+          subst (λ (i : ℕ). Mem i (smallest limits G)) (sym (ap (λ (k : ℕ). getD (s .queue) k 0) e ∙ x .going .first))
+          (explore-start (successors limits G) (tripleCount (states G)) some inside)
+      go (no z) again =
+          let f = x .going .found k (positive k z) l in
+          explore-closed (successors limits G) (tripleCount (states G)) some inside (getD (s .queue) (f .from) 0) (getD (s .queue) k 0)
+          (again (f .from) (omega (arith, f .earlier)) (omega (arith, f .earlier)))
+          (next-listed (getD (s .queue) (f .from) 0) (getD (s .queue) k 0) (queue-below (f .from) (omega (arith, f .earlier))) (f .next))
+        where
+          positive : (k : ℕ) → (k ≡ 0 → ⊥) → 0 < k
+          positive zero z = absurd (z refl)
+          positive (suc k) z = omega arith
+
+  -- the queue has 0 and every successor of what it has
+  used-least : (i : ℕ) → Mem i (smallest limits G) → Mem i (used s)
+  unfolding smallest
+  used-least =
+      explore-least (successors limits G) (tripleCount (states G)) some inside (λ i. Mem i (used s))
+      (subst (λ (i : ℕ). Mem i (used s)) (x .going .first) (used-at 0 (x .going .some))) closed
+    where
+      closed : (i j : ℕ) → Mem i (used s) → Mem j (successors limits G i) → Mem j (used s)
+      closed i j h n =
+          let a = mem-place 0 h in
+          let l : a .0 < s .count = omega (arith, a .1, count-used) in
+          let e : i ≡ getD (s .queue) (a .0) 0 = sym (a .2) ∙ getD-take (s .count) (s .queue) (a .0) 0 l in
+          let b : i < tripleCount Q = marked .below i h in
+          let c : j < tripleCount Q
+          = subst (λ (q : ℕ). j < tripleCount q) (sym (p .size)) (inside i j (subst (λ (q : ℕ). i < tripleCount q) (p .size) b) n) in
+          let o = p .lists i b .all j n in
+          marked .seen-only j (omega (arith, c, bits-fit (tripleCount Q)))
+          (x .closed (a .0) j l (subst (λ (i : ℕ). NextOf R targets t m Q i j) e o))
+
+  -- the queue has exactly the smallest closed set
+  pub found-smallest : (i : ℕ) → Mem i (used s) ↔ Mem i (smallest limits G)
+  found-smallest i = (found, used-least i)
+    where
+      found : Mem i (used s) → Mem i (smallest limits G)
+      found h =
+          let a = mem-place 0 h in
+          let l : a .0 < s .count = omega (arith, a .1, count-used) in
+          subst (λ (i : ℕ). Mem i (smallest limits G)) (sym (getD-take (s .count) (s .queue) (a .0) 0 l) ∙ a .2) (found-at (suc (a .0)) (a .0) (omega arith) l)
+
+  -- and as many as it has
+  pub size-found : s .count ≡ size limits G
+  size-found = sym count-used ∙ size-cardinal limits G W (omega arith) (used s) (marked .distinct) found-smallest
+
+  -- a mark below the flags tells whether the smallest closed set has its index
+  mark-is : (i : ℕ) → i < flagBase Q → isSet (s .marks) i ≡ isElement i (smallest limits G)
+  mark-is i h = go (isSet (s .marks) i) refl
+    where
+      go : (b : Bool) → isSet (s .marks) i ≡ b → isSet (s .marks) i ≡ isElement i (smallest limits G)
+      go true e = e ∙ sym (is-element i (smallest limits G) .1 (found-smallest i .0 (marked .seen-only i h e)))
+      go false e =
+          e ∙ sym (not-element i (smallest limits G) .1 (λ n. no-bool (sym (marked .seen i (found-smallest i .1 n)) ∙ e)))
+
+  -- (1,1,1) is marked exactly if the verdict is potential
+  pub potential-is : isSet (s .marks) (index Q 1 1 1) ≡ isPotential limits G
+  potential-is =
+      let four : 4 ≤ Q = omega (arith, p .size, states-four limits G) in
+      let h = index-below Q 1 1 1 (omega arith) (omega arith) (omega arith) in
+      mark-is (index Q 1 1 1) (omega (arith, h, bits-fit (tripleCount Q)))
+      ∙ ap (λ (q : ℕ). isElement (index q 1 1 1) (smallest limits G)) (p .size)
+
+  mark-bit : (i : ℕ) → i < flagBase Q → bit (s .marks) i ≡ choose (isElement i (smallest limits G)) 1 0
+  mark-bit i h = go (isElement i (smallest limits G)) (mark-is i h)
+    where
+      go : (b : Bool) → isSet (s .marks) i ≡ b → bit (s .marks) i ≡ choose b 1 0
+      go true e = set-bit (s .marks) i e
+      go false e = clear-bit (s .marks) i e
+
+  -- the marks below the flags are the certificate
+  pub certificate-is : take (byteCount Q) (s .marks) ≡ certificateOf Q (smallest limits G)
+  certificate-is =
+      bytes-are (smallest limits G) (s .marks) (byteCount Q) 0 (omega (arith, marked .marks-room)) (marked .small)
+      (λ i l. mark-bit i (omega arith))
+
+  ahead-accepted : {j : ℕ} {is : List ℕ} (place n : ℕ) → getD (s .queue) place 0 ≡ index Q 1 1 1
+      → Ahead (s .queue) (s .parents) (s .count) place j is → checkOn limits G (getD (s .queue) j 0) n is ≡ done tt
+  unfolding checkOn
+  ahead-accepted place n e here =
+      unless-holds 15 n _ (done tt) (eq-eqb (getD (s .queue) place 0) (index (states G) 1 1 1) (e ∙ ap (λ (q : ℕ). index q 1 1 1) (p .size)))
+  ahead-accepted place n e (back {j} {k} {is} h l q a) =
+      let f = x .going .found k h l in
+      let i : getD (s .queue) (f .from) 0 ≡ getD (s .queue) j 0 = ap (λ (k : ℕ). getD (s .queue) k 0) (sym (q ∙ f .link)) in
+      let o : Mem (getD (s .queue) k 0) (successors limits G (getD (s .queue) j 0))
+      = subst (λ (i : ℕ). Mem (getD (s .queue) k 0) (successors limits G i)) i
+      (next-listed (getD (s .queue) (f .from) 0) (getD (s .queue) k 0) (queue-below (f .from) (omega (arith, f .earlier))) (f .next)) in
+      unless-holds 15 n _ (checkOn limits G (getD (s .queue) k 0) (suc n) is)
+      (is-element (getD (s .queue) k 0) (successors limits G (getD (s .queue) j 0)) .1 o)
+      ∙ ahead-accepted place (suc n) e a
+
+  -- the way to (1,1,1) is a row that the witness check accepts
+  pub row-accepted : (place : ℕ) (rest : List ℕ) → Ahead (s .queue) (s .parents) (s .count) place 0 rest
+      → getD (s .queue) place 0 ≡ index Q 1 1 1 → checkRow limits G (getD (s .queue) 0 0 ∷ rest) ≡ done tt
+  unfolding checkRow
+  row-accepted place rest a e =
+      unless-holds 15 0 _ (checkOn limits G (getD (s .queue) 0 0) 1 rest)
+      (eq-eqb (getD (s .queue) 0 0) (index (states G) 0 0 0) (x .going .first ∙ sym (index-zero (states G))))
+      ∙ ahead-accepted place 1 e a
+
+  -- a work row that is cleared, if it is as it was past its first 2Q² entries
+  row-cleared : (old row : List ℕ) → drop (tripleCount Q) row ≡ drop (tripleCount Q) old
+      → over (replicate (tripleCount Q) 0) row ≡ cleared (states G) old
+  unfolding over
+  row-cleared old row e =
+      ap (λ (l : List ℕ). replicate (tripleCount Q) 0 ++ l)
+      (ap (λ (n : ℕ). drop n row) (length-replicate (tripleCount Q) 0) ∙ e ∙ ap (λ (n : ℕ). drop n old) (sym (length-replicate (tripleCount Q) 0)))
+      ∙ ap (λ (q : ℕ). cleared q old) (p .size)
+
+  module _ (certificate witness : List ℕ) where
+    -- what is lent, before and after
+    abbrev told-of : SearchVerdict → List ℕ → List ℕ → Bool → Type 0
+    told-of r certificate′ witness′ b =
+        Told b G (lent certificate queue parents witness) r
+        (lent certificate′ (over (replicate (tripleCount Q) 0) (s .queue)) (over (replicate (tripleCount Q) 0) (s .parents)) witness′)
+
+    -- the answer by the marks is the verdict's
+    pub told : (r : SearchVerdict) (certificate′ witness′ : List ℕ) → Answered s Q certificate witness r certificate′ witness′
+        → Told (isPotential limits G) G (lent certificate queue parents witness) r
+        (lent certificate′ (over (replicate (tripleCount Q) 0) (s .queue)) (over (replicate (tripleCount Q) 0) (s .parents)) witness′)
+    told (Unambiguous n) certificate′ witness′ (e, c, b, w) =
+        subst (told-of (Unambiguous n) certificate′ witness′) (sym e ∙ potential-is) (record {
+          verdict = ap Unambiguous (c ∙ size-found);
+          certificate = b ∙ ap (λ (l : List ℕ). over l certificate) (certificate-is ∙ ap (λ (q : ℕ). certificateOf q (smallest limits G)) (p .size));
+          queue = row-cleared queue (s .queue) (x .queue-rest);
+          parents = row-cleared parents (s .parents) (x .parents-rest);
+          witness = w;
+        })
+    told (Potential n) certificate′ witness′ (e, b, w) =
+        subst (told-of (Potential n) certificate′ witness′) (sym e ∙ potential-is) (record {
+          row = getD (s .queue) 0 0 ∷ w .rest;
+          accepted = row-accepted (w .place) (w .rest) (w .ahead) (w .entry);
+          verdict = ap Potential (let q : n ≡ suc (length (w .rest)) = omega (arith, w .number-is) in q);
+          certificate = b;
+          queue = row-cleared queue (s .queue) (x .queue-rest);
+          parents = row-cleared parents (s .parents) (x .parents-rest);
+          witness = w .front;
+        })
+    told (Refused cause at) certificate′ witness′ e = absurd e

@@ -1,0 +1,9 @@
+pub mod AddsLaws
+pub mod PushLaws
+pub mod TakeLaws
+pub mod PlanFits
+pub mod ExploreLaws
+pub mod FinishLaws
+pub mod LaidLaws
+pub mod AnswerLaws
+pub mod LentLaws

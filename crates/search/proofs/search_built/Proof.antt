@@ -1,0 +1,133 @@
+-- search_built meets its contract: the built rows are those of the grammar that the record stands for.
+use borrow.Author.Needs.{needs}
+use native.Mathlib.Omega.{arith}
+use Prim.Native.Nat.{ℕ, _+_, _-_, _*_, _≤_, _<_}
+use mathlib.Core.Path.{_≡_, refl, ap, sym, subst, subst₂, _∙_}
+use mathlib.Core.List.{List}
+use lib.ListN.{length}
+use Rattle.grammar.specs.Limits.{limits}
+use Rattle.moves.proofs.Built.{few-nonterminals, room-of}
+use Rattle.plans.proofs.PlannedLaws.{planned-of}
+use Rattle.search.proofs.LaidLaws.{laid-of}
+use Rattle.search.proofs.search_built.Statement.{statement}
+use Rattle.search.proofs.search_built.Tie as tie
+use Rattle.search.proofs.search_built.Reads as reads
+use Rattle.search.proofs.search_built.Lts as lts
+use Rattle.moves.proofs.build.Reads as build-reads
+use Rattle.search.proofs.search_all.Reads as search-all-reads
+use Rattle.search.proofs.search_few.Reads as search-few-reads
+
+-- src/lib.rt:180:9
+slice-aggregate-build : tie.Need-slice-aggregate-build
+slice-aggregate-build c = search needs
+
+-- src/lib.rt:181:9
+slice-aggregate-build-2 : tie.Need-slice-aggregate-build-2
+slice-aggregate-build-2 c = search needs
+
+-- src/lib.rt:182:9
+slice-aggregate-build-3 : tie.Need-slice-aggregate-build-3
+slice-aggregate-build-3 c = search needs
+
+-- src/lib.rt:183:9
+slice-aggregate-build-4 : tie.Need-slice-aggregate-build-4
+slice-aggregate-build-4 c = search needs
+
+-- src/lib.rt:184:9
+slice-aggregate-build-5 : tie.Need-slice-aggregate-build-5
+slice-aggregate-build-5 c = search needs
+
+-- src/lib.rt:185:9
+slice-aggregate-build-6 : tie.Need-slice-aggregate-build-6
+slice-aggregate-build-6 c = search needs
+
+-- src/lib.rt:178:5
+build-requires : tie.Need-build-requires
+build-requires c κs = let e = c .before .before .before .before .before .before .before .before .before .before in (e .pre .0, room-of (e .args .g) _ (e .pre .0) (search needs) (search needs) (search needs) (search needs) (search needs) (search needs))
+
+-- src/lib.rt:188:13
+add-m : tie.Need-add-m
+add-m c = let e = c .before .before .before .before .before .before .before .before .before .before .before .before .before .before .before .before .before .before in omega (arith, few-nonterminals (e .args .g) (e .pre .0))
+
+-- src/lib.rt:191:9
+search-few-requires : tie.Need-search-few-requires
+search-few-requires c κs =
+    let e = c .before .before .before .before .before .before .before .before .before .before .before .before .before .before .before .before .before .before .before .before .before .before .before .before .before .before .before .before in
+    let x = e .pre .0 in
+    (laid-of (e .args .g) (x .grammar) (x .wellFormed) (x .same) _ _ (c .before .before .before .before .before .before .before .before .before .before .before .before .before .before .before .before .before .build .ensures (x .grammar) (x .same)) (search needs), (e .pre .1, c .before .before .before .before .before .before .before .before .before .if1 .taken))
+
+-- src/lib.rt:191:9
+same-length : tie.Need-same-length
+same-length c = search needs
+
+-- src/lib.rt:191:9
+same-length-2 : tie.Need-same-length-2
+same-length-2 c = search needs
+
+-- src/lib.rt:191:9
+same-length-3 : tie.Need-same-length-3
+same-length-3 c = search needs
+
+-- src/lib.rt:191:9
+same-length-4 : tie.Need-same-length-4
+same-length-4 c = search needs
+
+-- src/lib.rt:191:9
+returns : tie.Need-returns
+returns c = λ G W e.
+    let a = c .before .before .before .before .before .before .before .before .before .before .before .before .before .before .before .before .before .before .before .before .before .before .before .before .before .before .before .before .before .before .before .before .before .before .before .before .before .args in
+    c .before .before .before .before .before .before .before .before .search-few .ensures G W (planned-of (a .g) G W e _ _ (c .before .before .before .before .before .before .before .before .before .before .before .before .before .before .before .before .before .before .before .before .before .before .before .before .before .before .build .ensures G e) (search needs))
+
+-- src/lib.rt:206:5
+search-all-requires : tie.Need-search-all-requires
+search-all-requires c κs =
+    let e = c .before .before .before .before .before .before .before .before .before .before .before .before .before .before .before .before .before .before .before .before .before .before .before .before .before .before .before .before in
+    let x = e .pre .0 in
+    (laid-of (e .args .g) (x .grammar) (x .wellFormed) (x .same) _ _ (c .before .before .before .before .before .before .before .before .before .before .before .before .before .before .before .before .before .build .ensures (x .grammar) (x .same)) (search needs), e .pre .1)
+
+-- src/lib.rt:160:1
+same-length-5 : tie.Need-same-length-5
+same-length-5 c = search needs
+
+-- src/lib.rt:160:1
+same-length-6 : tie.Need-same-length-6
+same-length-6 c = search needs
+
+-- src/lib.rt:160:1
+same-length-7 : tie.Need-same-length-7
+same-length-7 c = search needs
+
+-- src/lib.rt:160:1
+same-length-8 : tie.Need-same-length-8
+same-length-8 c = search needs
+
+-- src/lib.rt:160:1
+returns-2 : tie.Need-returns-2
+returns-2 c = λ G W e.
+    let a = c .before .before .before .before .before .before .before .before .before .before .before .before .before .before .before .before .before .before .before .before .before .before .before .before .before .before .before .before .before .before .before .before .before .before .before .before .before .args in
+    c .before .before .before .before .before .before .before .before .search-all .ensures G W (planned-of (a .g) G W e _ _ (c .before .before .before .before .before .before .before .before .before .before .before .before .before .before .before .before .before .before .before .before .before .before .before .before .before .before .build .ensures G e) (search needs))
+
+pub search-built-spec : {M : Type 1} → statement M
+search-built-spec =
+    tie.close
+    (tie.spec
+    slice-aggregate-build
+    slice-aggregate-build-2
+    slice-aggregate-build-3
+    slice-aggregate-build-4
+    slice-aggregate-build-5
+    slice-aggregate-build-6
+    build-requires
+    add-m
+    search-few-requires
+    same-length
+    same-length-2
+    same-length-3
+    same-length-4
+    returns
+    search-all-requires
+    same-length-5
+    same-length-6
+    same-length-7
+    same-length-8
+    returns-2)

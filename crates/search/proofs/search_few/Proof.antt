@@ -1,0 +1,56 @@
+-- search_few meets its contract: few states need few bytes.
+use borrow.Author.Needs.{needs}
+use native.Mathlib.Omega.{arith}
+use Prim.Native.Nat.{ℕ, _+_, _-_, _*_, _≤_, _<_}
+use mathlib.Core.Path.{_≡_, refl, ap, sym, subst, subst₂, _∙_}
+use mathlib.Core.List.{List}
+use native.Mathlib.Nat.{mul-le-mul}
+use Rattle.search.proofs.ExploreLaws.{zeros, few-bytes}
+use Rattle.search.proofs.search_few.Statement.{statement}
+use Rattle.search.proofs.search_few.Tie as tie
+use Rattle.search.proofs.search_few.Reads as reads
+use Rattle.search.proofs.search_few.Lts as lts
+use Rattle.search.proofs.search_rows.Reads as search-rows-reads
+
+-- src/lib.rt:117:9
+slice-aggregate-search-rows : tie.Need-slice-aggregate-search-rows
+slice-aggregate-search-rows c = search needs
+
+-- src/lib.rt:104:5
+search-rows-requires : tie.Need-search-rows-requires
+search-rows-requires c κs =
+    let e = c .before .before .before .before .before .before .before .before .before in
+    let w = mul-le-mul {n₂ = 64} {m₂ = 64} (e .pre .1 .1) (e .pre .1 .1) in
+    (e .pre .0, (e .pre .1 .0, zeros 4096 (e .args .q) (few-bytes (2 * (e .args .q * e .args .q)) 1024 (omega (arith, w)))))
+
+-- src/lib.rt:82:1
+same-length : tie.Need-same-length
+same-length c = search needs
+
+-- src/lib.rt:82:1
+same-length-2 : tie.Need-same-length-2
+same-length-2 c = search needs
+
+-- src/lib.rt:82:1
+same-length-3 : tie.Need-same-length-3
+same-length-3 c = search needs
+
+-- src/lib.rt:82:1
+same-length-4 : tie.Need-same-length-4
+same-length-4 c = search needs
+
+-- src/lib.rt:82:1
+returns : tie.Need-returns
+returns c = search needs
+
+pub search-few-spec : {M : Type 1} → statement M
+search-few-spec =
+    tie.close
+    (tie.spec
+    slice-aggregate-search-rows
+    search-rows-requires
+    same-length
+    same-length-2
+    same-length-3
+    same-length-4
+    returns)

@@ -1,0 +1,81 @@
+-- What the search promises: its answer, and every lent row afterwards.
+-- Source: document 01, "Triples, certificate, witness", from "The search writes the smallest such set" on, and "Causes of refusal".
+-- Assumes nothing.
+use Prim.Native.Nat.{ℕ}
+use mathlib.Core.Path.{_≡_}
+use mathlib.Core.Bool.{Bool, true, false, _&&_}
+use mathlib.Core.List.{List}
+use lib.Dec.{leb}
+use lib.ListN.{length, replicate}
+use Rattle.grammar.specs.Basics.{over}
+use Rattle.grammar.specs.Limits.{Limits, limits}
+use Rattle.grammar.specs.Grammar.{Grammar}
+use Rattle.grammar.specs.Refusal.{Answer, done, refused, refuseUnless, andThen, bufferTooShort}
+use Rattle.grammar.specs.TableCheck.{checkTable}
+use Rattle.automaton.specs.Items.{states}
+use Rattle.triples.specs.Index.{index, tripleCount}
+use Rattle.triples.specs.Smallest.{isElement, smallest, size}
+use Rattle.triples.specs.Certificate.{byteCount, certificateOf}
+use Rattle.triples.specs.Witness.{checkRow}
+use Rattle.search.specs.declared.SearchVerdict.{SearchVerdict}
+use Rattle.search.specs.declared.SearchVerdict.the-variants.{Unambiguous, Potential, Refused}
+
+-- the verdict is potential if the smallest closed set holds (1,1,1), else unambiguous
+abbrev pub isPotential : Limits → Grammar → Bool
+isPotential L G = isElement (index (states G) 1 1 1) (smallest L G)
+
+-- what is lent: the certificate's bytes and three rows
+pub record Lent : Type 0 where
+  pub certificate : List ℕ
+  pub queue : List ℕ
+  pub parents : List ℕ
+  pub witness : List ℕ
+
+abbrev pub lent : List ℕ → List ℕ → List ℕ → List ℕ → Lent
+lent c q p w = record { certificate = c; queue = q; parents = p; witness = w }
+
+-- lent enough: each row has 2Q² entries, the certificate as many bytes as 2Q² bits need
+unfoldable pub isEnough : ℕ → Lent → Bool
+isEnough Q l =
+    leb (byteCount Q) (length (l .certificate))
+    && (leb (tripleCount Q) (length (l .queue)) && (leb (tripleCount Q) (length (l .parents)) && leb (tripleCount Q) (length (l .witness))))
+
+-- the grammar to search: table faults first, then 14
+unfoldable pub searchable : Limits → ℕ → ℕ → List ℕ → Lent → Answer Grammar
+searchable L t n table l = andThen (checkTable L t n table) (λ G. refuseUnless bufferTooShort 0 (isEnough (states G) l) (done G))
+
+-- a work row afterwards: the first 2Q² entries are 0
+abbrev pub cleared : ℕ → List ℕ → List ℕ
+cleared Q row = over (replicate (tripleCount Q) 0) row
+
+-- unambiguous: with the size; the certificate is that of the smallest closed set, the witness row is untouched
+pub record Certified (G : Grammar) (before : Lent) (r : SearchVerdict) (after : Lent) : Type 0 where
+  pub verdict : r ≡ Unambiguous (size limits G)
+  pub certificate : after .certificate ≡ over (certificateOf (states G) (smallest limits G)) (before .certificate)
+  pub queue : after .queue ≡ cleared (states G) (before .queue)
+  pub parents : after .parents ≡ cleared (states G) (before .parents)
+  pub witness : after .witness ≡ before .witness
+
+-- potential: which row is the program's choice; the witness check accepts it, and the number of its entries is returned; the
+-- certificate and the witness row past its end are untouched
+pub record Witnessed (G : Grammar) (before : Lent) (r : SearchVerdict) (after : Lent) : Type 0 where
+  pub row : List ℕ
+  pub accepted : checkRow limits G row ≡ done tt
+  pub verdict : r ≡ Potential (length row)
+  pub certificate : after .certificate ≡ before .certificate
+  pub queue : after .queue ≡ cleared (states G) (before .queue)
+  pub parents : after .parents ≡ cleared (states G) (before .parents)
+  pub witness : after .witness ≡ over row (before .witness)
+
+abbrev pub Told : Bool → Grammar → Lent → SearchVerdict → Lent → Type 0
+Told true = Witnessed
+Told false = Certified
+
+-- a refusal changes nothing
+abbrev pub Answers : Answer Grammar → Lent → SearchVerdict → Lent → Type 0
+Answers (done G) before r after = Told (isPotential limits G) G before r after
+Answers (refused cause at) before r after = (r ≡ Refused cause at) × (after ≡ before)
+
+-- the promise
+abbrev pub Searches : ℕ → ℕ → List ℕ → Lent → SearchVerdict → Lent → Type 0
+Searches t n table before r after = Answers (searchable limits t n table before) before r after
