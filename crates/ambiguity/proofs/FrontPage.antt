@@ -15,7 +15,7 @@ use Rattle.grammar.specs.TableCheck.{checkTable, tableChecked}
 use Rattle.grammar.specs.declared.TableChecked.{TableChecked}
 use Rattle.grammar.specs.declared.TableVerdict.the-variants.{Passed, Refused}
 use Rattle.grammar.proofs.Answers.{then-goes, then-stops}
-use Rattle.grammar.proofs.WellFormed.{passes-exactly, takes-only, room}
+use Rattle.grammar.proofs.WellFormed.{takes-only, room}
 use Rattle.automaton.specs.Strings.{Potential, Unambiguous}
 use Rattle.automaton.specs.Position.{position}
 use Rattle.triples.specs.Successor.{Reached, origin, next, Acceptable}
@@ -34,6 +34,7 @@ use Rattle.triple_laws.proofs.Laws.{accepts-exactly, witness-exactly}
 use Rattle.parting.proofs.Position.{potential-reached}
 use Rattle.soundness.proofs.Position.{one-tree}
 use Rattle.table_check.proofs.Callers.{passed-table, refused-table}
+use Rattle.ambiguity.proofs.Searches.{checked, search-theorems}
 use Rattle.ambiguity.proofs.Texts.{text-theorems}
 use Rattle.ambiguity.specs.FrontPage.{Stores, TableAnswer, StepAnswers, WitnessAnswer, CertificateAnswer, TableTheorems, StepTheorems, WitnessTheorems, CertificateTheorems, FrontPage}
 
@@ -76,9 +77,6 @@ answer-some none x e = let z : _≡_ {A = ℕ} 0 1 = cc in absurd (let o : ⊥ =
 answer-some (some y) x e = let z : y ≡ x = cc in ap some z
 
 module _ (t n : ℕ) (table : List ℕ) where
-  checked : (G : Grammar) → Stores t n table G → checkTable limits t n table ≡ done G
-  checked G s = passes-exactly limits room t n table G .1 (s .wellFormed, s .terminals, s .nonterminals, s .stored)
-
   -- the faults of the table come first in a check that begins with them
   table-first : (go : Grammar → Answer Unit) (v : CheckVerdict) → v ≡ checkVerdict (andThen (checkTable limits t n table) go)
       → (r : TableChecked) (cause at : ℕ) → TableAnswer t n table r → r .verdict ≡ Refused cause at → v ≡ check.Refused cause at
@@ -88,14 +86,14 @@ module _ (t n : ℕ) (table : List ℕ) where
   then-accepted : (go : Grammar → Answer Unit) (v : CheckVerdict) → v ≡ checkVerdict (andThen (checkTable limits t n table) go)
       → (G : Grammar) → Stores t n table G → (v ≡ check.Accepted) ↔ (go G ≡ done tt)
   then-accepted go v h G s =
-      let e = then-goes (checkTable limits t n table) go G (checked G s) in
+      let e = then-goes (checkTable limits t n table) go G (checked t n table G s) in
       let a = accepted-done (go G) in
       let w : v ≡ checkVerdict (go G) = h ∙ ap checkVerdict e in
       (λ x. a .0 (sym w ∙ x), λ x. w ∙ a .1 x)
 
   table-theorems : (r : TableChecked) → TableAnswer t n table r → TableTheorems t n table r
   table-theorems r e = record {
-    passes = λ G s. let h : r ≡ tableChecked (done G) = e ∙ ap tableChecked (checked G s) in
+    passes = λ G s. let h : r ≡ tableChecked (done G) = e ∙ ap tableChecked (checked t n table G s) in
         (ap (λ (r : TableChecked). r .verdict) h, ap (λ (r : TableChecked). r .grammar) h);
     passes-only = λ v. let p = passed-table t n table r e v in let a = takes-only limits room t n table (p .grammar) (p .checked) in
         (p .grammar, record { wellFormed = a .wellFormed; terminals = a .terminals; nonterminals = a .nonterminals; stored = a .table }, p .same);
@@ -104,7 +102,7 @@ module _ (t n : ℕ) (table : List ℕ) where
   module _ (f p q : ℕ) (ask : ℕ → StepAnswer) (h : StepAnswers t n table f p q ask) where
     record-at : (G : Grammar) → Stores t n table G → (k : ℕ) → ask k ≡ recordAnswer (nthRecord limits G f p q k)
     unfolding nthStep
-    record-at G s k = h k ∙ ap stepAnswer (then-goes (checkTable limits t n table) (λ G. done (nthRecord limits G f p q k)) G (checked G s))
+    record-at G s k = h k ∙ ap stepAnswer (then-goes (checkTable limits t n table) (λ G. done (nthRecord limits G f p q k)) G (checked t n table G s))
 
     step-theorems : StepTheorems t n table f p q ask
     unfolding nthStep
@@ -152,4 +150,4 @@ module _ (t n : ℕ) (table : List ℕ) where
     }
 
 pub front-page : FrontPage
-front-page = record { tables = table-theorems; steps = step-theorems; witnesses = witness-theorems; certificates = certificate-theorems; texts = text-theorems }
+front-page = record { tables = table-theorems; steps = step-theorems; witnesses = witness-theorems; certificates = certificate-theorems; searches = search-theorems; texts = text-theorems }

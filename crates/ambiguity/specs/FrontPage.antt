@@ -3,24 +3,27 @@
 -- mission by number. Assumes nothing.
 use Prim.Native.Nat.{ℕ, _+_, _≤_, _<_}
 use mathlib.Core.Path.{_≡_}
+use mathlib.Core.Bool.{true, false}
 use mathlib.Core.List.{List}
-use mathlib.Core.Logic.{_↔_}
+use mathlib.Core.Logic.{_⊎_, _↔_}
 use lib.ListN.{length, take}
-use Rattle.grammar.specs.Basics.{over}
+use Rattle.grammar.specs.Basics.{Mem, Distinct, over}
 use Rattle.grammar.specs.Limits.{limits}
 use Rattle.grammar.specs.Grammar.{Grammar, WellFormed}
 use Rattle.grammar.specs.Table.{encode}
 use Rattle.grammar.specs.Tree.{HasTwoTrees}
 use Rattle.grammar.specs.Record.{recordOf}
-use Rattle.grammar.specs.Refusal.{done}
+use Rattle.grammar.specs.Refusal.{done, bufferTooShort}
 use Rattle.grammar.specs.TableCheck.{checkTable, tableChecked}
 use Rattle.grammar.specs.declared.TableChecked.{TableChecked}
 use Rattle.grammar.specs.declared.TableVerdict.the-variants.{Passed, Refused}
 use Rattle.automaton.specs.Strings.{Potential, Unambiguous}
 use Rattle.automaton.specs.Items.{states}
 use Rattle.automaton.specs.Position.{position}
-use Rattle.triples.specs.Successor.{StepTo}
-use Rattle.triples.specs.Certificate.{AcceptableCertificate, checkCertificate}
+use Rattle.triples.specs.Index.{index}
+use Rattle.triples.specs.Successor.{StepTo, Reached}
+use Rattle.triples.specs.Smallest.{size}
+use Rattle.triples.specs.Certificate.{byteCount, Holds, AcceptableCertificate, SmallestCertificate, checkCertificate}
 use Rattle.triples.specs.Witness.{Witness, checkWitness}
 use Rattle.triples.specs.Verdict.{checkVerdict}
 use Rattle.triples.specs.declared.CheckVerdict.{CheckVerdict}
@@ -29,6 +32,9 @@ use Rattle.triples.specs.declared.Step.{Step}
 use Rattle.steps.specs.Steps.{nthStep, stepAnswer}
 use Rattle.steps.specs.declared.StepAnswer.{StepAnswer}
 use Rattle.steps.specs.declared.StepAnswer.the-variants as step
+use Rattle.search.specs.Promise.{Lent, isEnough, Searches}
+use Rattle.search.specs.declared.SearchVerdict.{SearchVerdict}
+use Rattle.search.specs.declared.SearchVerdict.the-variants as search
 use Rattle.text.specs.Read.{Source, symbolNames, readText}
 use Rattle.text.specs.Promise.{textRead, ReadsText, WritesText, SameAgain}
 use Rattle.text.specs.declared.TextRead.{TextRead}
@@ -87,6 +93,37 @@ module _ (t n : ℕ) (table : List ℕ) where
     -- demand 2: nor do two strings part
     pub unambiguous : (G : Grammar) → Stores t n table G → v ≡ check.Accepted → Unambiguous (position limits G)
 
+  -- unambiguous: the bytes are an acceptable certificate, contained in every other, and the certificate check accepts them
+  pub record Certifies (G : Grammar) (r : SearchVerdict) (bytes : List ℕ) : Type 0 where
+    pub verdict : r ≡ search.Unambiguous (size limits G)
+    pub smallest : SmallestCertificate limits G bytes
+    pub accepted : (v : CheckVerdict) → CertificateAnswer bytes v → v ≡ check.Accepted
+    -- they are the smallest closed set: they hold exactly what is reached from (0,0,0)
+    pub reached : (f p q : ℕ) → Holds (states G) bytes f p q ↔ Reached (position limits G) f p q
+    -- and the number is its size: that of every list without doubles of the indices held
+    pub number : (l : List ℕ) → Distinct l
+        → ((i : ℕ) → Mem i l ↔ ((f p q : ℕ) × (i ≡ index (states G) f p q) × Holds (states G) bytes f p q))
+        → r ≡ search.Unambiguous (length l)
+
+  pub record VerdictTheorems (G : Grammar) (r : SearchVerdict) (written : List ℕ) : Type 0 where
+    -- demand 2: potential precisely when two strings part, otherwise unambiguous with the smallest closed set and its size
+    pub potential : ((k : ℕ) × (r ≡ search.Potential k)) ↔ Potential (position limits G)
+    pub otherwise : Unambiguous (position limits G) → Certifies G r written
+    pub one-of-two : ((k : ℕ) × (r ≡ search.Potential k)) ⊎ Certifies G r written
+    -- demand 3: where some bytes are an acceptable certificate it answers unambiguous, and writes one contained in every other
+    pub certificates : (bytes : List ℕ) → AcceptableCertificate limits G bytes → Certifies G r written
+
+  pub record SearchTheorems (before : Lent) (r : SearchVerdict) (after : Lent) : Type 0 where
+    -- demand 1: the faults of the table come first, as the table check gives them, then 14; a refusal changes nothing
+    pub refused : (c : TableChecked) (cause at : ℕ) → TableAnswer c → c .verdict ≡ Refused cause at
+        → (r ≡ search.Refused cause at) × (after ≡ before)
+    pub short : (G : Grammar) → Stores t n table G → isEnough (states G) before ≡ false
+        → (r ≡ search.Refused bufferTooShort 0) × (after ≡ before)
+    -- lent enough, it answers; the certificate is the front of what was lent
+    pub enough : (G : Grammar) → Stores t n table G → isEnough (states G) before ≡ true → VerdictTheorems G r (take (byteCount (states G)) (after .certificate))
+    -- demand 2: the witness check accepts the row that it wrote
+    pub witness : (k : ℕ) → r ≡ search.Potential k → (v : CheckVerdict) → WitnessAnswer (take k (after .witness)) v → v ≡ check.Accepted
+
 pub record TextTheorems : Type 0 where
   -- demand 2: text that is read and written again, with the names that the reader gave, is the same text
   pub text-again : (text table starts lengths table′ starts′ lengths′ : List ℕ) (t n e q : ℕ) (out out′ : List ℕ) (r : TextWritten)
@@ -123,4 +160,6 @@ pub record FrontPage : Type 0 where
   pub steps : (t n : ℕ) (table : List ℕ) (f p q : ℕ) (ask : ℕ → StepAnswer) → StepAnswers t n table f p q ask → StepTheorems t n table f p q ask
   pub witnesses : (t n : ℕ) (table row : List ℕ) (v : CheckVerdict) → WitnessAnswer t n table row v → WitnessTheorems t n table row v
   pub certificates : (t n : ℕ) (table bytes : List ℕ) (v : CheckVerdict) → CertificateAnswer t n table bytes v → CertificateTheorems t n table bytes v
+  pub searches : (t n : ℕ) (table : List ℕ) (before : Lent) (r : SearchVerdict) (after : Lent) → Searches t n table before r after
+      → SearchTheorems t n table before r after
   pub texts : TextTheorems

@@ -1,0 +1,211 @@
+-- What follows from the promise of the search. Assumes nothing.
+use Prim.Native.Nat.{ℕ}
+use mathlib.Core.Path.{_≡_, refl, ap, sym, subst, _∙_}
+use mathlib.Core.Bool.{Bool, true, false}
+use mathlib.Core.List.{List}
+use mathlib.Core.Logic.{inl, inr, _↔_}
+use native.Mathlib.Omega.{arith}
+use lib.ListN.{length, take, drop}
+use lib.Seq.{take-append-seam}
+use Rattle.grammar.specs.Basics.{choose, Mem, Distinct, over}
+use Rattle.grammar.specs.Limits.{limits}
+use Rattle.grammar.specs.Grammar.{Grammar, WellFormed}
+use Rattle.grammar.specs.Refusal.{Answer, done, refused, refuseUnless, bufferTooShort}
+use Rattle.grammar.specs.TableCheck.{checkTable}
+use Rattle.grammar.proofs.Answers.{unless-holds, unless-fails, unless-done, then-done, then-goes, then-stops}
+use Rattle.grammar.proofs.WellFormed.{passes-exactly, room}
+use Rattle.automaton.specs.Strings.{Potential, Unambiguous}
+use Rattle.automaton.specs.Items.{states}
+use Rattle.automaton.specs.Position.{position}
+use Rattle.automaton.proofs.Items.{states-four}
+use Rattle.triples.specs.Index.{index, tripleCount, layerOf, leftOf, rightOf}
+use Rattle.triples.specs.Successor.{Reached}
+use Rattle.triples.specs.Smallest.{isElement, smallest, size}
+use Rattle.triples.specs.Certificate.{byteCount, Holds, SmallestCertificate, certificateOf, checkBytes, checkCertificate}
+use Rattle.triples.specs.Witness.{checkRow, checkWitness}
+use Rattle.triples.specs.Verdict.{checkVerdict}
+use Rattle.triples.specs.declared.CheckVerdict.{CheckVerdict}
+use Rattle.triples.specs.declared.CheckVerdict.the-variants as check
+use Rattle.triples.proofs.Index.{index-below, digits}
+use Rattle.triples.proofs.Reached.{reached-held}
+use Rattle.triple_laws.proofs.Explore.{is-element, not-element}
+use Rattle.triple_laws.proofs.CertificateCheck.{bits-fit}
+use Rattle.triple_laws.proofs.CertificateOf.{bytes-length, certificate-bit}
+use Rattle.triple_laws.proofs.Laws.{accepts-exactly, reached-exactly, size-cardinal, smallest-below, smallest-certificate, acceptable-lacks}
+use Rattle.parting.proofs.Position.{potential-reached}
+use Rattle.table_check.proofs.Callers.{refused-table}
+use Rattle.search.specs.Promise as promise
+use Rattle.search.specs.Promise.{Lent, isPotential, isEnough, searchable, Told, Answers, Searches}
+use Rattle.search.specs.declared.SearchVerdict.{SearchVerdict}
+use Rattle.search.specs.declared.SearchVerdict.the-variants as search
+use Rattle.ambiguity.specs.FrontPage.{Stores, WitnessAnswer, Certifies, VerdictTheorems, SearchTheorems}
+
+-- what is written over the front of a row
+front-of : (front old : List ℕ) (k : ℕ) → length front ≡ k → take k (over front old) ≡ front
+unfolding over
+front-of front old k e = ap (λ (n : ℕ). take n (over front old)) (sym e) ∙ take-append-seam front (drop (length front) old)
+
+-- the verdicts are apart
+no-two : {A : Type 0} (n k : ℕ) → search.Unambiguous n ≡ search.Potential k → A
+no-two n k e = let z : _≡_ {A = ℕ} 0 1 = cc in absurd (let o : ⊥ = omega arith in o)
+
+no-refusal : {A : Type 0} (cause at k : ℕ) → search.Refused cause at ≡ search.Potential k → A
+no-refusal cause at k e = let z : _≡_ {A = ℕ} 0 1 = cc in absurd (let o : ⊥ = omega arith in o)
+
+same-number : (n k : ℕ) → search.Potential n ≡ search.Potential k → n ≡ k
+same-number n k e = cc
+
+-- a stored table passes
+pub checked : (t n : ℕ) (table : List ℕ) (G : Grammar) → Stores t n table G → checkTable limits t n table ≡ done G
+checked t n table G s = passes-exactly limits room t n table G .1 (s .wellFormed, s .terminals, s .nonterminals, s .stored)
+
+module _ (G : Grammar) (W : WellFormed limits G) where
+  -- two strings part if the verdict is potential
+  parting : isPotential limits G ≡ true → Potential (position limits G)
+  parting e =
+      let four = states-four limits G in
+      potential-reached limits G W (omega arith) .1 (reached-exactly limits G W (omega arith) 1 1 1 (omega arith) (omega arith) (omega arith) .1
+      (is-element (index (states G) 1 1 1) (smallest limits G) .0 e))
+
+  lacks : isPotential limits G ≡ false → Mem (index (states G) 1 1 1) (smallest limits G) → ⊥
+  lacks e = not-element (index (states G) 1 1 1) (smallest limits G) .0 e
+
+  -- and none if it is not
+  not-parting : isPotential limits G ≡ false → Unambiguous (position limits G)
+  not-parting e p =
+      let four = states-four limits G in
+      lacks e (reached-exactly limits G W (omega arith) 1 1 1 (omega arith) (omega arith) (omega arith) .0 (potential-reached limits G W (omega arith) .0 p))
+
+  -- the certificate of the smallest set
+  bytes : List ℕ
+  bytes = certificateOf (states G) (smallest limits G)
+
+  -- it holds exactly what is reached
+  held-listed : (f p q : ℕ) → Holds (states G) bytes f p q → Mem (index (states G) f p q) (smallest limits G)
+  unfolding bytes
+  held-listed f p q h =
+      go (isElement (index (states G) f p q) (smallest limits G)) refl
+      (sym (certificate-bit (states G) (smallest limits G) (index (states G) f p q)
+      (omega (arith, index-below (states G) f p q (h .layer) (h .left) (h .right), bits-fit (tripleCount (states G))))) ∙ h .set)
+    where
+      go : (b : Bool) → isElement (index (states G) f p q) (smallest limits G) ≡ b → _≡_ {A = ℕ} (choose b 1 0) 1
+          → Mem (index (states G) f p q) (smallest limits G)
+      go true e z = is-element (index (states G) f p q) (smallest limits G) .0 e
+      go false e z = absurd (let o : ⊥ = omega arith in o)
+
+  held-reached : SmallestCertificate limits G bytes → (f p q : ℕ) → Holds (states G) bytes f p q ↔ Reached (position limits G) f p q
+  held-reached c f p q = (
+    λ h. reached-exactly limits G W (omega arith) f p q (h .layer) (h .left) (h .right) .1 (held-listed f p q h),
+    λ r. reached-held (position limits G) (c .acceptable .acceptable .closed) r,
+  )
+
+  -- and its indices are those of the smallest set
+  held-indices : SmallestCertificate limits G bytes → (i : ℕ)
+      → ((f p q : ℕ) × (i ≡ index (states G) f p q) × Holds (states G) bytes f p q) ↔ Mem i (smallest limits G)
+  held-indices c i = (to, from)
+    where
+      to : ((f p q : ℕ) × (i ≡ index (states G) f p q) × Holds (states G) bytes f p q) → Mem i (smallest limits G)
+      to (f, p, q, e, h) = subst (λ (i : ℕ). Mem i (smallest limits G)) (sym e) (held-listed f p q h)
+
+      from : Mem i (smallest limits G) → (f p q : ℕ) × (i ≡ index (states G) f p q) × Holds (states G) bytes f p q
+      from m =
+          let Q = states G in
+          let d = digits Q i (omega (arith, states-four limits G)) (smallest-below limits G W (omega arith) i m) in
+          let r = reached-exactly limits G W (omega arith) (layerOf Q i) (leftOf Q i) (rightOf Q i) (d .layer) (d .left) (d .right) .1
+          (subst (λ (i : ℕ). Mem i (smallest limits G)) (sym (d .whole)) m) in
+          (layerOf Q i, leftOf Q i, rightOf Q i, sym (d .whole), held-reached c (layerOf Q i) (leftOf Q i) (rightOf Q i) .1 r)
+
+  -- a list without doubles of what it holds is as long as the smallest set
+  held-number : SmallestCertificate limits G bytes → (l : List ℕ) → Distinct l
+      → ((i : ℕ) → Mem i l ↔ ((f p q : ℕ) × (i ≡ index (states G) f p q) × Holds (states G) bytes f p q)) → length l ≡ size limits G
+  held-number c l d same =
+      size-cardinal limits G W (omega arith) l d (λ i. (λ m. held-indices c i .0 (same i .0 m), λ m. same i .1 (held-indices c i .1 m)))
+
+module _ (t n : ℕ) (table : List ℕ) where
+  module _ (G : Grammar) (s : Stores t n table G) where
+    -- unambiguous with the certificate of the smallest set
+    certifies : (r : SearchVerdict) → isPotential limits G ≡ false → r ≡ search.Unambiguous (size limits G) → Certifies t n table G r (bytes G (s .wellFormed))
+    unfolding bytes checkCertificate
+    certifies r e c =
+        let W = s .wellFormed in
+        let small : SmallestCertificate limits G (bytes G W) = smallest-certificate limits G W (omega arith) (lacks G W e) in
+        record {
+          verdict = c;
+          smallest = small;
+          accepted = λ v h. h ∙ ap checkVerdict (then-goes (checkTable limits t n table) (λ G′. checkBytes limits G′ (bytes G W)) G (checked t n table G s)
+              ∙ accepts-exactly limits G W (omega arith) (bytes G W) .1 (small .acceptable));
+          reached = held-reached G W small;
+          number = λ l d same. c ∙ ap search.Unambiguous (sym (held-number G W small l d same));
+        }
+
+    module _ (before : Lent) (r : SearchVerdict) (after : Lent) where
+      -- it stands in the front of what was lent
+      certified : isPotential limits G ≡ false → promise.Certified G before r after
+          → Certifies t n table G r (take (byteCount (states G)) (after .certificate))
+      unfolding bytes
+      certified e c =
+          subst (Certifies t n table G r)
+          (sym (ap (take (byteCount (states G))) (c .certificate)
+          ∙ front-of (bytes G (s .wellFormed)) (before .certificate) (byteCount (states G)) (bytes-length (smallest limits G) 0 (byteCount (states G)))))
+          (certifies r e (c .verdict))
+
+      verdict-theorems : (b : Bool) → isPotential limits G ≡ b → Told b G before r after
+          → VerdictTheorems t n table G r (take (byteCount (states G)) (after .certificate))
+      verdict-theorems true e w =
+          let p = parting G (s .wellFormed) e in
+          let k : (k : ℕ) × (r ≡ search.Potential k) = (length (w .row), w .verdict) in
+          record {
+            potential = (λ q. p, λ q. k);
+            otherwise = λ u. absurd (u p);
+            one-of-two = inl k;
+            certificates = λ l a. absurd (acceptable-lacks limits G (s .wellFormed) (omega arith) l a (is-element (index (states G) 1 1 1) (smallest limits G) .0 e));
+          }
+      verdict-theorems false e c =
+          let k = certified e c in
+          record {
+            potential = (λ (n, q). no-two (size limits G) n (sym (c .verdict) ∙ q), λ q. absurd (not-parting G (s .wellFormed) e q));
+            otherwise = λ u. k;
+            one-of-two = inr k;
+            certificates = λ l a. k;
+          }
+
+  module _ (before : Lent) (r : SearchVerdict) (after : Lent) (h : Searches t n table before r after) where
+    -- the promise, by what the table check and the test of the rows give
+    answers-as : (o : Answer Grammar) → searchable limits t n table before ≡ o → Answers o before r after
+    answers-as o e = subst (λ (o : Answer Grammar). Answers o before r after) e h
+
+    -- what follows the table check
+    abbrev go-on : Grammar → Answer Grammar
+    go-on G = refuseUnless bufferTooShort 0 (isEnough (states G) before) (done G)
+
+    -- potential: the row written is accepted
+    witness-accepted : (o : Answer Grammar) → searchable limits t n table before ≡ o → Answers o before r after
+        → (k : ℕ) → r ≡ search.Potential k → (v : CheckVerdict) → WitnessAnswer t n table (take k (after .witness)) v → v ≡ check.Accepted
+    unfolding searchable checkWitness
+    witness-accepted (refused cause at) e a k q v w = no-refusal cause at k (sym (a .0) ∙ q)
+    witness-accepted (done G) e a k q v w = go (isPotential limits G) a
+      where
+        passed : checkTable limits t n table ≡ done G
+        passed =
+            let x = then-done (checkTable limits t n table) go-on G e in
+            x .1 ∙ unless-done bufferTooShort 0 (isEnough (states (x .0)) before) (done (x .0)) G (x .2) .1
+
+        go : (b : Bool) → Told b G before r after → v ≡ check.Accepted
+        go true y =
+            let z : length (y .row) ≡ k = same-number (length (y .row)) k (sym (y .verdict) ∙ q) in
+            let l : take k (after .witness) ≡ y .row = ap (take k) (y .witness) ∙ front-of (y .row) (before .witness) k z in
+            w ∙ ap checkVerdict (then-goes (checkTable limits t n table) (λ G. checkRow limits G (take k (after .witness))) G passed
+            ∙ ap (checkRow limits G) l ∙ y .accepted)
+        go false y = no-two (size limits G) k (sym (y .verdict) ∙ q)
+
+    pub search-theorems : SearchTheorems t n table before r after
+    unfolding searchable
+    search-theorems = record {
+      refused = λ c cause at e d. answers-as (refused cause at)
+          (then-stops (checkTable limits t n table) go-on cause at (refused-table t n table c e cause at d));
+      short = λ G s e. answers-as (refused bufferTooShort 0)
+          (then-goes (checkTable limits t n table) go-on G (checked t n table G s) ∙ unless-fails bufferTooShort 0 (isEnough (states G) before) (done G) e);
+      enough = λ G s e. verdict-theorems G s before r after (isPotential limits G) refl (answers-as (done G)
+          (then-goes (checkTable limits t n table) go-on G (checked t n table G s) ∙ unless-holds bufferTooShort 0 (isEnough (states G) before) (done G) e));
+      witness = witness-accepted (searchable limits t n table before) refl h;
+    }
