@@ -26,7 +26,7 @@ from case_grammars import (
 from certificates import check_witness, checked_triples
 from derivations import used_rules
 from searches import Lent, Potential, Unambiguous, needed, search
-from table_cases import Rng
+from table_cases import Rng, encode
 from tables import MAX_STATES, START, Grammar, Refusal, check_table
 from triples import is_potential, reached
 
@@ -136,8 +136,24 @@ def faulty(rng: Rng) -> Iterator[Case]:
         yield Case(*table, lent, fill(rng))
 
 
+def many_ways(rng: Rng) -> Iterator[Case]:
+    """Triples whose successors are those of others too, on one side but not on the other."""
+    for table in [
+        (2, 2, encode([(128, bytes([129, 2, 128, 129])), (129, bytes([129, 128])),
+                       (129, bytes([128, 128, 128]))])),
+        (3, 3, encode([(129, bytes([3, 130])), (128, bytes([129, 129, 128, 128])), (128, b""),
+                       (129, bytes([130, 129, 129, 1]))])),
+        (2, 2, encode([(128, bytes([2, 129])), (128, bytes([128, 129, 129])),
+                       (128, bytes([128, 128])), (129, bytes([129, 128, 128, 129]))])),
+        (2, 3, encode([(128, bytes([1, 1, 130, 128])), (128, b""),
+                       (129, bytes([1, 2, 129, 128])), (129, bytes([1, 128, 130, 128]))])),
+    ]:
+        yield from exact_and_longer(rng, table)
+
+
 GROUPS = [
     rows_and_classics, random_grammars, random_short, much_longer, larger, largest, faulty,
+    many_ways,
 ]
 
 

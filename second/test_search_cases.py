@@ -13,7 +13,7 @@ from searches import Lent
 from witness_cases import encode_entries
 
 # SHA-256 of the file of cases.
-DIGEST = "f80784dc9e97f96014dd013a530054bc7695eda7b4f1546315310d4c47a827e1"
+DIGEST = "f71a4a670a95dccac11ce8c4444fe2377e0381dad2097ec1ea495fc644ee05ec"
 
 CYCLE = ROWS[5]           # S→S, Q = 6
 WAY = [0, 2, 14, 16, 23, 45, 43]
