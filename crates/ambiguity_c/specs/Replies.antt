@@ -1,0 +1,67 @@
+-- The entries' answers as C has them: for each case of an enum document 01's number and values. `cause` 0 says that nothing is
+-- refused; fields that a case does not have are 0. Source: document 01, "Causes of refusal". Assumes nothing.
+use Prim.Native.Nat.{ℕ}
+use Rattle.grammar.specs.declared.TableChecked.{TableChecked}
+use Rattle.grammar.specs.declared.TableVerdict.{TableVerdict}
+use Rattle.grammar.specs.declared.TableVerdict.the-variants as table
+use Rattle.steps.specs.declared.StepAnswer.{StepAnswer}
+use Rattle.steps.specs.declared.StepAnswer.the-variants as step
+use Rattle.text.specs.declared.TextRead.{TextRead}
+use Rattle.text.specs.declared.TextRead.the-variants as reader
+use Rattle.text.specs.declared.TextWritten.{TextWritten}
+use Rattle.text.specs.declared.TextWritten.the-variants as writer
+use Rattle.triples.specs.declared.CheckVerdict.{CheckVerdict}
+use Rattle.triples.specs.declared.CheckVerdict.the-variants as check
+use Rattle.triples.specs.declared.Move.{Move}
+use Rattle.triples.specs.declared.Move.the-variants.{Opening, Closing, Symbol, Still}
+use Rattle.triples.specs.declared.Step.{Step}
+use Rattle.ambiguity_c.specs.declared.TableReply.{TableReply}
+use Rattle.ambiguity_c.specs.declared.MoveReply.{MoveReply}
+use Rattle.ambiguity_c.specs.declared.StepReply.{StepReply}
+use Rattle.ambiguity_c.specs.declared.CheckReply.{CheckReply}
+use Rattle.ambiguity_c.specs.declared.ReadReply.{ReadReply}
+use Rattle.ambiguity_c.specs.declared.WriteReply.{WriteReply}
+
+-- the table check: passed with Q, or refused
+abbrev pub verdictReply : TableVerdict → ℕ → TableReply
+verdictReply table.Passed states = record { cause = 0; at = 0; states = states }
+verdictReply (table.Refused cause at) states = record { cause = cause; at = at; states = 0 }
+
+abbrev pub tableReply : TableChecked → TableReply
+tableReply r = verdictReply (r .verdict) (r .grammar .states)
+
+-- what moved on one side: 0 nothing, 1 an opening, 2 a closing, 3 a symbol
+abbrev pub moveReply : Move → MoveReply
+moveReply Still = record { moved = 0; number = 0 }
+moveReply (Opening rule) = record { moved = 1; number = rule }
+moveReply (Closing rule) = record { moved = 2; number = rule }
+moveReply (Symbol code) = record { moved = 3; number = code }
+
+-- the step records: 1 a record, 2 no more; 0 with a refusal
+abbrev pub recordReply : Step → StepReply
+recordReply s =
+    record { cause = 0; at = 0; kind = 1; layer = s .layer; left = s .left; right = s .right; «on_left» = moveReply (s .«on_left»); «on_right» = moveReply (s .«on_right») }
+
+abbrev pub noRecord : ℕ → ℕ → ℕ → StepReply
+noRecord cause at kind =
+    record { cause = cause; at = at; kind = kind; layer = 0; left = 0; right = 0; «on_left» = moveReply Still; «on_right» = moveReply Still }
+
+abbrev pub stepReply : StepAnswer → StepReply
+stepReply (step.Record s) = recordReply s
+stepReply step.NoMore = noRecord 0 0 2
+stepReply (step.Refused cause at) = noRecord cause at 0
+
+-- the certificate check and the witness check
+abbrev pub checkReply : CheckVerdict → CheckReply
+checkReply check.Accepted = record { cause = 0; at = 0 }
+checkReply (check.Refused cause at) = record { cause = cause; at = at }
+
+-- the reader: t, n, the number of the table's entries and Q
+abbrev pub readReply : TextRead → ReadReply
+readReply (reader.Read t n e q) = record { cause = 0; at = 0; terminals = t; nonterminals = n; entries = e; states = q }
+readReply (reader.Refused cause at) = record { cause = cause; at = at; terminals = 0; nonterminals = 0; entries = 0; states = 0 }
+
+-- the writer: how many bytes were written
+abbrev pub writeReply : TextWritten → WriteReply
+writeReply (writer.Written m) = record { cause = 0; at = 0; length = m }
+writeReply (writer.Refused cause at) = record { cause = cause; at = at; length = 0 }
