@@ -1,0 +1,156 @@
+/* The library for C: the table check, the step records, the certificate check, the witness check, and the reader and the writer
+ * of grammar text. Each function answers as its entry promises; crates/ambiguity_c/src/lib.rt has the promises, proved.
+ * "Document 01" is the paper that the library follows: it has the tables, the certificates and the causes of refusal.
+ *
+ * What holds of every function:
+ * - Every input is taken: what is wrong is refused, with a cause from 1 to 18 and a position. `cause` 0 says that nothing is.
+ *   A refusal changes no lent row. A field that an answer does not have is 0.
+ * - A row is lent as a pointer and its number of entries. The pointer is never NULL, also at 0 entries, and is aligned as its
+ *   type is. A row that is written overlaps no other row of the call. Nothing is kept after the return.
+ * - A written row may be longer than needed: its front is written, the rest stays as it was.
+ * - There is no state, no allocation and no lock: every function is re-entrant, and calls may run at the same time.
+ * - The archive needs memcpy and memset and nothing else. It is for x86-64 with the System V calling convention.
+ */
+#ifndef AMBIGUITY_H
+#define AMBIGUITY_H
+
+#include <stddef.h>
+#include <stdint.h>
+
+#if !defined(__x86_64__)
+#error "the archive is for x86-64"
+#endif
+
+/* Of this header; it changes when a caller has to. */
+#define AMBIGUITY_VERSION 1
+
+/* Document 01's limits. */
+#define AMBIGUITY_MAX_TERMINALS 127
+#define AMBIGUITY_MAX_NONTERMINALS 127
+#define AMBIGUITY_MAX_RULES 100
+#define AMBIGUITY_MAX_STATES 256
+#define AMBIGUITY_MAX_TEXT_BYTES 65536
+
+/* Sizes by Q, the number of states: the triples, so the entries of a row with one for each; the bytes of a certificate. */
+#define AMBIGUITY_ROW_ENTRIES(states) ((size_t)2 * (states) * (states))
+#define AMBIGUITY_CERTIFICATE_BYTES(states) ((AMBIGUITY_ROW_ENTRIES(states) + 7) / 8)
+
+/* Enough for any grammar: entries of its table (a rule takes one more than its states), and symbols. */
+#define AMBIGUITY_MAX_TABLE_ENTRIES (AMBIGUITY_MAX_STATES - 4 + AMBIGUITY_MAX_RULES)
+#define AMBIGUITY_MAX_NAMES (AMBIGUITY_MAX_TERMINALS + AMBIGUITY_MAX_NONTERMINALS)
+
+/* The stack that a call may use, below the caller's frame: bindings/c/stack.c measures it on a painted stack, at Q = 256. The
+ * reader has a tree of names there (267,255 bytes measured); of the others nth_step goes deepest (8,183 bytes). */
+#define AMBIGUITY_STACK_BYTES 12288
+#define AMBIGUITY_READ_TEXT_STACK_BYTES 274432
+
+/* The causes of refusal. */
+enum ambiguity_cause {
+    AMBIGUITY_NOT_REFUSED = 0,
+    AMBIGUITY_OUT_OF_RANGE = 1,       /* t or n outside its range: at 0, or line */
+    AMBIGUITY_TRUNCATED = 2,          /* table ends inside a rule: at the rule's offset */
+    AMBIGUITY_LEFT_UNDECLARED = 3,    /* left code no declared nonterminal: at the rule's offset */
+    AMBIGUITY_RULE_TOO_LONG = 4,      /* more than 12 codes: at the rule's offset, or line */
+    AMBIGUITY_CODE_UNDECLARED = 5,    /* right code undeclared: at the code's offset */
+    AMBIGUITY_RULE_REPEATED = 6,      /* rule equals an earlier one: at the later rule's offset */
+    AMBIGUITY_TOO_MANY_RULES = 7,     /* a 101st rule: at its offset */
+    AMBIGUITY_TOO_MANY_STATES = 8,    /* Q would pass 256: at the rule's offset */
+    AMBIGUITY_CERTIFICATE_LENGTH = 9, /* certificate length wrong: at 0 */
+    AMBIGUITY_SPARE_BIT = 10,         /* bit past 2Q^2 set: at the lowest such index */
+    AMBIGUITY_START_MISSING = 11,     /* (0,0,0) missing: at 0 */
+    AMBIGUITY_END_PRESENT = 12,       /* (1,1,1) present: at its index */
+    AMBIGUITY_SUCCESSOR_MISSING = 13, /* successor missing: at the lowest index that lacks one */
+    AMBIGUITY_BUFFER_TOO_SHORT = 14,  /* a lent output or work row too short: at 0 */
+    AMBIGUITY_WITNESS_WRONG = 15,     /* at the first wrong entry, or at the row's length if only the end fails */
+    AMBIGUITY_MALFORMED = 16,         /* malformed line, or name: at the line; for the writer at the symbol number from 0 */
+    AMBIGUITY_NAME_UNKNOWN = 17,      /* name unknown or of the wrong kind: at the line */
+    AMBIGUITY_NAME_REPEATED = 18      /* name declared twice: at the line, or at the symbol number */
+};
+
+enum ambiguity_moved { AMBIGUITY_STILL = 0, AMBIGUITY_OPENING = 1, AMBIGUITY_CLOSING = 2, AMBIGUITY_SYMBOL = 3 };
+
+enum ambiguity_kind { AMBIGUITY_REFUSED = 0, AMBIGUITY_RECORD = 1, AMBIGUITY_NO_MORE = 2 };
+
+typedef struct {
+    uint64_t cause;
+    uint64_t at;
+    uint64_t states; /* Q */
+} ambiguity_table_reply;
+
+typedef struct {
+    uint64_t moved;  /* an ambiguity_moved */
+    uint64_t number; /* of the rule that is opened or closed, or the symbol's code */
+} ambiguity_move;
+
+typedef struct {
+    uint64_t cause;
+    uint64_t at;
+    uint64_t kind;           /* an ambiguity_kind */
+    uint64_t layer;          /* the next triple */
+    uint64_t left;
+    uint64_t right;
+    ambiguity_move on_left;  /* what moved on either side */
+    ambiguity_move on_right;
+} ambiguity_step_reply;
+
+typedef struct {
+    uint64_t cause; /* 0: accepted */
+    uint64_t at;
+} ambiguity_check_reply;
+
+typedef struct {
+    uint64_t cause;
+    uint64_t at;
+    uint64_t terminals;    /* t */
+    uint64_t nonterminals; /* n */
+    uint64_t entries;      /* of the table */
+    uint64_t states;       /* Q */
+} ambiguity_read_reply;
+
+typedef struct {
+    uint64_t cause;
+    uint64_t at;
+    uint64_t length; /* bytes written */
+} ambiguity_write_reply;
+
+#ifdef __cplusplus
+extern "C" {
+#endif
+
+/* Checks a grammar's table: t terminals, n nonterminals, the rules end to end. Back comes Q. Refuses with 1 to 8, and so do all
+ * functions that take a table, before their own causes. */
+ambiguity_table_reply ambiguity_check_table(size_t t, size_t n, const uint8_t *table, size_t table_entries);
+
+/* The step record of the triple (layer, left, right) at place nth, counted from 0: those back to the triple itself first, left
+ * before right, then ascending by the next triple's index. AMBIGUITY_NO_MORE past the last, and for a triple out of range. */
+ambiguity_step_reply ambiguity_nth_step(size_t t, size_t n, const uint8_t *table, size_t table_entries, size_t layer, size_t left,
+                                        size_t right, size_t nth);
+
+/* Checks a certificate of AMBIGUITY_CERTIFICATE_BYTES(Q) bytes: accepted exactly if it is acceptable, and then no sentence of the
+ * grammar has two derivation trees. Refuses with 9 to 13. */
+ambiguity_check_reply ambiguity_check_certificate(size_t t, size_t n, const uint8_t *table, size_t table_entries,
+                                                  const uint8_t *certificate, size_t certificate_bytes);
+
+/* Checks a witness, a row of triples' indices: accepted exactly if it leads from (0,0,0) to (1,1,1) by successors, and then two
+ * strings part. Refuses with 15. */
+ambiguity_check_reply ambiguity_check_witness(size_t t, size_t n, const uint8_t *table, size_t table_entries, const uint32_t *row,
+                                              size_t row_entries);
+
+/* Reads grammar text. Written are the table, and the start in the text and the length of each symbol's name, terminals first.
+ * AMBIGUITY_MAX_TABLE_ENTRIES and AMBIGUITY_MAX_NAMES are always enough. Refuses with 16, 17, 18, 1, 4, 7, 6, 8, 14; the
+ * positions of 6, 7 and 8 are offsets in the table that it would write, all others but that of 14 are lines from 1. A text of
+ * more than AMBIGUITY_MAX_TEXT_BYTES is 16 at 0. */
+ambiguity_read_reply ambiguity_read_text(const uint8_t *text, size_t text_bytes, uint8_t *table, size_t table_entries,
+                                         uint32_t *starts, size_t starts_entries, uint32_t *lengths, size_t lengths_entries);
+
+/* Writes grammar text. The name of symbol i, terminals first, is the part of `names` that starts at starts[i] and has lengths[i]
+ * bytes; the text that was read serves as `names`. AMBIGUITY_MAX_TEXT_BYTES is always enough. Refuses with 16, 18, 14. */
+ambiguity_write_reply ambiguity_write_text(size_t t, size_t n, const uint8_t *table, size_t table_entries, const uint8_t *names,
+                                           size_t names_bytes, const uint32_t *starts, size_t starts_entries,
+                                           const uint32_t *lengths, size_t lengths_entries, uint8_t *out, size_t out_bytes);
+
+#ifdef __cplusplus
+}
+#endif
+
+#endif

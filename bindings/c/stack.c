@@ -1,0 +1,110 @@
+/* The stack that each function uses, in bytes. A thread runs on a stack that was painted; after the call the paint tells how deep
+ * the stack went below the caller. Exits with 0 if none went deeper than ambiguity.h says. The frames are of fixed size and no
+ * function calls itself, so the largest grammar has the deepest calls that there are. */
+#define _XOPEN_SOURCE 700
+#include <pthread.h>
+#include <stdio.h>
+#include <stdlib.h>
+#include <string.h>
+
+#include "ambiguity.h"
+
+#define STACK (1 << 20)
+#define PAINT 0xA5
+#define RULES 84
+
+static uint8_t table[AMBIGUITY_MAX_TABLE_ENTRIES];
+static uint8_t certificate[AMBIGUITY_CERTIFICATE_BYTES(AMBIGUITY_MAX_STATES)];
+static uint8_t text[AMBIGUITY_MAX_TEXT_BYTES];
+static uint8_t out[AMBIGUITY_MAX_TEXT_BYTES];
+static uint32_t starts[AMBIGUITY_MAX_NAMES];
+static uint32_t lengths[AMBIGUITY_MAX_NAMES];
+static uint32_t row[] = {0, 256 * 2 + 2, 256 * 2 + 3};
+static ambiguity_read_reply grammar;
+static uint8_t *caller;
+
+static void run_table(void) { ambiguity_check_table(grammar.terminals, grammar.nonterminals, table, grammar.entries); }
+
+static void run_step(void)
+{
+    size_t p, k;
+    for (p = 0; p < grammar.states; p++)
+        for (k = 0; k < 4; k++)
+            ambiguity_nth_step(grammar.terminals, grammar.nonterminals, table, grammar.entries, k % 2, p, p, k);
+}
+
+static void run_certificate(void)
+{
+    ambiguity_check_certificate(grammar.terminals, grammar.nonterminals, table, grammar.entries, certificate, sizeof certificate);
+}
+
+static void run_witness(void) { ambiguity_check_witness(grammar.terminals, grammar.nonterminals, table, grammar.entries, row, 3); }
+
+static void run_read(void)
+{
+    grammar = ambiguity_read_text(text, strlen((char *)text), table, sizeof table, starts, AMBIGUITY_MAX_NAMES, lengths,
+                                  AMBIGUITY_MAX_NAMES);
+}
+
+static void run_write(void)
+{
+    ambiguity_write_text(grammar.terminals, grammar.nonterminals, table, grammar.entries, text, strlen((char *)text), starts,
+                         AMBIGUITY_MAX_NAMES, lengths, AMBIGUITY_MAX_NAMES, out, sizeof out);
+}
+
+static void *on_thread(void *run)
+{
+    uint8_t here;
+    caller = &here;
+    ((void (*)(void))(size_t)run)();
+    return NULL;
+}
+
+/* 1 if the function went deeper than it may. */
+static int measure(const char *name, void (*run)(void), size_t most)
+{
+    uint8_t *stack = aligned_alloc(4096, STACK);
+    size_t low = 0;
+    pthread_attr_t attributes;
+    pthread_t thread;
+    memset(stack, PAINT, STACK);
+    if (pthread_attr_init(&attributes) || pthread_attr_setstack(&attributes, stack, STACK)
+        || pthread_create(&thread, &attributes, on_thread, (void *)(size_t)run) || pthread_join(thread, NULL))
+        return 1;
+    while (stack[low] == PAINT)
+        low++;
+    size_t depth = (size_t)(caller - (stack + low));
+    printf("%s: %s uses %zu bytes of stack, may use %zu\n", depth <= most ? "ok" : "WRONG", name, depth, most);
+    free(stack);
+    return depth > most;
+}
+
+/* 84 rules of two terminals each, no two equal: Q is 256. */
+static void make_text(void)
+{
+    char *end = (char *)text;
+    int i;
+    end += sprintf(end, "terminals=a0");
+    for (i = 1; i < 10; i++)
+        end += sprintf(end, ",a%d", i);
+    end += sprintf(end, "\nnonterminals=S\n");
+    for (i = 0; i < RULES; i++)
+        end += sprintf(end, "rule=S: a%d a%d\n", i / 10, i % 10);
+    memset(certificate, 0xFF, sizeof certificate);
+    certificate[(256 * 256 + 256 + 1) / 8] &= (uint8_t)~(1 << (256 * 256 + 256 + 1) % 8);
+}
+
+int main(void)
+{
+    int wrong = 0;
+    make_text();
+    wrong += measure("ambiguity_read_text", run_read, AMBIGUITY_READ_TEXT_STACK_BYTES);
+    if (grammar.cause != AMBIGUITY_NOT_REFUSED || grammar.states != AMBIGUITY_MAX_STATES)
+        return 1;
+    wrong += measure("ambiguity_write_text", run_write, AMBIGUITY_STACK_BYTES);
+    wrong += measure("ambiguity_check_table", run_table, AMBIGUITY_STACK_BYTES);
+    wrong += measure("ambiguity_nth_step", run_step, AMBIGUITY_STACK_BYTES);
+    wrong += measure("ambiguity_check_certificate", run_certificate, AMBIGUITY_STACK_BYTES);
+    wrong += measure("ambiguity_check_witness", run_witness, AMBIGUITY_STACK_BYTES);
+    return wrong != 0;
+}

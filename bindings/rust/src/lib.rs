@@ -1,0 +1,174 @@
+//! The library for Rust: the table check, the step records, the certificate check, the witness check, and the reader and the
+//! writer of grammar text. bindings/c/ambiguity.h says of each what is lent and what comes back; here slices stand for pointers,
+//! and enums for numbers. Rows that are written cannot overlap others: the borrow rules see to that.
+//!
+//! Every input is taken. A refusal changes no lent row. A written row may be longer than needed: its rest stays as it was.
+
+#[cfg(not(all(target_arch = "x86_64", unix)))]
+compile_error!("the archive is for x86-64 with the System V calling convention");
+
+mod raw;
+mod refusal;
+
+pub use refusal::{Cause, Refusal};
+
+/// Document 01's limits.
+pub const MAX_TERMINALS: usize = 127;
+pub const MAX_NONTERMINALS: usize = 127;
+pub const MAX_RULES: usize = 100;
+pub const MAX_STATES: usize = 256;
+pub const MAX_TEXT_BYTES: usize = 65_536;
+
+/// Enough for any grammar: entries of its table, and symbols.
+pub const MAX_TABLE_ENTRIES: usize = MAX_STATES - 4 + MAX_RULES;
+pub const MAX_NAMES: usize = MAX_TERMINALS + MAX_NONTERMINALS;
+
+/// The triples of Q states, so the entries of a row with one for each.
+pub const fn row_entries(states: usize) -> usize {
+    2 * states * states
+}
+
+/// The bytes of a certificate for Q states.
+pub const fn certificate_bytes(states: usize) -> usize {
+    row_entries(states).div_ceil(8)
+}
+
+/// A grammar as tables: t terminals, n nonterminals, the rules end to end. Nothing is asked of it.
+#[derive(Clone, Copy, Debug)]
+pub struct Table<'a> {
+    pub terminals: usize,
+    pub nonterminals: usize,
+    pub rules: &'a [u8],
+}
+
+/// What moved on one side of a step: a rule opened or closed, by its number, or a symbol passed, by its code.
+#[derive(Clone, Copy, Debug, PartialEq, Eq)]
+pub enum Move {
+    Still,
+    Opening(u64),
+    Closing(u64),
+    Symbol(u64),
+}
+
+/// A step record: the next triple, and for either side what moved.
+#[derive(Clone, Copy, Debug, PartialEq, Eq)]
+pub struct Step {
+    pub layer: usize,
+    pub left: usize,
+    pub right: usize,
+    pub on_left: Move,
+    pub on_right: Move,
+}
+
+/// What a text says: t, n, the number of the table's entries, and Q.
+#[derive(Clone, Copy, Debug, PartialEq, Eq)]
+pub struct Read {
+    pub terminals: usize,
+    pub nonterminals: usize,
+    pub entries: usize,
+    pub states: usize,
+}
+
+/// The names of a table's symbols, terminals first: name i is the part of `bytes` from `starts[i]` on, of `lengths[i]` bytes.
+#[derive(Clone, Copy, Debug)]
+pub struct Names<'a> {
+    pub bytes: &'a [u8],
+    pub starts: &'a [u32],
+    pub lengths: &'a [u32],
+}
+
+fn move_of(reply: &raw::MoveReply) -> Move {
+    match reply.moved {
+        0 => Move::Still,
+        1 => Move::Opening(reply.number),
+        2 => Move::Closing(reply.number),
+        3 => Move::Symbol(reply.number),
+        other => unreachable!("no kind of move has the number {other}"),
+    }
+}
+
+/// Q of a table, or its first refusal.
+pub fn check_table(table: Table) -> Result<usize, Refusal> {
+    let Table { terminals, nonterminals, rules } = table;
+    // SAFETY: the pointer and the length are those of a slice, which lives on during the call; so in every call below.
+    let reply = unsafe { raw::ambiguity_check_table(terminals, nonterminals, rules.as_ptr(), rules.len()) };
+    refusal::or_else(reply.cause, reply.at, || reply.states as usize)
+}
+
+/// The step record of (layer, left, right) at a place from 0; none past the last one, and for a triple out of range.
+pub fn nth_step(table: Table, layer: usize, left: usize, right: usize, nth: usize) -> Result<Option<Step>, Refusal> {
+    let Table { terminals, nonterminals, rules } = table;
+    let reply =
+        unsafe { raw::ambiguity_nth_step(terminals, nonterminals, rules.as_ptr(), rules.len(), layer, left, right, nth) };
+    refusal::or_else(reply.cause, reply.at, || {
+        (reply.kind == 1).then(|| Step {
+            layer: reply.layer as usize,
+            left: reply.left as usize,
+            right: reply.right as usize,
+            on_left: move_of(&reply.on_left),
+            on_right: move_of(&reply.on_right),
+        })
+    })
+}
+
+/// Accepted exactly if the certificate is acceptable; then no sentence of the grammar has two derivation trees.
+pub fn check_certificate(table: Table, certificate: &[u8]) -> Result<(), Refusal> {
+    let Table { terminals, nonterminals, rules } = table;
+    let (bytes, length) = (certificate.as_ptr(), certificate.len());
+    let reply =
+        unsafe { raw::ambiguity_check_certificate(terminals, nonterminals, rules.as_ptr(), rules.len(), bytes, length) };
+    refusal::or_else(reply.cause, reply.at, || ())
+}
+
+/// Accepted exactly if the row of indices leads from (0,0,0) to (1,1,1) by successors; then two strings part.
+pub fn check_witness(table: Table, row: &[u32]) -> Result<(), Refusal> {
+    let Table { terminals, nonterminals, rules } = table;
+    let reply =
+        unsafe { raw::ambiguity_check_witness(terminals, nonterminals, rules.as_ptr(), rules.len(), row.as_ptr(), row.len()) };
+    refusal::or_else(reply.cause, reply.at, || ())
+}
+
+/// Reads grammar text; the table, and the start and length of each name, come at the fronts of the lent rows. `MAX_TABLE_ENTRIES`
+/// and `MAX_NAMES` entries are always enough. Uses up to 268 KiB of stack.
+pub fn read_text(text: &[u8], table: &mut [u8], starts: &mut [u32], lengths: &mut [u32]) -> Result<Read, Refusal> {
+    let reply = unsafe {
+        raw::ambiguity_read_text(
+            text.as_ptr(),
+            text.len(),
+            table.as_mut_ptr(),
+            table.len(),
+            starts.as_mut_ptr(),
+            starts.len(),
+            lengths.as_mut_ptr(),
+            lengths.len(),
+        )
+    };
+    refusal::or_else(reply.cause, reply.at, || Read {
+        terminals: reply.terminals as usize,
+        nonterminals: reply.nonterminals as usize,
+        entries: reply.entries as usize,
+        states: reply.states as usize,
+    })
+}
+
+/// Writes grammar text to the front of `out`; back comes its length. `MAX_TEXT_BYTES` are always enough.
+pub fn write_text(table: Table, names: Names, out: &mut [u8]) -> Result<usize, Refusal> {
+    let Table { terminals, nonterminals, rules } = table;
+    let reply = unsafe {
+        raw::ambiguity_write_text(
+            terminals,
+            nonterminals,
+            rules.as_ptr(),
+            rules.len(),
+            names.bytes.as_ptr(),
+            names.bytes.len(),
+            names.starts.as_ptr(),
+            names.starts.len(),
+            names.lengths.as_ptr(),
+            names.lengths.len(),
+            out.as_mut_ptr(),
+            out.len(),
+        )
+    };
+    refusal::or_else(reply.cause, reply.at, || reply.length as usize)
+}

@@ -1,0 +1,108 @@
+//! The functions of bindings/c/ambiguity.h, and what they return.
+
+#[repr(C)]
+pub struct TableReply {
+    pub cause: u64,
+    pub at: u64,
+    pub states: u64,
+}
+
+#[repr(C)]
+pub struct MoveReply {
+    pub moved: u64,
+    pub number: u64,
+}
+
+#[repr(C)]
+pub struct StepReply {
+    pub cause: u64,
+    pub at: u64,
+    pub kind: u64,
+    pub layer: u64,
+    pub left: u64,
+    pub right: u64,
+    pub on_left: MoveReply,
+    pub on_right: MoveReply,
+}
+
+#[repr(C)]
+pub struct CheckReply {
+    pub cause: u64,
+    pub at: u64,
+}
+
+#[repr(C)]
+pub struct ReadReply {
+    pub cause: u64,
+    pub at: u64,
+    pub terminals: u64,
+    pub nonterminals: u64,
+    pub entries: u64,
+    pub states: u64,
+}
+
+#[repr(C)]
+pub struct WriteReply {
+    pub cause: u64,
+    pub at: u64,
+    pub length: u64,
+}
+
+extern "C" {
+    pub fn ambiguity_check_table(t: usize, n: usize, table: *const u8, table_entries: usize) -> TableReply;
+
+    pub fn ambiguity_nth_step(
+        t: usize,
+        n: usize,
+        table: *const u8,
+        table_entries: usize,
+        layer: usize,
+        left: usize,
+        right: usize,
+        nth: usize,
+    ) -> StepReply;
+
+    pub fn ambiguity_check_certificate(
+        t: usize,
+        n: usize,
+        table: *const u8,
+        table_entries: usize,
+        certificate: *const u8,
+        certificate_bytes: usize,
+    ) -> CheckReply;
+
+    pub fn ambiguity_check_witness(
+        t: usize,
+        n: usize,
+        table: *const u8,
+        table_entries: usize,
+        row: *const u32,
+        row_entries: usize,
+    ) -> CheckReply;
+
+    pub fn ambiguity_read_text(
+        text: *const u8,
+        text_bytes: usize,
+        table: *mut u8,
+        table_entries: usize,
+        starts: *mut u32,
+        starts_entries: usize,
+        lengths: *mut u32,
+        lengths_entries: usize,
+    ) -> ReadReply;
+
+    pub fn ambiguity_write_text(
+        t: usize,
+        n: usize,
+        table: *const u8,
+        table_entries: usize,
+        names: *const u8,
+        names_bytes: usize,
+        starts: *const u32,
+        starts_entries: usize,
+        lengths: *const u32,
+        lengths_entries: usize,
+        out: *mut u8,
+        out_bytes: usize,
+    ) -> WriteReply;
+}

@@ -1,0 +1,118 @@
+//! Document 01's grammar S → a, with every row lent too short, just enough and longer, between guards.
+
+mod support;
+
+use ambiguity::{certificate_bytes, Cause, Names, Read, Refusal, Table};
+use support::Lent;
+
+const RULES: [u8; 3] = [128, 1, 1];
+const CERTIFICATE: [u8; 9] = [0x15, 0x50, 0x21, 0x15, 0x08, 0x00, 0x00, 0x00, 0x00];
+const TEXT: &[u8] = b"terminals=a\nnonterminals=S\nrule=S: a\n";
+const STARTS: [u32; 2] = [10, 25];
+const LENGTHS: [u32; 2] = [1, 1];
+
+fn one_a(rules: &[u8]) -> Table<'_> {
+    Table { terminals: 1, nonterminals: 1, rules }
+}
+
+fn refused<T>(cause: Cause, at: usize) -> Result<T, Refusal> {
+    Err(Refusal { cause, at })
+}
+
+#[test]
+fn tables_of_every_length() {
+    let rules = Lent::new(&[128, 1, 1, 128], 0xFF);
+    let answers: Vec<_> = (0..5).map(|length| ambiguity::check_table(one_a(&rules.row()[..length]))).collect();
+    let cut = refused(Cause::Truncated, 0);
+    assert_eq!(answers, [Ok(4), cut, cut, Ok(6), refused(Cause::Truncated, 3)]);
+    assert!(rules.kept());
+}
+
+#[test]
+fn numbers_of_every_size() {
+    for (terminals, nonterminals) in [(128, 1), (usize::MAX, 1), (1, 0), (1, 128), (1, usize::MAX)] {
+        let table = Table { terminals, nonterminals, rules: &RULES };
+        assert_eq!(ambiguity::check_table(table), refused(Cause::OutOfRange, 0));
+        assert_eq!(ambiguity::check_certificate(table, &CERTIFICATE), refused(Cause::OutOfRange, 0));
+    }
+    assert_eq!(ambiguity::nth_step(one_a(&RULES), usize::MAX, usize::MAX, usize::MAX, 0), Ok(None));
+}
+
+#[test]
+fn certificates_of_every_length() {
+    let lent = Lent::new(&[CERTIFICATE, CERTIFICATE].concat(), 0x00);
+    for length in 0..=lent.row().len() {
+        let right = length == certificate_bytes(6);
+        let expected = if right { Ok(()) } else { refused(Cause::CertificateLength, 0) };
+        assert_eq!(ambiguity::check_certificate(one_a(&RULES), &lent.row()[..length]), expected);
+    }
+    assert!(lent.kept());
+}
+
+#[test]
+fn certificates_of_the_document() {
+    let check = |certificate: &[u8]| ambiguity::check_certificate(one_a(&RULES), certificate);
+    assert_eq!(check(&CERTIFICATE), Ok(()));
+    assert_eq!(check(&CERTIFICATE[..8]), refused(Cause::CertificateLength, 0));
+    assert_eq!(check(&[0x00; 9]), refused(Cause::StartMissing, 0));
+    assert_eq!(check(&[0xFF; 9]), refused(Cause::EndPresent, 43));
+    assert_eq!(check(&[1, 0, 0, 0, 0, 0, 0, 0, 0]), refused(Cause::SuccessorMissing, 0));
+}
+
+#[test]
+fn witnesses_that_are_empty_or_only_begin() {
+    assert_eq!(ambiguity::check_witness(one_a(&RULES), &[]), refused(Cause::WitnessWrong, 0));
+    assert_eq!(ambiguity::check_witness(one_a(&RULES), &[0]), refused(Cause::WitnessWrong, 1));
+    assert_eq!(ambiguity::check_witness(one_a(&RULES), &[0, u32::MAX]), refused(Cause::WitnessWrong, 1));
+}
+
+/// Reads the text into rows of these lengths.
+fn read_into(table: usize, starts: usize, lengths: usize) {
+    let mut table = Lent::new(&vec![7; table], 0xFF);
+    let mut starts = Lent::new(&vec![7; starts], u32::MAX);
+    let mut lengths = Lent::new(&vec![7; lengths], u32::MAX);
+    let enough = table.row().len() >= 3 && starts.row().len() >= 2 && lengths.row().len() >= 2;
+    let answer = ambiguity::read_text(TEXT, table.row_mut(), starts.row_mut(), lengths.row_mut());
+    if !enough {
+        assert_eq!(answer, refused(Cause::BufferTooShort, 0));
+        assert!(table.kept() && starts.kept() && lengths.kept());
+        return;
+    }
+    assert_eq!(answer, Ok(Read { terminals: 1, nonterminals: 1, entries: 3, states: 6 }));
+    assert_eq!((&table.row()[..3], &starts.row()[..2], &lengths.row()[..2]), (&RULES[..], &STARTS[..], &LENGTHS[..]));
+    assert!(table.kept_past(3) && starts.kept_past(2) && lengths.kept_past(2));
+}
+
+#[test]
+fn rows_of_every_length_for_the_reader() {
+    for table in 0..6 {
+        for starts in 0..5 {
+            for lengths in 0..5 {
+                read_into(table, starts, lengths);
+            }
+        }
+    }
+}
+
+#[test]
+fn outputs_of_every_length_for_the_writer() {
+    let names = Names { bytes: TEXT, starts: &STARTS, lengths: &LENGTHS };
+    for room in 0..TEXT.len() + 3 {
+        let mut out = Lent::new(&vec![7; room], 0xFF);
+        let answer = ambiguity::write_text(one_a(&RULES), names, out.row_mut());
+        if room < TEXT.len() {
+            assert_eq!(answer, refused(Cause::BufferTooShort, 0));
+            assert!(out.kept());
+        } else {
+            assert_eq!(answer, Ok(TEXT.len()));
+            assert_eq!(&out.row()[..TEXT.len()], TEXT);
+            assert!(out.kept_past(TEXT.len()));
+        }
+    }
+}
+
+#[test]
+fn a_text_too_long() {
+    let text = vec![b'a'; ambiguity::MAX_TEXT_BYTES + 1];
+    assert_eq!(ambiguity::read_text(&text, &mut [], &mut [], &mut []), refused(Cause::Malformed, 0));
+}
