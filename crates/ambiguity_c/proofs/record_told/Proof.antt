@@ -1,7 +1,5 @@
 -- record_told meets its contract: the definition's fields, with what moved on either side.
 use borrow.Author.Needs.{needs}
-use mathlib.Core.Path.{ap, sym, _∙_}
-use Rattle.ambiguity_c.specs.Replies.{recordReply}
 use Rattle.ambiguity_c.proofs.record_told.Statement.{statement}
 use Rattle.ambiguity_c.proofs.record_told.Tie as tie
 

@@ -1,0 +1,78 @@
+-- The cause in a reply: every refusal that an entry promises has one of document 01's, and every other reply has 0. Assumes nothing.
+use Prim.Native.Nat.{ℕ, _≤_}
+use native.Mathlib.Omega.{arith}
+use mathlib.Core.Path.{_≡_, refl, sym, subst}
+use mathlib.Core.Bool.{true}
+use lib.Dec.{leb}
+use borrow.Author.Tests.{leb-true}
+use mathlib.Core.Option.{Option, none, some}
+use mathlib.Core.List.{List}
+use Rattle.grammar.specs.Limits.{limits}
+use Rattle.grammar.specs.Grammar.{Grammar}
+use Rattle.grammar.specs.Refusal.{Answer, done, refused}
+use Rattle.grammar.specs.TableCheck.{tableChecked}
+use Rattle.grammar.specs.declared.TableVerdict.the-variants.{Passed}
+use Rattle.grammar.proofs.Answers.{and-both}
+use Rattle.triples.specs.Verdict.{checkVerdict}
+use Rattle.triples.specs.declared.CheckVerdict.{CheckVerdict}
+use Rattle.triples.specs.declared.CheckVerdict.the-variants.{Accepted}
+use Rattle.triples.specs.declared.Step.{Step}
+use Rattle.steps.specs.Steps.{stepAnswer}
+use Rattle.text.specs.Read.{Source}
+use Rattle.text.specs.Promise.{textRead, textWritten}
+use Rattle.text.specs.declared.TextWritten.the-variants.{Written}
+use Rattle.ambiguity_c.specs.Replies.{tableReply, stepReply, checkReply, readReply, writeReply}
+use Rattle.ambiguity_c.specs.Causes.{Tells, IsRead, CauseTheorems}
+use Rattle.ambiguity_c.proofs.Refusals.{isCause, Caused, cause, check-table, nth-step, check-witness, check-certificate, read-into, write-into}
+
+-- nothing is refused
+tells-done : {X : Type 0} → X → Tells 0 X
+tells-done x = record { known = omega arith; zero = λ e. x }
+
+-- a refusal is not told by 0
+tells-refused : {X : Type 0} (c : ℕ) → isCause c ≡ true → Tells c X
+tells-refused c h =
+    let b = and-both (leb 1 c) (leb c 18) h in
+    let low : 1 ≤ c = leb-true 1 c (b .0) in
+    let high : c ≤ 18 = leb-true c 18 (b .1) in
+    record { known = high; zero = λ e. absurd (omega arith) }
+
+table-tells : (o : Answer Grammar) → Caused o → Tells (tableReply (tableChecked o) .cause) (tableChecked o .verdict ≡ Passed)
+table-tells (done G) h = tells-done refl
+table-tells (refused c p) (cause h) = tells-refused c h
+
+step-tells : (o : Answer (Option Step)) → Caused o → Tells (stepReply (stepAnswer o) .cause) (1 ≤ stepReply (stepAnswer o) .kind)
+step-tells (done none) h = tells-done (omega arith)
+step-tells (done (some s)) h = tells-done (omega arith)
+step-tells (refused c p) (cause h) = tells-refused c h
+
+check-tells : (o : Answer Unit) → Caused o → Tells (checkReply (checkVerdict o) .cause) (checkVerdict o ≡ Accepted)
+check-tells (done u) h = tells-done refl
+check-tells (refused c p) (cause h) = tells-refused c h
+
+verdict-tells : (o : Answer Unit) (v : CheckVerdict) → Caused o → v ≡ checkVerdict o → Tells (checkReply v .cause) (v ≡ Accepted)
+verdict-tells o v h a = subst (λ v. Tells (checkReply v .cause) (v ≡ Accepted)) (sym a) (check-tells o h)
+
+read-tells : (o : Answer Source) → Caused o → Tells (readReply (textRead o) .cause) (IsRead (textRead o))
+read-tells (done s) h = tells-done refl
+read-tells (refused c p) (cause h) = tells-refused c h
+
+write-tells : (o : Answer (List ℕ)) → Caused o
+    → Tells (writeReply (textWritten o) .cause) (textWritten o ≡ Written (writeReply (textWritten o) .length))
+write-tells (done s) h = tells-done refl
+write-tells (refused c p) (cause h) = tells-refused c h
+
+pub cause-theorems : CauseTheorems
+cause-theorems = record {
+  tables = λ t n table r a.
+      subst (λ r. Tells (tableReply r .cause) (r .verdict ≡ Passed)) (sym a) (table-tells _ (check-table limits t n table));
+  steps = λ t n table f p q ask a k.
+      subst (λ s. Tells (stepReply s .cause) (1 ≤ stepReply s .kind)) (sym (a k)) (step-tells _ (nth-step limits t n table f p q k));
+  witnesses = λ t n table row v a. verdict-tells _ v (check-witness limits t n table row) a;
+  certificates = λ t n table bytes v a. verdict-tells _ v (check-certificate limits t n table bytes) a;
+  reads = λ text table starts lengths v table′ starts′ lengths′ a.
+      subst (λ v. Tells (readReply v .cause) (IsRead v)) (sym (a .answer)) (read-tells _ (read-into limits _ _ _ text));
+  writes = λ t n table bytes starts lengths out v out′ a.
+      subst (λ v. Tells (writeReply v .cause) (v ≡ Written (writeReply v .length))) (sym (a .answer))
+      (write-tells _ (write-into limits t n table bytes starts lengths _));
+}

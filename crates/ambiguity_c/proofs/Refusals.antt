@@ -1,0 +1,172 @@
+-- Every refusal of the entries' definitions has one of document 01's 18 causes. Assumes nothing.
+use Prim.Native.Nat.{ℕ, zero, suc, _+_}
+use mathlib.Core.Path.{_≡_, refl}
+use mathlib.Core.Bool.{Bool, true, false, _&&_}
+use mathlib.Core.List.{List, [], _∷_, _++_}
+use mathlib.Core.Option.{Option, none, some}
+use lib.Dec.{leb}
+use lib.ListN.{length}
+use Rattle.grammar.specs.Basics.{choose}
+use Rattle.grammar.specs.Limits.{Limits}
+use Rattle.grammar.specs.Grammar.{Rule, Grammar}
+use Rattle.grammar.specs.Table.{ruleAt}
+use Rattle.grammar.specs.Refusal.{Answer, done, refused, refuseUnless, andThen, outOfRange, truncated, leftUndeclared, ruleTooLong, codeUndeclared, ruleRepeated, tooManyRules, tooManyStates, certificateLength, spareBit, startMissing, endPresent, successorMissing, bufferTooShort, witnessWrong, malformed, nameUnknown, nameRepeated}
+use Rattle.grammar.specs.TableCheck.{readRule, nextRule, checkFrom, checkTable}
+use Rattle.triples.specs.Certificate.{checkBytes, checkCertificate}
+use Rattle.triples.specs.Witness.{checkOn, checkRow, checkWitness}
+use Rattle.steps.specs.Steps.{nthStep}
+use Rattle.text.specs.Read.{refuseNone, declaration, ruleLine, ruleLines, wholeLine, readLines, readText}
+use Rattle.text.specs.Rules.{admit, checkText, readInto}
+use Rattle.text.specs.Print.{gather, writeInto}
+
+-- document 01's causes
+abbrev pub isCause : ℕ → Bool
+isCause c = leb 1 c && leb c 18
+
+-- a result, or a refusal with one of the causes
+pub data Caused {A : Type 0} : Answer A → Type 0 where
+  result : {a : A} → Caused (done a)
+  cause : {c p : ℕ} → isCause c ≡ true → Caused (refused c p)
+
+unless : {A : Type 0} (c : ℕ) (p : ℕ) (b : Bool) (o : Answer A) → isCause c ≡ true → Caused o → Caused (refuseUnless c p b o)
+unfolding refuseUnless
+unless c p true o h k = k
+unless c p false o h k = cause h
+
+next : {A B : Type 0} (o : Answer A) (go : A → Answer B) → Caused o → ((a : A) → Caused (go a)) → Caused (andThen o go)
+unfolding andThen
+next (done a) go h k = k a
+next (refused c p) go (cause h) k = cause h
+
+or-none : {A B : Type 0} (c p : ℕ) (o : Option A) (go : A → Answer B) → isCause c ≡ true → ((a : A) → Caused (go a)) → Caused (refuseNone c p o go)
+unfolding refuseNone
+or-none c p none go h k = cause h
+or-none c p (some a) go h k = k a
+
+either : {A : Type 0} (b : Bool) (x y : Answer A) → Caused x → Caused y → Caused (choose b x y)
+either true x y h k = h
+either false x y h k = k
+
+read-rule : (L : Limits) (t n : ℕ) (table : List ℕ) (at : ℕ) → Caused (readRule L t n table at)
+unfolding readRule
+read-rule L t n table at =
+    unless truncated _ _ _ refl
+    (unless leftUndeclared _ _ _ refl
+    (unless ruleTooLong _ _ _ refl
+    (unless truncated _ _ _ refl
+    (unless codeUndeclared _ _ _ refl result))))
+
+next-rule : (L : Limits) (t n : ℕ) (table : List ℕ) (earlier : List Rule) (at : ℕ) → Caused (nextRule L t n table earlier at)
+unfolding nextRule
+next-rule L t n table earlier at =
+    next _ _ (read-rule L t n table at) (λ k. unless ruleRepeated _ _ _ refl (unless tooManyStates _ _ _ refl result))
+
+check-from : (L : Limits) (m t n : ℕ) (table : List ℕ) (earlier : List Rule) (at : ℕ) → Caused (checkFrom L m t n table earlier at)
+unfolding checkFrom
+check-from L zero t n table earlier at = unless tooManyRules _ _ _ refl result
+check-from L (suc m) t n table earlier at =
+    either (leb (length table) at) (done earlier)
+    (andThen (nextRule L t n table earlier at) (λ k. checkFrom L m t n table (earlier ++ (ruleAt table at k ∷ [])) (at + 2 + k)))
+    result
+    (next _ _ (next-rule L t n table earlier at) (λ k. check-from L m t n table (earlier ++ (ruleAt table at k ∷ [])) (at + 2 + k)))
+
+pub check-table : (L : Limits) (t n : ℕ) (table : List ℕ) → Caused (checkTable L t n table)
+unfolding checkTable
+check-table L t n table =
+    unless outOfRange _ _ _ refl (next _ _ (check-from L (L .maxRules) t n table [] 0) (λ rules. result))
+
+pub nth-step : (L : Limits) (t n : ℕ) (table : List ℕ) (f p q k : ℕ) → Caused (nthStep L t n table f p q k)
+unfolding nthStep
+nth-step L t n table f p q k = next _ _ (check-table L t n table) (λ G. result)
+
+check-bytes : (L : Limits) (G : Grammar) (bytes : List ℕ) → Caused (checkBytes L G bytes)
+unfolding checkBytes
+check-bytes L G bytes =
+    unless certificateLength _ _ _ refl
+    (unless spareBit _ _ _ refl
+    (unless startMissing _ _ _ refl
+    (unless endPresent _ _ _ refl
+    (unless successorMissing _ _ _ refl result))))
+
+pub check-certificate : (L : Limits) (t n : ℕ) (table bytes : List ℕ) → Caused (checkCertificate L t n table bytes)
+unfolding checkCertificate
+check-certificate L t n table bytes = next _ _ (check-table L t n table) (λ G. check-bytes L G bytes)
+
+check-on : (L : Limits) (G : Grammar) (i place : ℕ) (row : List ℕ) → Caused (checkOn L G i place row)
+unfolding checkOn
+check-on L G i place [] = unless witnessWrong _ _ _ refl result
+check-on L G i place (j ∷ is) = unless witnessWrong _ _ _ refl (check-on L G j (suc place) is)
+
+check-row : (L : Limits) (G : Grammar) (row : List ℕ) → Caused (checkRow L G row)
+unfolding checkRow
+check-row L G [] = cause refl
+check-row L G (i ∷ is) = unless witnessWrong _ _ _ refl (check-on L G i 1 is)
+
+pub check-witness : (L : Limits) (t n : ℕ) (table row : List ℕ) → Caused (checkWitness L t n table row)
+unfolding checkWitness
+check-witness L t n table row = next _ _ (check-table L t n table) (λ G. check-row L G row)
+
+declares : (at k lo hi : ℕ) (earlier : List (List ℕ)) (line : List ℕ) → Caused (declaration at k lo hi earlier line)
+unfolding declaration
+declares at k lo hi earlier line =
+    or-none malformed _ _ _ refl (λ v.
+    unless malformed _ _ _ refl (unless nameRepeated _ _ _ refl (unless outOfRange _ _ _ refl result)))
+
+rule-line : (L : Limits) (at t : ℕ) (names : List (List ℕ)) (line : List ℕ) → Caused (ruleLine L at t names line)
+unfolding ruleLine
+rule-line L at t names line =
+    or-none malformed _ _ _ refl (λ v. or-none malformed _ _ _ refl (λ s.
+    unless malformed _ _ _ refl (unless nameUnknown _ _ _ refl (unless ruleTooLong _ _ _ refl result))))
+
+rule-lines : (L : Limits) (at t : ℕ) (names pieces : List (List ℕ)) → Caused (ruleLines L at t names pieces)
+unfolding ruleLines
+rule-lines L at t names [] = cause refl
+rule-lines L at t names (p ∷ []) = unless malformed _ _ _ refl result
+rule-lines L at t names (p ∷ q ∷ qs) =
+    next _ _ (rule-line L at t names p) (λ r. next _ _ (rule-lines L (suc at) t names (q ∷ qs)) (λ rs. result))
+
+whole-line : {B : Type 0} (at : ℕ) (pieces : List (List ℕ)) (go : List ℕ → List (List ℕ) → Answer B)
+    → ((p : List ℕ) (qs : List (List ℕ)) → Caused (go p qs)) → Caused (wholeLine at pieces go)
+unfolding wholeLine
+whole-line at [] go h = cause refl
+whole-line at (p ∷ []) go h = cause refl
+whole-line at (p ∷ q ∷ qs) go h = h p (q ∷ qs)
+
+read-lines : (L : Limits) (pieces : List (List ℕ)) → Caused (readLines L pieces)
+unfolding readLines
+read-lines L pieces =
+    whole-line 1 pieces _ (λ first more.
+    next _ _ (declares 1 0 0 (L .maxTerminals) [] first) (λ ts.
+    whole-line 2 more _ (λ second rest.
+    next _ _ (declares 2 1 1 (L .maxNonterminals) ts second) (λ ns.
+    next _ _ (rule-lines L 3 (length ts) (ts ++ ns) rest) (λ rs. result)))))
+
+admits : (L : Limits) (m : ℕ) (earlier : List Rule) (at : ℕ) (rules : List Rule) → Caused (admit L m earlier at rules)
+unfolding admit
+admits L zero earlier at [] = result
+admits L zero earlier at (r ∷ rs) = cause refl
+admits L (suc m) earlier at [] = result
+admits L (suc m) earlier at (r ∷ rs) =
+    unless ruleRepeated _ _ _ refl
+    (unless tooManyStates _ _ _ refl (admits L m (earlier ++ (r ∷ [])) (at + 2 + length (r .right)) rs))
+
+pub read-into : (L : Limits) (e s l : ℕ) (text : List ℕ) → Caused (readInto L e s l text)
+unfolding readInto checkText readText
+read-into L e s l text =
+    next _ _
+    (next _ _ (unless malformed _ _ _ refl (read-lines L _)) (λ source. next _ _ (admits L (L .maxRules) [] 0 (source .rules)) (λ rules. result)))
+    (λ source. unless bufferTooShort _ _ _ refl result)
+
+gathers : (bytes starts lengths : List ℕ) (i m : ℕ) → Caused (gather bytes starts lengths i m)
+unfolding gather
+gathers bytes starts lengths i zero = result
+gathers bytes starts lengths i (suc m) =
+    or-none malformed _ _ _ refl (λ x.
+    unless malformed _ _ _ refl (next _ _ (gathers bytes starts lengths (suc i) m) (λ xs. result)))
+
+pub write-into : (L : Limits) (t n : ℕ) (table bytes starts lengths : List ℕ) (room : ℕ) → Caused (writeInto L t n table bytes starts lengths room)
+unfolding writeInto
+write-into L t n table bytes starts lengths room =
+    next _ _ (check-table L t n table) (λ G.
+    next _ _ (gathers bytes starts lengths 0 (t + n)) (λ names.
+    unless nameRepeated _ _ _ refl (unless bufferTooShort _ _ _ refl result)))

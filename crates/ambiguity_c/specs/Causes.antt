@@ -1,0 +1,41 @@
+-- What the cause in a reply tells a caller: it is one of document 01's, or 0, and then nothing is refused.
+-- proofs/Causes.antt has the value of the record. Assumes nothing.
+use Prim.Native.Nat.{ℕ, _≤_}
+use mathlib.Core.Path.{_≡_}
+use mathlib.Core.List.{List}
+use Rattle.grammar.specs.declared.TableChecked.{TableChecked}
+use Rattle.grammar.specs.declared.TableVerdict.the-variants.{Passed}
+use Rattle.triples.specs.declared.CheckVerdict.{CheckVerdict}
+use Rattle.triples.specs.declared.CheckVerdict.the-variants.{Accepted}
+use Rattle.steps.specs.declared.StepAnswer.{StepAnswer}
+use Rattle.text.specs.Promise.{ReadsText, WritesText}
+use Rattle.text.specs.declared.TextRead.{TextRead}
+use Rattle.text.specs.declared.TextRead.the-variants.{Read}
+use Rattle.text.specs.declared.TextWritten.{TextWritten}
+use Rattle.text.specs.declared.TextWritten.the-variants.{Written}
+use Rattle.ambiguity.specs.FrontPage.{TableAnswer, WitnessAnswer, CertificateAnswer, StepAnswers}
+use Rattle.ambiguity_c.specs.Replies.{tableReply, stepReply, checkReply, readReply, writeReply}
+
+-- the cause is none that document 01 does not have, and 0 tells that something is answered
+pub record Tells (cause : ℕ) (Answered : Type 0) : Type 0 where
+  pub known : cause ≤ 18
+  pub zero : cause ≡ 0 → Answered
+
+-- the numbers of the reply are the answer
+abbrev pub IsRead : TextRead → Type 0
+IsRead v = v ≡ Read (readReply v .terminals) (readReply v .nonterminals) (readReply v .entries) (readReply v .states)
+
+-- whatever answers as the entries promise
+pub record CauseTheorems : Type 0 where
+  pub tables : (t n : ℕ) (table : List ℕ) (r : TableChecked) → TableAnswer t n table r → Tells (tableReply r .cause) (r .verdict ≡ Passed)
+  -- 1 a record, or 2 no more
+  pub steps : (t n : ℕ) (table : List ℕ) (f p q : ℕ) (ask : ℕ → StepAnswer) → StepAnswers t n table f p q ask
+      → (k : ℕ) → Tells (stepReply (ask k) .cause) (1 ≤ stepReply (ask k) .kind)
+  pub witnesses : (t n : ℕ) (table row : List ℕ) (v : CheckVerdict) → WitnessAnswer t n table row v
+      → Tells (checkReply v .cause) (v ≡ Accepted)
+  pub certificates : (t n : ℕ) (table bytes : List ℕ) (v : CheckVerdict) → CertificateAnswer t n table bytes v
+      → Tells (checkReply v .cause) (v ≡ Accepted)
+  pub reads : (text table starts lengths : List ℕ) (v : TextRead) (table′ starts′ lengths′ : List ℕ)
+      → ReadsText text table starts lengths v table′ starts′ lengths′ → Tells (readReply v .cause) (IsRead v)
+  pub writes : (t n : ℕ) (table bytes starts lengths out : List ℕ) (v : TextWritten) (out′ : List ℕ)
+      → WritesText t n table bytes starts lengths out v out′ → Tells (writeReply v .cause) (v ≡ Written (writeReply v .length))
