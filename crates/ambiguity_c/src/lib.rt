@@ -1,5 +1,7 @@
 // The entries of crate ambiguity for C: each answers as its entry does, with the answer told in numbers. Nothing is required of
 // a caller beyond the form of what is lent. bindings/c/ambiguity.h declares these functions.
+mod replies;
+
 ghost use mathlib.Core.Path.{_≡_};
 ghost use Rattle.grammar.specs.Limits.{limits};
 ghost use Rattle.grammar.specs.TableCheck.{checkTable, tableChecked};
@@ -7,15 +9,8 @@ ghost use Rattle.steps.specs.Steps.{nthStep, stepAnswer};
 ghost use Rattle.triples.specs.Certificate.{checkCertificate};
 ghost use Rattle.triples.specs.Verdict.{checkVerdict};
 ghost use Rattle.triples.specs.Witness.{checkWitness};
-ghost use Rattle.ambiguity_c.specs.Replies.{verdictReply, tableReply, moveReply, recordReply, noRecord, stepReply, checkReply, readReply, writeReply};
+ghost use Rattle.ambiguity_c.specs.Replies.{tableReply, stepReply, checkReply};
 ghost use Rattle.ambiguity_c.specs.Lent.{RepliesRead, RepliesWritten};
-use ambiguity::CheckVerdict;
-use ambiguity::Move;
-use ambiguity::Step;
-use ambiguity::StepAnswer;
-use ambiguity::TableVerdict;
-use ambiguity::TextRead;
-use ambiguity::TextWritten;
 
 // In every reply `cause` is 0, or document 01's number with its position `at`; what a case does not have is 0.
 #[repr(C)]
@@ -68,160 +63,13 @@ pub struct WriteReply {
     pub length: u64,
 }
 
-fn table_told(verdict: TableVerdict, states: usize) -> TableReply
-    ensures { λ r. ⌜ r ≡ verdictReply verdict states ⌝ }
-{
-    match verdict {
-        TableVerdict::Passed => TableReply {
-            cause: 0,
-            at: 0,
-            states: states as u64,
-        },
-        TableVerdict::Refused(cause, at) => TableReply {
-            cause: cause as u64,
-            at: at as u64,
-            states: 0,
-        },
-    }
-}
-
-fn check_told(verdict: CheckVerdict) -> CheckReply
-    ensures { λ r. ⌜ r ≡ checkReply verdict ⌝ }
-{
-    match verdict {
-        CheckVerdict::Accepted => CheckReply { cause: 0, at: 0 },
-        CheckVerdict::Refused(cause, at) => CheckReply {
-            cause: cause as u64,
-            at: at as u64,
-        },
-    }
-}
-
-fn move_told(side: Move) -> MoveReply
-    ensures { λ r. ⌜ r ≡ moveReply side ⌝ }
-{
-    match side {
-        Move::Still => MoveReply {
-            moved: 0,
-            number: 0,
-        },
-        Move::Opening(rule) => MoveReply {
-            moved: 1,
-            number: rule as u64,
-        },
-        Move::Closing(rule) => MoveReply {
-            moved: 2,
-            number: rule as u64,
-        },
-        Move::Symbol(code) => MoveReply {
-            moved: 3,
-            number: code as u64,
-        },
-    }
-}
-
-fn record_told(step: Step) -> StepReply
-    ensures { λ r. ⌜ r ≡ recordReply step ⌝ }
-{
-    let on_left = step.on_left;
-    let on_right = step.on_right;
-    let left_told = move_told(on_left);
-    let right_told = move_told(on_right);
-    StepReply {
-        cause: 0,
-        at: 0,
-        kind: 1,
-        layer: step.layer as u64,
-        left: step.left as u64,
-        right: step.right as u64,
-        on_left: left_told,
-        on_right: right_told,
-    }
-}
-
-fn no_record(cause: u64, at: u64, kind: u64) -> StepReply
-    ensures { λ r. ⌜ r ≡ noRecord cause at kind ⌝ }
-{
-    StepReply {
-        cause: cause,
-        at: at,
-        kind: kind,
-        layer: 0,
-        left: 0,
-        right: 0,
-        on_left: MoveReply {
-            moved: 0,
-            number: 0,
-        },
-        on_right: MoveReply {
-            moved: 0,
-            number: 0,
-        },
-    }
-}
-
-fn step_told(answer: StepAnswer) -> StepReply
-    ensures { λ r. ⌜ r ≡ stepReply answer ⌝ }
-{
-    match answer {
-        StepAnswer::Record(step) => record_told(step),
-        StepAnswer::NoMore => no_record(0, 0, 2),
-        StepAnswer::Refused(cause, at) => no_record(cause as u64, at as u64, 0),
-    }
-}
-
-fn read_told(answer: TextRead) -> ReadReply
-    ensures { λ r. ⌜ r ≡ readReply answer ⌝ }
-{
-    match answer {
-        TextRead::Read {
-            terminals,
-            nonterminals,
-            entries,
-            states,
-        } => ReadReply {
-            cause: 0,
-            at: 0,
-            terminals: terminals as u64,
-            nonterminals: nonterminals as u64,
-            entries: entries as u64,
-            states: states as u64,
-        },
-        TextRead::Refused(cause, at) => ReadReply {
-            cause: cause as u64,
-            at: at as u64,
-            terminals: 0,
-            nonterminals: 0,
-            entries: 0,
-            states: 0,
-        },
-    }
-}
-
-fn write_told(answer: TextWritten) -> WriteReply
-    ensures { λ r. ⌜ r ≡ writeReply answer ⌝ }
-{
-    match answer {
-        TextWritten::Written(length) => WriteReply {
-            cause: 0,
-            at: 0,
-            length: length as u64,
-        },
-        TextWritten::Refused(cause, at) => WriteReply {
-            cause: cause as u64,
-            at: at as u64,
-            length: 0,
-        },
-    }
-}
-
 #[no_mangle]
 pub extern "C" fn ambiguity_check_table(t: usize, n: usize, table: &[u8]) -> TableReply
     ensures { λ r. ⌜ r ≡ tableReply (tableChecked (checkTable limits t n (now (table .entry)))) ⌝ }
 {
     let checked = ambiguity::check_table(t, n, table);
     let verdict = checked.verdict;
-    table_told(verdict, checked.grammar.states)
+    replies::table_told(verdict, checked.grammar.states)
 }
 
 #[no_mangle]
@@ -237,7 +85,7 @@ pub extern "C" fn ambiguity_nth_step(
     ensures { λ r. ⌜ r ≡ stepReply (stepAnswer (nthStep limits t n (now (table .entry)) layer left right nth)) ⌝ }
 {
     let answer = ambiguity::nth_step(t, n, table, layer, left, right, nth);
-    step_told(answer)
+    replies::step_told(answer)
 }
 
 #[no_mangle]
@@ -250,7 +98,7 @@ pub extern "C" fn ambiguity_check_certificate(
     ensures { λ r. ⌜ r ≡ checkReply (checkVerdict (checkCertificate limits t n (now (table .entry)) (now (bytes .entry)))) ⌝ }
 {
     let verdict = ambiguity::check_certificate(t, n, table, bytes);
-    check_told(verdict)
+    replies::check_told(verdict)
 }
 
 #[no_mangle]
@@ -263,7 +111,7 @@ pub extern "C" fn ambiguity_check_witness(
     ensures { λ r. ⌜ r ≡ checkReply (checkVerdict (checkWitness limits t n (now (table .entry)) (now (row .entry)))) ⌝ }
 {
     let verdict = ambiguity::check_witness(t, n, table, row);
-    check_told(verdict)
+    replies::check_told(verdict)
 }
 
 #[no_mangle]
@@ -276,7 +124,7 @@ pub extern "C" fn ambiguity_read_text(
     ensures { λ r. ⌜ RepliesRead (now (text .entry)) (now (table .entry)) (now (starts .entry)) (now (lengths .entry)) r (now (table .exit)) (now (starts .exit)) (now (lengths .exit)) ⌝ }
 {
     let answer = ambiguity::read_text(text, table, starts, lengths);
-    read_told(answer)
+    replies::read_told(answer)
 }
 
 #[no_mangle]
@@ -293,5 +141,5 @@ pub extern "C" fn ambiguity_write_text(
         (now (out .entry)) r (now (out .exit)) ⌝ }
 {
     let answer = ambiguity::write_text(t, n, table, bytes, starts, lengths, out);
-    write_told(answer)
+    replies::write_told(answer)
 }

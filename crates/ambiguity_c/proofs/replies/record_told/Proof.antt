@@ -1,7 +1,7 @@
 -- record_told meets its contract: the definition's fields, with what moved on either side.
 use borrow.Author.Needs.{needs}
-use Rattle.ambiguity_c.proofs.record_told.Statement.{statement}
-use Rattle.ambiguity_c.proofs.record_told.Tie as tie
+use Rattle.ambiguity_c.proofs.replies.record_told.Statement.{statement}
+use Rattle.ambiguity_c.proofs.replies.record_told.Tie as tie
 
 move-told-requires : tie.Need-move-told-requires
 move-told-requires c κs = search needs

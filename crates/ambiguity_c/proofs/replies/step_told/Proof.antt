@@ -2,8 +2,8 @@
 use borrow.Author.Needs.{needs}
 use mathlib.Core.Path.{ap, sym, _∙_}
 use Rattle.ambiguity_c.specs.Replies.{stepReply}
-use Rattle.ambiguity_c.proofs.step_told.Statement.{statement}
-use Rattle.ambiguity_c.proofs.step_told.Tie as tie
+use Rattle.ambiguity_c.proofs.replies.step_told.Statement.{statement}
+use Rattle.ambiguity_c.proofs.replies.step_told.Tie as tie
 
 enum-known-answer : tie.Need-enum-known-answer
 enum-known-answer c = search needs

@@ -2,8 +2,8 @@
 use borrow.Author.Needs.{needs}
 use mathlib.Core.Path.{ap, sym}
 use Rattle.ambiguity_c.specs.Replies.{readReply}
-use Rattle.ambiguity_c.proofs.read_told.Statement.{statement}
-use Rattle.ambiguity_c.proofs.read_told.Tie as tie
+use Rattle.ambiguity_c.proofs.replies.read_told.Statement.{statement}
+use Rattle.ambiguity_c.proofs.replies.read_told.Tie as tie
 
 enum-known-answer : tie.Need-enum-known-answer
 enum-known-answer c = search needs

@@ -2,8 +2,8 @@
 use borrow.Author.Needs.{needs}
 use mathlib.Core.Path.{ap, sym}
 use Rattle.ambiguity_c.specs.Replies.{moveReply}
-use Rattle.ambiguity_c.proofs.move_told.Statement.{statement}
-use Rattle.ambiguity_c.proofs.move_told.Tie as tie
+use Rattle.ambiguity_c.proofs.replies.move_told.Statement.{statement}
+use Rattle.ambiguity_c.proofs.replies.move_told.Tie as tie
 
 enum-told : tie.Need-enum-told
 enum-told c = search needs

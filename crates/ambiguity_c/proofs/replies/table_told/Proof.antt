@@ -2,8 +2,8 @@
 use borrow.Author.Needs.{needs}
 use mathlib.Core.Path.{ap, sym}
 use Rattle.ambiguity_c.specs.Replies.{verdictReply}
-use Rattle.ambiguity_c.proofs.table_told.Statement.{statement}
-use Rattle.ambiguity_c.proofs.table_told.Tie as tie
+use Rattle.ambiguity_c.proofs.replies.table_told.Statement.{statement}
+use Rattle.ambiguity_c.proofs.replies.table_told.Tie as tie
 
 enum-told : tie.Need-enum-told
 enum-told c = search needs

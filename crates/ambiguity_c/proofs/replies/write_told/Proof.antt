@@ -2,8 +2,8 @@
 use borrow.Author.Needs.{needs}
 use mathlib.Core.Path.{ap, sym}
 use Rattle.ambiguity_c.specs.Replies.{writeReply}
-use Rattle.ambiguity_c.proofs.write_told.Statement.{statement}
-use Rattle.ambiguity_c.proofs.write_told.Tie as tie
+use Rattle.ambiguity_c.proofs.replies.write_told.Statement.{statement}
+use Rattle.ambiguity_c.proofs.replies.write_told.Tie as tie
 
 enum-known-answer : tie.Need-enum-known-answer
 enum-known-answer c = search needs

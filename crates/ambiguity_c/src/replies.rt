@@ -1,0 +1,163 @@
+// The answers of the entries, told in numbers: an arm for each case of specs/Replies.antt.
+ghost use mathlib.Core.Path.{_≡_};
+ghost use Rattle.ambiguity_c.specs.Replies.{verdictReply, moveReply, recordReply, noRecord, stepReply, checkReply, readReply, writeReply};
+use super::CheckReply;
+use super::MoveReply;
+use super::ReadReply;
+use super::StepReply;
+use super::TableReply;
+use super::WriteReply;
+use ambiguity::CheckVerdict;
+use ambiguity::Move;
+use ambiguity::Step;
+use ambiguity::StepAnswer;
+use ambiguity::TableVerdict;
+use ambiguity::TextRead;
+use ambiguity::TextWritten;
+
+pub fn table_told(verdict: TableVerdict, states: usize) -> TableReply
+    ensures { λ r. ⌜ r ≡ verdictReply verdict states ⌝ }
+{
+    match verdict {
+        TableVerdict::Passed => TableReply {
+            cause: 0,
+            at: 0,
+            states: states as u64,
+        },
+        TableVerdict::Refused(cause, at) => TableReply {
+            cause: cause as u64,
+            at: at as u64,
+            states: 0,
+        },
+    }
+}
+
+pub fn check_told(verdict: CheckVerdict) -> CheckReply
+    ensures { λ r. ⌜ r ≡ checkReply verdict ⌝ }
+{
+    match verdict {
+        CheckVerdict::Accepted => CheckReply { cause: 0, at: 0 },
+        CheckVerdict::Refused(cause, at) => CheckReply {
+            cause: cause as u64,
+            at: at as u64,
+        },
+    }
+}
+
+fn move_told(side: Move) -> MoveReply
+    ensures { λ r. ⌜ r ≡ moveReply side ⌝ }
+{
+    match side {
+        Move::Still => MoveReply {
+            moved: 0,
+            number: 0,
+        },
+        Move::Opening(rule) => MoveReply {
+            moved: 1,
+            number: rule as u64,
+        },
+        Move::Closing(rule) => MoveReply {
+            moved: 2,
+            number: rule as u64,
+        },
+        Move::Symbol(code) => MoveReply {
+            moved: 3,
+            number: code as u64,
+        },
+    }
+}
+
+fn record_told(step: Step) -> StepReply
+    ensures { λ r. ⌜ r ≡ recordReply step ⌝ }
+{
+    let on_left = step.on_left;
+    let on_right = step.on_right;
+    let left_told = move_told(on_left);
+    let right_told = move_told(on_right);
+    StepReply {
+        cause: 0,
+        at: 0,
+        kind: 1,
+        layer: step.layer as u64,
+        left: step.left as u64,
+        right: step.right as u64,
+        on_left: left_told,
+        on_right: right_told,
+    }
+}
+
+fn no_record(cause: u64, at: u64, kind: u64) -> StepReply
+    ensures { λ r. ⌜ r ≡ noRecord cause at kind ⌝ }
+{
+    StepReply {
+        cause: cause,
+        at: at,
+        kind: kind,
+        layer: 0,
+        left: 0,
+        right: 0,
+        on_left: MoveReply {
+            moved: 0,
+            number: 0,
+        },
+        on_right: MoveReply {
+            moved: 0,
+            number: 0,
+        },
+    }
+}
+
+pub fn step_told(answer: StepAnswer) -> StepReply
+    ensures { λ r. ⌜ r ≡ stepReply answer ⌝ }
+{
+    match answer {
+        StepAnswer::Record(step) => record_told(step),
+        StepAnswer::NoMore => no_record(0, 0, 2),
+        StepAnswer::Refused(cause, at) => no_record(cause as u64, at as u64, 0),
+    }
+}
+
+pub fn read_told(answer: TextRead) -> ReadReply
+    ensures { λ r. ⌜ r ≡ readReply answer ⌝ }
+{
+    match answer {
+        TextRead::Read {
+            terminals,
+            nonterminals,
+            entries,
+            states,
+        } => ReadReply {
+            cause: 0,
+            at: 0,
+            terminals: terminals as u64,
+            nonterminals: nonterminals as u64,
+            entries: entries as u64,
+            states: states as u64,
+        },
+        TextRead::Refused(cause, at) => ReadReply {
+            cause: cause as u64,
+            at: at as u64,
+            terminals: 0,
+            nonterminals: 0,
+            entries: 0,
+            states: 0,
+        },
+    }
+}
+
+pub fn write_told(answer: TextWritten) -> WriteReply
+    ensures { λ r. ⌜ r ≡ writeReply answer ⌝ }
+{
+    match answer {
+        TextWritten::Written(length) => WriteReply {
+            cause: 0,
+            at: 0,
+            length: length as u64,
+        },
+        TextWritten::Refused(cause, at) => WriteReply {
+            cause: cause as u64,
+            at: at as u64,
+            length: 0,
+        },
+    }
+}
