@@ -3,8 +3,8 @@
  * "Document 01" is the paper that the library follows: it has the tables, the certificates and the causes of refusal.
  *
  * What holds of every function:
- * - Every input is taken: what is wrong is refused, with a cause from 1 to 18 and a position. `cause` 0 says that nothing is.
- *   A refusal changes no lent row. A field that an answer does not have is 0.
+ * - Every input is taken: what is wrong is refused, with a cause from 1 to 18 and a position. `cause` 0 says that nothing is
+ *   refused. A refusal changes no lent row. A field that an answer does not have is 0.
  * - A row is lent as a pointer and its number of entries. The pointer is never NULL, also at 0 entries, and is aligned as its
  *   type is. A row that is written overlaps no other row of the call. Nothing is kept after the return.
  * - A written row may be longer than needed: its front is written, the rest stays as it was.

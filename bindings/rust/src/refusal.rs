@@ -68,7 +68,7 @@ impl fmt::Display for Refusal {
 
 impl std::error::Error for Refusal {}
 
-/// The refusal of a reply, or what comes where nothing is refused.
+/// The refusal of a reply, or what comes where nothing is refused. That a cause is at most 18 is proved (`CauseTheorems`).
 pub(crate) fn or_else<T>(cause: u64, at: u64, given: impl FnOnce() -> T) -> Result<T, Refusal> {
     if cause == 0 {
         return Ok(given());
