@@ -18,7 +18,7 @@ use Rattle.bits.specs.Bits.{withBit}
 use Rattle.bits.proofs.Laws.{set-same, set-other, set-length, set-small}
 use Rattle.plans.specs.Plan.{Rows}
 use Rattle.search.specs.State.{State, state, used, flagBase, Marked, Later, Zero, NextOf, Laid, Flagged, Going, TakenUp, Explored}
-use Rattle.search.proofs.TakeLaws.{flag-low}
+use Rattle.search.proofs.AddsLaws.{marks-below}
 
 -- no bit of zeros is set
 clear-set : (marks : List ℕ) → ((b : ℕ) → getD marks b 0 ≡ 0) → (x : ℕ) → isSet marks x ≡ false
@@ -81,7 +81,7 @@ module _ (R : Rows) (targets : List ℕ) (t m Q : ℕ) (L : Laid R targets t m Q
         }
 
     no-flag : (x : ℕ) → flagBase Q ≤ x → isSet (withBit marks 0) x ≡ true → ⊥
-    no-flag x h e = let q = only-zero x e in let f = flag-low Q in omega (arith, some-triples)
+    no-flag x h e = let q = only-zero x e in let f = marks-below Q in omega (arith, some-triples)
 
     pub begun-going : Going R targets t m Q begun
     begun-going = record {

@@ -1,5 +1,8 @@
 pub mod AddsLaws
 pub mod PushLaws
+pub mod FlagLaws
+pub mod NextLaws
+pub mod GoingLaws
 pub mod TakeLaws
 pub mod PlanFits
 pub mod ExploreLaws

@@ -12,7 +12,10 @@ use Rattle.plans.specs.Plan.{Rows, planOf}
 use Rattle.plans.specs.Contracts.{Safe}
 use Rattle.plans.proofs.PlanLaws.{square-of}
 use Rattle.search.specs.State.{State, state, Pushed, Grid, Sides, left, right, both, flagBase, Marked, openEnd, flagIf, Once, leftFirst, rightFirst, pairFirst, pairs, plan, Laid, Going, TakenUp}
-use Rattle.search.proofs.TakeLaws.{shape-of, plan-square, open-range, opened, next-inside, left-next, right-next, shift-next, left-key, right-key, pair-key, i-below, columns-some, whole-lines, pairs-follow, HalfTaken, half-taken, taken-sides, taken-pairs}
+use Rattle.search.proofs.FlagLaws.{open-range, opened}
+use Rattle.search.proofs.NextLaws.{shape-of, plan-square, next-inside, left-next, right-next, shift-next}
+use Rattle.search.proofs.GoingLaws.{left-key, right-key, pair-key}
+use Rattle.search.proofs.TakeLaws.{i-below, columns-some, whole-lines, pairs-follow, HalfTaken, half-taken, taken-sides, taken-pairs}
 
 -- what the calls need of a plan
 pub record Fitting (targets : List ℕ) (Q : ℕ) (p : Plan) : Type 0 where

@@ -10,7 +10,8 @@ use Rattle.triples.specs.Index.{tripleCount}
 use Rattle.plans.specs.Plan.{Rows, rows, planOf}
 use Rattle.plans.proofs.PlanLaws.{square-of}
 use Rattle.search.specs.State.{State, state, flagBase, pairs, plan, Laid, Going}
-use Rattle.search.proofs.TakeLaws.{opened, open-range, HalfTaken, entry-below}
+use Rattle.search.proofs.FlagLaws.{opened, open-range, entry-below}
+use Rattle.search.proofs.TakeLaws.{HalfTaken}
 use Rattle.search.proofs.PlanFits.{Fitting, fitting-of, half-of, taken-none, taken-some}
 use Rattle.search.proofs.take_up.take_up.Statement.{statement}
 use Rattle.search.proofs.take_up.take_up.Tie as tie
