@@ -14,7 +14,7 @@ use Rattle.triples.specs.Certificate.{isSet}
 use Rattle.triple_laws.proofs.Members.{place-mem}
 use Rattle.bits.specs.Bits.{withBit}
 use Rattle.bits.proofs.Laws.{set-other, set-kept, set-length, set-small}
-use Rattle.search.specs.State.{State, state, used, flagBase, Marked, Later, openEnd, flagIf, again, first}
+use Rattle.search.specs.State.{State, state, used, flagBase, Marked, Later, openEnd, flagIf}
 
 -- what stands at a used place
 pub used-at : (Q : ℕ) (s : State) (k : ℕ) → Marked Q s → k < s .count → Mem (getD (s .queue) k 0) (used s)

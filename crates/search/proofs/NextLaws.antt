@@ -14,7 +14,7 @@ use Rattle.plans.specs.declared.Plan.{Plan}
 use Rattle.plans.specs.declared.Side.{Side}
 use Rattle.plans.specs.Plan.{Rows, sideOf, pairsOf, planOf, nextOf, pairAt}
 use Rattle.plans.proofs.PlanLaws.{next-left, next-right, next-shift, next-pair}
-use Rattle.search.specs.State.{left, right, both, pairs, plan, NextOf, Laid}
+use Rattle.search.specs.State.{pairs, plan, NextOf, Laid}
 
 -- a plan's blocks end to end, and its pairs line by line
 pub record Shape (P : Plan) : Type 0 where
