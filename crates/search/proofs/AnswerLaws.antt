@@ -238,6 +238,7 @@ module _ (G : Grammar) (W : WellFormed limits G) (R : Rows) (targets : List ℕ)
         subst (told-of (Potential n) certificate′ witness′) (sym e ∙ potential-is) (record {
           row = getD (s .queue) 0 0 ∷ w .rest;
           accepted = row-accepted (w .place) (w .rest) (w .ahead) (w .entry);
+          few = subst (λ (q : ℕ). suc (length (w .rest)) ≤ tripleCount q) (p .size) (omega (arith, w .number-is, w .few, marked .fits));
           verdict = ap Potential (let q : n ≡ suc (length (w .rest)) = omega (arith, w .number-is) in q);
           certificate = b;
           queue = row-cleared queue (s .queue) (x .queue-rest);

@@ -100,10 +100,10 @@ way-next queue parents count place d old row at k j to room w e t =
     }
 
 -- no step is left
-pub way-end : (queue parents : List ℕ) (count place d : ℕ) (w row : List ℕ) (at k : ℕ)
+pub way-end : (queue parents : List ℕ) (count place d : ℕ) (w row : List ℕ) (at k : ℕ) → d < count
     → Way queue parents count place d (set w d (getD queue place 0)) row at k → k ≡ 0
     → Written queue parents count (getD queue place 0) w (d + 1) row
-way-end queue parents count place d w row at k v e =
+way-end queue parents count place d w row at k few v e =
     let x : ℕ = getD queue place 0 in
     let z : at ≡ 0 = depth-none parents at k (v .left) e in
     let front : List ℕ = getD queue 0 0 ∷ v .rest in
@@ -114,6 +114,7 @@ way-end queue parents count place d w row at k v e =
       rest = v .rest;
       ahead = subst (λ (p : ℕ). Ahead queue parents count place p (v .rest)) z (v .ahead);
       number-is = omega (arith, v .number);
+      few = omega (arith, few);
       front = v .written
           ∙ ap (λ (m : ℕ). take m (set w d x) ++ ((getD queue at 0 ∷ v .rest) ++ drop (d + 1) (set w d x))) e
           ∙ ap (λ (p : ℕ). (getD queue p 0 ∷ v .rest) ++ drop (d + 1) (set w d x)) z

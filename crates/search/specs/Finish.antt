@@ -51,6 +51,7 @@ pub record Written (queue parents : List ℕ) (count i : ℕ) (witness : List �
   pub rest : List ℕ
   pub ahead : Ahead queue parents count place 0 rest
   pub number-is : number ≡ length rest + 1
+  pub few : number ≤ count
   pub front : witness′ ≡ over (getD queue 0 0 ∷ rest) witness
 
 -- the answer by the marks: the number found, with a copy of their bytes, or the way to (1,1,1) with its number of entries

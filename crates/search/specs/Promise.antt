@@ -1,7 +1,7 @@
 -- What the search promises: its answer, and every lent row afterwards.
 -- Source: document 01, "Triples, certificate, witness", from "The search writes the smallest such set" on, and "Causes of refusal".
 -- Assumes nothing.
-use Prim.Native.Nat.{ℕ}
+use Prim.Native.Nat.{ℕ, _≤_}
 use mathlib.Core.Path.{_≡_}
 use mathlib.Core.Bool.{Bool, true, false, _&&_}
 use mathlib.Core.List.{List}
@@ -20,9 +20,20 @@ use Rattle.triples.specs.Witness.{checkRow}
 use Rattle.search.specs.declared.SearchVerdict.{SearchVerdict}
 use Rattle.search.specs.declared.SearchVerdict.the-variants.{Unambiguous, Potential, Refused}
 
--- the verdict is potential if the smallest closed set holds (1,1,1), else unambiguous
+-- the verdict, computed: potential if the smallest closed set holds (1,1,1), else unambiguous
 abbrev pub isPotential : Limits → Grammar → Bool
 isPotential L G = isElement (index (states G) 1 1 1) (smallest L G)
+
+-- what the search finds: unambiguous with the size, or potential with the witness's number of entries
+pub data Found : Type 0 where
+  unambiguous : ℕ → Found
+  potential : ℕ → Found
+
+-- its answer as the code gives it
+abbrev pub searchVerdict : Answer Found → SearchVerdict
+searchVerdict (done (unambiguous number)) = Unambiguous number
+searchVerdict (done (potential number)) = Potential number
+searchVerdict (refused cause at) = Refused cause at
 
 -- what is lent: the certificate's bytes and three rows
 pub record Lent : Type 0 where
@@ -50,18 +61,19 @@ cleared Q row = over (replicate (tripleCount Q) 0) row
 
 -- unambiguous: with the size; the certificate is that of the smallest closed set, the witness row is untouched
 pub record Certified (G : Grammar) (before : Lent) (r : SearchVerdict) (after : Lent) : Type 0 where
-  pub verdict : r ≡ Unambiguous (size limits G)
+  pub verdict : r ≡ searchVerdict (done (unambiguous (size limits G)))
   pub certificate : after .certificate ≡ over (certificateOf (states G) (smallest limits G)) (before .certificate)
   pub queue : after .queue ≡ cleared (states G) (before .queue)
   pub parents : after .parents ≡ cleared (states G) (before .parents)
   pub witness : after .witness ≡ before .witness
 
--- potential: which row is the program's choice; the witness check accepts it, and the number of its entries is returned; the
--- certificate and the witness row past its end are untouched
+-- potential: which row is the program's choice; the witness check accepts it, it has 2Q² entries at most, and their number is
+-- returned; the certificate and the witness row past its end are untouched
 pub record Witnessed (G : Grammar) (before : Lent) (r : SearchVerdict) (after : Lent) : Type 0 where
   pub row : List ℕ
   pub accepted : checkRow limits G row ≡ done tt
-  pub verdict : r ≡ Potential (length row)
+  pub few : length row ≤ tripleCount (states G)
+  pub verdict : r ≡ searchVerdict (done (potential (length row)))
   pub certificate : after .certificate ≡ before .certificate
   pub queue : after .queue ≡ cleared (states G) (before .queue)
   pub parents : after .parents ≡ cleared (states G) (before .parents)
@@ -74,7 +86,7 @@ Told false = Certified
 -- a refusal changes nothing
 abbrev pub Answers : Answer Grammar → Lent → SearchVerdict → Lent → Type 0
 Answers (done G) before r after = Told (isPotential limits G) G before r after
-Answers (refused cause at) before r after = (r ≡ Refused cause at) × (after ≡ before)
+Answers (refused cause at) before r after = (r ≡ searchVerdict (refused cause at)) × (after ≡ before)
 
 -- the promise
 abbrev pub Searches : ℕ → ℕ → List ℕ → Lent → SearchVerdict → Lent → Type 0

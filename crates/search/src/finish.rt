@@ -77,7 +77,7 @@ fn write_way(
     d: usize,
     witness: &mut [u32],
 )
-    requires { ⌜ (count ≤ length (now queue)) × (count ≤ length (now parents)) × (place < count) × (d < length (now witness)) ⌝ }
+    requires { ⌜ (count ≤ length (now queue)) × (count ≤ length (now parents)) × (place < count) × (d < length (now witness)) × (d < count) ⌝ }
     requires { ⌜ Linked (now parents) count ⌝ }
     requires { ⌜ Depth (now parents) place d ⌝ }
     ensures { λ _. ⌜ Written (now (queue .entry)) (now (parents .entry)) count (getD (now (queue .entry)) place 0) (now (witness .entry)) (d + 1) (now (witness .exit)) ⌝ }
