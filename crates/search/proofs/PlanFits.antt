@@ -13,6 +13,7 @@ use Rattle.plans.specs.Contracts.{Safe}
 use Rattle.plans.proofs.PlanLaws.{square-of}
 use Rattle.search.specs.State.{State, state, Pushed, Grid, Sides, left, right, both, flagBase, Marked, openEnd, flagIf, Once, leftFirst, rightFirst, pairFirst, pairs, plan, Laid, Going, TakenUp}
 use Rattle.search.proofs.FlagLaws.{open-range, opened}
+use Rattle.search.proofs.AddsLaws.{later-same}
 use Rattle.search.proofs.NextLaws.{shape-of, plan-square, next-inside, left-next, right-next, shift-next}
 use Rattle.search.proofs.GoingLaws.{left-key, right-key, pair-key}
 use Rattle.search.proofs.TakeLaws.{i-below, columns-some, whole-lines, pairs-follow, HalfTaken, half-taken, taken-sides, taken-pairs}
@@ -114,6 +115,14 @@ module _ (R : Rows) (targets : List ℕ) (t m Q : ℕ) (L : Laid R targets t m Q
         let one = mul-one (getD targets (P .«right_from») 0) in
         half-taken R targets t m Q L s g place inside (flags + (P .«left_base» + getD targets (P .«left_from») 0 * Q))
         (flags + n + (P .«right_base» + getD targets (P .«right_from») 0 * 1)) le re (omega arith) (omega arith) ol or s₁ pushed m₂ m₃ e₂ e₃)
+
+    -- nothing follows
+    pub taken-nothing : p .total ≡ 0 → TakenUp R targets t m Q place s s
+    taken-nothing z = record {
+      going = g;
+      later = later-same Q s;
+      all = λ j n. let l : n .0 < p .total = subst (λ (x : Plan). n .0 < x .total) (sym e) (n .1) in absurd (omega arith);
+    }
 
     -- without pairs, and with them
     pub taken-none : pairs p ≡ 0 → (s₃ : State) → HalfTaken R targets t m Q L i₀ s s₃ → TakenUp R targets t m Q place s s₃

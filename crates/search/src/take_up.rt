@@ -285,6 +285,9 @@ pub fn take_up<'a>(
 {
     let i = entry(queue[place]);
     let p = plans::plan_at(ahead, number, member, first, t, m, q, i);
+    if p.total == 0 {
+        return count;
+    }
     let n = 2 * (q * q);
     let flags = (n + 7) / 8 * 8;
     let left_end = open_end(marks, targets, p.left_from, p.left, p.left_base, q, flags);
