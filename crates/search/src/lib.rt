@@ -28,10 +28,14 @@ pub enum SearchVerdict {
     Refused(u8, usize),
 }
 
-// The marks and flags of 64 states, of 256.
+// The bytes of marks and flags for 64 states, for 128, and for 256.
 const FEW_STATES: usize = 64;
 
 const FEW_BYTES: usize = 4096;
+
+const SOME_STATES: usize = 128;
+
+const SOME_BYTES: usize = 16384;
 
 const ALL_BYTES: usize = 65536;
 
@@ -78,7 +82,7 @@ fn search_rows<'a>(
     r
 }
 
-// The search with marks for at most FEW_STATES states, and with marks for all: small rows are zeroed in less time.
+// The search with marks for at most FEW_STATES states, for at most SOME_STATES, and for all: short rows are zeroed in less time.
 fn search_few<'a>(
     ahead: &'a [u16; MAX_STATES],
     number: &'a [u16; MAX_STATES],
@@ -101,6 +105,45 @@ fn search_few<'a>(
         (lent (now (certificate .exit)) (now (queue .exit)) (now (parents .exit)) (now (witness .exit))) ⌝ }
 {
     let mut marks = [0u8; FEW_BYTES];
+    search_rows(
+        ahead,
+        number,
+        member,
+        first,
+        targets,
+        t,
+        m,
+        q,
+        certificate,
+        queue,
+        parents,
+        witness,
+        &mut marks,
+    )
+}
+
+fn search_some<'a>(
+    ahead: &'a [u16; MAX_STATES],
+    number: &'a [u16; MAX_STATES],
+    member: &'a [u16; MAX_STATES],
+    first: &'a [u16; CLASSES],
+    targets: &'a [u16; MAX_STATES],
+    t: u16,
+    m: u16,
+    q: usize,
+    certificate: &mut [u8],
+    queue: &mut [u32],
+    parents: &mut [u32],
+    witness: &mut [u32],
+) -> SearchVerdict
+    requires { ⌜ Laid (rows (now ahead) (now number) (now member) (now first)) (now targets) t m q ⌝ }
+    requires { ⌜ Enough q (lent (now certificate) (now queue) (now parents) (now witness)) ⌝ }
+    requires { ⌜ q ≤ 128 ⌝ }
+    ensures { λ r. ⌜ Searched (rows (now (ahead .entry)) (now (number .entry)) (now (member .entry)) (now (first .entry))) (now (targets .entry)) t m q
+        (lent (now (certificate .entry)) (now (queue .entry)) (now (parents .entry)) (now (witness .entry))) r
+        (lent (now (certificate .exit)) (now (queue .exit)) (now (parents .exit)) (now (witness .exit))) ⌝ }
+{
+    let mut marks = [0u8; SOME_BYTES];
     search_rows(
         ahead,
         number,
@@ -189,6 +232,22 @@ fn search_built(
     let q = g.states;
     if q <= FEW_STATES {
         return search_few(
+            &ahead,
+            &number,
+            &member,
+            &first,
+            &targets,
+            t,
+            m,
+            q,
+            certificate,
+            queue,
+            parents,
+            witness,
+        );
+    }
+    if q <= SOME_STATES {
+        return search_some(
             &ahead,
             &number,
             &member,

@@ -40,8 +40,8 @@ going e = e .pre .1 .0
 
 -- the plan is that of the index at the place
 planned : (c : tie.After-plan-at) →
-  let e = c .before .before .before .before .before .before in
-  c .plan-at .result ≡ plan (table e) (e .args .targets .now) (e .args .t) (e .args .m) (e .args .q) (getD (e .args .queue .now) (e .args .place) 0)
+    let e = c .before .before .before .before .before .before in
+    c .plan-at .result ≡ plan (table e) (e .args .targets .now) (e .args .t) (e .args .m) (e .args .q) (getD (e .args .queue .now) (e .args .place) 0)
 unfolding table
 planned c =
     let e = c .before .before .before .before .before .before in
@@ -77,9 +77,10 @@ entry-requires c κs = search needs
 -- src/take_up.rt:287:9
 plan-at-requires : tie.Need-plan-at-requires
 plan-at-requires c κs =
-    let e = c .before .before .before .before .before in
-    (e .pre .0 .verified .fits,
-    subst (λ (i : ℕ). i < tripleCount (e .args .q)) (sym (c .entry .ensures)) (entry-below (e .args .q) (state (e .args .queue .now) (e .args .parents .now) (e .args .marks .now) (e .args .count)) (e .args .place) (e .pre .1 .0 .marked) (e .pre .1 .1)))
+    let e = c .before .before .before .before .before in (
+      e .pre .0 .verified .fits,
+      subst (λ (i : ℕ). i < tripleCount (e .args .q)) (sym (c .entry .ensures)) (entry-below (e .args .q) (state (e .args .queue .now) (e .args .parents .now) (e .args .marks .now) (e .args .count)) (e .args .place) (e .pre .1 .0 .marked) (e .pre .1 .1)),
+    )
 
 -- src/take_up.rt:289:9
 returns : tie.Need-returns
@@ -153,9 +154,13 @@ push-sides-requires c κs =
     let room = e .pre .1 .0 .marked .marks-room in
     let x = left-range (c .before .before .before .before .before .before .before) in
     let y = right-range (c .before .before .before .before) in
-    let g = e .pre .1 .0 .marked in
-    (g, ((omega arith, omega (arith, e .pre .1 .1, g .fits), x .0, omega (arith, x .1, f .safe .left), y .0, omega (arith, y .1, f .safe .right), omega (arith, f .safe .left-base)),
-    λ z h. f .sides-low _ _ z (x .1) (y .1) h))
+    let g = e .pre .1 .0 .marked in (
+      g,
+      (
+        (omega arith, omega (arith, e .pre .1 .1, g .fits), x .0, omega (arith, x .1, f .safe .left), y .0, omega (arith, y .1, f .safe .right), omega (arith, f .safe .left-base)),
+        λ z h. f .sides-low _ _ z (x .1) (y .1) h,
+      ),
+    )
 
 -- src/take_up.rt:320:5
 set-flag-requires : tie.Need-set-flag-requires
@@ -275,13 +280,19 @@ take-pairs-requires c κs =
     let room = e .pre .1 .0 .marked .marks-room in
     let some : 0 < pairs (d .plan-at .result) = omega (arith, c .before .before .before .before .before .if2 .left) in
     let h =
-        half-of (table e) (e .args .targets .now) (e .args .t) (e .args .m) (e .args .q) (laid e) (begun e) (going e) (e .args .place) (e .pre .1 .1) (d .plan-at .result) (planned d)
-        _ _ _ _ (let z : (2 * (e .args .q * e .args .q) + 7) / 8 * 8 ≡ flagBase (e .args .q) = omega arith in z) refl
-        (c .before .before .before .before .before .before .before .before .before .before .before .before .before .before .before .before .before .before .before .before .before .before .before .before .before .before .before .before .before .before .before .before .before .open-end .ensures) (c .before .before .before .before .before .before .before .before .before .before .before .before .before .before .before .before .before .before .before .before .before .before .before .before .before .before .before .before .before .before .open-end2 .ensures) _ (c .before .before .before .before .before .before .before .before .before .before .before .before .before .before .before .before .before .before .before .before .before .before .before .before .before .push-sides .ensures) _ _ (c .before .before .before .before .before .before .before .before .before .before .before .before .before .before .before .before .set-flag .ensures) (c .before .before .before .before .before .before .before .before .before .before .before .set-flag2 .ensures) in
-    let g = h .going .marked in
-    (g, ((omega arith, omega (arith, e .pre .1 .1, e .pre .1 .0 .marked .fits), omega (arith, f .safe .square), omega arith),
-    ((f .lines-some some, f .columns-some some, f .lines-fit some, f .columns-fit some, long),
-    (omega (arith, f .pair-low some, g .marks-room), f .grid-low some))))
+    half-of (table e) (e .args .targets .now) (e .args .t) (e .args .m) (e .args .q) (laid e) (begun e) (going e) (e .args .place) (e .pre .1 .1) (d .plan-at .result) (planned d)
+    _ _ _ _ (let z : (2 * (e .args .q * e .args .q) + 7) / 8 * 8 ≡ flagBase (e .args .q) = omega arith in z) refl
+    (c .before .before .before .before .before .before .before .before .before .before .before .before .before .before .before .before .before .before .before .before .before .before .before .before .before .before .before .before .before .before .before .before .before .open-end .ensures) (c .before .before .before .before .before .before .before .before .before .before .before .before .before .before .before .before .before .before .before .before .before .before .before .before .before .before .before .before .before .before .open-end2 .ensures) _ (c .before .before .before .before .before .before .before .before .before .before .before .before .before .before .before .before .before .before .before .before .before .before .before .before .before .push-sides .ensures) _ _ (c .before .before .before .before .before .before .before .before .before .before .before .before .before .before .before .before .set-flag .ensures) (c .before .before .before .before .before .before .before .before .before .before .before .set-flag2 .ensures) in
+    let g = h .going .marked in (
+      g,
+      (
+        (omega arith, omega (arith, e .pre .1 .1, e .pre .1 .0 .marked .fits), omega (arith, f .safe .square), omega arith),
+        (
+          (f .lines-some some, f .columns-some some, f .lines-fit some, f .columns-fit some, long),
+          (omega (arith, f .pair-low some, g .marks-room), f .grid-low some),
+        ),
+      ),
+    )
 
 -- src/take_up.rt:264:1
 same-length-4 : tie.Need-same-length-4
