@@ -79,7 +79,7 @@ module _ (G : Grammar) (ahead number member target : List ℕ) (t m q : ℕ) (R 
           (subst (λ q′. Successor (position limits G) f p r g p′ q′) v s))
 
   -- an entry past 2Q² is no successor
-  beyond : (i j : ℕ) → i < tripleCount q → tripleCount q ≤ j → isElement j (successors limits G i) ≡ false
+  pub beyond : (i j : ℕ) → i < tripleCount q → tripleCount q ≤ j → isElement j (successors limits G i) ≡ false
   beyond i j hi hj =
       let e = R .size in
       let hi′ : i < tripleCount (states G) = subst (λ Q. i < tripleCount Q) e hi in

@@ -294,7 +294,7 @@ fn is_step<'a>(
     goes_on(ahead, member, target, t, p, q, u, v)
 }
 
-fn is_successor<'a>(
+pub fn is_successor<'a>(
     ahead: &'a [u16; MAX_STATES],
     number: &'a [u16; MAX_STATES],
     member: &'a [u16; MAX_STATES],
