@@ -29,7 +29,8 @@ use Rattle.witness_check.specs.Contracts.{stepAt}
 use Rattle.witness_check.proofs.WalkLaws.{index-end, step-element, beyond}
 use Rattle.witness_records.specs.declared.TripleRecord.{TripleRecord}
 use Rattle.witness_records.specs.declared.Board.{Board}
-use Rattle.witness_records.specs.Walk.{triple, triples, none, after, walkFrom, endOf, told, ending}
+use Rattle.witness_records.specs.Records.{triple, triples}
+use Rattle.witness_records.specs.Walk.{none, after, walkFrom, endOf, told, ending}
 use Rattle.witness_records.specs.Contracts.{Sized, ReadyFor, Begun}
 
 -- the test of a step on a board's rows

@@ -57,7 +57,8 @@ use Rattle.triples.proofs.CheckVerdict as Y
 use Rattle.triples.proofs.CheckVerdict.Laws as Y′
 use Rattle.witness_records.specs.declared.TripleRecord.{TripleRecord}
 use Rattle.witness_records.specs.declared.Board.{Board}
-use Rattle.witness_records.specs.Walk.{triple, triples, none, after, walkFrom, ending}
+use Rattle.witness_records.specs.Records.{triple, triples}
+use Rattle.witness_records.specs.Walk.{none, after, walkFrom, ending}
 use Rattle.witness_records.specs.Contracts.{Sized, Begun}
 use Rattle.witness_records.proofs.Walks.{walk-more, walk-end, records-answer}
 use Rattle.witness_records.proofs.Board as S

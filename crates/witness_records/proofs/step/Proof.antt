@@ -5,7 +5,8 @@ use borrow.Author.Tests.{lt-ltb, le-ltb, le-leb, lt-leb, eq-eqb, ne-eqb}
 use mathlib.Core.Path.{_≡_, refl, ap, sym, subst, _∙_}
 use Prim.Native.Nat.{ℕ, _+_, _*_, _≤_, _<_}
 use Rattle.triples.specs.Witness.{entryOf}
-use Rattle.witness_records.specs.Walk.{triple, after}
+use Rattle.witness_records.specs.Records.{triple}
+use Rattle.witness_records.specs.Walk.{after}
 use Rattle.witness_records.proofs.Entries.{square}
 use Rattle.witness_records.proofs.Walks.{after-stuck, after-beyond, after-first, after-first-wrong, after-next, after-wrong}
 use Rattle.witness_records.proofs.step.Statement.{statement}

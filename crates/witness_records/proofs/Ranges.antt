@@ -1,0 +1,80 @@
+-- Records in range answer as the row of their indices does, and only such records are accepted. Assumes nothing.
+use Prim.Native.Nat.{ℕ, _+_, _*_, _≤_, _<_}
+use mathlib.Core.Path.{_≡_, refl, ap, ap₂, sym, subst, _∙_}
+use mathlib.Core.Bool.{Bool, true, false}
+use mathlib.Core.List.{List, [], _∷_, map}
+use native.Mathlib.Omega.{arith}
+use lib.Dec.{ltb}
+use borrow.Author.Tests.{ltb-true, ltb-false}
+use Rattle.grammar.specs.Basics.{Mem, here, there}
+use Rattle.grammar.specs.Limits.{limits}
+use Rattle.grammar.specs.Grammar.{Grammar}
+use Rattle.grammar.specs.Refusal.{done}
+use Rattle.grammar.specs.TableCheck.{checkTable}
+use Rattle.grammar.proofs.Answers.{then-goes}
+use Rattle.automaton.specs.Items.{states}
+use Rattle.automaton.specs.Position.{position}
+use Rattle.automaton.proofs.Items.{states-four}
+use Rattle.triples.specs.Index.{index, tripleCount}
+use Rattle.triples.specs.Successor.{Successor}
+use Rattle.triples.specs.Witness.{LeadsOn, ends, goes, Witness, begins, entryOf, checkRow, checkWitness, checkWitnessRecords}
+use Rattle.triples.proofs.Index.{index-below}
+use Rattle.triple_laws.proofs.Records.{steps-in-range}
+use Rattle.witness_records.specs.declared.TripleRecord.{TripleRecord}
+use Rattle.witness_records.specs.Records.{triple, triples, InRange, indexOf}
+use Rattle.witness_records.proofs.Entries.{entry-layer, entry-left, entry-right, entry-in}
+
+-- the entries of records in range are their indices
+pub entries-are : (Q : ℕ) (es : List TripleRecord) → ((e : TripleRecord) → Mem e es → InRange Q e) → map (entryOf Q) (triples es) ≡ map (indexOf Q) es
+entries-are Q [] h = refl
+entries-are Q (e ∷ es) h =
+    let r = h e here in
+    ap₂ (λ (j : ℕ) (is : List ℕ). j ∷ is) (entry-in Q (e .layer) (e .left) (e .right) (r .layer) (r .left) (r .right)) (entries-are Q es (λ x m. h x (there m)))
+
+-- the two checks answer alike
+pub records-alike : (t n : ℕ) (table : List ℕ) (G : Grammar) (es : List TripleRecord) → checkTable limits t n table ≡ done G
+    → ((e : TripleRecord) → Mem e es → InRange (states G) e) → checkWitnessRecords limits t n table (triples es) ≡ checkWitness limits t n table (map (indexOf (states G)) es)
+unfolding checkWitnessRecords checkWitness
+records-alike t n table G es c h =
+    then-goes (checkTable limits t n table) (λ G. checkRow limits G (map (entryOf (states G)) (triples es))) G c
+    ∙ ap (checkRow limits G) (entries-are (states G) es h)
+    ∙ sym (then-goes (checkTable limits t n table) (λ G₁. checkRow limits G₁ (map (indexOf (states G)) es)) G c)
+
+-- an entry below 2Q² is that of a record in range
+pub entry-inside : (Q : ℕ) (e : TripleRecord) → entryOf Q (triple e) < tripleCount Q → InRange Q e
+entry-inside Q e h = layered (ltb (e .layer) 2) refl
+  where
+    none : tripleCount Q ≡ entryOf Q (triple e) → ⊥
+    none z = omega arith
+
+    placed : (b : Bool) → ltb (e .right) Q ≡ b → e .layer < 2 → e .left < Q → InRange Q e
+    placed true b l k = record { layer = l; left = k; right = ltb-true (e .right) Q b }
+    placed false b l k = absurd (none (entry-right Q (e .layer) (e .left) (e .right) l k (ltb-false (e .right) Q b)))
+
+    sided : (b : Bool) → ltb (e .left) Q ≡ b → e .layer < 2 → InRange Q e
+    sided true b l = placed (ltb (e .right) Q) refl l (ltb-true (e .left) Q b)
+    sided false b l = absurd (none (entry-left Q (e .layer) (e .left) (e .right) l (ltb-false (e .left) Q b)))
+
+    layered : (b : Bool) → ltb (e .layer) 2 ≡ b → InRange Q e
+    layered true b = sided (ltb (e .left) Q) refl (ltb-true (e .layer) 2 b)
+    layered false b = absurd (none (entry-layer Q (e .layer) (e .left) (e .right) (ltb-false (e .layer) 2 b)))
+
+-- a witness has only entries below 2Q²
+leads-inside : (G : Grammar) {f p q : ℕ} {is : List ℕ} → f < 2 → p < states G → q < states G → LeadsOn limits G f p q is
+    → (j : ℕ) → Mem j is → j < tripleCount (states G)
+leads-inside G hf hp hq (goes {g = g} {p′ = p′} {q′ = q′} s e l) j here =
+    let b = steps-in-range limits G hf hp hq s in subst (λ j. j < tripleCount (states G)) (sym e) (index-below (states G) g p′ q′ (b .0) (b .1) (b .2))
+leads-inside G hf hp hq (goes s e l) j (there m) = let b = steps-in-range limits G hf hp hq s in leads-inside G (b .0) (b .1) (b .2) l j m
+
+pub witness-inside : (G : Grammar) {is : List ℕ} → Witness limits G is → (j : ℕ) → Mem j is → j < tripleCount (states G)
+witness-inside G (begins e l) j here =
+    let four = states-four limits G in subst (λ j. j < tripleCount (states G)) (sym e) (index-below (states G) 0 0 0 (omega arith) (omega arith) (omega arith))
+witness-inside G (begins e l) j (there m) = let four = states-four limits G in leads-inside G (omega arith) (omega arith) (omega arith) l j m
+
+-- so the records of a witness are in range
+mem-entry : (Q : ℕ) (es : List TripleRecord) (e : TripleRecord) → Mem e es → Mem (entryOf Q (triple e)) (map (entryOf Q) (triples es))
+mem-entry Q (x ∷ es) e here = here
+mem-entry Q (x ∷ es) e (there m) = there (mem-entry Q es e m)
+
+pub records-inside : (G : Grammar) (es : List TripleRecord) → Witness limits G (map (entryOf (states G)) (triples es)) → (e : TripleRecord) → Mem e es → InRange (states G) e
+records-inside G es w e m = entry-inside (states G) e (witness-inside G w (entryOf (states G) (triple e)) (mem-entry (states G) es e m))
