@@ -1,7 +1,7 @@
 -- The front page holds. Assumes nothing.
 use Prim.Native.Nat.{ℕ, zero, suc}
 use mathlib.Core.Path.{_≡_, refl, ap, sym, subst, _∙_}
-use mathlib.Core.List.{List, [], _∷_}
+use mathlib.Core.List.{List, [], _∷_, map}
 use mathlib.Core.Logic.{_↔_}
 use mathlib.Core.Option.{Option, none, some}
 use native.Mathlib.Omega.{arith}
@@ -17,10 +17,11 @@ use Rattle.grammar.specs.declared.TableVerdict.the-variants.{Passed, Refused}
 use Rattle.grammar.proofs.Answers.{then-goes, then-stops}
 use Rattle.grammar.proofs.WellFormed.{takes-only, room}
 use Rattle.automaton.specs.Strings.{Potential, Unambiguous}
+use Rattle.automaton.specs.Items.{states}
 use Rattle.automaton.specs.Position.{position}
 use Rattle.triples.specs.Successor.{Reached, origin, next, Acceptable}
 use Rattle.triples.specs.Certificate.{AcceptableCertificate, checkBytes, checkCertificate}
-use Rattle.triples.specs.Witness.{LeadsOn, ends, goes, Witness, begins, checkRow, checkWitness}
+use Rattle.triples.specs.Witness.{LeadsOn, ends, goes, Witness, begins, entryOf, checkRow, checkWitness, checkWitnessRecords}
 use Rattle.triples.specs.Verdict.{checkVerdict}
 use Rattle.triples.specs.declared.CheckVerdict.{CheckVerdict}
 use Rattle.triples.specs.declared.CheckVerdict.the-variants as check
@@ -33,10 +34,13 @@ use Rattle.triple_laws.proofs.Records.{records-exact}
 use Rattle.triple_laws.proofs.Laws.{accepts-exactly, witness-exactly}
 use Rattle.parting.proofs.Position.{potential-reached}
 use Rattle.soundness.proofs.Position.{one-tree}
+use Rattle.witness_records.specs.Records.{triples}
+use Rattle.witness_records.specs.declared.TripleRecord.{TripleRecord}
+use Rattle.witness_records.proofs.Ranges.{entries-are, records-alike, records-inside}
 use Rattle.table_check.proofs.Callers.{passed-table, refused-table}
 use Rattle.ambiguity.proofs.Searches.{checked, search-theorems}
 use Rattle.ambiguity.proofs.Texts.{text-theorems}
-use Rattle.ambiguity.specs.FrontPage.{Stores, TableAnswer, StepAnswers, WitnessAnswer, CertificateAnswer, TableTheorems, StepTheorems, WitnessTheorems, CertificateTheorems, FrontPage}
+use Rattle.ambiguity.specs.FrontPage.{Stores, TableAnswer, StepAnswers, WitnessAnswer, RecordsAnswer, CertificateAnswer, TableTheorems, StepTheorems, WitnessTheorems, RecordTheorems, CertificateTheorems, FrontPage}
 
 -- a verdict is accepted exactly if the answer is done
 accepted-done : (o : Answer Unit) → (checkVerdict o ≡ check.Accepted) ↔ (o ≡ done tt)
@@ -131,6 +135,20 @@ module _ (t n : ℕ) (table : List ℕ) where
       potential = λ G s x. potential-reached limits G (s .wellFormed) (omega arith) .1 (witness-reached G (accepts-witness G s .0 x));
     }
 
+  module _ (entries : List TripleRecord) (v : CheckVerdict) (h : RecordsAnswer t n table entries v) where
+    record-theorems : RecordTheorems t n table entries v
+    unfolding checkWitnessRecords
+    record-theorems = record {
+      refused = table-first (λ G. checkRow limits G (map (entryOf (states G)) (triples entries))) v h;
+      alike = λ G s r w k. h ∙ ap checkVerdict (records-alike t n table G entries (checked G s) r) ∙ sym k;
+      accepted = λ G s. let row = map (entryOf (states G)) (triples entries) in
+          let a = then-accepted (λ G. checkRow limits G (map (entryOf (states G)) (triples entries))) v h G s in
+          let b = witness-exactly limits G (s .wellFormed) (omega arith) row in (
+            λ x. let w = b .0 (a .0 x) in let r = records-inside G entries w in (r, subst (Witness limits G) (entries-are (states G) entries r) w),
+            λ (r, w). a .1 (b .1 (subst (Witness limits G) (sym (entries-are (states G) entries r)) w)),
+          );
+    }
+
   module _ (bytes : List ℕ) (v : CheckVerdict) (h : CertificateAnswer t n table bytes v) where
     accepts-certificate : (G : Grammar) → Stores t n table G → (v ≡ check.Accepted) ↔ AcceptableCertificate limits G bytes
     unfolding checkCertificate
@@ -150,4 +168,4 @@ module _ (t n : ℕ) (table : List ℕ) where
     }
 
 pub front-page : FrontPage
-front-page = record { tables = table-theorems; steps = step-theorems; witnesses = witness-theorems; certificates = certificate-theorems; searches = search-theorems; texts = text-theorems }
+front-page = record { tables = table-theorems; steps = step-theorems; witnesses = witness-theorems; records = record-theorems; certificates = certificate-theorems; searches = search-theorems; texts = text-theorems }

@@ -4,7 +4,7 @@
 use Prim.Native.Nat.{ℕ, _+_, _≤_, _<_}
 use mathlib.Core.Path.{_≡_}
 use mathlib.Core.Bool.{true, false}
-use mathlib.Core.List.{List}
+use mathlib.Core.List.{List, map}
 use mathlib.Core.Logic.{_⊎_, _↔_}
 use lib.ListN.{length, take}
 use Rattle.grammar.specs.Basics.{Mem, Distinct, over}
@@ -24,11 +24,13 @@ use Rattle.triples.specs.Index.{index}
 use Rattle.triples.specs.Successor.{StepTo, Reached}
 use Rattle.triples.specs.Smallest.{size}
 use Rattle.triples.specs.Certificate.{byteCount, Holds, AcceptableCertificate, SmallestCertificate, checkCertificate}
-use Rattle.triples.specs.Witness.{Witness, checkWitness}
+use Rattle.triples.specs.Witness.{Witness, checkWitness, checkWitnessRecords}
 use Rattle.triples.specs.Verdict.{checkVerdict}
 use Rattle.triples.specs.declared.CheckVerdict.{CheckVerdict}
 use Rattle.triples.specs.declared.CheckVerdict.the-variants as check
 use Rattle.triples.specs.declared.Step.{Step}
+use Rattle.witness_records.specs.Records.{triples, InRange, indexOf}
+use Rattle.witness_records.specs.declared.TripleRecord.{TripleRecord}
 use Rattle.steps.specs.Steps.{nthStep, stepAnswer}
 use Rattle.steps.specs.declared.StepAnswer.{StepAnswer}
 use Rattle.steps.specs.declared.StepAnswer.the-variants as step
@@ -51,12 +53,15 @@ pub record Stores (t n : ℕ) (table : List ℕ) (G : Grammar) : Type 0 where
   pub stored : table ≡ encode (G .rules)
 
 module _ (t n : ℕ) (table : List ℕ) where
-  -- what check_table, check_witness and check_certificate promise of their answer
+  -- what check_table, check_witness, check_witness_records and check_certificate promise of their answer
   abbrev pub TableAnswer : TableChecked → Type 0
   TableAnswer r = r ≡ tableChecked (checkTable limits t n table)
 
   abbrev pub WitnessAnswer : List ℕ → CheckVerdict → Type 0
   WitnessAnswer row v = v ≡ checkVerdict (checkWitness limits t n table row)
+
+  abbrev pub RecordsAnswer : List TripleRecord → CheckVerdict → Type 0
+  RecordsAnswer entries v = v ≡ checkVerdict (checkWitnessRecords limits t n table (triples entries))
 
   abbrev pub CertificateAnswer : List ℕ → CheckVerdict → Type 0
   CertificateAnswer bytes v = v ≡ checkVerdict (checkCertificate limits t n table bytes)
@@ -83,6 +88,15 @@ module _ (t n : ℕ) (table : List ℕ) where
     pub accepted : (G : Grammar) → Stores t n table G → (v ≡ check.Accepted) ↔ Witness limits G row
     -- demand 2: an accepted row shows that two strings part
     pub potential : (G : Grammar) → Stores t n table G → v ≡ check.Accepted → Potential (position limits G)
+
+  pub record RecordTheorems (entries : List TripleRecord) (v : CheckVerdict) : Type 0 where
+    pub refused : (r : TableChecked) (cause at : ℕ) → TableAnswer r → r .verdict ≡ Refused cause at → v ≡ check.Refused cause at
+    -- records in range are answered as the row of their indices is
+    pub alike : (G : Grammar) → Stores t n table G → ((e : TripleRecord) → Mem e entries → InRange (states G) e)
+        → (w : CheckVerdict) → WitnessAnswer (map (indexOf (states G)) entries) w → v ≡ w
+    -- accepted exactly if all are in range and their indices are a witness
+    pub accepted : (G : Grammar) → Stores t n table G
+        → (v ≡ check.Accepted) ↔ (((e : TripleRecord) → Mem e entries → InRange (states G) e) × Witness limits G (map (indexOf (states G)) entries))
 
   pub record CertificateTheorems (bytes : List ℕ) (v : CheckVerdict) : Type 0 where
     pub refused : (r : TableChecked) (cause at : ℕ) → TableAnswer r → r .verdict ≡ Refused cause at → v ≡ check.Refused cause at
@@ -159,6 +173,7 @@ pub record FrontPage : Type 0 where
   pub tables : (t n : ℕ) (table : List ℕ) (r : TableChecked) → TableAnswer t n table r → TableTheorems t n table r
   pub steps : (t n : ℕ) (table : List ℕ) (f p q : ℕ) (ask : ℕ → StepAnswer) → StepAnswers t n table f p q ask → StepTheorems t n table f p q ask
   pub witnesses : (t n : ℕ) (table row : List ℕ) (v : CheckVerdict) → WitnessAnswer t n table row v → WitnessTheorems t n table row v
+  pub records : (t n : ℕ) (table : List ℕ) (entries : List TripleRecord) (v : CheckVerdict) → RecordsAnswer t n table entries v → RecordTheorems t n table entries v
   pub certificates : (t n : ℕ) (table bytes : List ℕ) (v : CheckVerdict) → CertificateAnswer t n table bytes v → CertificateTheorems t n table bytes v
   pub searches : (t n : ℕ) (table : List ℕ) (before : Lent) (r : SearchVerdict) (after : Lent) → Searches t n table before r after
       → SearchTheorems t n table before r after

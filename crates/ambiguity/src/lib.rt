@@ -16,3 +16,5 @@ pub use triples::CheckVerdict;
 pub use triples::Move;
 pub use triples::Step;
 pub use witness_check::check_witness;
+pub use witness_records::TripleRecord;
+pub use witness_records::check_witness_records;

@@ -15,7 +15,7 @@ use Rattle.witness_records.proofs.wide.Reads as wide-reads
 sizes : (c : tie.Else3) → let q = c .before .before .before .before .before .before .args .q in
     (c .before .before .before .before .before .wide .result * (q * q) ≤ 65536) × (c .before .before .before .before .wide2 .result * q ≤ 65536)
 sizes c = parts (c .before .before .before .before .before .before .args .q) (c .before .before .before .before .before .wide .result) (c .before .before .before .before .wide2 .result)
-    (c .before .before .before .before .before .before .pre) (c .before .before .if1 .left) (c .before .if2 .left)
+    (c .before .before .before .before .before .before .pre) (omega (arith, c .before .before .if1 .left)) (omega (arith, c .before .if2 .left))
 
 -- src/lib.rt:49:18
 mul-square : tie.Need-mul-square
@@ -67,7 +67,7 @@ add-result-2 c = omega (arith, sizes c, c .if3 .left)
 
 -- src/lib.rt:45:1
 returns-4 : tie.Need-returns-4
-returns-4 c = let a = c .before .before .before .before .before .before .args in entry-made (a .q) (a .e .layer) (a .e .left) (a .e .right) (c .before .before .before .before .before .wide .result) (c .before .before .before .before .wide2 .result) (c .before .before .before .wide3 .result) (c .before .before .before .before .before .wide .ensures) (c .before .before .before .before .wide2 .ensures) (c .before .before .before .wide3 .ensures) (c .before .before .if1 .left) (c .before .if2 .left) (c .if3 .left)
+returns-4 c = let a = c .before .before .before .before .before .before .args in entry-made (a .q) (a .e .layer) (a .e .left) (a .e .right) (c .before .before .before .before .before .wide .result) (c .before .before .before .before .wide2 .result) (c .before .before .before .wide3 .result) (c .before .before .before .before .before .wide .ensures) (c .before .before .before .before .wide2 .ensures) (c .before .before .before .wide3 .ensures) (omega (arith, c .before .before .if1 .left)) (omega (arith, c .before .if2 .left)) (omega (arith, c .if3 .left))
 
 pub entry-of-spec : {M : Type 1} → statement M
 entry-of-spec =
