@@ -195,11 +195,11 @@ pub fn begin(t: usize, n: usize, table: &[u8]) -> Board
 
 // The witness check over records: table faults first, then 15 at the first wrong entry, or at the list's length if only the end
 // fails.
-pub fn check_witness_records<'a>(
+pub fn check_witness_records(
     t: usize,
     n: usize,
-    table: &'a [u8],
-    entries: &'a [TripleRecord],
+    table: &[u8],
+    entries: &[TripleRecord],
 ) -> CheckVerdict
     ensures { λ r. ⌜ r ≡ checkVerdict (checkWitnessRecords limits t n (now (table .entry)) (triples (now (entries .entry)))) ⌝ }
 {

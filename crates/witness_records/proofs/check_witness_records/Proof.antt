@@ -84,7 +84,7 @@ use Rattle.witness_records.proofs.check_witness_records.Code as code
 use Rattle.witness_records.proofs.check_witness_records.Code.Mir as mir′
 
 abbrev stayed : Stays (f.ended .signature .params) (f.ended .kept)
-stayed = (stay-none (λ _. usize) yes, (stay-none (λ _. usize) yes, (stay-none-slice (0 ∷ []) tt (plain (λ _. u8)) yes, (stay-none-slice (0 ∷ []) tt (plain (λ _. T.the-row)) yes, tt))))
+stayed = (stay-none (λ _. usize) yes, (stay-none (λ _. usize) yes, (stay-none-slice (0 ∷ []) tt (plain (λ _. u8)) yes, (stay-none-slice (1 ∷ []) tt (plain (λ _. T.the-row)) yes, tt))))
 
 abbrev word : Ty
 word = tyInt w64
@@ -93,7 +93,7 @@ abbrev bytes : Ty
 bytes = sliceTy (tyRef (named 0) imm (tyInt w8))
 
 abbrev slice : Ty
-slice = sliceTy (tyRef (named 0) imm (pointee (T.the-row .written)))
+slice = sliceTy (tyRef (named 1) imm (pointee (T.the-row .written)))
 
 abbrev verdict : Ty
 verdict = spell mir′.table (pointee (Y.the-row .written))
@@ -144,7 +144,7 @@ module _ {M : Type 1} (𝓤 : URA M) (H : Heap 𝓤) (A : Atoms 𝓤) (W : Given
   finished-of : (w : Board) (a i : ℕ) (v : CheckVerdict) → ent 𝓤 (ensured 𝓤 H A finish.ended (finish.clauses 𝓤 H A mem run) tt (w, (a, (i, tt))) tt v) (fact 𝓤 (v ≡ ending w a i))
   finished-of w a i v = exE 𝓤 _ (λ ws. snd∗ 𝓤 (sem 𝓤 H A (lasts finish.ended tt (w, (a, (i, tt))) ws)) (fact 𝓤 (v ≡ ending w a i)))
 
-module _ {M : Type 1} (𝓤 : URA M) (H : Heap 𝓤) (A : Atoms 𝓤) (W : Given 𝓤 H A) (mem : Memory → SProp 𝓤) (run : Routine → Fun 𝓤) (κ : Lft) (q : Share) (tv nv : ℕ) (ht : tv < 2 ^ 64) (hn : nv < 2 ^ 64)
+module _ {M : Type 1} (𝓤 : URA M) (H : Heap 𝓤) (A : Atoms 𝓤) (W : Given 𝓤 H A) (mem : Memory → SProp 𝓤) (run : Routine → Fun 𝓤) (κ κ′ : Lft) (q q′ : Share) (tv nv : ℕ) (ht : tv < 2 ^ 64) (hn : nv < 2 ^ 64)
     (s : RefT (List ℕ)) (b o : ℕ) (γ : GName) (ys : List TripleRecord) where
   abbrev n : ℕ
   n = length ys
@@ -162,34 +162,35 @@ module _ {M : Type 1} (𝓤 : URA M) (H : Heap 𝓤) (A : Atoms 𝓤) (W : Given
   at = (vint w64 tv ∷ [], (vint w64 nv ∷ [], (sv ∷ [], (sliceVal (b, o) n ∷ [], tt))))
 
   abbrev Post : Val → SProp 𝓤
-  Post = walkOf 𝓤 H A f.ended stayed (f.clauses 𝓤 H A mem run) .post (((κ, tt), (q, tt), tt, x, at), tt)
+  Post = walkOf 𝓤 H A f.ended stayed (f.clauses 𝓤 H A mem run) .post (((κ, (κ′, tt)), (q, (q′, tt)), tt, x, at), tt)
 
   abbrev OwnT : Fml
   OwnT = ShrSlice (named 0) κ u8 .own s (sv ∷ [])
 
   abbrev OwnE : Fml
-  OwnE = ShrSlice (named 0) κ T.the-row .own es (sliceVal (b, o) n ∷ [])
+  OwnE = ShrSlice (named 1) κ′ T.the-row .own es (sliceVal (b, o) n ∷ [])
 
   abbrev to-begin : Begin 𝓤 H A W mem run .Ghost
   to-begin = (((κ, tt), (q, tt), tt, (tv, (nv, (s, tt))), (vint w64 tv ∷ [], (vint w64 nv ∷ [], (sv ∷ [], tt)))), tt)
 
-  goes-begin : ent 𝓤 (onEntry 𝓤 H A f.signature (κ, tt) (q, tt) x at) (sep 𝓤 (Begin 𝓤 H A W mem run .pre to-begin) (sep 𝓤 (sem 𝓤 H A OwnT) (sem 𝓤 H A OwnE)))
+  goes-begin : ent 𝓤 (onEntry 𝓤 H A f.signature (κ, (κ′, tt)) (q, (q′, tt)) x at) (sep 𝓤 (Begin 𝓤 H A W mem run .pre to-begin) (sep 𝓤 (sem 𝓤 H A (flft κ′ q′)) (sep 𝓤 (sem 𝓤 H A OwnT) (sem 𝓤 H A OwnE))))
   goes-begin =
-      qed W ((‵ (flft κ q) ⊛ ‵ ftrue) ∷ ‵ (owns (usize ∷ usize ∷ ShrSlice (named 0) κ u8 ∷ ShrSlice (named 0) κ T.the-row ∷ []) x at) ∷ []) ∵
-      move ! (1 ∷ []) $ fsplit ! $ move ! (1 ∷ []) $ fsplit ! $ move ! (1 ∷ []) $ fsplit ! $
+      qed W ((‵ (flft κ q) ⊛ (‵ (flft κ′ q′) ⊛ ‵ ftrue)) ∷ ‵ (owns (usize ∷ usize ∷ ShrSlice (named 0) κ u8 ∷ ShrSlice (named 1) κ′ T.the-row ∷ []) x at) ∷ []) ∵ split ! $ move ! (1 ∷ []) $ split ! $
+      -- [the records' token; nothing; the table's token; what the arguments own]
+      move ! (2 ∷ 1 ∷ []) $ join ! $ move ! (2 ∷ []) $ fsplit ! $ move ! (1 ∷ []) $ fsplit ! $ move ! (1 ∷ []) $ fsplit ! $
       use1 W (‵ OwnT ⊛ ‵ OwnT) (shr-slice-copy 𝓤 H A W (named 0) κ u8 .twice s (sv ∷ [])) $ split ! $ move ! (2 ∷ []) $ fsplit ! $
-      -- [entries; nothing; the table; the table; n; t; the token]
+      -- [the records; nothing; the table; the table; n; t; the table's token; the records' token]
       move ! (2 ∷ 1 ∷ []) $ fjoin ! $ move ! (3 ∷ 0 ∷ []) $ fjoin ! $ move ! (3 ∷ 0 ∷ []) $ fjoin ! $ move ! (3 ∷ 0 ∷ []) $
       use2 W (raw (Begin 𝓤 H A W mem run .pre to-begin))
       (qed W ((‵ (flft κ q) ⊛ ‵ ftrue) ∷ ‵ (owns (usize ∷ usize ∷ ShrSlice (named 0) κ u8 ∷ []) (tv, (nv, (s, tt))) (vint w64 tv ∷ [], (vint w64 nv ∷ [], (sv ∷ [], tt)))) ∷ []) ∵ join ! $ frame ! $ done !) $
-      frame ! $ move ! (1 ∷ 0 ∷ []) $ frame ! $ done !
+      frame ! $ move ! (2 ∷ 1 ∷ 0 ∷ []) $ frame ! $ frame ! $ done !
 
   exits : (r : CheckVerdict) (v : Val) → r ≡ checkVerdict (checkWitnessRecords limits tv nv (now s) (triples ys))
-      → ent 𝓤 (⋆ 𝓤 H A (‵ (flft κ q) ∷ ‵ OwnT ∷ ‵ OwnE ∷ ‵ (Y.the-row .own r (v ∷ [])) ∷ [])) (Post v)
+      → ent 𝓤 (⋆ 𝓤 H A (‵ (flft κ q) ∷ ‵ (flft κ′ q′) ∷ ‵ OwnT ∷ ‵ OwnE ∷ ‵ (Y.the-row .own r (v ∷ [])) ∷ [])) (Post v)
   exits r v e =
-      qed W (‵ (flft κ q) ∷ ‵ OwnT ∷ ‵ OwnE ∷ ‵ (Y.the-row .own r (v ∷ [])) ∷ []) ∵
-      suffices ! _ (ends-at 𝓤 H A f.ended stayed (f.clauses 𝓤 H A mem run) W (((κ, tt), (q, tt), tt, x, at), tt) v r (tt, (tt, (tt, (tt, tt)))) (tt, (tt, (tt, (tt, tt))))) $ says ! e $
-      nothing ! $ move ! (1 ∷ 0 ∷ []) $ join ! $ frame ! $
+      qed W (‵ (flft κ q) ∷ ‵ (flft κ′ q′) ∷ ‵ OwnT ∷ ‵ OwnE ∷ ‵ (Y.the-row .own r (v ∷ [])) ∷ []) ∵
+      suffices ! _ (ends-at 𝓤 H A f.ended stayed (f.clauses 𝓤 H A mem run) W (((κ, (κ′, tt)), (q, (q′, tt)), tt, x, at), tt) v r (tt, (tt, (tt, (tt, tt)))) (tt, (tt, (tt, (tt, tt))))) $ says ! e $
+      nothing ! $ move ! (2 ∷ 0 ∷ []) $ join ! $ move ! (1 ∷ 0 ∷ []) $ join ! $ frame ! $
       nothing ! $ move ! (2 ∷ 0 ∷ []) $ fjoin ! $ move ! (1 ∷ 0 ∷ []) $ fjoin ! $
       owned ! usize (Is usize) (uint-makes 𝓤 H A W w64) nv (vint w64 nv ∷ []) (refl, hn) $ fjoin ! $
       owned ! usize (Is usize) (uint-makes 𝓤 H A W w64) tv (vint w64 tv ∷ []) (refl, ht) $ fjoin ! $ frame ! $ done !
@@ -207,10 +208,10 @@ module _ {M : Type 1} (𝓤 : URA M) (H : Heap 𝓤) (A : Atoms 𝓤) (W : Given
         ∷ (spell mir′.table word, l₆) ∷ (spell mir′.table word, l₇) ∷ (spell mir′.table word, l₈) ∷ (spell mir′.table tyBool, l₉) ∷ (spell mir′.table tyPtr, l₁₀) ∷ (spell mir′.table (pointee (T.the-row .written)), l₁₁) ∷ []
 
     abbrev At : ℕ → ℕ → List (Item 𝓤)
-    At acc i = ‵ (flft κ q) ∷ ‵ (fshr-bor κ (λ s. arr-parts (shares T.the-row) n .part s ys b o)) ∷ ‵ (fres γ (codedHoleys T.the-row .code (heres T.the-row ys))) ∷ ‵ (at-slice T.the-row es (sliceVal (b, o) n ∷ []))
+    At acc i = ‵ (flft κ′ q′) ∷ ‵ (fshr-bor κ′ (λ s. arr-parts (shares T.the-row) n .part s ys b o)) ∷ ‵ (fres γ (codedHoleys T.the-row .code (heres T.the-row ys))) ∷ ‵ (at-slice T.the-row es (sliceVal (b, o) n ∷ []))
         ∷ ‵ (fat fullShare slice l₄ 0 (sliceVal (b, o) n)) ∷ ‵ (fat fullShare S′.mir l₅ 0 mach) ∷ ‵ (fat fullShare word l₆ 0 (vint w64 acc)) ∷ ‵ (fat fullShare word l₇ 0 (vint w64 i))
         ∷ ‵ (froom word l₈ 0) ∷ ‵ (froom tyBool l₉ 0) ∷ ‵ (froom tyPtr l₁₀ 0) ∷ ‵ (froom T′.mir l₁₁ 0) ∷ ‵ (froom verdict l₀ 0)
-        ∷ ‵ (fat fullShare word l₁ 0 (vint w64 tv)) ∷ ‵ (fat fullShare word l₂ 0 (vint w64 nv)) ∷ ‵ (fat fullShare bytes l₃ 0 sv) ∷ ‵ OwnT
+        ∷ ‵ (fat fullShare word l₁ 0 (vint w64 tv)) ∷ ‵ (fat fullShare word l₂ 0 (vint w64 nv)) ∷ ‵ (fat fullShare bytes l₃ 0 sv) ∷ ‵ OwnT ∷ ‵ (flft κ q)
         ∷ ‵ (fdies verdict l₀) ∷ ‵ (fdies word l₁) ∷ ‵ (fdies word l₂) ∷ ‵ (fdies bytes l₃) ∷ ‵ (fdies slice l₄) ∷ ‵ (fdies S′.mir l₅) ∷ ‵ (fdies word l₆) ∷ ‵ (fdies word l₇)
         ∷ ‵ (fdies word l₈) ∷ ‵ (fdies tyBool l₉) ∷ ‵ (fdies tyPtr l₁₀) ∷ ‵ (fdies T′.mir l₁₁) ∷ []
 
@@ -305,10 +306,10 @@ module _ {M : Type 1} (𝓤 : URA M) (H : Heap 𝓤) (A : Atoms 𝓤) (W : Given
         -- [the answer; the token; …; _4 to _11 from place 5; room for _0; _1; _2; _3; the table; …]
         land ! (from ! (stop !)) (init ! 13 refl (EL.lawful Y.the-type Y′.the-laws 𝓤 H A W tt .typed r _ is .0)) $
         returns ! (look ! 13 refl) $ forget ! 5 refl $ forget ! 6 refl $ forget ! 7 refl $ forget ! 8 refl $ forget ! 9 refl $ forget ! 10 refl $ forget ! 13 refl $ forget ! 14 refl $ forget ! 15 refl $ forget ! 16 refl $
-        move ! (13 ∷ 18 ∷ []) $ free1 ! $ move ! (13 ∷ 17 ∷ []) $ free1 ! $ move ! (13 ∷ 16 ∷ []) $ free1 ! $ move ! (13 ∷ 15 ∷ []) $ free1 ! $
-        move ! (5 ∷ 14 ∷ []) $ free1 ! $ move ! (5 ∷ 13 ∷ []) $ free1 ! $ move ! (5 ∷ 12 ∷ []) $ free1 ! $ move ! (5 ∷ 11 ∷ []) $ free1 ! $
-        move ! (5 ∷ 10 ∷ []) $ free1 ! $ move ! (5 ∷ 9 ∷ []) $ free1 ! $ move ! (5 ∷ 8 ∷ []) $ free1 ! $ move ! (5 ∷ 7 ∷ []) $ free1 ! $ free0 ! $
-        move ! (3 ∷ 2 ∷ []) $ fjoin ! $ move ! (3 ∷ 0 ∷ []) $ fjoin ! $ keep ! (2 ∷ 3 ∷ 0 ∷ 1 ∷ []) $
+        move ! (13 ∷ 19 ∷ []) $ free1 ! $ move ! (13 ∷ 18 ∷ []) $ free1 ! $ move ! (13 ∷ 17 ∷ []) $ free1 ! $ move ! (13 ∷ 16 ∷ []) $ free1 ! $
+        move ! (5 ∷ 15 ∷ []) $ free1 ! $ move ! (5 ∷ 14 ∷ []) $ free1 ! $ move ! (5 ∷ 13 ∷ []) $ free1 ! $ move ! (5 ∷ 12 ∷ []) $ free1 ! $
+        move ! (5 ∷ 11 ∷ []) $ free1 ! $ move ! (5 ∷ 10 ∷ []) $ free1 ! $ move ! (5 ∷ 9 ∷ []) $ free1 ! $ move ! (5 ∷ 8 ∷ []) $ free1 ! $ free0 ! $
+        move ! (3 ∷ 2 ∷ []) $ fjoin ! $ move ! (3 ∷ 0 ∷ []) $ fjoin ! $ keep ! (4 ∷ 2 ∷ 3 ∷ 0 ∷ 1 ∷ []) $
         by ! (exits r v (is-end ∙ ap (λ (a : ℕ). ending w a n) (sym (walk-end w acc n ys) ∙ e .2) ∙ records-answer tv nv (now s) w ys begun))))))
 
     turn-at : (t acc i : ℕ) → Facts t acc i → ent 𝓤 (⋆ 𝓤 H A (At acc i)) (Wp 𝓤 H C Λ En mir′.turn-1 (afterTurn 𝓤 H (Below t) Left))
@@ -329,13 +330,13 @@ module _ {M : Type 1} (𝓤 : URA M) (H : Heap 𝓤) (A : Atoms 𝓤) (W : Given
 
   walk : (𝓣 : Tables 𝓤 H) → Triple 𝓤 (𝓣 .C #begin) (Begin 𝓤 H A W mem run) → Triple 𝓤 (𝓣 .C #step) (Step 𝓤 H A W mem run) → Triple 𝓤 (𝓣 .C #finish) (Finish 𝓤 H A W mem run)
       → Is (ShrSlice (named 0) κ u8) s (sv ∷ []) → Room T.the-row n
-      → ent 𝓤 (onEntry 𝓤 H A f.signature (κ, tt) (q, tt) x at) (WpFn 𝓤 H (𝓣 .C) (𝓣 .Λ) code.function (vint w64 tv ∷ vint w64 nv ∷ sv ∷ sliceVal (b, o) n ∷ []) Post)
+      → ent 𝓤 (onEntry 𝓤 H A f.signature (κ, (κ′, tt)) (q, (q′, tt)) x at) (WpFn 𝓤 H (𝓣 .C) (𝓣 .Λ) code.function (vint w64 tv ∷ vint w64 nv ∷ sv ∷ sliceVal (b, o) n ∷ []) Post)
   walk 𝓣 known-begin known-step known-finish gs gn =
-      qed W (raw (onEntry 𝓤 H A f.signature (κ, tt) (q, tt) x at) ∷ []) ∵ enter ! (𝓣 .C) (𝓣 .Λ) code.function (vint w64 tv ∷ vint w64 nv ∷ sv ∷ sliceVal (b, o) n ∷ []) _ $
+      qed W (raw (onEntry 𝓤 H A f.signature (κ, (κ′, tt)) (q, (q′, tt)) x at) ∷ []) ∵ enter ! (𝓣 .C) (𝓣 .Λ) code.function (vint w64 tv ∷ vint w64 nv ∷ sv ∷ sliceVal (b, o) n ∷ []) _ $
       alloc1 ! (λ l₀. alloc1 ! (λ l₁. alloc1 ! (λ l₂. alloc1 ! (λ l₃. alloc1 ! (λ l₄. alloc1 ! (λ l₅. alloc1 ! (λ l₆. alloc1 ! (λ l₇. alloc1 ! (λ l₈. alloc1 ! (λ l₉. alloc1 ! (λ l₁₀. alloc1 ! (λ l₁₁. alloc0 ! $ params1 ! $
       pass1 ! (init ! 20 refl (tt, record { fits = ht })) $ pass1 ! (init ! 18 refl (tt, record { fits = hn })) $ pass1 ! (init ! 16 refl (shr-slice-lawful 𝓤 H A W (named 0) κ u8 .typed s (sv ∷ []) gs .0)) $
       pass1 ! (init ! 14 refl (tt, (tt, (record { fits = gn .0 }, tt)))) $ pass0 ! $
-      move ! (24 ∷ []) $ use1 W (raw (Begin 𝓤 H A W mem run .pre to-begin) ⊛ (‵ OwnT ⊛ ‵ OwnE)) goes-begin $ split ! $
+      move ! (24 ∷ []) $ use1 W (raw (Begin 𝓤 H A W mem run .pre to-begin) ⊛ (‵ (flft κ′ q′) ⊛ (‵ OwnT ⊛ ‵ OwnE))) goes-begin $ split ! $
       calls-at ! (fmOf 𝓤 H (W .laws) 𝓣) (Begin 𝓤 H A W mem run) known-begin to-begin
       (and-then ! (load ! (from ! (stop !)) (look ! 22 refl)) (and-then ! (load ! (from ! (stop !)) (look ! 20 refl)) (and-then ! (load ! (from ! (stop !)) (look ! 18 refl)) (no-more !)))) (λ v.
       use1 W (later (some (λ (w : Board). ((‵ (flft κ q) ⊛ ‵ ftrue) ⊛ ‵ (S.the-row .own w (v ∷ []))) ⊛ raw (ensured 𝓤 H A begin.ended (begin.clauses 𝓤 H A mem run) (κ, tt) (tv, (nv, (s, tt))) tt w)))) (id⊢ 𝓤 _) $ await ! tt $ pick ! (λ w.
@@ -345,17 +346,17 @@ module _ {M : Type 1} (𝓤 : URA M) (H : Heap 𝓤) (A : Atoms 𝓤) (W : Given
       land ! (from ! (stop !)) (init ! 15 refl (LL.lawful S.the-type S′.the-laws 𝓤 H A W .typed w _ is .0)) $ drop ! $
       assigns ! (of-opd ! (lit ! tt)) (from ! (stop !)) (init ! 12 refl (tt, record { fits = lit< tt })) $
       assigns ! (of-opd ! (lit ! tt)) (from ! (stop !)) (init ! 10 refl (tt, record { fits = lit< tt })) $
-      split ! $ move ! (2 ∷ []) $ split ! $ move ! (1 ∷ []) $ fsplit ! $ move ! (1 ∷ []) $ fsplit ! $
-      keep ! (4 ∷ 1 ∷ 0 ∷ 2 ∷ 20 ∷ 18 ∷ 16 ∷ 14 ∷ 12 ∷ 10 ∷ 8 ∷ 6 ∷ 28 ∷ 26 ∷ 24 ∷ 22 ∷ 3 ∷ 29 ∷ 27 ∷ 25 ∷ 23 ∷ 21 ∷ 19 ∷ 17 ∷ 15 ∷ 13 ∷ 11 ∷ 9 ∷ 7 ∷ []) $
+      split ! $ move ! (2 ∷ []) $ split ! $ move ! (1 ∷ []) $ split ! $ move ! (1 ∷ []) $ fsplit ! $ move ! (1 ∷ []) $ fsplit ! $
+      keep ! (4 ∷ 1 ∷ 0 ∷ 2 ∷ 21 ∷ 19 ∷ 17 ∷ 15 ∷ 13 ∷ 11 ∷ 9 ∷ 7 ∷ 29 ∷ 27 ∷ 25 ∷ 23 ∷ 3 ∷ 5 ∷ 30 ∷ 28 ∷ 26 ∷ 24 ∷ 22 ∷ 20 ∷ 18 ∷ 16 ∷ 14 ∷ 12 ∷ 10 ∷ 8 ∷ []) $
       by ! (tail 𝓣 known-step known-finish gn l₀ l₁ l₂ l₃ l₄ l₅ l₆ l₇ l₈ l₉ l₁₀ l₁₁ w v is begun)))))))))))))))))
 
 module _ {M : Type 1} (𝓤 : URA M) (H : Heap 𝓤) (A : Atoms 𝓤) (W : Given 𝓤 H A) (mem : Memory → SProp 𝓤) (run : Routine → Fun 𝓤) where
-  goes : AllGo 𝓤 H A W 1 (f.signature .params) (f.ended .kept) stayed
+  goes : AllGo 𝓤 H A W 2 (f.signature .params) (f.ended .kept) stayed
   goes = (
-    goes-none 𝓤 H A W 1 (λ _. usize) yes (λ κs x f. refl),
+    goes-none 𝓤 H A W 2 (λ _. usize) yes (λ κs x f. refl),
     (
-      goes-none 𝓤 H A W 1 (λ _. usize) yes (λ κs x f. refl),
-      (goes-none-slice 𝓤 H A W 1 (0 ∷ []) tt (plain (λ _. u8)) yes, (goes-none-slice 𝓤 H A W 1 (0 ∷ []) tt (plain (λ _. T.the-row)) yes, tt)),
+      goes-none 𝓤 H A W 2 (λ _. usize) yes (λ κs x f. refl),
+      (goes-none-slice 𝓤 H A W 2 (0 ∷ []) tt (plain (λ _. u8)) yes, (goes-none-slice 𝓤 H A W 2 (1 ∷ []) tt (plain (λ _. T.the-row)) yes, tt)),
     ),
   )
 
@@ -363,9 +364,9 @@ module _ {M : Type 1} (𝓤 : URA M) (H : Heap 𝓤) (A : Atoms 𝓤) (W : Given
     walks : Walks 𝓤 H A f.ended stayed (WpFn 𝓤 H (𝓣 .C) (𝓣 .Λ) code.function) (f.clauses 𝓤 H A mem run)
     walks = walked 𝓤 H A f.ended stayed (f.clauses 𝓤 H A mem run) (WpFn 𝓤 H (𝓣 .C) (𝓣 .Λ) code.function)
         (λ κs. (uint-vals w64, (uint-vals w64, (slice-vals, (slice-vals, tt)))))
-        (λ κs. (uint-tells w64, (uint-tells w64, (shr-slice-tells (named 0) (κs .0) u8, (shr-slice-tells (named 0) (κs .0) T.the-row, tt)))))
+        (λ κs. (uint-tells w64, (uint-tells w64, (shr-slice-tells (named 0) (κs .0) u8, (shr-slice-tells (named 1) (κs .1 .0) T.the-row, tt)))))
         (λ κs qs bounds a g are. via 𝓤 _ (fst∗ 𝓤 _ (emp 𝓤))
-        (walk 𝓤 H A W mem run (κs .0) (qs .0) (a .0) (a .1 .0) (are .0 .1) (are .1 .0 .1) (a .1 .1 .0) (a .1 .1 .1 .0 .ptr .0) (a .1 .1 .1 .0 .ptr .1) (a .1 .1 .1 .0 .name) (a .1 .1 .1 .0 .now)
+        (walk 𝓤 H A W mem run (κs .0) (κs .1 .0) (qs .0) (qs .1 .0) (a .0) (a .1 .0) (are .0 .1) (are .1 .0 .1) (a .1 .1 .0) (a .1 .1 .1 .0 .ptr .0) (a .1 .1 .1 .0 .ptr .1) (a .1 .1 .1 .0 .name) (a .1 .1 .1 .0 .now)
         𝓣 known-begin known-step known-finish (are .1 .1 .0) (are .1 .1 .1 .0 .0 .1)))
 
     meets : Meets 𝓤 H A f.signature (WpFn 𝓤 H (𝓣 .C) (𝓣 .Λ) code.function) (f.spec 𝓤 H A mem run)
