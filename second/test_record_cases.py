@@ -1,0 +1,66 @@
+"""Tests of the record cases: their bytes, the lines, the sorting by reasons."""
+
+import unittest
+
+from case_files import LARGEST, decode_all, digest
+from case_grammars import ROWS
+from record_cases import KIND, REASONS, Case, answer, encode_case, reasons_of, records_of
+
+# SHA-256 of the file of cases.
+DIGEST = "d1d0593b91ced2bfa9c2e9305ab1fc875872b8b2336e8f4f70002665b27c4f83"
+
+CYCLE = ROWS[5]           # S→S, Q = 6
+WAY = records_of(6, (0, 2, 14, 16, 23, 45, 43))
+
+
+class FileTest(unittest.TestCase):
+    def test_the_cases_are_these_bytes(self):
+        self.assertEqual(digest(KIND), DIGEST)
+
+    def test_layout_of_a_case(self):
+        case = Case(1, 1, b"\x80\x00", ((2, 258, LARGEST),))
+        data = encode_case(case)
+        self.assertEqual(data, (
+            b"\x01" + bytes(7) + b"\x01" + bytes(7) + b"\x02\0\0\0" + b"\x80\x00"
+            + b"\x01\0\0\0" + b"\x02\0\0\0" + b"\x02\x01\0\0" + b"\xff" * 4))
+        self.assertEqual(list(decode_all(KIND, data * 2)), [case] * 2)
+
+    def test_a_cut_file_is_refused(self):
+        data = encode_case(Case(*CYCLE, WAY))
+        for end in range(1, len(data)):
+            with self.assertRaises(ValueError):
+                list(decode_all(KIND, data[:end]))
+
+    def test_answer_lines(self):
+        self.assertEqual(answer(Case(*CYCLE, WAY)), "accepted")
+        self.assertEqual(answer(Case(*CYCLE, WAY[:4])), "refused=15 at=4")
+        self.assertEqual(answer(Case(*CYCLE, ())), "refused=15 at=0")
+        self.assertEqual(answer(Case(0, 0, b"", WAY)), "refused=1 at=0")
+
+    def test_records_outside_the_ranges(self):
+        for record in ((2, 0, 2), (0, 6, 2), (0, 0, 6), (LARGEST, 0, 2)):
+            self.assertEqual(answer(Case(*CYCLE, WAY[:1] + (record,) + WAY[2:])),
+                             "refused=15 at=1")
+
+
+class ReasonsTest(unittest.TestCase):
+    def reasons(self, records, *names):
+        found = reasons_of(*CYCLE, records)
+        self.assertEqual(sorted(found), sorted(names))
+        self.assertLessEqual(set(found), set(REASONS))
+
+    def test_reasons(self):
+        self.reasons(WAY, "accepted")
+        self.reasons((), "15-no-records")
+        self.reasons(WAY[:4], "15-only-the-end-fails")
+        self.reasons(WAY[:1] + WAY[2:], "15-in-range", "15-inner-record")
+        self.reasons(((2, 0, 0),), "15-layer-of-2", "15-first-record", "15-last-record")
+        # WAY goes on with (0,2,2): its index is also that of (0,1,8)
+        self.reasons(WAY[:2] + ((0, 1, 8),) + WAY[3:], "15-right-above-Q",
+                     "15-right-index-though-outside", "15-inner-record")
+        self.reasons(WAY[:2] + ((0, 6, LARGEST),), "15-left-of-Q", "15-right-above-Q",
+                     "15-of-32-ones", "15-last-record")
+
+
+if __name__ == "__main__":
+    unittest.main()
