@@ -1,36 +1,26 @@
 -- The front page holds. Assumes nothing.
-use Prim.Native.Nat.{ℕ, zero, suc}
+use Prim.Native.Nat.{ℕ}
 use mathlib.Core.Path.{_≡_, refl, ap, sym, subst, _∙_}
-use mathlib.Core.List.{List, [], _∷_, map}
+use mathlib.Core.List.{List, map}
 use mathlib.Core.Logic.{_↔_}
-use mathlib.Core.Option.{Option, none, some}
 use native.Mathlib.Omega.{arith}
-use Rattle.grammar.specs.Basics.{Mem, here, there}
 use Rattle.grammar.specs.Limits.{limits}
-use Rattle.grammar.specs.Grammar.{Grammar, WellFormed}
-use Rattle.grammar.specs.Tree.{HasTwoTrees}
-use Rattle.grammar.specs.Record.{recordOf}
+use Rattle.grammar.specs.Grammar.{Grammar}
 use Rattle.grammar.specs.Refusal.{Answer, done, refused, andThen}
 use Rattle.grammar.specs.TableCheck.{checkTable, tableChecked}
 use Rattle.grammar.specs.declared.TableChecked.{TableChecked}
-use Rattle.grammar.specs.declared.TableVerdict.the-variants.{Passed, Refused}
+use Rattle.grammar.specs.declared.TableVerdict.the-variants.{Refused}
 use Rattle.grammar.proofs.Answers.{then-goes, then-stops}
 use Rattle.grammar.proofs.WellFormed.{takes-only, room}
-use Rattle.automaton.specs.Strings.{Potential, Unambiguous}
 use Rattle.automaton.specs.Items.{states}
 use Rattle.automaton.specs.Position.{position}
-use Rattle.triples.specs.Successor.{Reached, origin, next, Acceptable}
+use Rattle.triples.specs.Successor.{Reached, origin, next}
 use Rattle.triples.specs.Certificate.{AcceptableCertificate, checkBytes, checkCertificate}
 use Rattle.triples.specs.Witness.{LeadsOn, ends, goes, Witness, begins, entryOf, checkRow, checkWitness, checkWitnessRecords}
 use Rattle.triples.specs.Verdict.{checkVerdict}
 use Rattle.triples.specs.declared.CheckVerdict.{CheckVerdict}
 use Rattle.triples.specs.declared.CheckVerdict.the-variants as check
-use Rattle.triples.specs.Records.{records}
-use Rattle.triples.specs.declared.Step.{Step}
-use Rattle.steps.specs.Steps.{nth, nthRecord, nthStep, recordAnswer, stepAnswer}
-use Rattle.steps.specs.declared.StepAnswer.{StepAnswer}
-use Rattle.steps.specs.declared.StepAnswer.the-variants as step
-use Rattle.triple_laws.proofs.Records.{records-exact}
+use Rattle.triples.proofs.Reached.{end-not-reached}
 use Rattle.triple_laws.proofs.Laws.{accepts-exactly, witness-exactly}
 use Rattle.parting.proofs.Position.{potential-reached}
 use Rattle.soundness.proofs.Position.{one-tree}
@@ -39,8 +29,10 @@ use Rattle.witness_records.specs.declared.TripleRecord.{TripleRecord}
 use Rattle.witness_records.proofs.Ranges.{entries-are, records-alike, records-inside}
 use Rattle.table_check.proofs.Callers.{passed-table, refused-table}
 use Rattle.ambiguity.proofs.Searches.{checked, search-theorems}
+use Rattle.ambiguity.proofs.Steps.{step-theorems}
 use Rattle.ambiguity.proofs.Texts.{text-theorems}
-use Rattle.ambiguity.specs.FrontPage.{Stores, TableAnswer, StepAnswers, WitnessAnswer, RecordsAnswer, CertificateAnswer, TableTheorems, StepTheorems, WitnessTheorems, RecordTheorems, CertificateTheorems, FrontPage}
+use Rattle.ambiguity.specs.Entries.{Stores, TableAnswer, WitnessAnswer, RecordsAnswer, CertificateAnswer}
+use Rattle.ambiguity.specs.FrontPage.{TableTheorems, WitnessTheorems, RecordTheorems, CertificateTheorems, FrontPage}
 
 -- a verdict is accepted exactly if the answer is done
 accepted-done : (o : Answer Unit) → (checkVerdict o ≡ check.Accepted) ↔ (o ≡ done tt)
@@ -58,27 +50,6 @@ leads-reached G r (goes s e l) = leads-reached G (next r s) l
 
 witness-reached : (G : Grammar) {row : List ℕ} → Witness limits G row → Reached (position limits G) 1 1 1
 witness-reached G (begins e l) = leads-reached G origin l
-
--- a closed set holds what is reached
-reached-held : (G : Grammar) (C : ℕ → ℕ → ℕ → Type 0) → Acceptable (position limits G) C → {f p q : ℕ} → Reached (position limits G) f p q → C f p q
-reached-held G C a origin = a .closed .holds
-reached-held G C a (next r s) = a .closed .step (reached-held G C a r) s
-
--- what stands at a place of a list is in it, and the other way round
-nth-in : (l : List Step) (k : ℕ) (x : Step) → nth l k ≡ some x → Mem x l
-unfolding nth
-nth-in [] k x e = let z : _≡_ {A = ℕ} 0 1 = cc in absurd (let o : ⊥ = omega arith in o)
-nth-in (y ∷ l) zero x e = let z : y ≡ x = cc in subst (λ y. Mem x (y ∷ l)) (sym z) here
-nth-in (y ∷ l) (suc k) x e = there (nth-in l k x e)
-
-in-nth : (l : List Step) (x : Step) → Mem x l → (k : ℕ) × (nth l k ≡ some x)
-unfolding nth
-in-nth (y ∷ l) x here = (zero, refl)
-in-nth (y ∷ l) x (there m) = let r = in-nth l x m in (suc (r .0), r .1)
-
-answer-some : (o : Option Step) (x : Step) → recordAnswer o ≡ step.Record x → o ≡ some x
-answer-some none x e = let z : _≡_ {A = ℕ} 0 1 = cc in absurd (let o : ⊥ = omega arith in o)
-answer-some (some y) x e = let z : y ≡ x = cc in ap some z
 
 module _ (t n : ℕ) (table : List ℕ) where
   -- the faults of the table come first in a check that begins with them
@@ -103,22 +74,6 @@ module _ (t n : ℕ) (table : List ℕ) where
         (p .grammar, record { wellFormed = a .wellFormed; terminals = a .terminals; nonterminals = a .nonterminals; stored = a .table }, p .same);
   }
 
-  module _ (f p q : ℕ) (ask : ℕ → StepAnswer) (h : StepAnswers t n table f p q ask) where
-    record-at : (G : Grammar) → Stores t n table G → (k : ℕ) → ask k ≡ recordAnswer (nthRecord limits G f p q k)
-    unfolding nthStep
-    record-at G s k = h k ∙ ap stepAnswer (then-goes (checkTable limits t n table) (λ G. done (nthRecord limits G f p q k)) G (checked t n table G s))
-
-    step-theorems : StepTheorems t n table f p q ask
-    unfolding nthStep
-    step-theorems = record {
-      refused = λ r cause at e d k. h k
-          ∙ ap stepAnswer (then-stops (checkTable limits t n table) (λ G. done (nthRecord limits G f p q k)) cause at (refused-table t n table r e cause at d));
-      exact = λ G s hf hp hq x. let r = records-exact limits G (s .wellFormed) (omega arith) f p q hf hp hq x in (
-        λ (k, e). r .0 (nth-in (records limits G f p q) k x (answer-some _ x (sym (record-at G s k) ∙ e))),
-        λ y. let m = in-nth (records limits G f p q) x (r .1 y) in (m .0, record-at G s (m .0) ∙ ap recordAnswer (m .1)),
-      );
-    }
-
   module _ (row : List ℕ) (v : CheckVerdict) (h : WitnessAnswer t n table row v) where
     accepts-witness : (G : Grammar) → Stores t n table G → (v ≡ check.Accepted) ↔ Witness limits G row
     unfolding checkWitness
@@ -140,7 +95,7 @@ module _ (t n : ℕ) (table : List ℕ) where
     unfolding checkWitnessRecords
     record-theorems = record {
       refused = table-first (λ G. checkRow limits G (map (entryOf (states G)) (triples entries))) v h;
-      alike = λ G s r w k. h ∙ ap checkVerdict (records-alike t n table G entries (checked G s) r) ∙ sym k;
+      alike = λ G s r w k. h ∙ ap checkVerdict (records-alike t n table G entries (checked t n table G s) r) ∙ sym k;
       accepted = λ G s. let row = map (entryOf (states G)) (triples entries) in
           let a = then-accepted (λ G. checkRow limits G (map (entryOf (states G)) (triples entries))) v h G s in
           let b = witness-exactly limits G (s .wellFormed) (omega arith) row in (
@@ -163,9 +118,16 @@ module _ (t n : ℕ) (table : List ℕ) where
       refused = table-first (λ G. checkBytes limits G bytes) v h;
       accepted = accepts-certificate;
       one-tree = λ G s x. one-tree limits G (s .wellFormed) (omega arith) _ (accepts-certificate G s .0 x .acceptable);
-      unambiguous = λ G s x p. let a = accepts-certificate G s .0 x .acceptable in
-          a .lacks (reached-held G _ a (potential-reached limits G (s .wellFormed) (omega arith) .0 p));
+      unambiguous = λ G s x p. end-not-reached (position limits G) (accepts-certificate G s .0 x .acceptable)
+          (potential-reached limits G (s .wellFormed) (omega arith) .0 p);
     }
 
 pub front-page : FrontPage
-front-page = record { tables = table-theorems; steps = step-theorems; witnesses = witness-theorems; records = record-theorems; certificates = certificate-theorems; searches = search-theorems; texts = text-theorems }
+front-page = record {
+  tables = table-theorems;
+  steps = step-theorems;
+  witnesses = witness-theorems; records = record-theorems;
+  certificates = certificate-theorems;
+  searches = search-theorems;
+  texts = text-theorems;
+}

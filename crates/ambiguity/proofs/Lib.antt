@@ -1,3 +1,4 @@
 pub mod Searches
+pub mod Steps
 pub mod Texts
 pub mod FrontPage

@@ -7,7 +7,7 @@ use mathlib.Core.Logic.{inl, inr, _↔_}
 use native.Mathlib.Omega.{arith}
 use lib.ListN.{length, take, drop}
 use lib.Seq.{take-append-seam}
-use Rattle.grammar.specs.Basics.{choose, Mem, Distinct, over}
+use Rattle.grammar.specs.Basics.{choose, Mem, over}
 use Rattle.grammar.specs.Limits.{limits}
 use Rattle.grammar.specs.Grammar.{Grammar, WellFormed}
 use Rattle.grammar.specs.Refusal.{Answer, done, refused, refuseUnless, bufferTooShort}
@@ -31,14 +31,16 @@ use Rattle.triples.proofs.Reached.{reached-held}
 use Rattle.triple_laws.proofs.Explore.{is-element, not-element}
 use Rattle.triple_laws.proofs.CertificateCheck.{bits-fit}
 use Rattle.triple_laws.proofs.CertificateOf.{bytes-length, certificate-bit}
-use Rattle.triple_laws.proofs.Laws.{accepts-exactly, reached-exactly, size-cardinal, smallest-below, smallest-certificate, acceptable-lacks}
+use Rattle.triple_laws.proofs.Laws.{accepts-exactly, reached-exactly, smallest-distinct, size-cardinal, smallest-below, smallest-certificate, acceptable-lacks}
 use Rattle.parting.proofs.Position.{potential-reached}
+use Rattle.soundness.proofs.Position.{one-tree}
 use Rattle.table_check.proofs.Callers.{refused-table}
 use Rattle.search.specs.Promise as promise
 use Rattle.search.specs.Promise.{Lent, isPotential, isEnough, searchable, Told, Answers, Searches}
 use Rattle.search.specs.declared.SearchVerdict.{SearchVerdict}
 use Rattle.search.specs.declared.SearchVerdict.the-variants as search
-use Rattle.ambiguity.specs.FrontPage.{Stores, WitnessAnswer, Certifies, VerdictTheorems, SearchTheorems}
+use Rattle.ambiguity.specs.Entries.{Stores, WitnessAnswer}
+use Rattle.ambiguity.specs.Searches.{ListsHeld, Certifies, VerdictTheorems, SearchTheorems}
 
 -- what is written over the front of a row
 front-of : (front old : List ℕ) (k : ℕ) → length front ≡ k → take k (over front old) ≡ front
@@ -115,11 +117,13 @@ module _ (G : Grammar) (W : WellFormed limits G) where
           (subst (λ (i : ℕ). Mem i (smallest limits G)) (sym (d .whole)) m) in
           (layerOf Q i, leftOf Q i, rightOf Q i, sym (d .whole), held-reached c (layerOf Q i) (leftOf Q i) (rightOf Q i) .1 r)
 
-  -- a list without doubles of what it holds is as long as the smallest set
-  held-number : SmallestCertificate limits G bytes → (l : List ℕ) → Distinct l
-      → ((i : ℕ) → Mem i l ↔ ((f p q : ℕ) × (i ≡ index (states G) f p q) × Holds (states G) bytes f p q)) → length l ≡ size limits G
-  held-number c l d same =
-      size-cardinal limits G W (omega arith) l d (λ i. (λ m. held-indices c i .0 (same i .0 m), λ m. same i .1 (held-indices c i .1 m)))
+  -- it lists what they hold, and every list that does is as long
+  held-list : SmallestCertificate limits G bytes → ListsHeld (states G) bytes (smallest limits G)
+  held-list c = record { distinct = smallest-distinct limits G W (omega arith); indices = λ i. (held-indices c i .1, held-indices c i .0) }
+
+  held-number : SmallestCertificate limits G bytes → (l : List ℕ) → ListsHeld (states G) bytes l → length l ≡ size limits G
+  held-number c l d =
+      size-cardinal limits G W (omega arith) l (d .distinct) (λ i. (λ m. held-indices c i .0 (d .indices i .0 m), λ m. d .indices i .1 (held-indices c i .1 m)))
 
 module _ (t n : ℕ) (table : List ℕ) where
   module _ (G : Grammar) (s : Stores t n table G) where
@@ -135,7 +139,9 @@ module _ (t n : ℕ) (table : List ℕ) where
           accepted = λ v h. h ∙ ap checkVerdict (then-goes (checkTable limits t n table) (λ G′. checkBytes limits G′ (bytes G W)) G (checked t n table G s)
               ∙ accepts-exactly limits G W (omega arith) (bytes G W) .1 (small .acceptable));
           reached = held-reached G W small;
-          number = λ l d same. c ∙ ap search.Unambiguous (sym (held-number G W small l d same));
+          least-closed = λ C k f p q h. reached-held (position limits G) k (held-reached G W small f p q .0 h);
+          listed = (smallest limits G, held-list G W small);
+          number = λ l d. c ∙ ap search.Unambiguous (sym (held-number G W small l d));
         }
 
     module _ (before : Lent) (r : SearchVerdict) (after : Lent) where
@@ -159,6 +165,7 @@ module _ (t n : ℕ) (table : List ℕ) where
             otherwise = λ u. absurd (u p);
             one-of-two = inl k;
             certificates = λ l a. absurd (acceptable-lacks limits G (s .wellFormed) (omega arith) l a (is-element (index (states G) 1 1 1) (smallest limits G) .0 e));
+            one-tree = λ n q. no-two n (length (w .row)) (sym q ∙ w .verdict);
           }
       verdict-theorems false e c =
           let k = certified e c in
@@ -167,6 +174,7 @@ module _ (t n : ℕ) (table : List ℕ) where
             otherwise = λ u. k;
             one-of-two = inr k;
             certificates = λ l a. k;
+            one-tree = λ n q. one-tree limits G (s .wellFormed) (omega arith) _ (k .smallest .acceptable .acceptable);
           }
 
   module _ (before : Lent) (r : SearchVerdict) (after : Lent) (h : Searches t n table before r after) where

@@ -1,27 +1,37 @@
 -- What follows from the promises of reader and writer. Assumes nothing.
-use Prim.Native.Nat.{ℕ, _≤_}
-use mathlib.Core.Path.{_≡_, ap, sym, subst, _∙_}
-use mathlib.Core.List.{List, []}
-use lib.ListN.{length}
+use Prim.Native.Nat.{ℕ, _+_, _≤_}
+use mathlib.Core.Path.{_≡_, refl, ap, sym, subst, _∙_}
+use mathlib.Core.List.{List, [], _++_}
+use native.Mathlib.Omega.{arith}
+use lib.ListN.{length, take, drop, length-append}
+use lib.Seq.{take-at}
+use Rattle.grammar.specs.Basics.{over}
 use Rattle.grammar.specs.Limits.{limits}
-use Rattle.grammar.specs.Grammar.{Grammar}
 use Rattle.grammar.specs.Table.{encode}
 use Rattle.grammar.specs.Refusal.{Answer, done, refused, andThen}
-use Rattle.grammar.specs.TableCheck.{checkTable}
+use Rattle.grammar.specs.TableCheck.{checkTable, tableChecked}
+use Rattle.grammar.proofs.Steps.{grammarOf}
 use Rattle.grammar.specs.declared.TableChecked.{TableChecked}
 use Rattle.grammar.specs.declared.TableVerdict.the-variants.{Passed, Refused}
-use Rattle.grammar.proofs.Answers.{then-goes, then-stops, then-done}
+use Rattle.grammar.proofs.Answers.{done-inj, then-goes, then-stops, then-done}
 use Rattle.table_check.proofs.Callers.{passed-table, refused-table}
 use Rattle.text.specs.Read.{Source, symbolNames, readText}
 use Rattle.text.specs.Rules.{admit, checkText, readInto}
-use Rattle.text.specs.Promise.{textRead, ReadsText, WritesText}
+use Rattle.text.specs.Print.{gather, writeInto}
+use Rattle.text.specs.Promise.{nameStarts, nameLengths, textRead, textWritten, afterwards, ReadsText, WritesText}
 use Rattle.text.specs.declared.TextRead.{TextRead}
 use Rattle.text.specs.declared.TextRead.the-variants as reader
+use Rattle.text.specs.declared.TextRead.the-variants.{Read}
+use Rattle.text.specs.declared.TextWritten.{TextWritten}
+use Rattle.text.specs.declared.TextWritten.the-variants as writer
 use Rattle.text.specs.declared.TextWritten.the-variants.{Written}
-use Rattle.text.proofs.Admit.{read-admit, admit-refuses}
-use Rattle.text.proofs.RoundTrip.{apart, reads-into, limits-short}
+use Rattle.text.proofs.Spans.{length-lengths, length-name-starts}
+use Rattle.text.proofs.Admit.{read-admit, admit-refuses, text-checked}
+use Rattle.text.proofs.Gather.{gather-front, gather-read}
+use Rattle.text.proofs.RoundTrip.{apart, reads-into, into-checked, limits-short}
 use Rattle.text.proofs.Promises.{written-as, read-write, write-read}
-use Rattle.ambiguity.specs.FrontPage.{TableAnswer, TextTheorems}
+use Rattle.ambiguity.specs.Entries.{TableAnswer}
+use Rattle.ambiguity.specs.Texts.{TextTheorems}
 
 short : (t n : ℕ) (table bytes starts lengths out : List ℕ) (m : ℕ) (out′ : List ℕ)
     → WritesText t n table bytes starts lengths out (Written m) out′ → m ≤ limits .maxText
@@ -55,5 +65,70 @@ module _ (text : List ℕ) (s : Source) (d : readText limits text ≡ done s) (r
       = then-goes (readText limits text) rest s d ∙ then-goes (admit limits (limits .maxRules) [] 0 (s .rules)) (λ rules. done s) (x .0) (x .1) in
       p .answer ∙ ap textRead (reads-into limits (length table) (length starts) (length lengths) text s o i j k)
 
+-- an answer that is read has a source
+read-as : (o : Answer Source) (t n e q : ℕ) → Read t n e q ≡ textRead o
+    → (s : Source) × (o ≡ done s) × (length (s .terminals) ≡ t) × (length (s .nonterminals) ≡ n) × (length (encode (s .rules)) ≡ e)
+read-as (done s) t n e q h = (s, refl, cc, cc, cc)
+read-as (refused c p) t n e q h = absurd (let z : _≡_ {A = ℕ} 0 1 = cc in omega arith)
+
+-- a row after a result has it at its front
+after-done : {A : Type 0} (o : Answer A) (front : A → List ℕ) (old new : List ℕ) (a : A) → o ≡ done a
+    → new ≡ afterwards o front old → new ≡ front a ++ drop (length (front a)) old
+unfolding over
+after-done o front old new a e h = h ∙ ap (λ o. afterwards o front old) e
+
+module _ (text table starts lengths : List ℕ) (t n e q : ℕ) (table′ starts′ lengths′ : List ℕ)
+    (p : ReadsText text table starts lengths (Read t n e q) table′ starts′ lengths′) where
+  -- the table that was written passes
+  passes-on : (c : TableChecked) → TableAnswer t n (take e table′) c → c .verdict ≡ Passed
+  passes-on c h =
+      let (s, o, i, j, k) = read-as _ t n e q (p .answer) in
+      let xs = encode (s .rules) in
+      let u = text-checked limits apart text s (into-checked limits (length table) (length starts) (length lengths) text s o) in
+      let x : take e table′ ≡ xs
+      = ap (take e) (after-done _ (λ (s : Source). encode (s .rules)) table table′ s o (p .table-after)) ∙ take-at xs (drop (length xs) table) e k in
+      let y : checkTable limits t n (take e table′) ≡ done (grammarOf (length (s .terminals)) (length (s .nonterminals)) (s .rules))
+      = (λ d. checkTable limits (sym i d) (sym j d) (x d)) ∙ u .table in
+      ap (λ (r : TableChecked). r .verdict) (h ∙ ap tableChecked y)
+
+  -- the names stand where the rows say
+  names-stand : (s : Source) → readText limits text ≡ done s → gather text starts′ lengths′ 0 (t + n) ≡ done (symbolNames s)
+  names-stand s r =
+      let (s₂, o, i, j, k) = read-as _ t n e q (p .answer) in
+      let u = text-checked limits apart text s₂ (into-checked limits (length table) (length starts) (length lengths) text s₂ o) in
+      let same : s₂ ≡ s = done-inj (sym (u .read) ∙ r) in
+      let xs = nameStarts s₂ in
+      let ys = nameLengths (symbolNames s₂) in
+      let y = after-done _ nameStarts starts starts′ s₂ o (p .starts-after) in
+      let z = after-done _ (λ (s : Source). nameLengths (symbolNames s)) lengths lengths′ s₂ o (p .lengths-after) in
+      let c = length-append (s₂ .terminals) (s₂ .nonterminals) in
+      let g : gather text starts′ lengths′ 0 (t + n)
+      ≡ gather text (xs ++ drop (length xs) starts) (ys ++ drop (length ys) lengths) 0 (length (s₂ .terminals) + length (s₂ .nonterminals))
+      = λ d. gather text (y d) (z d) 0 (sym i d + sym j d) in
+      g
+      ∙ gather-front text xs ys (drop (length xs) starts) (drop (length ys) lengths) 0 (length (s₂ .terminals) + length (s₂ .nonterminals))
+      (omega (arith, length-name-starts s₂)) (omega (arith, length-lengths (symbolNames s₂)))
+      ∙ gather-read limits apart text s₂ (u .read) ∙ ap (λ (s : Source). done (symbolNames s)) same
+
+-- the writer's table faults
+write-refused : (t n : ℕ) (table bytes starts lengths out : List ℕ) (r : TextWritten) (out′ : List ℕ)
+    → WritesText t n table bytes starts lengths out r out′
+    → (c : TableChecked) (cause at : ℕ) → TableAnswer t n table c → c .verdict ≡ Refused cause at
+    → (r ≡ writer.Refused cause at) × (out′ ≡ out)
+unfolding writeInto
+write-refused t n table bytes starts lengths out r out′ w c cause at h e =
+    let o : writeInto limits t n table bytes starts lengths (length out) ≡ refused cause at
+    = then-stops (checkTable limits t n table) _ cause at (refused-table t n table c h cause at e) in
+    (w .answer ∙ ap textWritten o, w .out-after ∙ ap (λ (o : Answer (List ℕ)). afterwards o (λ text. text) out) o)
+
 pub text-theorems : TextTheorems
-text-theorems = record { text-again = read-write; tables-again = write-read; short = short; last-tests = last-tests; reads = reads }
+text-theorems = record {
+  text-again = read-write;
+  tables-again = write-read;
+  short = short;
+  last-tests = last-tests;
+  reads = reads;
+  passes-on = passes-on;
+  names-stand = names-stand;
+  write-refused = write-refused;
+}

@@ -1,1 +1,4 @@
+pub mod Entries
+pub mod Searches
+pub mod Texts
 pub mod FrontPage

@@ -66,8 +66,8 @@ pub cause-theorems : CauseTheorems
 cause-theorems = record {
   tables = λ t n table r a.
       subst (λ r. Tells (tableReply r .cause) (r .verdict ≡ Passed)) (sym a) (table-tells _ (check-table limits t n table));
-  steps = λ t n table f p q ask a k.
-      subst (λ s. Tells (stepReply s .cause) (1 ≤ stepReply s .kind)) (sym (a k)) (step-tells _ (nth-step limits t n table f p q k));
+  steps = λ t n table f p q ask a k u.
+      subst (λ s. Tells (stepReply s .cause) (1 ≤ stepReply s .kind)) (sym (a k u)) (step-tells _ (nth-step limits t n table f p q k));
   witnesses = λ t n table row v a. verdict-tells _ v (check-witness limits t n table row) a;
   certificates = λ t n table bytes v a. verdict-tells _ v (check-certificate limits t n table bytes) a;
   reads = λ text table starts lengths v table′ starts′ lengths′ a.

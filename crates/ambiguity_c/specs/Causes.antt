@@ -13,7 +13,7 @@ use Rattle.text.specs.declared.TextRead.{TextRead}
 use Rattle.text.specs.declared.TextRead.the-variants.{Read}
 use Rattle.text.specs.declared.TextWritten.{TextWritten}
 use Rattle.text.specs.declared.TextWritten.the-variants.{Written}
-use Rattle.ambiguity.specs.FrontPage.{TableAnswer, WitnessAnswer, CertificateAnswer, StepAnswers}
+use Rattle.ambiguity.specs.Entries.{Usize, TableAnswer, WitnessAnswer, CertificateAnswer, StepAnswers}
 use Rattle.ambiguity_c.specs.Replies.{tableReply, stepReply, checkReply, readReply, writeReply}
 
 -- the cause is none that document 01 does not have, and 0 tells that something is answered
@@ -30,7 +30,7 @@ pub record CauseTheorems : Type 0 where
   pub tables : (t n : ℕ) (table : List ℕ) (r : TableChecked) → TableAnswer t n table r → Tells (tableReply r .cause) (r .verdict ≡ Passed)
   -- 1 a record, or 2 no more
   pub steps : (t n : ℕ) (table : List ℕ) (f p q : ℕ) (ask : ℕ → StepAnswer) → StepAnswers t n table f p q ask
-      → (k : ℕ) → Tells (stepReply (ask k) .cause) (1 ≤ stepReply (ask k) .kind)
+      → (k : ℕ) → Usize k → Tells (stepReply (ask k) .cause) (1 ≤ stepReply (ask k) .kind)
   pub witnesses : (t n : ℕ) (table row : List ℕ) (v : CheckVerdict) → WitnessAnswer t n table row v
       → Tells (checkReply v .cause) (v ≡ Accepted)
   pub certificates : (t n : ℕ) (table bytes : List ℕ) (v : CheckVerdict) → CertificateAnswer t n table bytes v

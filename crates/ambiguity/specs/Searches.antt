@@ -1,0 +1,68 @@
+-- What follows from the promise of the search, whatever the input. Source: document 01; the demands of the mission by number.
+-- Assumes nothing.
+use Prim.Native.Nat.{ℕ}
+use mathlib.Core.Path.{_≡_}
+use mathlib.Core.Bool.{true, false}
+use mathlib.Core.List.{List}
+use mathlib.Core.Logic.{_⊎_, _↔_}
+use lib.ListN.{length, take}
+use Rattle.grammar.specs.Basics.{Mem, Distinct}
+use Rattle.grammar.specs.Limits.{limits}
+use Rattle.grammar.specs.Grammar.{Grammar}
+use Rattle.grammar.specs.Tree.{HasTwoTrees}
+use Rattle.grammar.specs.Refusal.{bufferTooShort}
+use Rattle.grammar.specs.declared.TableChecked.{TableChecked}
+use Rattle.grammar.specs.declared.TableVerdict.the-variants.{Refused}
+use Rattle.automaton.specs.Strings.{Potential, Unambiguous}
+use Rattle.automaton.specs.Items.{states}
+use Rattle.automaton.specs.Position.{position}
+use Rattle.triples.specs.Index.{index}
+use Rattle.triples.specs.Successor.{Reached, Closed}
+use Rattle.triples.specs.Smallest.{size}
+use Rattle.triples.specs.Certificate.{byteCount, Holds, AcceptableCertificate, SmallestCertificate}
+use Rattle.triples.specs.declared.CheckVerdict.{CheckVerdict}
+use Rattle.triples.specs.declared.CheckVerdict.the-variants as check
+use Rattle.search.specs.Promise.{Lent, isEnough}
+use Rattle.search.specs.declared.SearchVerdict.{SearchVerdict}
+use Rattle.search.specs.declared.SearchVerdict.the-variants as search
+use Rattle.ambiguity.specs.Entries.{Stores, TableAnswer, WitnessAnswer, CertificateAnswer}
+
+-- the list has the index of each triple held, once, and no other
+pub record ListsHeld (Q : ℕ) (bytes l : List ℕ) : Type 0 where
+  pub distinct : Distinct l
+  pub indices : (i : ℕ) → Mem i l ↔ ((f p q : ℕ) × (i ≡ index Q f p q) × Holds Q bytes f p q)
+
+module _ (t n : ℕ) (table : List ℕ) where
+  -- unambiguous: the bytes are an acceptable certificate, contained in every other, and the certificate check accepts them
+  pub record Certifies (G : Grammar) (r : SearchVerdict) (bytes : List ℕ) : Type 1 where
+    pub verdict : r ≡ search.Unambiguous (size limits G)
+    pub smallest : SmallestCertificate limits G bytes
+    pub accepted : (v : CheckVerdict) → CertificateAnswer t n table bytes v → v ≡ check.Accepted
+    -- they are the smallest closed set: they hold exactly what is reached from (0,0,0)
+    pub reached : (f p q : ℕ) → Holds (states G) bytes f p q ↔ Reached (position limits G) f p q
+    -- every closed set holds what they hold
+    pub least-closed : (C : ℕ → ℕ → ℕ → Type 0) → Closed (position limits G) C → (f p q : ℕ) → Holds (states G) bytes f p q → C f p q
+    -- and the number is its size: some list has the indices held, and the number is the length of every such list
+    pub listed : (l : List ℕ) × ListsHeld (states G) bytes l
+    pub number : (l : List ℕ) → ListsHeld (states G) bytes l → r ≡ search.Unambiguous (length l)
+
+  pub record VerdictTheorems (G : Grammar) (r : SearchVerdict) (written : List ℕ) : Type 1 where
+    -- demand 2: potential precisely when two strings part, otherwise unambiguous with the smallest closed set and its size
+    pub potential : ((k : ℕ) × (r ≡ search.Potential k)) ↔ Potential (position limits G)
+    pub otherwise : Unambiguous (position limits G) → Certifies G r written
+    pub one-of-two : ((k : ℕ) × (r ≡ search.Potential k)) ⊎ Certifies G r written
+    -- demand 3: where some bytes are an acceptable certificate it answers unambiguous, and writes one contained in every other
+    pub certificates : (bytes : List ℕ) → AcceptableCertificate limits G bytes → Certifies G r written
+    -- where it answers unambiguous no sentence has two derivation trees
+    pub one-tree : (k : ℕ) → r ≡ search.Unambiguous k → (sentence : List ℕ) → ¬ HasTwoTrees limits G sentence
+
+  pub record SearchTheorems (before : Lent) (r : SearchVerdict) (after : Lent) : Type 1 where
+    -- the faults of the table come first, as the table check gives them, then 14; demand 1: these refusals change nothing
+    pub refused : (c : TableChecked) (cause at : ℕ) → TableAnswer t n table c → c .verdict ≡ Refused cause at
+        → (r ≡ search.Refused cause at) × (after ≡ before)
+    pub short : (G : Grammar) → Stores t n table G → isEnough (states G) before ≡ false
+        → (r ≡ search.Refused bufferTooShort 0) × (after ≡ before)
+    -- lent enough, it answers; the certificate is the front of what was lent
+    pub enough : (G : Grammar) → Stores t n table G → isEnough (states G) before ≡ true → VerdictTheorems G r (take (byteCount (states G)) (after .certificate))
+    -- demand 2: the witness check accepts the row that it wrote
+    pub witness : (k : ℕ) → r ≡ search.Potential k → (v : CheckVerdict) → WitnessAnswer t n table (take k (after .witness)) v → v ≡ check.Accepted

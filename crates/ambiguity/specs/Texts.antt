@@ -1,0 +1,65 @@
+-- What follows from the promises of the reader and the writer, whatever the input. Source: document 01; the demands of the mission
+-- by number. Assumes nothing.
+use Prim.Native.Nat.{ℕ, _+_, _≤_}
+use mathlib.Core.Path.{_≡_}
+use mathlib.Core.List.{List}
+use lib.ListN.{length, take}
+use Rattle.grammar.specs.Basics.{over}
+use Rattle.grammar.specs.Limits.{limits}
+use Rattle.grammar.specs.Table.{encode}
+use Rattle.grammar.specs.Refusal.{done}
+use Rattle.grammar.specs.declared.TableChecked.{TableChecked}
+use Rattle.grammar.specs.declared.TableVerdict.the-variants.{Passed, Refused}
+use Rattle.text.specs.Read.{Source, symbolNames, readText}
+use Rattle.text.specs.Print.{gather}
+use Rattle.text.specs.Promise.{textRead, ReadsText, WritesText, SameAgain}
+use Rattle.text.specs.declared.TextRead.{TextRead}
+use Rattle.text.specs.declared.TextRead.the-variants as reader
+use Rattle.text.specs.declared.TextRead.the-variants.{Read}
+use Rattle.text.specs.declared.TextWritten.{TextWritten}
+use Rattle.text.specs.declared.TextWritten.the-variants as writer
+use Rattle.text.specs.declared.TextWritten.the-variants.{Written}
+use Rattle.ambiguity.specs.Entries.{TableAnswer}
+
+pub record TextTheorems : Type 0 where
+  -- demand 2: text that is read and written again, with the names that the reader gave, is the same text
+  pub text-again : (text table starts lengths table′ starts′ lengths′ : List ℕ) (t n e q : ℕ) (out out′ : List ℕ) (r : TextWritten)
+      → ReadsText text table starts lengths (Read t n e q) table′ starts′ lengths′
+      → WritesText t n (take e table′) text starts′ lengths′ out r out′ → length text ≤ length out
+      → (r ≡ Written (length text)) × (out′ ≡ over text out)
+  -- tables and names that are written and read again, lent enough, are the same tables and the same names
+  pub tables-again : (t n : ℕ) (table bytes starts lengths out : List ℕ) (m : ℕ) (out′ table₂ starts₂ lengths₂ : List ℕ) (r : TextRead)
+      (table′ starts′ lengths′ : List ℕ)
+      → WritesText t n table bytes starts lengths out (Written m) out′
+      → ReadsText (take m out′) table₂ starts₂ lengths₂ r table′ starts′ lengths′
+      → length table ≤ length table₂ → t + n ≤ length starts₂ → t + n ≤ length lengths₂
+      → SameAgain t n table bytes starts lengths (take m out′) r table′ starts′ lengths′
+  -- what is written is never longer than the reader takes
+  pub short : (t n : ℕ) (table bytes starts lengths out : List ℕ) (m : ℕ) (out′ : List ℕ)
+      → WritesText t n table bytes starts lengths out (Written m) out′ → m ≤ limits .maxText
+  -- the reader's tests 7, 6, 8 are the table check of the table that it would write
+  pub last-tests : (text : List ℕ) (s : Source) → readText limits text ≡ done s → (r : TableChecked)
+      → TableAnswer (length (s .terminals)) (length (s .nonterminals)) (encode (s .rules)) r
+      → (table starts lengths : List ℕ) (v : TextRead) (table′ starts′ lengths′ : List ℕ)
+      → ReadsText text table starts lengths v table′ starts′ lengths′
+      → (cause at : ℕ) → r .verdict ≡ Refused cause at → v ≡ reader.Refused cause at
+  -- and where it passes, the reader, lent enough, reads
+  pub reads : (text : List ℕ) (s : Source) → readText limits text ≡ done s → (r : TableChecked)
+      → TableAnswer (length (s .terminals)) (length (s .nonterminals)) (encode (s .rules)) r
+      → (table starts lengths : List ℕ) (v : TextRead) (table′ starts′ lengths′ : List ℕ)
+      → ReadsText text table starts lengths v table′ starts′ lengths′
+      → r .verdict ≡ Passed → length (encode (s .rules)) ≤ length table → length (symbolNames s) ≤ length starts
+      → length (symbolNames s) ≤ length lengths → v ≡ textRead (done s)
+  -- the table that the reader wrote passes the table check
+  pub passes-on : (text table starts lengths : List ℕ) (t n e q : ℕ) (table′ starts′ lengths′ : List ℕ)
+      → ReadsText text table starts lengths (Read t n e q) table′ starts′ lengths′
+      → (c : TableChecked) → TableAnswer t n (take e table′) c → c .verdict ≡ Passed
+  -- and starts and lengths give, in the text, the names that it declares, in the order of symbol numbers
+  pub names-stand : (text table starts lengths : List ℕ) (t n e q : ℕ) (table′ starts′ lengths′ : List ℕ)
+      → ReadsText text table starts lengths (Read t n e q) table′ starts′ lengths′
+      → (s : Source) → readText limits text ≡ done s → gather text starts′ lengths′ 0 (t + n) ≡ done (symbolNames s)
+  -- for the writer too the faults of the table come first, as the table check gives them; demand 1: the output is unchanged
+  pub write-refused : (t n : ℕ) (table bytes starts lengths out : List ℕ) (r : TextWritten) (out′ : List ℕ)
+      → WritesText t n table bytes starts lengths out r out′
+      → (c : TableChecked) (cause at : ℕ) → TableAnswer t n table c → c .verdict ≡ Refused cause at
+      → (r ≡ writer.Refused cause at) × (out′ ≡ out)
