@@ -13,7 +13,7 @@ use Rattle.grammar.specs.TableCheck.{checkTable, tableChecked}
 use Rattle.grammar.proofs.Steps.{grammarOf}
 use Rattle.grammar.specs.declared.TableChecked.{TableChecked}
 use Rattle.grammar.specs.declared.TableVerdict.the-variants.{Passed, Refused}
-use Rattle.grammar.proofs.Answers.{done-inj, then-goes, then-stops, then-done}
+use Rattle.grammar.proofs.Answers.{then-goes, then-stops, then-done}
 use Rattle.table_check.proofs.Callers.{passed-table, refused-table}
 use Rattle.text.specs.Read.{Source, symbolNames, readText}
 use Rattle.text.specs.Rules.{admit, checkText, readInto}
@@ -26,7 +26,7 @@ use Rattle.text.specs.declared.TextWritten.{TextWritten}
 use Rattle.text.specs.declared.TextWritten.the-variants as writer
 use Rattle.text.specs.declared.TextWritten.the-variants.{Written}
 use Rattle.text.proofs.Spans.{length-lengths, length-name-starts}
-use Rattle.text.proofs.Admit.{read-admit, admit-refuses, text-checked}
+use Rattle.text.proofs.Admit.{read-admit, admit-refuses, Checked, text-checked}
 use Rattle.text.proofs.Gather.{gather-front, gather-read}
 use Rattle.text.proofs.RoundTrip.{apart, reads-into, into-checked, limits-short}
 use Rattle.text.proofs.Promises.{written-as, read-write, write-read}
@@ -79,36 +79,58 @@ after-done o front old new a e h = h ∙ ap (λ o. afterwards o front old) e
 
 module _ (text table starts lengths : List ℕ) (t n e q : ℕ) (table′ starts′ lengths′ : List ℕ)
     (p : ReadsText text table starts lengths (Read t n e q) table′ starts′ lengths′) where
-  -- the table that was written passes
+  -- what was read, and the table written
+  abbrev outcome : Answer Source
+  outcome = readInto limits (length table) (length starts) (length lengths) text
+
+  source : Source
+  source = read-as outcome t n e q (p .answer) .0
+
+  into : outcome ≡ done source
+  unfolding source
+  into = read-as outcome t n e q (p .answer) .1
+
+  source-checked : Checked limits text source
+  source-checked = text-checked limits apart text source (into-checked limits (length table) (length starts) (length lengths) text source into)
+
+  counts : (length (source .terminals) ≡ t) × (length (source .nonterminals) ≡ n) × (length (encode (source .rules)) ≡ e)
+  unfolding source
+  counts = let a = read-as outcome t n e q (p .answer) in (a .2, a .3, a .4)
+
+  table-front : take e table′ ≡ encode (source .rules)
+  table-front =
+      let xs = encode (source .rules) in
+      ap (take e) (after-done outcome (λ (s : Source). encode (s .rules)) table table′ source into (p .table-after))
+      ∙ take-at xs (drop (length xs) table) e (counts .2)
+
+  -- it passes
   passes-on : (c : TableChecked) → TableAnswer t n (take e table′) c → c .verdict ≡ Passed
   passes-on c h =
-      let (s, o, i, j, k) = read-as _ t n e q (p .answer) in
-      let xs = encode (s .rules) in
-      let u = text-checked limits apart text s (into-checked limits (length table) (length starts) (length lengths) text s o) in
-      let x : take e table′ ≡ xs
-      = ap (take e) (after-done _ (λ (s : Source). encode (s .rules)) table table′ s o (p .table-after)) ∙ take-at xs (drop (length xs) table) e k in
-      let y : checkTable limits t n (take e table′) ≡ done (grammarOf (length (s .terminals)) (length (s .nonterminals)) (s .rules))
-      = (λ d. checkTable limits (sym i d) (sym j d) (x d)) ∙ u .table in
+      let y : checkTable limits t n (take e table′) ≡ done (grammarOf (length (source .terminals)) (length (source .nonterminals)) (source .rules))
+      = (λ d. checkTable limits (sym (counts .0) d) (sym (counts .1) d) (table-front d)) ∙ source-checked .table in
       ap (λ (r : TableChecked). r .verdict) (h ∙ ap tableChecked y)
 
   -- the names stand where the rows say
-  names-stand : (s : Source) → readText limits text ≡ done s → gather text starts′ lengths′ 0 (t + n) ≡ done (symbolNames s)
-  names-stand s r =
-      let (s₂, o, i, j, k) = read-as _ t n e q (p .answer) in
-      let u = text-checked limits apart text s₂ (into-checked limits (length table) (length starts) (length lengths) text s₂ o) in
-      let same : s₂ ≡ s = done-inj (sym (u .read) ∙ r) in
-      let xs = nameStarts s₂ in
-      let ys = nameLengths (symbolNames s₂) in
-      let y = after-done _ nameStarts starts starts′ s₂ o (p .starts-after) in
-      let z = after-done _ (λ (s : Source). nameLengths (symbolNames s)) lengths lengths′ s₂ o (p .lengths-after) in
-      let c = length-append (s₂ .terminals) (s₂ .nonterminals) in
-      let g : gather text starts′ lengths′ 0 (t + n)
-      ≡ gather text (xs ++ drop (length xs) starts) (ys ++ drop (length ys) lengths) 0 (length (s₂ .terminals) + length (s₂ .nonterminals))
-      = λ d. gather text (y d) (z d) 0 (sym i d + sym j d) in
-      g
-      ∙ gather-front text xs ys (drop (length xs) starts) (drop (length ys) lengths) 0 (length (s₂ .terminals) + length (s₂ .nonterminals))
-      (omega (arith, length-name-starts s₂)) (omega (arith, length-lengths (symbolNames s₂)))
-      ∙ gather-read limits apart text s₂ (u .read) ∙ ap (λ (s : Source). done (symbolNames s)) same
+  names-stand : (s : Source) × (readText limits text ≡ done s) × (take e table′ ≡ encode (s .rules))
+      × (gather text starts′ lengths′ 0 (t + n) ≡ done (symbolNames s))
+  names-stand =
+      let xs = nameStarts source in
+      let ys = nameLengths (symbolNames source) in
+      let k = length (source .terminals) in
+      let l = length (source .nonterminals) in
+      let y = after-done outcome nameStarts starts starts′ source into (p .starts-after) in
+      let z = after-done outcome (λ (s : Source). nameLengths (symbolNames s)) lengths lengths′ source into (p .lengths-after) in
+      let c = length-append (source .terminals) (source .nonterminals) in
+      let g : gather text starts′ lengths′ 0 (t + n) ≡ gather text (xs ++ drop (length xs) starts) (ys ++ drop (length ys) lengths) 0 (k + l)
+      = λ d. gather text (y d) (z d) 0 (sym (counts .0) d + sym (counts .1) d) in (
+        source,
+        source-checked .read,
+        table-front,
+        g
+            ∙ gather-front text xs ys (drop (length xs) starts) (drop (length ys) lengths) 0 (k + l) (omega (arith, length-name-starts source))
+            (omega (arith, length-lengths (symbolNames source)))
+            ∙ gather-read limits apart text source (source-checked .read),
+      )
 
 -- the writer's table faults
 write-refused : (t n : ℕ) (table bytes starts lengths out : List ℕ) (r : TextWritten) (out′ : List ℕ)

@@ -54,10 +54,11 @@ pub record TextTheorems : Type 0 where
   pub passes-on : (text table starts lengths : List ℕ) (t n e q : ℕ) (table′ starts′ lengths′ : List ℕ)
       → ReadsText text table starts lengths (Read t n e q) table′ starts′ lengths′
       → (c : TableChecked) → TableAnswer t n (take e table′) c → c .verdict ≡ Passed
-  -- and starts and lengths give, in the text, the names that it declares, in the order of symbol numbers
+  -- and is that of the rules of the text; starts and lengths give, in the text, the names that it declares, by symbol number
   pub names-stand : (text table starts lengths : List ℕ) (t n e q : ℕ) (table′ starts′ lengths′ : List ℕ)
       → ReadsText text table starts lengths (Read t n e q) table′ starts′ lengths′
-      → (s : Source) → readText limits text ≡ done s → gather text starts′ lengths′ 0 (t + n) ≡ done (symbolNames s)
+      → (s : Source) × (readText limits text ≡ done s) × (take e table′ ≡ encode (s .rules))
+      × (gather text starts′ lengths′ 0 (t + n) ≡ done (symbolNames s))
   -- for the writer too the faults of the table come first, as the table check gives them; demand 1: the output is unchanged
   pub write-refused : (t n : ℕ) (table bytes starts lengths out : List ℕ) (r : TextWritten) (out′ : List ℕ)
       → WritesText t n table bytes starts lengths out r out′
