@@ -1,12 +1,12 @@
 -- The record of a checked grammar with one rule more. Assumes nothing.
-use mathlib.Core.Path.{_≡_, refl, ap, sym, subst, _∙_}
+use mathlib.Core.Path.{_≡_, refl, ap, ap₂, sym, _∙_}
 use mathlib.Core.Bool.{Bool, true, false, not, _||_}
 use mathlib.Core.List.{List, [], _∷_, _++_, append-nil, append-assoc}
 use Prim.Native.Nat.{ℕ, zero, suc, _+_, _-_, _*_, _≤_, _<_}
 use native.Mathlib.Omega.{arith}
 use lib.Dec.{ltb}
-use lib.ListN.{length, take, drop, getD, set, replicate, length-drop, length-append}
-use lib.Seq.{paste, paste-zero, paste-suc, getD-drop, set-at, append-snoc, take-append-seam, drop-append-add, length-take-le}
+use lib.ListN.{length, take, drop, getD, set, replicate, length-drop, length-append, length-replicate}
+use lib.Seq.{paste, paste-suc, getD-drop, set-at, append-snoc, take-append-seam, drop-append-add, length-take-le}
 use native.Mathlib.Numerals.{add-one}
 use borrow.Author.Tests.{ltb-true, ltb-false, lt-ltb, le-ltb}
 use Rattle.grammar.specs.Limits.{limits}
@@ -16,7 +16,6 @@ use Rattle.grammar.specs.Record.{padded, offsets, lefts, lengths, codes, record
 use Rattle.grammar.specs.declared.CheckedGrammar.{CheckedGrammar}
 use Rattle.grammar.proofs.Steps.{grammarOf}
 use Rattle.grammar.proofs.WellFormed.{states-snoc}
-use Rattle.table_check.specs.Contracts.{withCodes, withEntry, copied, added}
 
 -- x is less than n past b exactly when it is below b + n
 pub below-shift : (b x n : ℕ) → b ≤ x → ltb (x - b) n ≡ ltb x (b + n)
@@ -26,23 +25,37 @@ below-shift b x n h = go (ltb x (b + n)) refl
     go true e = let z = ltb-true x (b + n) e in lt-ltb (x - b) n (omega arith)
     go false e = let z = ltb-false x (b + n) e in le-ltb (x - b) n (omega arith)
 
-pub copied-none : (g : CheckedGrammar) (body : List ℕ) → g ≡ copied g body 0
-unfolding copied
-copied-none g body = ap (withCodes g) (paste-zero (g .codes) (g .used) body)
+-- one code more of a right side is copied
+pub paste-more : (cs new xs : List ℕ) (used start i : ℕ) → used + i < length cs → start + i < length xs → new ≡ paste cs used (drop start xs) i
+    → set new (used + i) (getD xs (start + i) 0) ≡ paste cs used (drop start xs) (i + 1)
+paste-more cs new xs used start i h k e =
+    ap (λ (l : List ℕ). set l (used + i) (getD xs (start + i) 0)) e
+    ∙ ap (set (paste cs used (drop start xs) i) (used + i)) (sym (getD-drop start xs i 0))
+    ∙ paste-suc cs used (drop start xs) i 0 h (simp length-drop (omega arith))
+    ∙ ap (paste cs used (drop start xs)) (sym (add-one i))
 
-pub copied-more : (g next : CheckedGrammar) (xs : List ℕ) (start i : ℕ) → g .used + i < length (g .codes) → start + i < length xs
-    → next ≡ copied g (drop start xs) i
-    → withCodes next (set (next .codes) (g .used + i) (getD xs (start + i) 0)) ≡ copied g (drop start xs) (i + 1)
-unfolding copied
-copied-more g next xs start i h k e =
-    ap (λ (n : CheckedGrammar). withCodes n (set (n .codes) (g .used + i) (getD xs (start + i) 0))) e
-    ∙ ap (λ (x : ℕ). withCodes g (set (paste (g .codes) (g .used) (drop start xs) i) (g .used + i) x)) (sym (getD-drop start xs i 0))
-    ∙ ap (withCodes g) (paste-suc (g .codes) (g .used) (drop start xs) i 0 h (simp length-drop (omega arith)))
-    ∙ ap (λ (n : ℕ). withCodes g (paste (g .codes) (g .used) (drop start xs) n)) (sym (add-one i))
+-- the record with one rule more, its left code and all codes given
+abbrev pub withRule : CheckedGrammar → List ℕ → ℕ → ℕ → ℕ → CheckedGrammar
+withRule g cs left at k = record {
+  terminals = g .terminals;
+  nonterminals = g .nonterminals;
+  count = g .count + 1;
+  used = g .used + k;
+  states = g .states + k + 1;
+  offsets = set (g .offsets) (g .count) at;
+  lefts = set (g .lefts) (g .count) left;
+  lengths = set (g .lengths) (g .count) k;
+  codes = cs;
+}
 
-pub added-entry : (g next : CheckedGrammar) (xs : List ℕ) (at k i : ℕ) → i ≡ k → next ≡ copied g (drop (at + 2) xs) i → withEntry g next (leftAt xs at) at k ≡ added g xs at k
+-- the record with the rule of length k at an offset
+unfoldable pub added : CheckedGrammar → List ℕ → ℕ → ℕ → CheckedGrammar
+added g table at k = withRule g (paste (g .codes) (g .used) (drop (at + 2) table) k) (leftAt table at) at k
+
+pub added-as : (g : CheckedGrammar) (table cs : List ℕ) (left at k : ℕ) → cs ≡ paste (g .codes) (g .used) (drop (at + 2) table) k → left ≡ leftAt table at
+    → added g table at k ≡ withRule g cs left at k
 unfolding added
-added-entry g next xs at k i p e = ap (λ (n : CheckedGrammar). withEntry g n (leftAt xs at) at k) (e ∙ ap (copied g (drop (at + 2) xs)) p)
+added-as g table cs left at k p q = sym (ap₂ (λ cs left. withRule g cs left at k) p q)
 
 set-padded : (m : ℕ) (xs : List ℕ) (n v : ℕ) → length xs ≡ n → n < m → set (padded m xs) n v ≡ padded m (xs ++ (v ∷ []))
 set-padded m xs n v e h =
@@ -117,9 +130,16 @@ unfolding encode codes
 offset-size [] = refl
 offset-size (r ∷ rs) = omega (arith, offset-size rs, length-append (r .right) (codes rs), length-append (r .right) (encode rs))
 
+-- the row of codes has all its cells
+pub codes-row : (t n : ℕ) (rs : List Rule) → length (codes rs) ≤ limits .maxStates → length (recordOf (grammarOf t n rs) .codes) ≡ limits .maxStates
+unfolding recordOf
+codes-row t n rs h =
+    let j = limits .maxStates - length (codes rs) in
+    omega (arith, length-append (codes rs) (replicate j 0), length-replicate {A = ℕ} j 0)
+
 pub added-record : (t n : ℕ) (rs : List Rule) (xs : List ℕ) (at k : ℕ) → length rs < limits .maxRules → at ≡ length (encode rs) → at + 2 + k ≤ length xs
     → added (recordOf (grammarOf t n rs)) xs at k ≡ recordOf (grammarOf t n (rs ++ (ruleAt xs at k ∷ [])))
-unfolding added copied recordOf
+unfolding added recordOf
 added-record t n rs xs at k h e w =
     let r = ruleAt xs at k in
     let b = drop (at + 2) xs in

@@ -8,7 +8,7 @@ use native.Mathlib.Omega.{arith}
 use native.Mathlib.Numerals.{add-one}
 use lib.Dec.{leb, ltb}
 use lib.ListN.{length, take, drop, getD, length-drop, length-append}
-use lib.Seq.{length-take-le, take-add, drop-cons}
+use lib.Seq.{paste, length-take-le, take-add, drop-cons}
 use borrow.Author.Tests.{ltb-true, lt-ltb, le-ltb, lt-leb, le-leb}
 use Rattle.grammar.specs.Limits.{limits}
 use Rattle.grammar.specs.Grammar.{Rule, stateCount}
@@ -21,9 +21,9 @@ use Rattle.grammar.proofs.Answers.{unless-holds, unless-fails, unless-done, ref
 use Rattle.grammar.proofs.Rules.{decode-encode}
 use Rattle.grammar.proofs.Steps.{grammarOf, check-end, check-full, check-more, check-fault, table-done, table-refused, Read, read-done, Next, next-done}
 use Rattle.grammar.proofs.WellFormed.{states-snoc}
-use Rattle.table_check.specs.Contracts.{ruleRead, Front, Before, nextOrFull, Room, added}
+use Rattle.table_check.specs.Contracts.{ruleRead, Front, Before, nextOrFull}
 use Rattle.table_check.specs.declared.RuleRead.the-variants.{Length, Fault}
-use Rattle.table_check.proofs.RecordLaws.{encode-more, sizes, offset-size, added-record}
+use Rattle.table_check.proofs.RecordLaws.{withRule, added, added-as, encode-more, sizes, offset-size, codes-row, added-record}
 
 decoded : (table : List ℕ) (at : ℕ) (rules : List Rule) → take at table ≡ encode rules → decode (take at table) ≡ rules
 decoded table at rules e = ap decode e ∙ decode-encode rules
@@ -135,6 +135,16 @@ walk-step {table} {t} {n} {g} {at} k w e =
       offset = sym (length-take-le at table (w .within)) ∙ ap length (w .front);
     }
 
+-- the record has room for the rule of length k at an offset
+pub record Room (g : CheckedGrammar) (table : List ℕ) (at k : ℕ) : Type 0 where
+  pub count : g .count < limits .maxRules
+  pub row : length (g .codes) ≡ limits .maxStates
+  pub used : g .used + k ≤ limits .maxStates
+  pub states : g .states ≤ limits .maxStates
+  pub whole : at + 2 + k ≤ length table
+  pub near : at < 65536
+  pub few : k ≤ limits .maxLength
+
 pub walk-room : {table : List ℕ} {t n : ℕ} {g : CheckedGrammar} {at : ℕ} (k : ℕ) → Walk table t n g at → nextOrFull t n table (g .count) at ≡ done k
     → Room g table at k
 walk-room {table} {t} {n} {g} {at} k w e =
@@ -144,6 +154,7 @@ walk-room {table} {t} {n} {g} {at} k w e =
     let o = offset-size (w .rules) in
     record {
       count = omega (arith, x .count, m .count);
+      row = ap (λ (g : CheckedGrammar). length (g .codes)) (w .shows) ∙ codes-row t n (w .rules) (omega (arith, w .size, z));
       used = omega (arith, m .used, x .size, z);
       states = omega (arith, m .states, w .size);
       whole = x .read .whole;
@@ -163,7 +174,7 @@ front-more table at k h e =
     ∙ append-assoc (take at table) (getD table at 0 ∷ getD table (suc at) 0 ∷ []) b
     ∙ ap (λ (z : ℕ). take at table ++ (getD table at 0 ∷ z ∷ b)) s
 
-pub walk-more : {table : List ℕ} {t n : ℕ} {g : CheckedGrammar} {at : ℕ} (k : ℕ) → Walk table t n g at → at < length table
+walk-more : {table : List ℕ} {t n : ℕ} {g : CheckedGrammar} {at : ℕ} (k : ℕ) → Walk table t n g at → at < length table
     → nextOrFull t n table (g .count) at ≡ done k → Walk table t n (added g table at k) (at + 2 + k)
 walk-more {table} {t} {n} {g} {at} k w h e =
     let x = walk-step k w e in
@@ -183,6 +194,13 @@ walk-more {table} {t} {n} {g} {at} k w h e =
       ahead = sym (check-more limits t n table (limits .maxRules - length (w .rules ++ (r ∷ []))) (w .rules) at k h (x .rule))
           ∙ sym (ap (λ (f : ℕ). checkFrom limits f t n table (w .rules) at) s) ∙ w .ahead;
     }
+
+-- the same of the record that the code leaves
+pub walk-on : {table : List ℕ} {t n : ℕ} {g : CheckedGrammar} {at : ℕ} (k left : ℕ) (cs : List ℕ) → Walk table t n g at → at < length table
+    → nextOrFull t n table (g .count) at ≡ done k → cs ≡ paste (g .codes) (g .used) (drop (at + 2) table) k → left ≡ leftAt table at
+    → Walk table t n (withRule g cs left at k) (at + 2 + k)
+walk-on {table} {t} {n} {g} {at} k left cs w h e p q =
+    subst (λ (g : CheckedGrammar). Walk table t n g (at + 2 + k)) (added-as g table cs left at k p q) (walk-more k w h e)
 
 pub walk-end : {table : List ℕ} {t n : ℕ} {g : CheckedGrammar} {at : ℕ} (w : Walk table t n g at) → length table ≤ at
     → tableChecked (done (grammarOf t n (w .rules))) ≡ tableChecked (checkTable limits t n table)

@@ -2,14 +2,15 @@
 ghost use mathlib.Core.Path.{_≡_};
 ghost use mathlib.Core.List.{[]};
 ghost use Prim.Native.Nat.{_+_, _≤_};
-ghost use lib.ListN.{length, take};
+ghost use lib.ListN.{length, take, drop};
+ghost use lib.Seq.{paste};
 ghost use Rattle.grammar.specs.Limits.{limits};
 ghost use Rattle.grammar.specs.Table.{decode, ruleAt};
 ghost use Rattle.grammar.specs.Record.{recordOf};
 ghost use Rattle.grammar.specs.Refusal.{refused};
 ghost use Rattle.grammar.specs.TableCheck.{inRange, isDeclared, declaredFront, readRule, sameCodes, sameRule, isAmong, checkTable, tableChecked};
 ghost use Rattle.grammar.proofs.Steps.{grammarOf};
-ghost use Rattle.table_check.specs.Contracts.{ruleRead, Front, Before, nextOrFull, Room, added};
+ghost use Rattle.table_check.specs.Contracts.{ruleRead, Front, Before, nextOrFull};
 use grammar::CODE_UNDECLARED;
 use grammar::CheckedGrammar;
 use grammar::LEFT_UNDECLARED;
@@ -205,28 +206,16 @@ fn without_rules(t: u16, n: u16) -> CheckedGrammar
     }
 }
 
-// The record with the rule of length k at an offset.
-fn with_rule(g: CheckedGrammar, table: &[u8], at: usize, k: usize) -> CheckedGrammar
-    requires { ⌜ Room g (now table) at k ⌝ }
-    ensures { λ r. ⌜ r ≡ added g (now (table .entry)) at k ⌝ }
+// The codes of a right side of length k, copied from a place in the table to a place in the row.
+fn put_codes(codes: &mut [u16; MAX_STATES], used: usize, table: &[u8], start: usize, k: usize)
+    requires { ⌜ (length (now codes) ≡ limits .maxStates) × (used + k ≤ limits .maxStates) × (start + k ≤ length (now table)) ⌝ }
+    ensures { λ _. ⌜ now (codes .exit) ≡ paste (now (codes .entry)) used (drop start (now (table .entry))) k ⌝ }
 {
-    let mut next = g;
-    let count = g.count;
-    let used = g.used;
-    let states = g.states;
-    let start = at + 2;
     let mut i = 0;
     while i < k {
-        next.codes[used + i] = code(table[start + i]);
+        codes[used + i] = code(table[start + i]);
         i += 1;
     }
-    next.offsets[count] = at as u16;
-    next.lefts[count] = code(table[at]);
-    next.lengths[count] = k as u16;
-    next.count = count + 1;
-    next.used = used + k;
-    next.states = states + k + 1;
-    next
 }
 
 fn refuse(cause: u8, at: usize) -> TableChecked
@@ -252,6 +241,7 @@ pub fn check_table(t: usize, n: usize, table: &[u8]) -> TableChecked
     let mut at = 0;
     while at < table.len() {
         let count = g.count;
+        let used = g.used;
         let states = g.states;
         let read = next_rule(table, terminals, nonterminals, count, states, at);
         match read {
@@ -259,7 +249,13 @@ pub fn check_table(t: usize, n: usize, table: &[u8]) -> TableChecked
                 return refuse(cause, place);
             }
             RuleRead::Length(k) => {
-                g = with_rule(g, table, at, k);
+                put_codes(&mut g.codes, used, table, at + 2, k);
+                g.offsets[count] = at as u16;
+                g.lefts[count] = code(table[at]);
+                g.lengths[count] = k as u16;
+                g.count = count + 1;
+                g.used = used + k;
+                g.states = states + k + 1;
                 at = at + 2 + k;
             }
         }

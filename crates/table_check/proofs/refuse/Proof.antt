@@ -10,11 +10,11 @@ use Rattle.table_check.proofs.refuse.Reads as reads
 use Rattle.table_check.proofs.refuse.Lts as lts
 use Rattle.table_check.proofs.without_rules.Reads as without-rules-reads
 
--- src/lib.rt:236:9
+-- src/lib.rt:224:9
 without-rules-requires : tie.Need-without-rules-requires
 without-rules-requires c κs = search needs
 
--- src/lib.rt:233:1
+-- src/lib.rt:221:1
 returns : tie.Need-returns
 returns c = ap (λ (g : CheckedGrammar). record { verdict = Refused (c .before .args .cause) (c .before .args .at); grammar = g }) (c .without-rules .ensures)
 
