@@ -56,7 +56,7 @@ enough-at c = record {
   certificate = c .before .before .before .if1 .left;
   queue = c .before .before .if2 .left;
   parents = c .before .if3 .left;
-  witness = c .if4 .left;
+  witness = omega (arith, c .if4 .left);
 }
 
 -- src/lib.rt:235:9
