@@ -1,5 +1,5 @@
-/* The library for C: the table check, the step records, the certificate check, the witness check, and the reader and the writer
- * of grammar text. Each function answers as its entry promises; crates/ambiguity_c/src/lib.rt has the promises, proved.
+/* The library for C: the table check, the step records, the certificate check, the witness check, the search, and the reader and
+ * the writer of grammar text. Each function answers as its entry promises; crates/ambiguity_c/src/lib.rt has the promises, proved.
  * "Document 01" is the paper that the library follows: it has the tables, the certificates and the causes of refusal.
  *
  * What holds of every function:
@@ -40,9 +40,11 @@
 #define AMBIGUITY_MAX_NAMES (AMBIGUITY_MAX_TERMINALS + AMBIGUITY_MAX_NONTERMINALS)
 
 /* The stack that a call may use, below the caller's frame: bindings/c/stack.c measures it on a painted stack, at Q = 256. The
- * reader has a tree of names there (267,255 bytes measured); of the others nth_step goes deepest (8,183 bytes). */
+ * reader has a tree of names there (267,255 bytes measured), the search its marks (73,591 bytes, for few states too); of
+ * the others nth_step goes deepest (8,183 bytes). */
 #define AMBIGUITY_STACK_BYTES 12288
 #define AMBIGUITY_READ_TEXT_STACK_BYTES 274432
+#define AMBIGUITY_SEARCH_STACK_BYTES 81920
 
 /* The causes of refusal. */
 enum ambiguity_cause {
@@ -71,6 +73,8 @@ enum ambiguity_moved { AMBIGUITY_STILL = 0, AMBIGUITY_OPENING = 1, AMBIGUITY_CLO
 
 enum ambiguity_kind { AMBIGUITY_REFUSED = 0, AMBIGUITY_RECORD = 1, AMBIGUITY_NO_MORE = 2 };
 
+enum ambiguity_verdict { AMBIGUITY_NO_VERDICT = 0, AMBIGUITY_UNAMBIGUOUS = 1, AMBIGUITY_POTENTIAL = 2 };
+
 typedef struct {
     uint64_t cause;
     uint64_t at;
@@ -97,6 +101,13 @@ typedef struct {
     uint64_t cause; /* 0: accepted */
     uint64_t at;
 } ambiguity_check_reply;
+
+typedef struct {
+    uint64_t cause;
+    uint64_t at;
+    uint64_t verdict; /* an ambiguity_verdict; with a refusal AMBIGUITY_NO_VERDICT */
+    uint64_t count;   /* unambiguous: the size, the triples that the certificate holds; potential: the witness's entries */
+} ambiguity_search_reply;
 
 typedef struct {
     uint64_t cause;
@@ -135,6 +146,15 @@ ambiguity_check_reply ambiguity_check_certificate(size_t t, size_t n, const uint
  * strings part. Refuses with 15. */
 ambiguity_check_reply ambiguity_check_witness(size_t t, size_t n, const uint8_t *table, size_t table_entries, const uint32_t *row,
                                               size_t row_entries);
+
+/* Searches: the smallest acceptable certificate, or a witness. Lent are AMBIGUITY_CERTIFICATE_BYTES(Q) bytes of certificate, and
+ * AMBIGUITY_ROW_ENTRIES(Q) entries of each row; Q comes from ambiguity_check_table or ambiguity_read_text. What they hold before
+ * does not matter. Unambiguous writes the certificate and keeps the witness row. Potential writes `count` entries of the witness
+ * row, and keeps the certificate and the rest of that row. The first AMBIGUITY_ROW_ENTRIES(Q) entries of queue and parents are
+ * then 0. Refuses with 14. */
+ambiguity_search_reply ambiguity_search(size_t t, size_t n, const uint8_t *table, size_t table_entries, uint8_t *certificate,
+                                        size_t certificate_bytes, uint32_t *queue, size_t queue_entries, uint32_t *parents,
+                                        size_t parents_entries, uint32_t *witness, size_t witness_entries);
 
 /* Reads grammar text. Written are the table, and the start in the text and the length of each symbol's name, terminals first.
  * AMBIGUITY_MAX_TABLE_ENTRIES and AMBIGUITY_MAX_NAMES are always enough. Refuses with 16, 17, 18, 1, 4, 7, 6, 8, 14; the

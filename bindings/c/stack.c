@@ -1,6 +1,7 @@
 /* The stack that each function uses, in bytes. A thread runs on a stack that was painted; after the call the paint tells how deep
  * the stack went below the caller. Exits with 0 if none went deeper than ambiguity.h says. The frames are of fixed size and no
- * function calls itself, so the largest grammar has the deepest calls that there are. */
+ * function calls itself, so the largest grammar has the deepest calls that there are. Up to 64 states the search
+ * has another path, which is measured too. */
 #define _XOPEN_SOURCE 700
 #include <pthread.h>
 #include <stdio.h>
@@ -11,7 +12,10 @@
 
 #define STACK (1 << 20)
 #define PAINT 0xA5
-#define RULES 84
+#define ROW AMBIGUITY_ROW_ENTRIES(AMBIGUITY_MAX_STATES)
+#define FEW_STATES 64
+#define LAST "rule=S: a9 a9\n"
+#define LAST_POTENTIAL "rule=S: S\nrule=S:\n"
 
 static uint8_t table[AMBIGUITY_MAX_TABLE_ENTRIES];
 static uint8_t certificate[AMBIGUITY_CERTIFICATE_BYTES(AMBIGUITY_MAX_STATES)];
@@ -19,8 +23,12 @@ static uint8_t text[AMBIGUITY_MAX_TEXT_BYTES];
 static uint8_t out[AMBIGUITY_MAX_TEXT_BYTES];
 static uint32_t starts[AMBIGUITY_MAX_NAMES];
 static uint32_t lengths[AMBIGUITY_MAX_NAMES];
+static uint32_t queue[ROW];
+static uint32_t parents[ROW];
+static uint32_t witness[ROW];
 static uint32_t row[] = {0, 256 * 2 + 2, 256 * 2 + 3};
 static ambiguity_read_reply grammar;
+static uint64_t verdict;
 static uint8_t *caller;
 
 static void run_table(void) { ambiguity_check_table(grammar.terminals, grammar.nonterminals, table, grammar.entries); }
@@ -39,6 +47,14 @@ static void run_certificate(void)
 }
 
 static void run_witness(void) { ambiguity_check_witness(grammar.terminals, grammar.nonterminals, table, grammar.entries, row, 3); }
+
+static void run_search(void)
+{
+    ambiguity_search_reply reply =
+        ambiguity_search(grammar.terminals, grammar.nonterminals, table, grammar.entries, certificate, sizeof certificate, queue,
+                         ROW, parents, ROW, witness, ROW);
+    verdict = reply.verdict;
+}
 
 static void run_read(void)
 {
@@ -79,8 +95,8 @@ static int measure(const char *name, void (*run)(void), size_t most)
     return depth > most;
 }
 
-/* 84 rules of two terminals each, no two equal: Q is 256. */
-static void make_text(void)
+/* Rules of two terminals each, no two equal, until Q is so many states; the last three states are those of `last`. */
+static void make_text(int states, const char *last)
 {
     char *end = (char *)text;
     int i;
@@ -88,16 +104,27 @@ static void make_text(void)
     for (i = 1; i < 10; i++)
         end += sprintf(end, ",a%d", i);
     end += sprintf(end, "\nnonterminals=S\n");
-    for (i = 0; i < RULES; i++)
+    for (i = 0; 3 * i + 4 < states - 3; i++)
         end += sprintf(end, "rule=S: a%d a%d\n", i / 10, i % 10);
+    strcpy(end, last);
     memset(certificate, 0xFF, sizeof certificate);
     certificate[(256 * 256 + 256 + 1) / 8] &= (uint8_t)~(1 << (256 * 256 + 256 + 1) % 8);
+}
+
+/* The search of a text that has this verdict. */
+static int measure_search(const char *name, int states, const char *last, uint64_t right, size_t most)
+{
+    make_text(states, last);
+    run_read();
+    if (grammar.cause != AMBIGUITY_NOT_REFUSED || grammar.states != (uint64_t)states)
+        return 1;
+    return measure(name, run_search, most) + (verdict != right);
 }
 
 int main(void)
 {
     int wrong = 0;
-    make_text();
+    make_text(AMBIGUITY_MAX_STATES, LAST);
     wrong += measure("ambiguity_read_text", run_read, AMBIGUITY_READ_TEXT_STACK_BYTES);
     if (grammar.cause != AMBIGUITY_NOT_REFUSED || grammar.states != AMBIGUITY_MAX_STATES)
         return 1;
@@ -106,5 +133,13 @@ int main(void)
     wrong += measure("ambiguity_nth_step", run_step, AMBIGUITY_STACK_BYTES);
     wrong += measure("ambiguity_check_certificate", run_certificate, AMBIGUITY_STACK_BYTES);
     wrong += measure("ambiguity_check_witness", run_witness, AMBIGUITY_STACK_BYTES);
+    wrong += measure_search("ambiguity_search, 64 states, unambiguous", FEW_STATES, LAST, AMBIGUITY_UNAMBIGUOUS,
+                            AMBIGUITY_SEARCH_STACK_BYTES);
+    wrong += measure_search("ambiguity_search, 64 states, potential", FEW_STATES, LAST_POTENTIAL, AMBIGUITY_POTENTIAL,
+                            AMBIGUITY_SEARCH_STACK_BYTES);
+    wrong += measure_search("ambiguity_search, unambiguous", AMBIGUITY_MAX_STATES, LAST, AMBIGUITY_UNAMBIGUOUS,
+                            AMBIGUITY_SEARCH_STACK_BYTES);
+    wrong += measure_search("ambiguity_search, potential", AMBIGUITY_MAX_STATES, LAST_POTENTIAL, AMBIGUITY_POTENTIAL,
+                            AMBIGUITY_SEARCH_STACK_BYTES);
     return wrong != 0;
 }

@@ -1,5 +1,5 @@
-//! The library for Rust: the table check, the step records, the certificate check, the witness check, and the reader and the
-//! writer of grammar text. bindings/c/ambiguity.h says of each what is lent and what comes back; here slices stand for pointers,
+//! The library for Rust: the table check, the step records, the certificate check, the witness check, the search, and the reader
+//! and the writer of grammar text. bindings/c/ambiguity.h says of each what is lent and what comes back; here slices stand for pointers,
 //! and enums for numbers. Rows that are written cannot overlap others: the borrow rules see to that.
 //!
 //! Every input is taken. A refusal changes no lent row. A written row may be longer than needed: its rest stays as it was.
@@ -60,6 +60,13 @@ pub struct Step {
     pub on_right: Move,
 }
 
+/// What the search found: the certificate holds `size` triples, or the witness has so many entries.
+#[derive(Clone, Copy, Debug, PartialEq, Eq)]
+pub enum Verdict {
+    Unambiguous { size: usize },
+    Potential { entries: usize },
+}
+
 /// What a text says: t, n, the number of the table's entries, and Q.
 #[derive(Clone, Copy, Debug, PartialEq, Eq)]
 pub struct Read {
@@ -84,6 +91,15 @@ fn move_of(reply: &raw::MoveReply) -> Move {
         2 => Move::Closing(reply.number),
         3 => Move::Symbol(reply.number),
         other => unreachable!("no kind of move has the number {other}"),
+    }
+}
+
+fn verdict_of(reply: &raw::SearchReply) -> Verdict {
+    let count = reply.count as usize;
+    match reply.verdict {
+        1 => Verdict::Unambiguous { size: count },
+        2 => Verdict::Potential { entries: count },
+        other => unreachable!("no verdict has the number {other}"),
     }
 }
 
@@ -126,6 +142,36 @@ pub fn check_witness(table: Table, row: &[u32]) -> Result<(), Refusal> {
     let reply =
         unsafe { raw::ambiguity_check_witness(terminals, nonterminals, rules.as_ptr(), rules.len(), row.as_ptr(), row.len()) };
     refusal::or_else(reply.cause, reply.at, || ())
+}
+
+/// Searches: `certificate_bytes(Q)` bytes and `row_entries(Q)` entries of each row are just enough. Unambiguous leaves the smallest
+/// acceptable certificate at the front of `certificate` and keeps the witness row; potential leaves a witness at the front of that
+/// row and keeps the certificate. The fronts of queue and parents are 0 afterwards. Uses up to 80 KiB of stack.
+pub fn search(
+    table: Table,
+    certificate: &mut [u8],
+    queue: &mut [u32],
+    parents: &mut [u32],
+    witness: &mut [u32],
+) -> Result<Verdict, Refusal> {
+    let Table { terminals, nonterminals, rules } = table;
+    let reply = unsafe {
+        raw::ambiguity_search(
+            terminals,
+            nonterminals,
+            rules.as_ptr(),
+            rules.len(),
+            certificate.as_mut_ptr(),
+            certificate.len(),
+            queue.as_mut_ptr(),
+            queue.len(),
+            parents.as_mut_ptr(),
+            parents.len(),
+            witness.as_mut_ptr(),
+            witness.len(),
+        )
+    };
+    refusal::or_else(reply.cause, reply.at, || verdict_of(&reply))
 }
 
 /// Reads grammar text; the table, and the start and length of each name, come at the fronts of the lent rows. `MAX_TABLE_ENTRIES`

@@ -32,6 +32,14 @@ pub struct CheckReply {
 }
 
 #[repr(C)]
+pub struct SearchReply {
+    pub cause: u64,
+    pub at: u64,
+    pub verdict: u64,
+    pub count: u64,
+}
+
+#[repr(C)]
 pub struct ReadReply {
     pub cause: u64,
     pub at: u64,
@@ -79,6 +87,21 @@ extern "C" {
         row: *const u32,
         row_entries: usize,
     ) -> CheckReply;
+
+    pub fn ambiguity_search(
+        t: usize,
+        n: usize,
+        table: *const u8,
+        table_entries: usize,
+        certificate: *mut u8,
+        certificate_bytes: usize,
+        queue: *mut u32,
+        queue_entries: usize,
+        parents: *mut u32,
+        parents_entries: usize,
+        witness: *mut u32,
+        witness_entries: usize,
+    ) -> SearchReply;
 
     pub fn ambiguity_read_text(
         text: *const u8,

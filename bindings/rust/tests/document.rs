@@ -2,7 +2,7 @@
 
 mod support;
 
-use ambiguity::{certificate_bytes, Cause, Names, Read, Refusal, Table};
+use ambiguity::{certificate_bytes, row_entries, Cause, Names, Read, Refusal, Table, Verdict};
 use support::Lent;
 
 const RULES: [u8; 3] = [128, 1, 1];
@@ -91,6 +91,34 @@ fn rows_of_every_length_for_the_reader() {
                 read_into(table, starts, lengths);
             }
         }
+    }
+}
+
+/// Searches with rows that are longer or shorter by so much than just enough.
+fn search_with(lengths: [isize; 4]) {
+    let length = |enough: usize, more: isize| enough.checked_add_signed(more).unwrap();
+    let row = |more| Lent::new(&vec![7; length(row_entries(6), more)], u32::MAX);
+    let mut certificate = Lent::new(&vec![7; length(certificate_bytes(6), lengths[0])], 0xFF);
+    let (mut queue, mut parents, mut witness) = (row(lengths[1]), row(lengths[2]), row(lengths[3]));
+    let (lent, rows) = (certificate.row_mut(), (queue.row_mut(), parents.row_mut(), witness.row_mut()));
+    let answer = ambiguity::search(one_a(&RULES), lent, rows.0, rows.1, rows.2);
+    if lengths.iter().any(|more| *more < 0) {
+        assert_eq!(answer, refused(Cause::BufferTooShort, 0));
+        assert!(certificate.kept() && queue.kept() && parents.kept() && witness.kept());
+        return;
+    }
+    assert_eq!(answer, Ok(Verdict::Unambiguous { size: 11 }));
+    assert_eq!(
+        (&certificate.row()[..9], &queue.row()[..72], &parents.row()[..72]),
+        (&CERTIFICATE[..], &[0; 72][..], &[0; 72][..])
+    );
+    assert!(certificate.kept_past(9) && queue.kept_past(72) && parents.kept_past(72) && witness.kept());
+}
+
+#[test]
+fn rows_of_every_length_for_the_search() {
+    for number in 0..81 {
+        search_with([1, 3, 9, 27].map(|place| number / place % 3 - 1));
     }
 }
 

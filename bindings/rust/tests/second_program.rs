@@ -2,7 +2,7 @@
 
 mod support;
 
-use ambiguity::{Move, Names, Refusal, Step, Table};
+use ambiguity::{certificate_bytes, row_entries, Move, Names, Refusal, Step, Table, Verdict};
 use support::{agree, Cases, Lent};
 
 fn whole(line: &str) -> &str {
@@ -20,6 +20,10 @@ fn line_of(answer: Result<String, Refusal>) -> String {
 
 fn joined<T: ToString>(row: &[T]) -> String {
     row.iter().map(T::to_string).collect::<Vec<_>>().join(",")
+}
+
+fn hex(bytes: &[u8]) -> String {
+    bytes.iter().map(|byte| format!("{byte:02x}")).collect()
 }
 
 fn word(guard: u8) -> u32 {
@@ -88,6 +92,71 @@ fn witness_line(cases: &mut Cases, guard: u8) -> String {
     })
 }
 
+/// What is lent to the search, and what it leaves there.
+struct Searched {
+    certificate: Lent<u8>,
+    queue: Lent<u32>,
+    parents: Lent<u32>,
+    witness: Lent<u32>,
+}
+
+impl Searched {
+    fn new(cases: &mut Cases, guard: u8) -> Self {
+        let lengths = [cases.number(), cases.number(), cases.number(), cases.number()];
+        let fill = cases.byte();
+        let row = |length| Lent::new(&vec![word(fill); length], word(guard));
+        let certificate = Lent::new(&vec![fill; lengths[0]], guard);
+        Searched { certificate, queue: row(lengths[1]), parents: row(lengths[2]), witness: row(lengths[3]) }
+    }
+
+    fn ask(&mut self, table: Table) -> Result<Verdict, Refusal> {
+        let (certificate, queue) = (self.certificate.row_mut(), self.queue.row_mut());
+        ambiguity::search(table, certificate, queue, self.parents.row_mut(), self.witness.row_mut())
+    }
+
+    fn kept(&self) -> bool {
+        self.certificate.kept() && self.queue.kept() && self.parents.kept() && self.witness.kept()
+    }
+
+    /// The fronts of the work rows are 0, and nothing past the fronts was written.
+    fn written(&self, states: usize, certificate: usize, witness: usize) -> bool {
+        let front = row_entries(states);
+        let cleared = |row: &Lent<u32>| row.row()[..front].iter().all(|entry| *entry == 0) && row.kept_past(front);
+        cleared(&self.queue)
+            && cleared(&self.parents)
+            && self.certificate.kept_past(certificate)
+            && self.witness.kept_past(witness)
+    }
+}
+
+fn search_line(cases: &mut Cases, guard: u8) -> String {
+    with_table(cases, guard, |cases, table| {
+        let mut lent = Searched::new(cases, guard);
+        let verdict = match lent.ask(table) {
+            Ok(verdict) => verdict,
+            Err(refusal) => {
+                assert!(lent.kept());
+                return refusal.to_string();
+            }
+        };
+        let states = ambiguity::check_table(table).unwrap();
+        match verdict {
+            Verdict::Unambiguous { size } => {
+                let bytes = certificate_bytes(states);
+                assert!(lent.written(states, bytes, 0));
+                let certificate = &lent.certificate.row()[..bytes];
+                assert_eq!(ambiguity::check_certificate(table, certificate), Ok(()));
+                format!("unambiguous size={size} certificate={}", hex(certificate))
+            }
+            Verdict::Potential { entries } => {
+                assert!(lent.written(states, 0, entries));
+                assert_eq!(ambiguity::check_witness(table, &lent.witness.row()[..entries]), Ok(()));
+                "potential".to_string()
+            }
+        }
+    })
+}
+
 fn read_line(cases: &mut Cases, guard: u8) -> String {
     let text = Lent::new(&cases.bytes(), guard);
     let mut table = Lent::new(&vec![guard ^ 0x5A; cases.number()], guard);
@@ -119,8 +188,7 @@ fn write_line(cases: &mut Cases, guard: u8) -> String {
         let answer = ambiguity::write_text(table, names, out.row_mut());
         let length = answer.unwrap_or(0);
         assert!(bytes.kept() && starts.kept() && lengths.kept() && out.kept_past(length));
-        let hex: String = out.row()[..length].iter().map(|byte| format!("{byte:02x}")).collect();
-        line_of(answer.map(|length| format!("written={length} text={hex}")))
+        line_of(answer.map(|length| format!("written={length} text={}", hex(&out.row()[..length]))))
     })
 }
 
@@ -142,6 +210,11 @@ fn certificate_check() {
 #[test]
 fn witness_check() {
     agree("test_witnesses", "witness_cases.py", "", whole, witness_line);
+}
+
+#[test]
+fn search() {
+    agree("test_searches", "search_cases.py", "", whole, search_line);
 }
 
 #[test]

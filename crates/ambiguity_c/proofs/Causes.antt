@@ -2,11 +2,12 @@
 use Prim.Native.Nat.{ℕ, _≤_}
 use native.Mathlib.Omega.{arith}
 use mathlib.Core.Path.{_≡_, refl, sym, subst}
-use mathlib.Core.Bool.{true}
+use mathlib.Core.Bool.{Bool, true, false}
 use lib.Dec.{leb}
 use borrow.Author.Tests.{leb-true}
 use mathlib.Core.Option.{Option, none, some}
 use mathlib.Core.List.{List}
+use mathlib.Core.Logic.{inl, inr}
 use Rattle.grammar.specs.Limits.{limits}
 use Rattle.grammar.specs.Grammar.{Grammar}
 use Rattle.grammar.specs.Refusal.{Answer, done, refused}
@@ -17,13 +18,15 @@ use Rattle.triples.specs.Verdict.{checkVerdict}
 use Rattle.triples.specs.declared.CheckVerdict.{CheckVerdict}
 use Rattle.triples.specs.declared.CheckVerdict.the-variants.{Accepted}
 use Rattle.triples.specs.declared.Step.{Step}
+use Rattle.search.specs.Promise.{Lent, isPotential, Told, Answers}
+use Rattle.search.specs.declared.SearchVerdict.{SearchVerdict}
 use Rattle.steps.specs.Steps.{stepAnswer}
 use Rattle.text.specs.Read.{Source}
 use Rattle.text.specs.Promise.{textRead, textWritten}
 use Rattle.text.specs.declared.TextWritten.the-variants.{Written}
-use Rattle.ambiguity_c.specs.Replies.{tableReply, stepReply, checkReply, readReply, writeReply}
-use Rattle.ambiguity_c.specs.Causes.{Tells, IsRead, CauseTheorems}
-use Rattle.ambiguity_c.proofs.Refusals.{isCause, Caused, cause, check-table, nth-step, check-witness, check-certificate, read-into, write-into}
+use Rattle.ambiguity_c.specs.Replies.{tableReply, stepReply, checkReply, searchReply, readReply, writeReply}
+use Rattle.ambiguity_c.specs.Causes.{Tells, IsRead, IsVerdict, CauseTheorems}
+use Rattle.ambiguity_c.proofs.Refusals.{isCause, Caused, cause, check-table, nth-step, check-witness, check-certificate, search-asked, read-into, write-into}
 
 -- nothing is refused
 tells-done : {X : Type 0} → X → Tells 0 X
@@ -53,6 +56,19 @@ check-tells (refused c p) (cause h) = tells-refused c h
 verdict-tells : (o : Answer Unit) (v : CheckVerdict) → Caused o → v ≡ checkVerdict o → Tells (checkReply v .cause) (v ≡ Accepted)
 verdict-tells o v h a = subst (λ v. Tells (checkReply v .cause) (v ≡ Accepted)) (sym a) (check-tells o h)
 
+told-tells : (b : Bool) (G : Grammar) (before : Lent) (v : SearchVerdict) (after : Lent) → Told b G before v after
+    → Tells (searchReply v .cause) (IsVerdict v)
+told-tells true G before v after a =
+    subst (λ v. Tells (searchReply v .cause) (IsVerdict v)) (sym (a .verdict)) (tells-done (inr (refl, refl)))
+told-tells false G before v after a =
+    subst (λ v. Tells (searchReply v .cause) (IsVerdict v)) (sym (a .verdict)) (tells-done (inl (refl, refl)))
+
+search-tells : (o : Answer Grammar) (before : Lent) (v : SearchVerdict) (after : Lent) → Caused o → Answers o before v after
+    → Tells (searchReply v .cause) (IsVerdict v)
+search-tells (done G) before v after h a = told-tells (isPotential limits G) G before v after a
+search-tells (refused c p) before v after (cause h) a =
+    subst (λ v. Tells (searchReply v .cause) (IsVerdict v)) (sym (a .0)) (tells-refused c h)
+
 read-tells : (o : Answer Source) → Caused o → Tells (readReply (textRead o) .cause) (IsRead (textRead o))
 read-tells (done s) h = tells-done refl
 read-tells (refused c p) (cause h) = tells-refused c h
@@ -70,6 +86,7 @@ cause-theorems = record {
       subst (λ s. Tells (stepReply s .cause) (1 ≤ stepReply s .kind)) (sym (a k u)) (step-tells _ (nth-step limits t n table f p q k));
   witnesses = λ t n table row v a. verdict-tells _ v (check-witness limits t n table row) a;
   certificates = λ t n table bytes v a. verdict-tells _ v (check-certificate limits t n table bytes) a;
+  searches = λ t n table before v after a. search-tells _ before v after (search-asked limits t n table before) a;
   reads = λ text table starts lengths v table′ starts′ lengths′ a.
       subst (λ v. Tells (readReply v .cause) (IsRead v)) (sym (a .answer)) (read-tells _ (read-into limits _ _ _ text));
   writes = λ t n table bytes starts lengths out v out′ a.

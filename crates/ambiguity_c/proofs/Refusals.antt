@@ -14,6 +14,7 @@ use Rattle.grammar.specs.Refusal.{Answer, done, refused, refuseUnless, andThen,
 use Rattle.grammar.specs.TableCheck.{readRule, nextRule, checkFrom, checkTable}
 use Rattle.triples.specs.Certificate.{checkBytes, checkCertificate}
 use Rattle.triples.specs.Witness.{checkOn, checkRow, checkWitness}
+use Rattle.search.specs.Promise.{Lent, searchable}
 use Rattle.steps.specs.Steps.{nthStep}
 use Rattle.text.specs.Read.{refuseNone, declaration, ruleLine, ruleLines, wholeLine, readLines, readText}
 use Rattle.text.specs.Rules.{admit, checkText, readInto}
@@ -105,6 +106,10 @@ check-row L G (i ∷ is) = unless witnessWrong _ _ _ refl (check-on L G i 1 is)
 pub check-witness : (L : Limits) (t n : ℕ) (table row : List ℕ) → Caused (checkWitness L t n table row)
 unfolding checkWitness
 check-witness L t n table row = next _ _ (check-table L t n table) (λ G. check-row L G row)
+
+pub search-asked : (L : Limits) (t n : ℕ) (table : List ℕ) (l : Lent) → Caused (searchable L t n table l)
+unfolding searchable
+search-asked L t n table l = next _ _ (check-table L t n table) (λ G. unless bufferTooShort _ _ _ refl result)
 
 declares : (at k lo hi : ℕ) (earlier : List (List ℕ)) (line : List ℕ) → Caused (declaration at k lo hi earlier line)
 unfolding declaration

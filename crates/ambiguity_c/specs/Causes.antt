@@ -3,10 +3,14 @@
 use Prim.Native.Nat.{ℕ, _≤_}
 use mathlib.Core.Path.{_≡_}
 use mathlib.Core.List.{List}
+use mathlib.Core.Logic.{_⊎_}
 use Rattle.grammar.specs.declared.TableChecked.{TableChecked}
 use Rattle.grammar.specs.declared.TableVerdict.the-variants.{Passed}
 use Rattle.triples.specs.declared.CheckVerdict.{CheckVerdict}
 use Rattle.triples.specs.declared.CheckVerdict.the-variants.{Accepted}
+use Rattle.search.specs.Promise.{Lent, Searches}
+use Rattle.search.specs.declared.SearchVerdict.{SearchVerdict}
+use Rattle.search.specs.declared.SearchVerdict.the-variants.{Unambiguous, Potential}
 use Rattle.steps.specs.declared.StepAnswer.{StepAnswer}
 use Rattle.text.specs.Promise.{ReadsText, WritesText}
 use Rattle.text.specs.declared.TextRead.{TextRead}
@@ -14,7 +18,7 @@ use Rattle.text.specs.declared.TextRead.the-variants.{Read}
 use Rattle.text.specs.declared.TextWritten.{TextWritten}
 use Rattle.text.specs.declared.TextWritten.the-variants.{Written}
 use Rattle.ambiguity.specs.Entries.{Usize, TableAnswer, WitnessAnswer, CertificateAnswer, StepAnswers}
-use Rattle.ambiguity_c.specs.Replies.{tableReply, stepReply, checkReply, readReply, writeReply}
+use Rattle.ambiguity_c.specs.Replies.{tableReply, stepReply, checkReply, searchReply, readReply, writeReply}
 
 -- the cause is none that document 01 does not have, and 0 tells that something is answered
 pub record Tells (cause : ℕ) (Answered : Type 0) : Type 0 where
@@ -24,6 +28,11 @@ pub record Tells (cause : ℕ) (Answered : Type 0) : Type 0 where
 -- the numbers of the reply are the answer
 abbrev pub IsRead : TextRead → Type 0
 IsRead v = v ≡ Read (readReply v .terminals) (readReply v .nonterminals) (readReply v .entries) (readReply v .states)
+
+abbrev pub IsVerdict : SearchVerdict → Type 0
+IsVerdict v =
+    ((searchReply v .verdict ≡ 1) × (v ≡ Unambiguous (searchReply v .count)))
+    ⊎ ((searchReply v .verdict ≡ 2) × (v ≡ Potential (searchReply v .count)))
 
 -- whatever answers as the entries promise
 pub record CauseTheorems : Type 0 where
@@ -35,6 +44,8 @@ pub record CauseTheorems : Type 0 where
       → Tells (checkReply v .cause) (v ≡ Accepted)
   pub certificates : (t n : ℕ) (table bytes : List ℕ) (v : CheckVerdict) → CertificateAnswer t n table bytes v
       → Tells (checkReply v .cause) (v ≡ Accepted)
+  pub searches : (t n : ℕ) (table : List ℕ) (before : Lent) (v : SearchVerdict) (after : Lent) → Searches t n table before v after
+      → Tells (searchReply v .cause) (IsVerdict v)
   pub reads : (text table starts lengths : List ℕ) (v : TextRead) (table′ starts′ lengths′ : List ℕ)
       → ReadsText text table starts lengths v table′ starts′ lengths′ → Tells (readReply v .cause) (IsRead v)
   pub writes : (t n : ℕ) (table bytes starts lengths out : List ℕ) (v : TextWritten) (out′ : List ℕ)

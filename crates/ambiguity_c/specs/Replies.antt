@@ -4,6 +4,8 @@ use Prim.Native.Nat.{ℕ}
 use Rattle.grammar.specs.declared.TableChecked.{TableChecked}
 use Rattle.grammar.specs.declared.TableVerdict.{TableVerdict}
 use Rattle.grammar.specs.declared.TableVerdict.the-variants as table
+use Rattle.search.specs.declared.SearchVerdict.{SearchVerdict}
+use Rattle.search.specs.declared.SearchVerdict.the-variants as search
 use Rattle.steps.specs.declared.StepAnswer.{StepAnswer}
 use Rattle.steps.specs.declared.StepAnswer.the-variants as step
 use Rattle.text.specs.declared.TextRead.{TextRead}
@@ -19,6 +21,7 @@ use Rattle.ambiguity_c.specs.declared.TableReply.{TableReply}
 use Rattle.ambiguity_c.specs.declared.MoveReply.{MoveReply}
 use Rattle.ambiguity_c.specs.declared.StepReply.{StepReply}
 use Rattle.ambiguity_c.specs.declared.CheckReply.{CheckReply}
+use Rattle.ambiguity_c.specs.declared.SearchReply.{SearchReply}
 use Rattle.ambiguity_c.specs.declared.ReadReply.{ReadReply}
 use Rattle.ambiguity_c.specs.declared.WriteReply.{WriteReply}
 
@@ -55,6 +58,12 @@ stepReply (step.Refused cause at) = noRecord cause at 0
 abbrev pub checkReply : CheckVerdict → CheckReply
 checkReply check.Accepted = record { cause = 0; at = 0 }
 checkReply (check.Refused cause at) = record { cause = cause; at = at }
+
+-- the search: 1 unambiguous with the size, 2 potential with the witness's number of entries; 0 with a refusal
+abbrev pub searchReply : SearchVerdict → SearchReply
+searchReply (search.Unambiguous size) = record { cause = 0; at = 0; verdict = 1; count = size }
+searchReply (search.Potential entries) = record { cause = 0; at = 0; verdict = 2; count = entries }
+searchReply (search.Refused cause at) = record { cause = cause; at = at; verdict = 0; count = 0 }
 
 -- the reader: t, n, the number of the table's entries and Q
 abbrev pub readReply : TextRead → ReadReply

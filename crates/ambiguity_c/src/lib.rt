@@ -5,12 +5,13 @@ mod replies;
 ghost use mathlib.Core.Path.{_≡_};
 ghost use Rattle.grammar.specs.Limits.{limits};
 ghost use Rattle.grammar.specs.TableCheck.{checkTable, tableChecked};
+ghost use Rattle.search.specs.Promise.{lent};
 ghost use Rattle.steps.specs.Steps.{nthStep, stepAnswer};
 ghost use Rattle.triples.specs.Certificate.{checkCertificate};
 ghost use Rattle.triples.specs.Verdict.{checkVerdict};
 ghost use Rattle.triples.specs.Witness.{checkWitness};
 ghost use Rattle.ambiguity_c.specs.Replies.{tableReply, stepReply, checkReply};
-ghost use Rattle.ambiguity_c.specs.Lent.{RepliesRead, RepliesWritten};
+ghost use Rattle.ambiguity_c.specs.Lent.{RepliesSearch, RepliesRead, RepliesWritten};
 
 // In every reply `cause` is 0, or document 01's number with its position `at`; what a case does not have is 0.
 #[repr(C)]
@@ -44,6 +45,15 @@ pub struct StepReply {
 pub struct CheckReply {
     pub cause: u64,
     pub at: u64,
+}
+
+// 0 refused, 1 unambiguous, 2 potential; the size, or the witness's number of entries.
+#[repr(C)]
+pub struct SearchReply {
+    pub cause: u64,
+    pub at: u64,
+    pub verdict: u64,
+    pub count: u64,
 }
 
 #[repr(C)]
@@ -112,6 +122,23 @@ pub extern "C" fn ambiguity_check_witness(
 {
     let verdict = ambiguity::check_witness(t, n, table, row);
     replies::check_told(verdict)
+}
+
+#[no_mangle]
+pub extern "C" fn ambiguity_search(
+    t: usize,
+    n: usize,
+    table: &[u8],
+    certificate: &mut [u8],
+    queue: &mut [u32],
+    parents: &mut [u32],
+    witness: &mut [u32],
+) -> SearchReply
+    ensures { λ r. ⌜ RepliesSearch t n (now (table .entry)) (lent (now (certificate .entry)) (now (queue .entry)) (now (parents .entry)) (now (witness .entry))) r
+        (lent (now (certificate .exit)) (now (queue .exit)) (now (parents .exit)) (now (witness .exit))) ⌝ }
+{
+    let answer = ambiguity::search(t, n, table, certificate, queue, parents, witness);
+    replies::search_told(answer)
 }
 
 #[no_mangle]

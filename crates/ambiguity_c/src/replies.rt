@@ -1,14 +1,16 @@
 // The answers of the entries, told in numbers: an arm for each case of specs/Replies.antt.
 ghost use mathlib.Core.Path.{_≡_};
-ghost use Rattle.ambiguity_c.specs.Replies.{verdictReply, moveReply, recordReply, noRecord, stepReply, checkReply, readReply, writeReply};
+ghost use Rattle.ambiguity_c.specs.Replies.{verdictReply, moveReply, recordReply, noRecord, stepReply, checkReply, searchReply, readReply, writeReply};
 use super::CheckReply;
 use super::MoveReply;
 use super::ReadReply;
+use super::SearchReply;
 use super::StepReply;
 use super::TableReply;
 use super::WriteReply;
 use ambiguity::CheckVerdict;
 use ambiguity::Move;
+use ambiguity::SearchVerdict;
 use ambiguity::Step;
 use ambiguity::StepAnswer;
 use ambiguity::TableVerdict;
@@ -114,6 +116,31 @@ pub fn step_told(answer: StepAnswer) -> StepReply
         StepAnswer::Record(step) => record_told(step),
         StepAnswer::NoMore => no_record(0, 0, 2),
         StepAnswer::Refused(cause, at) => no_record(cause as u64, at as u64, 0),
+    }
+}
+
+pub fn search_told(answer: SearchVerdict) -> SearchReply
+    ensures { λ r. ⌜ r ≡ searchReply answer ⌝ }
+{
+    match answer {
+        SearchVerdict::Unambiguous(size) => SearchReply {
+            cause: 0,
+            at: 0,
+            verdict: 1,
+            count: size as u64,
+        },
+        SearchVerdict::Potential(entries) => SearchReply {
+            cause: 0,
+            at: 0,
+            verdict: 2,
+            count: entries as u64,
+        },
+        SearchVerdict::Refused(cause, at) => SearchReply {
+            cause: cause as u64,
+            at: at as u64,
+            verdict: 0,
+            count: 0,
+        },
     }
 }
 

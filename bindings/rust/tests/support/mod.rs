@@ -62,6 +62,10 @@ impl Cases {
         u32::from_le_bytes(self.take(4).try_into().unwrap()) as usize
     }
 
+    pub fn byte(&mut self) -> u8 {
+        self.take(1)[0]
+    }
+
     pub fn bytes(&mut self) -> Vec<u8> {
         let length = self.number();
         self.take(length).to_vec()
