@@ -8,7 +8,7 @@ use native.Mathlib.Decide.{decLt}
 use native.Mathlib.Nat.{div-eq-of-lt, zero-div, mul-le-mul-left, mul-assoc, add-mul-div-left, add-mul-mod-self-left, pow-succ', pow-suc}
 use borrow.Author.Tests.{le-leb, lt-leb}
 use lib.Count.{trailingZeros, under, trailing-le}
-use lib.Dec.{eqb}
+use lib.Dec.{eqb, leb}
 use lib.ListN.{getD}
 use lib.Pow.{pow-add, pow-pos, pow-mono, shr-lt, shr-shr}
 use Rattle.grammar.specs.Basics.{choose}
@@ -58,13 +58,14 @@ word-join bytes b n x y s t = record { most = most; bits = bits }
     most =
         let e : 8 * n + 8 * n ≡ 8 * (n + n) = omega arith in
         subst (λ (m : ℕ). x + 2 ^ (8 * n) * y < m) (sym (pow-add 2 (8 * n) (8 * n)) ∙ ap (λ (m : ℕ). 2 ^ m) e) (join-most x y (2 ^ (8 * n)) (s .most) (t .most))
+
     bits : (c : ℕ) → c < 8 * (n + n) → (x + 2 ^ (8 * n) * y) / 2 ^ c % 2 ≡ bit bytes (8 * b + c)
     bits c h = elim (decLt c (8 * n)) [
       | yes l ↦ join-low x y (8 * n) c l ∙ s .bits c l
       | no m ↦
-        let e : c ≡ 8 * n + (c - 8 * n) = omega arith in
-        let f : 8 * (b + n) + (c - 8 * n) ≡ 8 * b + c = omega arith in
-        ap (λ (k : ℕ). (x + 2 ^ (8 * n) * y) / 2 ^ k % 2) e ∙ join-high x y (8 * n) (c - 8 * n) (s .most) ∙ t .bits (c - 8 * n) (omega arith) ∙ ap (bit bytes) f
+          let e : c ≡ 8 * n + (c - 8 * n) = omega arith in
+          let f : 8 * (b + n) + (c - 8 * n) ≡ 8 * b + c = omega arith in
+          ap (λ (k : ℕ). (x + 2 ^ (8 * n) * y) / 2 ^ k % 2) e ∙ join-high x y (8 * n) (c - 8 * n) (s .most) ∙ t .bits (c - 8 * n) (omega arith) ∙ ap (bit bytes) f
     ]
 
 -- the window on a number of n bytes from the byte of i on
@@ -75,6 +76,7 @@ window-of bytes i n w p s = record { most = most; bits = bits }
     most =
         let e : 8 * n ≡ i / 8 * 8 + 8 * n - i + i % 8 = omega arith in
         shr-lt (i / 8 * 8 + 8 * n - i) (i % 8) (subst (λ (m : ℕ). w < 2 ^ m) e (s .most))
+
     bits : (c : ℕ) → i + c < i / 8 * 8 + 8 * n → w / 2 ^ (i % 8) / 2 ^ c % 2 ≡ bit bytes (i + c)
     bits c h =
         let e : 8 * (i / 8) + (i % 8 + c) ≡ i + c = omega arith in
@@ -87,6 +89,14 @@ window-eight bytes n i w h s =
 pub window-one : (bytes : List ℕ) (n i w : ℕ) → n < i / 8 + 8 → Word bytes (i / 8) 1 w → Window bytes i (windowEnd n i) (w / 2 ^ (i % 8))
 window-one bytes n i w h s =
     subst (λ (t : Bool). Window bytes i (choose t (i / 8 * 8 + 64) (i / 8 * 8 + 8)) (w / 2 ^ (i % 8))) (sym (lt-leb (i / 8 + 8) n h)) (window-of bytes i 1 w (omega arith) s)
+
+-- a window ends after its index, at most 64 bits on
+pub window-near : (n i : ℕ) → (i < windowEnd n i) × (windowEnd n i ≤ i + 64)
+window-near n i = go (leb (i / 8 + 8) n)
+  where
+    go : (t : Bool) → (i < choose t (i / 8 * 8 + 64) (i / 8 * 8 + 8)) × (choose t (i / 8 * 8 + 64) (i / 8 * 8 + 8) ≤ i + 64)
+    go true = (omega arith, omega arith)
+    go false = (omega arith, omega arith)
 
 -- a window that is 0 has no set bit
 pub window-clear : (bytes : List ℕ) (i e w : ℕ) → Window bytes i e w → w ≡ 0 → (k : ℕ) → i ≤ k → k < e → isSet bytes k ≡ false
@@ -101,10 +111,10 @@ lowest-within : (bytes : List ℕ) (i e w r : ℕ) → Window bytes i e w → Lo
 lowest-within bytes i e w r s o = elim (decLt (i + r) e) [
   | yes l ↦ l
   | no n ↦
-    let h : 2 ^ (e - i) ≤ 2 ^ r = pow-mono (omega arith) in
-    let z : w / 2 ^ r ≡ 0 = div-eq-of-lt (omega (arith, h, s .most)) in
-    let y : w / 2 ^ r % 2 ≡ 0 = ap (λ (n : ℕ). n % 2) z in
-    absurd (omega (arith, o .one, y))
+      let h : 2 ^ (e - i) ≤ 2 ^ r = pow-mono (omega arith) in
+      let z : w / 2 ^ r ≡ 0 = div-eq-of-lt (omega (arith, h, s .most)) in
+      let y : w / 2 ^ r % 2 ≡ 0 = ap (λ (n : ℕ). n % 2) z in
+      absurd (omega (arith, o .one, y))
 ]
 
 -- no bit before the lowest 1 is set
@@ -152,8 +162,8 @@ lowest-one w h l = record { most = most; one = trailing-one 64 w h l; below = λ
     most = elim (decLt (trailingZeros 64 w) 64) [
       | yes u ↦ u
       | no n ↦
-        let s : trailingZeros 64 w ≡ 64 = omega (arith, trailing-le 64 w) in
-        let o : w / 2 ^ 64 % 2 ≡ 1 = ap (λ (m : ℕ). w / 2 ^ m % 2) (sym s) ∙ trailing-one 64 w h l in
-        let z : w / 2 ^ 64 ≡ 0 = div-eq-of-lt l in
-        absurd (omega (arith, o, z))
+          let s : trailingZeros 64 w ≡ 64 = omega (arith, trailing-le 64 w) in
+          let o : w / 2 ^ 64 % 2 ≡ 1 = ap (λ (m : ℕ). w / 2 ^ m % 2) (sym s) ∙ trailing-one 64 w h l in
+          let z : w / 2 ^ 64 ≡ 0 = div-eq-of-lt l in
+          absurd (omega (arith, o, z))
     ]

@@ -1,45 +1,20 @@
 -- Bits that are passed over, and the lowest set one. Assumes nothing.
-use mathlib.Core.Path.{_≡_, ap, sym, _∙_}
+use mathlib.Core.Path.{_≡_, sym, _∙_}
 use mathlib.Core.Bool.{Bool, true, false}
 use mathlib.Core.List.{List}
-use Prim.Native.Nat.{ℕ, _+_, _-_, _*_, _/_, _%_, _^_, _≤_, _<_}
+use Prim.Native.Nat.{ℕ, _+_, _-_, _≤_, _<_}
 use native.Mathlib.Omega.{arith}
 use native.Mathlib.Decide.{decLt}
-use native.Mathlib.Nat.{div-div-eq-div-mul, div-eq-of-lt}
-use lib.Dec.{eqb}
-use lib.ListN.{getD}
-use lib.Pow.{pow-add, pow-pos}
 use Rattle.grammar.proofs.Answers.{no-bool}
 use Rattle.triples.specs.Certificate.{isSet, lowest}
 use Rattle.triple_laws.proofs.Lowest.{lowest-is, lowest-none}
-use Rattle.certificate_check.specs.Contracts.{Skips}
-
--- what is 0 from bit c on is 0 from any later bit on
-zero-rest : (x c d : ℕ) → x / 2 ^ c ≡ 0 → c ≤ d → x / 2 ^ d ≡ 0
-zero-rest x c d e h =
-    let q : d ≡ c + (d - c) = omega arith in
-    ap (λ (n : ℕ). x / 2 ^ n) q ∙ ap (λ (n : ℕ). x / n) (pow-add 2 c (d - c)) ∙ sym (div-div-eq-div-mul x (2 ^ c) (2 ^ (d - c)))
-    ∙ ap (λ (n : ℕ). n / 2 ^ (d - c)) e ∙ div-eq-of-lt (pow-pos (d - c))
-
-pub skip-byte : (bytes : List ℕ) (i : ℕ) → getD bytes (i / 8) 0 / 2 ^ (i % 8) ≡ 0 → Skips bytes i (i / 8 * 8 + 8)
-skip-byte bytes i e = record { more = omega arith; near = omega arith; clear = clear }
-  where
-    clear : (k : ℕ) → i < k → k < i / 8 * 8 + 8 → isSet bytes k ≡ false
-    clear k h l =
-        let q : k / 8 ≡ i / 8 = omega arith in
-        let z : getD bytes (k / 8) 0 / 2 ^ (k % 8) ≡ 0 =
-        ap (λ (n : ℕ). getD bytes n 0 / 2 ^ (k % 8)) q ∙ zero-rest (getD bytes (i / 8) 0) (i % 8) (k % 8) e (omega arith) in
-        ap (λ (n : ℕ). eqb (n % 2) 1) z
-
-pub skip-one : (bytes : List ℕ) (i : ℕ) → Skips bytes i (i + 1)
-skip-one bytes i = record { more = omega arith; near = omega arith; clear = λ k h l. absurd (omega arith) }
 
 -- one turn: the bits before the next look are clear
 pub clear-more : (bytes : List ℕ) (from to i j : ℕ) → ((k : ℕ) → from ≤ k → k < i → k < to → isSet bytes k ≡ false)
-    → isSet bytes i ≡ false → Skips bytes i j → (k : ℕ) → from ≤ k → k < j → k < to → isSet bytes k ≡ false
-clear-more bytes from to i j old e s k h l u = elim (decLt k i) [
+    → ((k : ℕ) → i ≤ k → k < j → isSet bytes k ≡ false) → (k : ℕ) → from ≤ k → k < j → k < to → isSet bytes k ≡ false
+clear-more bytes from to i j old new k h l u = elim (decLt k i) [
   | yes b ↦ old k h b u
-  | no n ↦ elim (decLt i k) [ yes b ↦ s .clear k b l | no m ↦ let q : k ≡ i = omega arith in ap (isSet bytes) q ∙ e ]
+  | no n ↦ new k (omega arith) l
 ]
 
 -- the lowest that passes

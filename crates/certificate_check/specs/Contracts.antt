@@ -16,12 +16,6 @@ use Rattle.plans.specs.Plan.{Rows, planOf}
 use Rattle.plans.specs.Contracts.{Safe, Has, Planned}
 use Rattle.plans.specs.declared.Plan.{Plan}
 
--- between i and j no bit is set
-pub record Skips (bytes : List ℕ) (i j : ℕ) : Type 0 where
-  pub more : i < j
-  pub near : j ≤ i + 8
-  pub clear : (k : ℕ) → i < k → k < j → isSet bytes k ≡ false
-
 -- r is a member of p's class, not after p, and the index that is `step` lower for each state between them is held
 pub record HeldWith (member bytes : List ℕ) (i p step r : ℕ) : Type 0 where
   pub most : r ≤ p

@@ -15,7 +15,7 @@ ghost use Rattle.moves.specs.Tables.{IsRecord};
 ghost use Rattle.plans.specs.Plan.{rows, planned, nextOf};
 ghost use Rattle.plans.specs.Contracts.{Safe, Fits, Verified};
 ghost use Rattle.certificate_check.specs.Shorter.{keptPairs, shortened};
-ghost use Rattle.certificate_check.specs.Contracts.{Skips, HeldWith, Rest, Scanned, Checked, BuiltChecked};
+ghost use Rattle.certificate_check.specs.Contracts.{HeldWith, Rest, Scanned, Checked, BuiltChecked};
 use grammar::CERTIFICATE_LENGTH;
 use grammar::CheckedGrammar;
 use grammar::END_PRESENT;
@@ -31,17 +31,6 @@ use triples::CheckVerdict;
 // A plan with fewer successors is tried as it is: looking for an earlier member would cost more than it spares.
 const WORTH: usize = 6;
 
-// Where to look next after a clear bit: the next byte if the rest of this one is 0.
-fn skip(bytes: &[u8], i: usize) -> usize
-    requires { ⌜ (i < 8 * length (now bytes)) × (i < 8 * byteCount (limits .maxStates)) ⌝ }
-    ensures { λ r. ⌜ Skips (now (bytes .entry)) i r ⌝ }
-{
-    if bytes[i / 8] >> (i % 8) == 0 {
-        return i / 8 * 8 + 8;
-    }
-    i + 1
-}
-
 // The lowest set bit from `from` on and below `to`, or `to`.
 fn lowest_set(bytes: &[u8], from: usize, to: usize) -> usize
     requires { ⌜ (from ≤ to) × (to ≤ 8 * length (now bytes)) × (to ≤ 8 * byteCount (limits .maxStates)) ⌝ }
@@ -49,10 +38,15 @@ fn lowest_set(bytes: &[u8], from: usize, to: usize) -> usize
 {
     let mut i = from;
     while i < to {
-        if bits::is_set(bytes, i) {
-            return i;
+        let window = bits::window(bytes, i);
+        if window != 0 {
+            let found = i + bits::lowest_one(window);
+            if found < to {
+                return found;
+            }
+            return to;
         }
-        i = skip(bytes, i);
+        i = bits::window_end(bytes, i);
     }
     to
 }

@@ -1,61 +1,101 @@
--- lowest_set meets its contract: every bit before the one looked at is clear.
+-- lowest_set meets its contract: every bit before the window looked at is clear.
 use borrow.Author.Needs.{needs}
 use native.Mathlib.Omega.{arith}
-use mathlib.Core.Path.{_≡_, sym, _∙_}
-use Prim.Native.Nat.{ℕ, _+_, _-_, _/_, _≤_, _<_}
+use mathlib.Core.Path.{_≡_, subst, sym}
+use Prim.Native.Nat.{ℕ, _+_, _-_, _≤_, _<_}
 use mathlib.Core.Bool.{false}
+use lib.ListN.{length}
 use Rattle.triples.specs.Certificate.{isSet}
+use Rattle.bits.specs.Windows.{windowEnd}
+use Rattle.bits.proofs.WindowLaws.{window-near, window-clear, lowest-clear, lowest-found}
 use Rattle.certificate_check.proofs.BitLaws.{clear-more, set-found, set-none}
 use Rattle.certificate_check.proofs.lowest_set.Statement.{statement}
 use Rattle.certificate_check.proofs.lowest_set.Tie as tie
 use Rattle.certificate_check.proofs.lowest_set.Reads as reads
 use Rattle.certificate_check.proofs.lowest_set.Lts as lts
-use Rattle.bits.proofs.is_set.Reads as is-set-reads
-use Rattle.certificate_check.proofs.skip.Reads as skip-reads
+use Rattle.bits.proofs.lowest_one.Reads as lowest-one-reads
+use Rattle.bits.proofs.window.Reads as window-reads
+use Rattle.bits.proofs.window_end.Reads as window-end-reads
 
 abbrev Inv-loop : tie.InvT-loop
-Inv-loop bytes from to i₀ i = (from ≤ i) × (i < to + 8) × ((k : ℕ) → from ≤ k → k < i → k < to → isSet bytes k ≡ false)
+Inv-loop bytes from to i₀ i = (from ≤ i) × (i < to + 64) × ((k : ℕ) → from ≤ k → k < i → k < to → isSet bytes k ≡ false)
 
 abbrev μ-loop : tie.MeasureT-loop
-μ-loop bytes from to i₀ i = to + 8 - i
+μ-loop bytes from to i₀ i = to + 64 - i
 
--- src/lib.rt:84:5
+-- src/lib.rt:40:5
 loop-holds : tie.Need-loop-holds Inv-loop μ-loop
 loop-holds c = (omega arith, omega (arith, c .before .pre .0), λ k h l u. absurd (omega arith))
 
--- src/lib.rt:85:12
-is-set-requires : tie.Need-is-set-requires Inv-loop μ-loop
-is-set-requires c κs = search needs
+-- src/lib.rt:41:13
+window-requires : tie.Need-window-requires Inv-loop μ-loop
+window-requires c κs = search needs
 
--- src/lib.rt:86:13
+-- src/lib.rt:43:29
+lowest-one-requires : tie.Need-lowest-one-requires Inv-loop μ-loop
+lowest-one-requires c κs = search needs
+
+-- src/lib.rt:43:25
+add-found : tie.Need-add-found Inv-loop μ-loop
+add-found c = search needs
+
+-- the bits before the one found are clear
+passed : (c : tie.After-lowest-one Inv-loop μ-loop) → let a = c .before .before .before .before .before .before .args in
+    (k : ℕ) → a .from ≤ k → k < c .before .before .before .before .loop .i + c .lowest-one .result → k < a .to → isSet (a .bytes .now) k ≡ false
+passed c =
+    let a = c .before .before .before .before .before .before .args in
+    let l = c .before .before .before .before .loop in
+    let w = c .before .before .window in
+    clear-more (a .bytes .now) (a .from) (a .to) (l .i) (l .i + c .lowest-one .result) (l .inv .2)
+    (lowest-clear (a .bytes .now) (l .i) (windowEnd (length (a .bytes .now)) (l .i)) (w .result) (c .lowest-one .result) (w .ensures) (c .lowest-one .ensures))
+
+-- src/lib.rt:45:17
 returns : tie.Need-returns Inv-loop μ-loop
 returns c =
-    let a = c .before .before .before .before .before .args in
-    let l = c .before .before .before .loop in
-    set-found (a .bytes .now) (a .from) (a .to) (l .i) (l .inv .0) (c .before .before .loop-test .taken) (l .inv .2) (sym (c .before .is-set .ensures) ∙ c .if1 .taken)
+    let o = c .before in
+    let a = o .before .before .before .before .before .before .args in
+    let l = o .before .before .before .before .loop in
+    let w = o .before .before .window in
+    set-found (a .bytes .now) (a .from) (a .to) (l .i + o .lowest-one .result) (omega (arith, l .inv .0)) (c .if2 .taken) (passed o)
+    (lowest-found (a .bytes .now) (l .i) (windowEnd (length (a .bytes .now)) (l .i)) (w .result) (o .lowest-one .result) (w .ensures) (o .lowest-one .ensures))
 
--- src/lib.rt:88:9
-skip-requires : tie.Need-skip-requires Inv-loop μ-loop
-skip-requires c κs = search needs
+-- src/lib.rt:47:13
+returns-2 : tie.Need-returns-2 Inv-loop μ-loop
+returns-2 c =
+    let o = c .before in
+    let a = o .before .before .before .before .before .before .args in
+    let l = o .before .before .before .before .loop in
+    set-none (a .bytes .now) (a .from) (a .to) (l .i + o .lowest-one .result) (o .before .before .before .before .before .before .pre .0) (c .if2 .left) (passed o)
 
--- src/lib.rt:84:5
+-- src/lib.rt:49:9
+window-end-requires : tie.Need-window-end-requires Inv-loop μ-loop
+window-end-requires c κs = search needs
+
+-- src/lib.rt:40:5
 loop-less : tie.Need-loop-less Inv-loop μ-loop
-loop-less c = let s = c .skip .ensures in omega (arith, s .more, s .near)
+loop-less c =
+    let a = c .before .before .before .before .before .before .args in
+    let l = c .before .before .before .before .loop in
+    let n = window-near (length (a .bytes .now)) (l .i) in
+    omega (arith, n .0, n .1, c .window-end .ensures)
 
--- src/lib.rt:84:5
+-- src/lib.rt:40:5
 loop-again : tie.Need-loop-again Inv-loop μ-loop
 loop-again c =
     let a = c .before .before .before .before .before .before .args in
     let l = c .before .before .before .before .loop in
-    let s = c .skip .ensures in (
-      omega (arith, s .more),
-      omega (arith, s .near),
-      clear-more (a .bytes .now) (a .from) (a .to) (l .i) (c .skip .result) (l .inv .2) (sym (c .before .before .is-set .ensures) ∙ c .before .if1 .left) s,
+    let w = c .before .before .window in
+    let e = windowEnd (length (a .bytes .now)) (l .i) in
+    let n = window-near (length (a .bytes .now)) (l .i) in (
+      omega (arith, n .0, c .window-end .ensures),
+      omega (arith, n .1, c .window-end .ensures),
+      clear-more (a .bytes .now) (a .from) (a .to) (l .i) (c .window-end .result) (l .inv .2)
+          (subst (λ (m : ℕ). (k : ℕ) → l .i ≤ k → k < m → isSet (a .bytes .now) k ≡ false) (sym (c .window-end .ensures)) (window-clear (a .bytes .now) (l .i) e (w .result) (w .ensures) (c .before .if1 .left))),
     )
 
--- src/lib.rt:79:1
-returns-2 : tie.Need-returns-2 Inv-loop μ-loop
-returns-2 c =
+-- src/lib.rt:35:1
+returns-3 : tie.Need-returns-3 Inv-loop μ-loop
+returns-3 c =
     let a = c .before .before .before .args in
     let l = c .before .loop in
     set-none (a .bytes .now) (a .from) (a .to) (l .i) (c .before .before .before .pre .0) (c .loop-test .left) (l .inv .2)
@@ -67,9 +107,12 @@ lowest-set-spec =
     Inv-loop
     μ-loop
     loop-holds
-    is-set-requires
+    window-requires
+    lowest-one-requires
+    add-found
     returns
-    skip-requires
+    returns-2
+    window-end-requires
     loop-less
     loop-again
-    returns-2)
+    returns-3)
