@@ -51,7 +51,8 @@ fn lowest_set(bytes: &[u8], from: usize, to: usize) -> usize
     to
 }
 
-// An earlier member r of the class of p such that the index with r in place of p is held too; without one, p.
+// An earlier member r of the class of p such that the index with r in place of p is held too; without one, or if there is
+// nothing to spare, p.
 fn held_with<'a>(
     member: &'a [u16; MAX_STATES],
     earlier: &'a [u16; MAX_STATES],
@@ -59,10 +60,14 @@ fn held_with<'a>(
     i: usize,
     p: usize,
     step: usize,
+    spare: usize,
 ) -> usize
     requires { ⌜ (p < limits .maxStates) × (p * step ≤ i) × (i < 8 * length (now bytes)) × (isSet (now bytes) i ≡ true) ⌝ }
     ensures { λ r. ⌜ HeldWith (now (member .entry)) (now (bytes .entry)) i p step r ⌝ }
 {
+    if spare == 0 {
+        return p;
+    }
     let r = plans::wide(earlier[p]);
     if p <= r {
         return p;
@@ -159,16 +164,18 @@ fn rest_of<'a>(
     requires { ⌜ (i < tripleCount q) × (tripleCount q ≤ 8 * length (now bytes)) × (isSet (now bytes) i ≡ true) ⌝ }
     ensures { λ r. ⌜ Rest (rows (now (ahead .entry)) (now (number .entry)) (now (member .entry)) (now (first .entry))) t m q (now (bytes .entry)) i r ⌝ }
 {
-    let row = i / q;
+    let row = plans::row_of(i, q);
     let f = plans::layer_of(row, q);
     let a = row - f * q;
-    let b = i % q;
+    let b = plans::column_of(i, q, row);
     let plan = plans::plan_of(ahead, number, member, first, t, m, q, i, f, a, b);
     if plan.total < WORTH {
         return plan;
     }
-    let r = held_with(member, earlier, bytes, i, a, q);
-    let s = held_with(member, earlier, bytes, i, b, 1);
+    let by_left = plan.total - plan.right - plan.shift;
+    let by_right = plan.total - plan.left - plan.shift;
+    let r = held_with(member, earlier, bytes, i, a, q, by_left);
+    let s = held_with(member, earlier, bytes, i, b, 1, by_right);
     shorten(plan, number, a, b, r, s)
 }
 

@@ -189,7 +189,7 @@ one-layer (suc zero) a row Q f h l e g =
     (z, omega (arith, w, e), omega (arith, w, e))
 one-layer (suc (suc L)) a row Q f h l e g = absurd (omega arith)
 
-pub one-division : (Q i f : ℕ) → 0 < Q → i < tripleCount Q → f ≡ choose (ltb (i / Q) Q) 0 1
+one-division : (Q i f : ℕ) → 0 < Q → i < tripleCount Q → f ≡ choose (ltb (i / Q) Q) 0 1
     → (f * Q ≤ i / Q) × (i / Q - f * Q < Q) × (i % Q < Q) × (index Q f (i / Q - f * Q) (i % Q) ≡ i)
 one-division Q i f h l e =
     let d = digits Q i h l in
@@ -200,6 +200,21 @@ one-division Q i f h l e =
       d .right,
       ap (λ (n : ℕ). index Q n (i / Q - f * Q) (i % Q)) (r .0) ∙ ap (λ (n : ℕ). index Q (layerOf Q i) n (i % Q)) (r .2) ∙ d .whole,
     )
+
+-- the same, of the numbers that the calls give
+pub by-digits : (Q i r f b : ℕ) → 0 < Q → i < tripleCount Q → r ≡ i / Q → f ≡ choose (ltb r Q) 0 1 → b ≡ i % Q
+    → (f * Q ≤ r) × (r - f * Q < Q) × (b < Q) × (index Q f (r - f * Q) b ≡ i)
+by-digits Q i r f b h l e g k =
+    subst (λ (b : ℕ). (f * Q ≤ r) × (r - f * Q < Q) × (b < Q) × (index Q f (r - f * Q) b ≡ i)) (sym k)
+    (subst (λ (r : ℕ). (f * Q ≤ r) × (r - f * Q < Q) × (i % Q < Q) × (index Q f (r - f * Q) (i % Q) ≡ i)) (sym e)
+    (one-division Q i f h l (subst (λ (r : ℕ). f ≡ choose (ltb r Q) 0 1) e g)))
+
+pub layer-of-row : (Q r f : ℕ) → f ≡ choose (ltb r Q) 0 1 → f * Q ≤ Q
+layer-of-row Q r f e = layer-times f Q (let h = choose-le (ltb r Q) 0 1 1 (omega arith) (omega arith) in omega (arith, h, e))
+
+-- an index is small
+pub index-small : (Q i : ℕ) → 4 ≤ Q → Q ≤ limits .maxStates → i < tripleCount Q → i < 4294967296
+index-small Q i h k l = let w = square-of Q h k in omega (arith, w .1)
 
 -- the plan by the digits of an index is the plan of the index
 pub plan-digits : (R : Rows) (t m Q i f a b : ℕ) → a < Q → b < Q → index Q f a b ≡ i

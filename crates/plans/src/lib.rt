@@ -1,7 +1,7 @@
 // The successors of a triple, counted off the rows of crate moves: a block of left moves, one of right moves, a shift, and the
 // pairs of two closings. specs/Plan.antt says which is the k-th.
 ghost use mathlib.Core.Path.{_≡_};
-ghost use Prim.Native.Nat.{_+_, _-_, _*_, _≤_, _<_};
+ghost use Prim.Native.Nat.{_+_, _-_, _*_, _/_, _%_, _≤_, _<_};
 ghost use lib.Dec.{ltb};
 ghost use Rattle.grammar.specs.Basics.{choose};
 ghost use Rattle.grammar.specs.Limits.{limits};
@@ -196,6 +196,22 @@ pub fn layer_of(row: usize, q: usize) -> usize
     1
 }
 
+// The row i / q of an index. Half as wide a division takes a fraction of the time.
+pub fn row_of(i: usize, q: usize) -> usize
+    requires { ⌜ (i < 4294967296) × (0 < q) × (q < 4294967296) ⌝ }
+    ensures { λ r. ⌜ r ≡ i / q ⌝ }
+{
+    (i as u32 / q as u32) as usize
+}
+
+// The column i % q of an index, where row is i / q.
+pub fn column_of(i: usize, q: usize, row: usize) -> usize
+    requires { ⌜ row ≡ i / q ⌝ }
+    ensures { λ r. ⌜ r ≡ i % q ⌝ }
+{
+    i - row * q
+}
+
 // The plan of the successors of an index.
 pub fn plan_at<'a>(
     ahead: &'a [u16; MAX_STATES],
@@ -211,9 +227,9 @@ pub fn plan_at<'a>(
     requires { ⌜ i < tripleCount q ⌝ }
     ensures { λ r. ⌜ r ≡ planOf (rows (now (ahead .entry)) (now (number .entry)) (now (member .entry)) (now (first .entry))) t m q i ⌝ }
 {
-    let row = i / q;
+    let row = row_of(i, q);
     let f = layer_of(row, q);
     let a = row - f * q;
-    let b = i % q;
+    let b = column_of(i, q, row);
     plan_of(ahead, number, member, first, t, m, q, i, f, a, b)
 }
