@@ -1,0 +1,220 @@
+-- How much the program prints at most: a refusal's number and position are small, and so are Q and the size. Assumes nothing.
+use Prim.Native.Nat.{ℕ, zero, suc, _+_, _*_, _^_, _≤_, _<_}
+use mathlib.Core.Path.{_≡_, refl, ap, sym, subst, _∙_}
+use mathlib.Core.Bool.{Bool, true, false, not, _&&_}
+use mathlib.Core.List.{List, [], _∷_, _++_}
+use mathlib.Core.Option.{Option, none, some}
+use native.Mathlib.Omega.{arith}
+use native.Mathlib.Nat.{mul-le-mul}
+use borrow.Author.Tests.{leb-true}
+use lib.Dec.{leb, eqb}
+use lib.ListN.{length, length-append}
+use Rattle.grammar.specs.Basics.{choose, Mem, here, there}
+use Rattle.grammar.specs.Limits.{limits}
+use Rattle.grammar.specs.Grammar.{Rule, Grammar, WellFormed, stateCount}
+use Rattle.grammar.specs.Table.{encode}
+use Rattle.grammar.specs.Refusal.{Answer, done, refused, refuseUnless, andThen}
+use Rattle.grammar.proofs.Answers.{then-done, unless-done, done-inj}
+use Rattle.grammar.proofs.WellFormed.{takes-only, room}
+use Rattle.automaton.specs.Items.{states}
+use Rattle.triples.specs.Index.{tripleCount}
+use Rattle.triples.specs.Smallest.{smallest, size}
+use Rattle.triple_laws.proofs.Members.{distinct-below}
+use Rattle.triple_laws.proofs.Laws.{smallest-distinct, smallest-below}
+use Rattle.text.specs.Pieces.{onto, splitOn}
+use Rattle.text.specs.Names.{isName, all, hasDouble, within}
+use Rattle.text.specs.Keys.{key, valueOf}
+use Rattle.text.specs.Read.{Source, Sides, refuseNone, namesOf, declaration, sidesOf, isKnown, ruleLine, ruleLines, wholeLine, readLines, readText}
+use Rattle.text.specs.Rules.{admit, checkText}
+use Rattle.text.proofs.PrintRead.{read-well}
+use Rattle.text.proofs.Admit.{Checked, text-checked}
+use Rattle.text.proofs.RoundTrip.{apart}
+use Rattle.search.specs.Promise.{isPotential}
+use Rattle.report.specs.Report.{programText, programStates, judge, grammarOf, decimal, line, statesIs, verdictIs, reachedIs, refusedIs, atIs, unambiguous, potential, verdictLines, printed, reportOf, reportSize}
+use Rattle.report.proofs.Decimal.{decimal-most}
+
+-- ---- refusals
+
+-- a refusal has a cause of document 01 and a position that is at most b
+abbrev pub Small : {A : Type 0} → ℕ → Answer A → Type 0
+Small b (done a) = Unit {0}
+Small b (refused cause at) = (cause ≤ 18) × (at ≤ b)
+
+small-unless : {A : Type 0} (b cause at : ℕ) (t : Bool) (o : Answer A) → cause ≤ 18 → at ≤ b → Small b o → Small b (refuseUnless cause at t o)
+unfolding refuseUnless
+small-unless b cause at true o h k s = s
+small-unless b cause at false o h k s = (h, k)
+
+small-none : {A B : Type 0} (b cause at : ℕ) (o : Option A) (go : A → Answer B) → cause ≤ 18 → at ≤ b → ((a : A) → Small b (go a))
+    → Small b (refuseNone cause at o go)
+unfolding refuseNone
+small-none b cause at none go h k s = (h, k)
+small-none b cause at (some a) go h k s = s a
+
+small-then : {A B : Type 0} (b : ℕ) (o : Answer A) (go : A → Answer B) → Small b o → ((a : A) → o ≡ done a → Small b (go a)) → Small b (andThen o go)
+unfolding andThen
+small-then b (done a) go s t = t a refl
+small-then b (refused cause at) go s t = s
+
+-- ---- lines
+
+-- a text of m bytes has at most m + 1 pieces
+pieces-most : (c : ℕ) (s : List ℕ) → length (splitOn c s) ≤ suc (length s)
+unfolding splitOn
+pieces-most c [] = omega arith
+pieces-most c (x ∷ s) = go (eqb x c) (splitOn c s) (pieces-most c s)
+  where
+    go : (b : Bool) (ps : List (List ℕ)) → length ps ≤ suc (length s) → length (choose b ([] ∷ ps) (onto x ps)) ≤ suc (suc (length s))
+    go true ps h = omega arith
+    go false [] h = omega arith
+    go false (p ∷ ps) h = omega arith
+
+module _ (b : ℕ) where
+  small-declaration : (at k lo hi : ℕ) (earlier : List (List ℕ)) (l : List ℕ) → at ≤ b → Small b (declaration at k lo hi earlier l)
+  unfolding declaration
+  small-declaration at k lo hi earlier l h =
+      small-none b 16 at (valueOf (key k) l) _ (omega arith) h (λ v.
+      small-unless b 16 at (all isName (namesOf v)) _ (omega arith) h
+      (small-unless b 18 at (not (hasDouble (earlier ++ namesOf v))) _ (omega arith) h
+      (small-unless b 1 at (within lo hi (length (namesOf v))) _ (omega arith) h tt)))
+
+  small-rule : (at t : ℕ) (names : List (List ℕ)) (l : List ℕ) → at ≤ b → Small b (ruleLine limits at t names l)
+  unfolding ruleLine
+  small-rule at t names l h =
+      small-none b 16 at (valueOf (key 2) l) _ (omega arith) h (λ v.
+      small-none b 16 at (sidesOf (splitOn 58 v)) _ (omega arith) h (λ s.
+      small-unless b 16 at (isName (s .head) && all isName (s .body)) _ (omega arith) h
+      (small-unless b 17 at (isKnown t names (s .head) && all (isKnown 0 names) (s .body)) _ (omega arith) h
+      (small-unless b 4 at (leb (length (s .body)) 12) _ (omega arith) h tt))))
+
+  small-rules : (at t : ℕ) (names ps : List (List ℕ)) → at + length ps ≤ suc b → 1 ≤ length ps → Small b (ruleLines limits at t names ps)
+  unfolding ruleLines
+  small-rules at t names [] h i = absurd (omega arith)
+  small-rules at t names (p ∷ []) h i = small-unless b 16 at (eqb (length p) 0) _ (omega arith) (omega arith) tt
+  small-rules at t names (p ∷ q ∷ qs) h i =
+      small-then b (ruleLine limits at t names p) _ (small-rule at t names p (omega arith)) (λ r e.
+      small-then b (ruleLines limits (suc at) t names (q ∷ qs)) _ (small-rules (suc at) t names (q ∷ qs) (omega arith) (omega arith)) (λ rs f. tt))
+
+  small-whole : {B : Type 0} (at : ℕ) (ps : List (List ℕ)) (go : List ℕ → List (List ℕ) → Answer B) → at ≤ b
+      → ((p : List ℕ) (qs : List (List ℕ)) → suc (length qs) ≡ length ps → 1 ≤ length qs → Small b (go p qs)) → Small b (wholeLine at ps go)
+  unfolding wholeLine
+  small-whole at [] go h s = (omega arith, h)
+  small-whole at (p ∷ []) go h s = (omega arith, h)
+  small-whole at (p ∷ q ∷ qs) go h s = s p (q ∷ qs) refl (omega arith)
+
+  small-lines : (ps : List (List ℕ)) → length ps ≤ b → 2 ≤ b → Small b (readLines limits ps)
+  unfolding readLines
+  small-lines ps h i =
+      small-whole 1 ps _ (omega arith) (λ first more e k.
+      small-then b (declaration 1 0 0 127 [] first) _ (small-declaration 1 0 0 127 [] first (omega arith)) (λ ts x.
+      small-whole 2 more _ (omega arith) (λ second rest f l.
+      small-then b (declaration 2 1 1 127 ts second) _ (small-declaration 2 1 1 127 ts second (omega arith)) (λ ns y.
+      small-then b (ruleLines limits 3 (length ts) (ts ++ ns) rest) _ (small-rules 3 (length ts) (ts ++ ns) rest (omega (arith, e, f)) l) (λ rs z. tt)))))
+
+  small-admit : (m : ℕ) (earlier : List Rule) (at : ℕ) (rs : List Rule) → ((r : Rule) → Mem r rs → length (r .right) ≤ 12)
+      → at + 14 * m ≤ b → Small b (admit limits m earlier at rs)
+  unfolding admit
+  small-admit m earlier at [] f h = tt
+  small-admit zero earlier at (r ∷ rs) f h = (omega arith, omega arith)
+  small-admit (suc m) earlier at (r ∷ rs) f h =
+      let k = f r here in
+      small-unless b 6 at _ _ (omega arith) (omega arith)
+      (small-unless b 8 at _ _ (omega arith) (omega arith)
+      (small-admit m _ (at + 2 + length (r .right)) rs (λ s i. f s (there i)) (omega arith)))
+
+-- the reader's refusals of a text that the program takes
+small-text : (text : List ℕ) → length text ≤ programText → Small 5000 (checkText limits text)
+unfolding checkText readText
+small-text text h =
+    small-then 5000 (readText limits text) _
+    (small-unless 5000 16 0 _ _ (omega arith) (omega arith) (small-lines 5000 (splitOn 10 text) (omega (arith, pieces-most 10 text)) (omega arith)))
+    (λ s e. small-then 5000 (admit limits 100 [] 0 (s .rules)) _
+    (small-admit 5000 100 [] 0 (s .rules) (λ r i. read-well limits apart text s e .fit r i .few) (omega arith)) (λ rs f. tt))
+
+-- ---- a text that is judged
+
+-- a test that holds may be used
+small-when : {A : Type 0} (b cause at : ℕ) (t : Bool) (o : Answer A) → cause ≤ 18 → at ≤ b → (t ≡ true → Small b o) → Small b (refuseUnless cause at t o)
+unfolding refuseUnless
+small-when b cause at true o h k s = s refl
+small-when b cause at false o h k s = (h, k)
+
+small-judge : (text : List ℕ) → Small 5000 (judge text)
+unfolding judge
+small-judge text =
+    small-when 5000 14 0 (leb (length text) 4096) _ (omega arith) (omega arith) (λ e.
+    small-then 5000 (checkText limits text) _ (small-text text (leb-true (length text) 4096 e)) (λ s f.
+    small-unless 5000 14 0 (leb (stateCount (s .rules)) 48) _ (omega arith) (omega arith) tt))
+
+-- the grammar of a text that is judged
+pub record JudgedText (text : List ℕ) (G : Grammar) : Type 0 where
+  pub source : Source
+  pub checked : checkText limits text ≡ done source
+  pub grammar : G ≡ grammarOf source
+  pub wellFormed : WellFormed limits G
+  pub few : states G ≤ 48
+
+pub judged-text : (text : List ℕ) (G : Grammar) → judge text ≡ done G → JudgedText text G
+unfolding judge
+judged-text text G e =
+    let a = unless-done 14 0 (leb (length text) 4096) _ G e in
+    let b = then-done (checkText limits text) _ G (a .1) in
+    let s = b .0 in
+    let c = unless-done 14 0 (leb (stateCount (s .rules)) 48) (done (grammarOf s)) G (b .2) in
+    let g : G ≡ grammarOf s = sym (done-inj (c .1)) in
+    let k = text-checked limits apart text s (b .1) in
+    let w = takes-only limits room (length (s .terminals)) (length (s .nonterminals)) (encode (s .rules)) (grammarOf s) (k .table) .wellFormed in
+    record {
+      source = s;
+      checked = b .1;
+      grammar = g;
+      wellFormed = subst (WellFormed limits) (sym g) w;
+      few = subst (λ (G : Grammar). states G ≤ 48) (sym g) (leb-true (stateCount (s .rules)) 48 (c .0));
+    }
+
+-- the size is at most 2Q²
+size-most : (G : Grammar) → WellFormed limits G → size limits G ≤ tripleCount (states G)
+size-most G w =
+    distinct-below (tripleCount (states G)) (smallest limits G) (smallest-distinct limits G w (omega arith)) (smallest-below limits G w (omega arith))
+
+-- ---- what is printed
+
+line-size : (k v : List ℕ) → length (line k v) ≡ length k + length v + 1
+line-size k v = omega (arith, length-append k (v ++ (10 ∷ [])), length-append v (10 ∷ []))
+
+printed-most : (o : Answer Grammar) → Small 5000 o → ((G : Grammar) → o ≡ done G → (states G ≤ 48) × (size limits G ≤ 4608)) → length (printed o) ≤ reportSize
+printed-most (done G) s f = go (isPotential limits G)
+  where
+    first : length (line statesIs (decimal (states G))) ≤ 10
+    first = let d = f G refl .0 in omega (arith, line-size statesIs (decimal (states G)), decimal-most 1 (states G) (omega (arith, d)))
+
+    go : (b : Bool) → length (line statesIs (decimal (states G)) ++ verdictLines b (size limits G)) ≤ 64
+    go true = omega (arith, first, length-append (line statesIs (decimal (states G))) (line verdictIs potential))
+    go false =
+        let d = f G refl .1 in
+        omega (
+          arith,
+          first,
+          length-append (line statesIs (decimal (states G))) (line verdictIs unambiguous ++ line reachedIs (decimal (size limits G))),
+          length-append (line verdictIs unambiguous) (line reachedIs (decimal (size limits G))),
+          line-size reachedIs (decimal (size limits G)),
+          decimal-most 3 (size limits G) (omega (arith, d)),
+        )
+printed-most (refused cause at) s f =
+    omega (
+      arith,
+      length-append (line refusedIs (decimal cause)) (line atIs (decimal at)),
+      line-size refusedIs (decimal cause),
+      line-size atIs (decimal at),
+      decimal-most 1 cause (omega (arith, s .0)),
+      decimal-most 3 at (omega (arith, s .1)),
+    )
+
+-- an output of reportSize bytes is never too short
+pub never-short : (text : List ℕ) → length (reportOf text) ≤ reportSize
+unfolding reportOf
+never-short text =
+    printed-most (judge text) (small-judge text) (λ G e.
+    let j = judged-text text G e in
+    let m = mul-le-mul {n₂ = 48} {m₂ = 48} (j .few) (j .few) in
+    (j .few, omega (arith, size-most G (j .wellFormed), m)))

@@ -1,0 +1,4 @@
+pub mod Bounds
+pub mod Decimal
+pub mod JudgingLaws
+pub mod Written

@@ -1,0 +1,70 @@
+-- The lines are what the definition prints, and the output is what it promises. Assumes nothing.
+use Prim.Native.Nat.{ℕ, _+_, _≤_, _<_}
+use mathlib.Core.Path.{_≡_, refl, ap, ap₂, sym, subst, _∙_}
+use mathlib.Core.Bool.{Bool, true, false}
+use mathlib.Core.List.{List, [], _∷_, _++_}
+use native.Mathlib.Omega.{arith}
+use borrow.Author.Tests.{le-leb, lt-leb}
+use lib.Dec.{leb}
+use lib.ListN.{length, take, drop}
+use lib.Seq.{take-append-seam}
+use Rattle.grammar.specs.Basics.{over}
+use Rattle.grammar.specs.Limits.{limits}
+use Rattle.grammar.specs.Grammar.{Grammar}
+use Rattle.grammar.specs.Refusal.{Answer, done, refused, refuseUnless}
+use Rattle.grammar.proofs.Answers.{unless-holds, unless-fails}
+use Rattle.automaton.specs.Items.{states}
+use Rattle.triples.specs.Smallest.{size}
+use Rattle.text.specs.Promise.{afterwards}
+use Rattle.text_write.specs.Contracts.{Wrote}
+use Rattle.search.specs.Promise.{isPotential}
+use Rattle.report.specs.Report.{judge, decimal, line, statesIs, verdictLines, printed, reportOf, reportInto, reported, Reports}
+use Rattle.report.specs.Contracts.{verdictOf, judgedOf, linesOf}
+use Rattle.report.specs.declared.Judged.{Judged}
+use Rattle.report.specs.declared.Reported.{Reported}
+use Rattle.report.specs.declared.Reported.the-variants.{Written, Refused}
+
+-- the lines of a judgement
+lines-printed : (o : Answer Grammar) → linesOf (judgedOf o) ≡ printed o
+lines-printed (done G) = go (isPotential limits G)
+  where
+    go : (b : Bool) → linesOf (verdictOf b (states G) (size limits G)) ≡ line statesIs (decimal (states G)) ++ verdictLines b (size limits G)
+    go true = refl
+    go false = refl
+lines-printed (refused cause at) = refl
+
+pub lines-of : (text : List ℕ) (j : Judged) → j ≡ judgedOf (judge text) → linesOf j ≡ reportOf text
+unfolding reportOf
+lines-of text j e = ap linesOf e ∙ lines-printed (judge text)
+
+-- what is written from place 0 on is the front
+pub front-written : (x old : List ℕ) (r : ℕ) (new : List ℕ) → Wrote 0 x old r new → (r ≡ length x) × (take r new ≡ x)
+front-written x old r new w =
+    let e : r ≡ length x = omega (arith, w .place) in
+    (e, ap₂ (λ (r : ℕ) (new : List ℕ). take r new) e (w .row) ∙ take-append-seam x (drop (0 + length x) old))
+
+module _ (text out : List ℕ) where
+  -- 14 at 0
+  pub report-short : (r : ℕ) → r ≡ length (reportOf text) → length out < r → Reports text out (Refused 14 0) out
+  unfolding reportInto
+  report-short r e h =
+      let q : reportInto (length out) text ≡ refused 14 0
+      = unless-fails 14 0 (leb (length (reportOf text)) (length out)) _ (lt-leb (length (reportOf text)) (length out) (omega (arith, e))) in
+      record { answer = sym (ap reported q); out-after = sym (ap (λ o. afterwards o (λ l. l) out) q) }
+
+  -- there is room
+  pub report-done : length (reportOf text) ≤ length out → reportInto (length out) text ≡ done (reportOf text)
+  unfolding reportInto
+  report-done h = unless-holds 14 0 (leb (length (reportOf text)) (length out)) _ (le-leb (length (reportOf text)) (length out) h)
+
+  pub report-all : (r : ℕ) (x : List ℕ) (m : ℕ) (out′ : List ℕ) → r ≡ length (reportOf text) → x ≡ reportOf text → r ≤ length out → Wrote 0 x out m out′
+      → Reports text out (Written r) out′
+  unfolding over
+  report-all r x m out′ e q h w =
+      let d = report-done (omega (arith, e)) in
+      let z : 0 + length x ≡ length x = omega arith in
+      record {
+        answer = ap Written e ∙ sym (ap reported d);
+        out-after = w .row ∙ ap (λ (n : ℕ). x ++ drop n out) z ∙ ap (λ (x : List ℕ). x ++ drop (length x) out) q
+            ∙ sym (ap (λ o. afterwards o (λ l. l) out) d);
+      }
