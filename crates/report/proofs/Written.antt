@@ -4,7 +4,7 @@ use mathlib.Core.Path.{_≡_, refl, ap, ap₂, sym, subst, _∙_}
 use mathlib.Core.Bool.{Bool, true, false}
 use mathlib.Core.List.{List, [], _∷_, _++_}
 use native.Mathlib.Omega.{arith}
-use borrow.Author.Tests.{le-leb, lt-leb}
+use borrow.Author.Tests.{le-leb, lt-leb, leb-true}
 use lib.Dec.{leb}
 use lib.ListN.{length, take, drop}
 use lib.Seq.{take-append-seam}
@@ -12,7 +12,7 @@ use Rattle.grammar.specs.Basics.{over}
 use Rattle.grammar.specs.Limits.{limits}
 use Rattle.grammar.specs.Grammar.{Grammar}
 use Rattle.grammar.specs.Refusal.{Answer, done, refused, refuseUnless}
-use Rattle.grammar.proofs.Answers.{unless-holds, unless-fails}
+use Rattle.grammar.proofs.Answers.{unless-holds, unless-fails, unless-done, done-inj}
 use Rattle.automaton.specs.Items.{states}
 use Rattle.triples.specs.Smallest.{size}
 use Rattle.text.specs.Promise.{afterwards}
@@ -68,3 +68,15 @@ module _ (text out : List ℕ) where
         out-after = w .row ∙ ap (λ (n : ℕ). x ++ drop n out) z ∙ ap (λ (x : List ℕ). x ++ drop (length x) out) q
             ∙ sym (ap (λ o. afterwards o (λ l. l) out) d);
       }
+
+  -- what is written fits
+  pub written-fits : (r : Reported) (n : ℕ) (out′ : List ℕ) → Reports text out r out′ → r ≡ Written n → n ≤ length out
+  unfolding reportInto
+  written-fits r n out′ h e = go (reportInto (length out) text) refl (sym e ∙ h .answer)
+    where
+      go : (o : Answer (List ℕ)) → reportInto (length out) text ≡ o → Written n ≡ reported o → n ≤ length out
+      go (done l) d w =
+          let u = unless-done 14 0 (leb (length (reportOf text)) (length out)) (done (reportOf text)) l d in
+          let q : n ≡ length l = cc in
+          omega (arith, q, ap length (done-inj (u .1)), leb-true (length (reportOf text)) (length out) (u .0))
+      go (refused cause at) d w = absurd (let z : _≡_ {A = ℕ} 0 1 = cc in omega arith)
