@@ -29,6 +29,7 @@ use Rattle.witness_records.specs.declared.TripleRecord.{TripleRecord}
 use Rattle.witness_records.proofs.Ranges.{entries-are, records-alike, records-inside}
 use Rattle.table_check.proofs.Callers.{passed-table, refused-table}
 use Rattle.ambiguity.proofs.Searches.{checked, search-theorems}
+use Rattle.ambiguity.proofs.Reports.{report-theorems}
 use Rattle.ambiguity.proofs.Steps.{step-theorems}
 use Rattle.ambiguity.proofs.Texts.{text-theorems}
 use Rattle.ambiguity.specs.Entries.{Stores, TableAnswer, WitnessAnswer, RecordsAnswer, CertificateAnswer}
@@ -126,8 +127,10 @@ pub front-page : FrontPage
 front-page = record {
   tables = table-theorems;
   steps = step-theorems;
-  witnesses = witness-theorems; records = record-theorems;
+  witnesses = witness-theorems;
+  records = record-theorems;
   certificates = certificate-theorems;
   searches = search-theorems;
   texts = text-theorems;
+  reports = report-theorems;
 }

@@ -1,4 +1,5 @@
 pub mod Searches
 pub mod Steps
 pub mod Texts
+pub mod Reports
 pub mod FrontPage

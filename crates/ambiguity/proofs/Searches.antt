@@ -63,7 +63,7 @@ checked t n table G s = passes-exactly limits room t n table G .1 (s .wellFormed
 
 module _ (G : Grammar) (W : WellFormed limits G) where
   -- two strings part if the verdict is potential
-  parting : isPotential limits G ≡ true → Potential (position limits G)
+  pub parting : isPotential limits G ≡ true → Potential (position limits G)
   parting e =
       let four = states-four limits G in
       potential-reached limits G W (omega arith) .1 (reached-exactly limits G W (omega arith) 1 1 1 (omega arith) (omega arith) (omega arith) .1
@@ -73,7 +73,7 @@ module _ (G : Grammar) (W : WellFormed limits G) where
   lacks e = not-element (index (states G) 1 1 1) (smallest limits G) .0 e
 
   -- and none if it is not
-  not-parting : isPotential limits G ≡ false → Unambiguous (position limits G)
+  pub not-parting : isPotential limits G ≡ false → Unambiguous (position limits G)
   not-parting e p =
       let four = states-four limits G in
       lacks e (reached-exactly limits G W (omega arith) 1 1 1 (omega arith) (omega arith) (omega arith) .0 (potential-reached limits G W (omega arith) .0 p))

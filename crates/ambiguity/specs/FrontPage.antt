@@ -30,9 +30,12 @@ use Rattle.steps.specs.declared.StepAnswer.{StepAnswer}
 use Rattle.steps.specs.declared.StepAnswer.the-variants as step
 use Rattle.search.specs.Promise.{Lent, Searches}
 use Rattle.search.specs.declared.SearchVerdict.{SearchVerdict}
+use Rattle.report.specs.Report.{Reports}
+use Rattle.report.specs.declared.Reported.{Reported}
 use Rattle.ambiguity.specs.Entries.{Usize, Stores, TableAnswer, WitnessAnswer, RecordsAnswer, CertificateAnswer, StepAnswers}
 use Rattle.ambiguity.specs.Searches.{SearchTheorems}
 use Rattle.ambiguity.specs.Texts.{TextTheorems}
+use Rattle.ambiguity.specs.Reports.{ReportTheorems}
 
 module _ (t n : ℕ) (table : List ℕ) where
   pub record TableTheorems (r : TableChecked) : Type 0 where
@@ -93,3 +96,4 @@ pub record FrontPage : Type 1 where
   pub searches : (t n : ℕ) (table : List ℕ) (before : Lent) (r : SearchVerdict) (after : Lent) → Searches t n table before r after
       → SearchTheorems t n table before r after
   pub texts : TextTheorems
+  pub reports : (text out : List ℕ) (r : Reported) (out′ : List ℕ) → Reports text out r out′ → ReportTheorems text out r out′

@@ -1,4 +1,5 @@
 pub mod Entries
 pub mod Searches
 pub mod Texts
+pub mod Reports
 pub mod FrontPage
