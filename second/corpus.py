@@ -1,0 +1,190 @@
+"""The corpus: grammar texts, and an index of what is expected of each.
+
+`entries` reads the index, `faults_of` compares one of its lines with what this
+program finds, `check` does so for the whole corpus.
+"""
+
+import os
+import random
+from typing import Iterator, List, NamedTuple, Optional, Tuple
+
+from program import AMPLE
+from searches import Potential, needed, search
+from tables import MAX_STATES, Grammar, Refusal, check_table
+from text import Text, read_text, write_text
+from trees import MOST, some_sentences, tree_count
+
+FOLDER = os.path.join(os.path.dirname(os.path.dirname(os.path.abspath(__file__))), "corpus")
+INDEX = "INDEX.tsv"
+ENDING = ".grammar"
+NOTHING = "-"             # in a column that says nothing of a grammar
+EMPTY = "(empty)"         # the sentence without symbols
+
+UNAMBIGUOUS, POTENTIAL = VERDICTS = "unambiguous", "potential"
+AMBIGUOUS, FALSE_ALARM = "ambiguous", "false-alarm"
+TRUTHS = {UNAMBIGUOUS: UNAMBIGUOUS, AMBIGUOUS: POTENTIAL, FALSE_ALARM: POTENTIAL}
+KINDS = "row", "classic", "robot"
+
+SENTENCES = 12            # random sentences tried for each grammar
+SYMBOLS = 12              # their length, more or less
+
+
+class Entry(NamedTuple):
+    """A line of the index; its columns stand in this order."""
+
+    name: str
+    kind: str
+    origin: str
+    states: int
+    verdict: str
+    size: Optional[int]
+    truth: str
+    sentence: str
+    reason: str
+
+
+class Found(NamedTuple):
+    """A text that was read; `names` in order of symbol numbers."""
+
+    text: Text
+    table: Tuple[int, int, bytes]
+    grammar: Grammar
+    names: List[str]
+
+
+# Files.
+
+def entry_of(line: str) -> Entry:
+    """A line of the index; ValueError if it has other columns."""
+    words = line.split("\t")
+    if len(words) != len(Entry._fields) or not all(words):
+        raise ValueError("a line of the index has other columns: %s" % line)
+    entry = Entry(*words)
+    size = None if entry.size == NOTHING else int(entry.size)
+    return entry._replace(states=int(entry.states), size=size)
+
+
+def entries(folder: str = FOLDER) -> List[Entry]:
+    """The index, without its first line, which names the columns."""
+    with open(os.path.join(folder, INDEX), encoding="ascii") as file:
+        head, *lines = file.read().splitlines()
+    if head.split("\t") != list(Entry._fields):
+        raise ValueError("the index names other columns")
+    return [entry_of(line) for line in lines]
+
+
+def text_in(name: str, folder: str = FOLDER) -> bytes:
+    """A grammar's text."""
+    with open(os.path.join(folder, name + ENDING), "rb") as file:
+        return file.read()
+
+
+def names_in(folder: str = FOLDER) -> List[str]:
+    """The names of all files of grammar text."""
+    names = [name for name in os.listdir(folder) if name.endswith(ENDING)]
+    return sorted(name[:-len(ENDING)] for name in names)
+
+
+def found_in(text: bytes) -> Optional[Found]:
+    """What the reader and the table check make of a text; None if it is refused."""
+    result = read_text(text, AMPLE)
+    if isinstance(result, Refusal):
+        return None
+    table = result.terminals, result.nonterminals, result.table
+    grammar = check_table(*table)
+    assert isinstance(grammar, Grammar), "the reader writes good tables"
+    names = [text[start:start + length].decode("ascii")
+             for start, length in zip(result.starts, result.lengths)]
+    return Found(result, table, grammar, names)
+
+
+def table_in(name: str, folder: str = FOLDER) -> Tuple[int, int, bytes]:
+    """A good grammar's t, n and table."""
+    found = found_in(text_in(name, folder))
+    assert found is not None
+    return found.table
+
+
+# Comparison.
+
+def verdict_of(found: Found) -> Tuple[str, Optional[int]]:
+    """The verdict and, where it is unambiguous, the size."""
+    result = search(*found.table, needed(found.grammar.states))
+    assert not isinstance(result, Refusal)
+    if isinstance(result, Potential):
+        return POTENTIAL, None
+    return UNAMBIGUOUS, result.size
+
+
+def coded(found: Found, sentence: str) -> Optional[bytes]:
+    """The codes of a sentence's names; None if one is no terminal's."""
+    words = [] if sentence == EMPTY else sentence.split(" ")
+    terminals = found.names[:found.grammar.terminals]
+    if not all(word in terminals for word in words):
+        return None
+    return bytes(1 + terminals.index(word) for word in words)
+
+
+def truth_faults(entry: Entry, found: Found) -> Iterator[str]:
+    """What speaks against the columns truth and sentence.
+
+    An ambiguous grammar's sentence has two trees. Of the others, random
+    sentences have one.
+    """
+    if TRUTHS.get(entry.truth) != entry.verdict:
+        yield "truth and verdict do not fit"
+    if (entry.truth == AMBIGUOUS) != (entry.sentence != NOTHING):
+        yield "a sentence is given, or missing"
+    elif entry.truth == AMBIGUOUS:
+        sentence = coded(found, entry.sentence)
+        if sentence is None or tree_count(found.grammar, sentence) < MOST:
+            yield "the sentence has no two trees"
+    else:
+        rng = random.Random(entry.name)
+        for sentence in some_sentences(rng, found.grammar, SENTENCES, SYMBOLS):
+            if tree_count(found.grammar, sentence) != 1:
+                words = [found.names[code - 1] for code in sentence]
+                yield "a sentence has not one tree: %s" % " ".join(words)
+
+
+def faults_of(entry: Entry, text: bytes) -> Iterator[str]:
+    """What speaks against a line of the index."""
+    found = found_in(text)
+    if found is None:
+        yield "the text is refused"
+        return
+    written = write_text(
+        *found.table, text, found.text.starts, found.text.lengths, len(text))
+    if written != text:
+        yield "the text is written otherwise than it was read"
+    if entry.kind not in KINDS:
+        yield "the kind is none of %s" % ", ".join(KINDS)
+    if entry.states != found.grammar.states:
+        yield "states=%d" % found.grammar.states
+    verdict, size = verdict_of(found)
+    if (entry.verdict, entry.size) != (verdict, size):
+        yield "verdict=%s size=%s" % (verdict, NOTHING if size is None else size)
+    yield from truth_faults(entry, found)
+
+
+def faults(folder: str = FOLDER) -> Iterator[str]:
+    """What speaks against the corpus: its index, its files, each line."""
+    listed = entries(folder)
+    names = [entry.name for entry in listed]
+    if sorted(names) != names_in(folder):
+        yield "the index has not each file once: %s" % " ".join(
+            sorted(set(names) ^ set(names_in(folder))))
+        return
+    for entry in listed:
+        for fault in faults_of(entry, text_in(entry.name, folder)):
+            yield "%s: %s" % (entry.name, fault)
+    if max(entry.states for entry in listed) != MAX_STATES:
+        yield "no grammar has the most states that pass"
+
+
+def counts(listed: List[Entry]) -> List[Tuple[str, int]]:
+    """The number of grammars by kind and truth, and of all."""
+    pairs = [("%s %s" % (kind, truth),
+              sum(entry.kind == kind and entry.truth == truth for entry in listed))
+             for kind in KINDS for truth in TRUTHS]
+    return pairs + [("grammars", len(listed))]

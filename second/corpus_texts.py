@@ -1,0 +1,312 @@
+"""The texts that the program is tried with, in groups; they depend on the seed alone.
+
+The corpus, grown grammars, both damaged in one byte or cut, texts with one fault
+of each cause, and texts of too many bytes or states.
+"""
+
+import random
+from functools import lru_cache
+from typing import Callable, Dict, Iterator, List, NamedTuple, Optional, Sequence, Tuple
+
+from corpus import entries, text_in
+from named_grammars import join_lines, lines_of, text_of
+from program import MAX_BYTES, MAX_STATES
+from robot_grammars import grown, states_of
+from table_cases import Rng
+from tables import (
+    FIXED_STATES, MAX_LENGTH, MAX_NONTERMINALS, MAX_RULES, MAX_TERMINALS, Refusal,
+)
+from tables import MAX_STATES as MOST_STATES
+from text import MAX_NAME, Text, read_lines
+
+SEED = 5
+MARKS = b"\x00\t\n\r ,-:=_aSz09\x7f\xff"    # bytes that part something, or seem to
+
+
+class Sample(NamedTuple):
+    """A text and the group that it is of."""
+
+    group: str
+    text: bytes
+
+
+# Good texts.
+
+@lru_cache(maxsize=1)
+def corpus_texts() -> Tuple[bytes, ...]:
+    """Every text of the corpus."""
+    return tuple(text_in(entry.name) for entry in entries())
+
+
+def of_the_corpus(rng: Rng) -> Iterator[bytes]:
+    """Every text of the corpus."""
+    yield from corpus_texts()
+
+
+def small(rng: Rng) -> bytes:
+    """A grown grammar that the program takes."""
+    return text_of(grown(rng, 4, MAX_STATES))
+
+
+def grown_small(rng: Rng) -> Iterator[bytes]:
+    """Grown grammars that the program takes."""
+    for _ in range(150):
+        yield small(rng)
+
+
+def grown_large(rng: Rng) -> Iterator[bytes]:
+    """Grown grammars of any number of states."""
+    for _ in range(50):
+        yield text_of(grown(rng, 12))
+
+
+def good(rng: Rng) -> bytes:
+    """A text of the corpus or a grown one, short enough for the program."""
+    texts = [text for text in corpus_texts() if len(text) <= MAX_BYTES]
+    return rng.choice([rng.choice(texts), small(rng)])
+
+
+# Texts at fault.
+
+def damaged(rng: Rng) -> Iterator[bytes]:
+    """One byte changed, left out or put in."""
+    for _ in range(240):
+        text = good(rng)
+        place = rng.randrange(len(text))
+        choices = rng.choice(MARKS), rng.choice(text), rng.randrange(256)
+        byte = bytes([rng.choice(choices)])
+        kind = rng.randrange(4)
+        rest = text[place:] if kind == 0 else text[place + 1:]
+        yield text[:place] + (b"" if kind == 1 else byte) + rest
+
+
+def cut(rng: Rng) -> Iterator[bytes]:
+    """The front of a text, now and then as far as a line's end, or nothing."""
+    yield b""
+    for _ in range(120):
+        text = good(rng)
+        end = rng.randrange(len(text))
+        yield text[:rng.choice([end, text.rfind(b"\n", 0, end) + 1])]
+
+
+def counted(count: int) -> List[bytes]:
+    """So many names."""
+    return [b"x%d" % place for place in range(count)]
+
+
+def many_terminals(rng: Rng, lines: List[bytes]) -> List[bytes]:
+    """Cause 1 at line 1."""
+    names = counted(MAX_TERMINALS + 1 + rng.randrange(20))
+    return [b"terminals=" + b",".join(names)] + lines[1:]
+
+
+def no_nonterminals(rng: Rng, lines: List[bytes]) -> List[bytes]:
+    """Cause 1 at line 2."""
+    return lines[:1] + [b"nonterminals="] + lines[2:]
+
+
+def long_rule(rng: Rng, lines: List[bytes]) -> List[bytes]:
+    """Cause 4."""
+    name = lines[1].partition(b"=")[2].split(b",")[0]
+    count = MAX_LENGTH + 1 + rng.randrange(4)
+    return lines + [b"rule=" + name + b":" + b" ".join([b""] + [name] * count)]
+
+
+def equal_rule(rng: Rng, lines: List[bytes]) -> List[bytes]:
+    """Cause 6."""
+    return lines + [rng.choice(lines[2:])]
+
+
+def many_rules(rng: Rng, lines: List[bytes]) -> List[bytes]:
+    """Cause 7."""
+    names = counted(MAX_RULES + 1 + rng.randrange(20))
+    return [b"terminals=" + b",".join(names), b"nonterminals=S"] + [
+        b"rule=S: " + name for name in names]
+
+
+def many_states(rng: Rng, lines: List[bytes]) -> List[bytes]:
+    """Cause 8."""
+    names = counted(1 + MOST_STATES // (MAX_LENGTH + 1) + rng.randrange(4))
+    return [b"terminals=" + b",".join(names), b"nonterminals=S"] + [
+        b"rule=S:" + b" ".join([b""] + [name] * MAX_LENGTH) for name in names]
+
+
+def no_equals(rng: Rng, lines: List[bytes]) -> List[bytes]:
+    """Cause 16."""
+    place = rng.randrange(len(lines))
+    new = rng.choice([b"", b"rule", lines[place].replace(b"=", b" ")])
+    return lines[:place] + [new] + lines[place:]
+
+
+def long_name(rng: Rng, lines: List[bytes]) -> List[bytes]:
+    """Cause 16."""
+    return [lines[0] + b"," + b"x" * (MAX_NAME + 1)] + lines[1:]
+
+
+def unknown_name(rng: Rng, lines: List[bytes]) -> List[bytes]:
+    """Cause 17."""
+    place = 2 + rng.randrange(len(lines) - 1)
+    new = b"rule=%s: unknown-name" % rng.choice(counted(3))
+    return lines[:place] + [new] + lines[place:]
+
+
+def declared_twice(rng: Rng, lines: List[bytes]) -> List[bytes]:
+    """Cause 18."""
+    place = rng.randrange(2)
+    names = lines[1].partition(b"=")[2].split(b",")
+    new = [lines[0] + b",twice,twice", lines[1] + b"," + rng.choice(names)]
+    return lines[:place] + [new[place]] + lines[place + 1:]
+
+
+FAULTS: List[Callable[[Rng, List[bytes]], List[bytes]]] = [
+    many_terminals, no_nonterminals, long_rule, equal_rule, many_rules, many_states, no_equals,
+    long_name, unknown_name, declared_twice,
+]
+
+
+def faulty(rng: Rng) -> Iterator[bytes]:
+    """Every kind of fault, each in texts of its own."""
+    for fault in FAULTS:
+        for _ in range(12):
+            yield join_lines(fault(rng, lines_of(grown(rng, 4, MAX_STATES))))
+
+
+def two_faults(rng: Rng) -> Iterator[bytes]:
+    """Two kinds of fault in one text."""
+    for _ in range(60):
+        lines = lines_of(grown(rng, 4, MAX_STATES))
+        for fault in rng.sample(FAULTS, 2):
+            lines = fault(rng, lines)
+        yield join_lines(lines)
+
+
+# Too many bytes, or states.
+
+def padding(size: int) -> List[bytes]:
+    """Names that take so many bytes, each with its comma; `size` is 8 or more."""
+    names: List[bytes] = []
+    while size > 0:
+        part = MAX_NAME + 1 if size >= 2 * (MAX_NAME + 1) else size
+        if part > MAX_NAME + 1:
+            part //= 2
+        names.append((b"pad%d-" % len(names)).ljust(part - 1, b"y"))
+        size -= part
+    return names
+
+
+def padded(text: bytes, size: int) -> Optional[bytes]:
+    """A text with names declared that no rule uses; None if so many are too many."""
+    first, second, rest = text.split(b"\n", 2)
+    names = padding(size - len(text))
+    room = MAX_TERMINALS - 1 - first.count(b",")
+    terminals, nonterminals = names[:room], names[room:]
+    if second.count(b",") + 1 + len(nonterminals) > MAX_NONTERMINALS:
+        return None
+    first, second = b",".join([first] + terminals), b",".join([second] + nonterminals)
+    return b"\n".join([first, second, rest])
+
+
+def filled(rng: Rng) -> Iterator[bytes]:
+    """Around 4,096 bytes: the most that is taken, one more, and fewer."""
+    count = 0
+    while count < 30:
+        text = small(rng)
+        sizes = MAX_BYTES, MAX_BYTES + 1, MAX_BYTES - rng.randrange(1000)
+        texts = [padded(text, size) for size in sizes]
+        if None not in texts:
+            count += 1
+            yield from texts
+
+
+def at_the_limit(rng: Rng) -> Iterator[bytes]:
+    """48 states, the most that is taken, and 49."""
+    for states in (MAX_STATES, MAX_STATES + 1):
+        count = 0
+        while count < 15:
+            grammar = grown(rng, 4)
+            if states_of(grammar) == states:
+                count += 1
+                yield text_of(grammar)
+
+
+def too_long(rng: Rng) -> Iterator[bytes]:
+    """More bytes than the program takes, also with other faults, also far more."""
+    for size in (MAX_BYTES + 1, 2 * MAX_BYTES, 65536, 65537, 100000):
+        for _ in range(3):
+            text = rng.choice([small(rng), b"", b"terminals", bytes([rng.randrange(256)])])
+            yield text + bytes([rng.choice(MARKS)]) * (size - len(text))
+
+
+def faulty_large(rng: Rng) -> Iterator[bytes]:
+    """More states than the program takes, and a fault of the text, which comes first."""
+    for _ in range(24):
+        fault = rng.choice([equal_rule, unknown_name, long_rule, declared_twice])
+        yield join_lines(fault(rng, lines_of(grown(rng, 12))))
+
+
+GROUPS: Dict[str, Callable[[Rng], Iterator[bytes]]] = {
+    "corpus": of_the_corpus,
+    "grown": grown_small,
+    "grown-large": grown_large,
+    "damaged": damaged,
+    "cut": cut,
+    "one-fault": faulty,
+    "two-faults": two_faults,
+    "filled": filled,
+    "at-the-limit": at_the_limit,
+    "too-long": too_long,
+    "faulty-large": faulty_large,
+}
+
+
+def samples() -> Iterator[Sample]:
+    """Every group's texts, each group with a generator of its own."""
+    for number, (group, texts) in enumerate(GROUPS.items()):
+        for text in texts(random.Random(SEED * 1000 + number)):
+            yield Sample(group, text)
+
+
+# What the texts are counted by.
+
+CAUSES = [1, 4, 6, 7, 8, 16, 17, 18]     # those that a text can be refused for
+REASONS = ["unambiguous", "potential"] + ["refused-%d" % cause for cause in CAUSES] + [
+    "refused-14-bytes",
+    "refused-14-states",
+    "refused-14-bytes-and-otherwise-at-fault",
+    "refused-for-another-cause-with-too-many-states",
+    "of-4096-bytes",
+    "of-4097-bytes",
+    "of-48-states",
+    "of-49-states",
+]
+
+
+def items_in(lines: Sequence[bytes]) -> int:
+    """Q as the lines' spaces tell it, also where a line is at fault."""
+    rules = [line for line in lines if line.startswith(b"rule=")]
+    return FIXED_STATES + sum(line.count(b" ") + 1 for line in rules)
+
+
+def reasons_of(text: bytes, printed: bytes) -> List[str]:
+    """Every reason of REASONS that a text meets for which this is printed."""
+    result = read_lines(text)
+    states = result.states if isinstance(result, Text) else 0
+    first = printed.split(b"\n")[0]
+    refused = first.startswith(b"refused=")
+    cause = int(first[len(b"refused="):]) if refused else 0
+    bytes_first = len(text) > MAX_BYTES
+    met = [
+        ("unambiguous", b"verdict=unambiguous\n" in printed),
+        ("potential", b"verdict=potential\n" in printed),
+        ("refused-14-bytes", cause == 14 and bytes_first),
+        ("refused-14-states", cause == 14 and not bytes_first),
+        ("refused-14-bytes-and-otherwise-at-fault",
+         cause == 14 and bytes_first and isinstance(result, Refusal)),
+        ("refused-for-another-cause-with-too-many-states",
+         refused and cause != 14 and items_in(text.split(b"\n")) > MAX_STATES),
+        ("of-4096-bytes", len(text) == MAX_BYTES),
+        ("of-4097-bytes", len(text) == MAX_BYTES + 1),
+        ("of-48-states", states == MAX_STATES),
+        ("of-49-states", states == MAX_STATES + 1),
+    ] + [("refused-%d" % number, cause == number) for number in CAUSES]
+    return [name for name, holds in met if holds]

@@ -1,0 +1,279 @@
+"""Tests of the corpus, its cases, the texts for the program, and the comparisons."""
+
+import hashlib
+import os
+import random
+import tempfile
+import unittest
+from contextlib import redirect_stderr, redirect_stdout
+from io import StringIO
+
+import corpus_texts
+from case_files import digest
+from case_grammars import ROWS, good
+from corpus import (
+    Entry, counts, entries, entry_of, faults, faults_of, names_in, table_in, text_in,
+)
+from corpus_cases import FEWEST, KIND, REASONS, compare_program, difference, reasons_of, run
+from corpus_texts import Sample, padded, padding, samples
+from named_grammars import text_of
+from program import printed
+from robot_grammars import CHANGES, grow, grown, named, states_of, table_of
+from search_cases import Case
+from searches import needed
+from tables import MAX_STATES
+from text import Lent, read_text
+
+# SHA-256 of the file of cases, and of the program's texts, each after its length.
+DIGEST = "3f6f7857b7fd5a41260f8e5274a9bec9ab54a9aa77be4e1863daa207b3af88d9"
+TEXTS = "61915549c8c34e20b0adc5711f436cf085b3b0bbabfab40d19ac9dd88db2024e"
+
+EXAMPLE = b"terminals=a\nnonterminals=S\nrule=S: a\n"     # document 01's own
+RIGHT = b"states=6\nverdict=unambiguous\nreached=11\n"
+AMPLE = Lent(70000, 70000, 70000)
+
+
+class IndexTest(unittest.TestCase):
+    def entry(self, name):
+        return next(entry for entry in entries() if entry.name == name)
+
+    def faults(self, name, **changes):
+        return list(faults_of(self.entry(name)._replace(**changes), text_in(name)))
+
+    def test_the_corpus_is_as_its_index_says(self):
+        with redirect_stdout(StringIO()) as out, redirect_stderr(StringIO()) as errors:
+            code = run(["check"])
+        self.assertEqual((code, errors.getvalue()), (0, ""))
+        self.assertIn("grammars %d\n" % len(entries()), out.getvalue())
+
+    def test_no_kind_is_without_a_truth(self):
+        self.assertNotIn(0, [count for _, count in counts(entries())])
+
+    def test_document_01(self):
+        rows = [entry for entry in entries() if entry.kind == "row"]
+        self.assertEqual([table_in(entry.name) for entry in rows], ROWS)
+        self.assertEqual([entry.states for entry in rows], [4, 5, 6, 9, 9, 6, 8, 10, 10, 17])
+        self.assertEqual([entry.size for entry in rows],
+                         [5, 10, 11, 24, 30, None, None, None, None, 82])
+
+    def test_the_program_takes_some_and_not_others(self):
+        outputs = [printed(text_in(entry.name)) for entry in entries()]
+        self.assertGreater(sum(output.startswith(b"states=") for output in outputs), 50)
+        self.assertGreater(outputs.count(b"refused=14\nat=0\n"), 5)
+
+    def test_wrong_columns(self):
+        self.assertEqual(self.faults("row-a"), [])
+        self.assertEqual(self.faults("row-a", states=7), ["states=6"])
+        self.assertEqual(self.faults("row-a", size=12), ["verdict=unambiguous size=11"])
+        self.assertEqual(self.faults("row-a", kind="other"),
+                         ["the kind is none of row, classic, robot"])
+        self.assertEqual(self.faults("row-a", verdict="potential", size=None, truth="false-alarm"),
+                         ["verdict=unambiguous size=11"])
+        self.assertEqual(self.faults("row-a", truth="ambiguous"),
+                         ["truth and verdict do not fit", "a sentence is given, or missing"])
+        self.assertEqual(self.faults("palin-even", sentence="a a"),
+                         ["a sentence is given, or missing"])
+
+    def test_wrong_sentences(self):
+        wrong = ["the sentence has no two trees"]
+        self.assertEqual(self.faults("list-both", sentence="x comma x comma x comma x"), [])
+        for sentence in ("x comma x", "x comma", "(empty)", "L comma x comma x", "y"):
+            self.assertEqual(self.faults("list-both", sentence=sentence), wrong)
+
+    def test_an_ambiguous_grammar_is_no_false_alarm(self):
+        found = self.faults("expr-minus", truth="false-alarm", sentence="-")
+        self.assertNotEqual(found, [])
+        self.assertTrue(found[0].startswith("a sentence has not one tree: "))
+
+    def test_wrong_texts(self):
+        entry = self.entry("row-a")
+        self.assertEqual(list(faults_of(entry, EXAMPLE)), [])
+        self.assertEqual(list(faults_of(entry, EXAMPLE[:-1])), ["the text is refused"])
+
+    def test_lines(self):
+        line = "x\trobot\there\t6\tunambiguous\t11\tunambiguous\t-\tone tree"
+        self.assertEqual(entry_of(line), Entry(
+            "x", "robot", "here", 6, "unambiguous", 11, "unambiguous", "-", "one tree"))
+        for wrong in (line + "\tmore", line.replace("\there", ""), line.replace("11", "")):
+            with self.assertRaises(ValueError):
+                entry_of(wrong)
+
+    def test_files_and_index(self):
+        with tempfile.TemporaryDirectory() as folder:
+            for name in ("row-a", "row-empty"):
+                with open(os.path.join(folder, name + ".grammar"), "wb") as file:
+                    file.write(text_in(name))
+            lines = ["\t".join(Entry._fields),
+                     "row-a\trow\there\t6\tunambiguous\t11\tunambiguous\t-\tone tree"]
+            with open(os.path.join(folder, "INDEX.tsv"), "w") as file:
+                file.write("\n".join(lines) + "\n")
+            self.assertEqual(names_in(folder), ["row-a", "row-empty"])
+            self.assertEqual(list(faults(folder)),
+                             ["the index has not each file once: row-empty"])
+            os.remove(os.path.join(folder, "row-empty.grammar"))
+            self.assertEqual(list(faults(folder)),
+                             ["no grammar has the most states that pass"])
+
+
+class CasesTest(unittest.TestCase):
+    def test_the_cases_are_these_bytes(self):
+        self.assertEqual(digest(KIND), DIGEST)
+
+    def test_reasons(self):
+        for name, lent, expected in [
+            ("row-a", needed(6), ["unambiguous-of-the-corpus", "unambiguous-up-to-48-states",
+                                  "unambiguous-exactly-enough"]),
+            ("robot-large-lab", needed(256), ["potential-of-the-corpus",
+                                              "potential-over-48-states", "potential-longer"]),
+        ]:
+            found = reasons_of(Case(*table_in(name), lent, 0))
+            self.assertEqual(found, expected)
+            self.assertLessEqual(set(found), set(REASONS))
+        table = 2, 1, bytes([128, 2, 2, 1])
+        self.assertIn("unambiguous-grown", reasons_of(Case(*table, needed(7), 0)))
+
+    def test_other_words(self):
+        with redirect_stderr(StringIO()) as errors:
+            self.assertEqual(run(["program", "other", "x"]), 2)
+        self.assertIn("program ambig BINARY", errors.getvalue())
+
+
+class GrownTest(unittest.TestCase):
+    def test_texts_are_read_as_the_tables(self):
+        rng = random.Random(9)
+        for _ in range(60):
+            grammar = grown(rng, 8)
+            found = read_text(text_of(grammar), AMPLE)
+            self.assertEqual((found.terminals, found.nonterminals, found.table),
+                             table_of(grammar))
+            self.assertEqual(found.states, states_of(grammar))
+
+    def test_at_most_so_many_states(self):
+        rng = random.Random(10)
+        for most in (20, 48, MAX_STATES):
+            for _ in range(20):
+                self.assertLessEqual(good(table_of(grown(rng, 6, most))).states, most)
+
+    def test_every_change_changes_something(self):
+        for change in CHANGES:
+            rng = random.Random(11)
+            different = 0
+            for _ in range(20):
+                lines = grow(rng, 3, 1)
+                before = named(lines)
+                change(rng, lines)
+                different += named(lines) != before
+            self.assertGreater(different, 4, change)
+
+
+class PrintedTest(unittest.TestCase):
+    def test_document_01(self):
+        self.assertEqual(printed(EXAMPLE), RIGHT)
+        self.assertEqual(printed(text_in("row-cycle")), b"states=6\nverdict=potential\n")
+        self.assertEqual(printed(EXAMPLE[:-1]), b"refused=16\nat=3\n")
+        self.assertEqual(printed(b""), b"refused=16\nat=1\n")
+
+    def test_too_many_states(self):
+        self.assertTrue(printed(text_in("robot-48")).startswith(b"states=48\n"))
+        large = text_in("robot-49")
+        self.assertEqual(printed(large), b"refused=14\nat=0\n")
+        self.assertEqual(printed(large + b"rule=step: wash tips\n")[:11], b"refused=6\na")
+        self.assertEqual(printed(large + b"rule=step: other\n"), b"refused=17\nat=21\n")
+
+    def test_too_many_bytes(self):
+        self.assertTrue(printed(text_in("robot-4096-bytes")).startswith(b"states=48\n"))
+        for text in (text_in("robot-4097-bytes"), b"x" * 4097, b"\n" * 70000):
+            self.assertEqual(printed(text), b"refused=14\nat=0\n")
+        self.assertEqual(printed(b"x" * 4096), b"refused=16\nat=1\n")
+
+
+class TextsTest(unittest.TestCase):
+    def test_the_texts_are_these_bytes(self):
+        sha = hashlib.sha256()
+        for sample in samples():
+            sha.update(b"%d:" % len(sample.text) + sample.text)
+        self.assertEqual(sha.hexdigest(), TEXTS)
+
+    def test_padding(self):
+        for size in range(8, 100):
+            names = padding(size)
+            self.assertEqual(sum(len(name) + 1 for name in names), size)
+            self.assertEqual(len(set(names)), len(names))
+        self.assertEqual(len(padded(EXAMPLE, 3500)), 3500)
+        self.assertEqual(printed(padded(EXAMPLE, 3500)), RIGHT)
+        self.assertIsNone(padded(EXAMPLE, 4096))
+
+    def test_reasons(self):
+        for text, expected in [
+            (EXAMPLE, ["unambiguous"]),
+            (text_in("row-cycle"), ["potential"]),
+            (text_in("robot-48"), ["unambiguous", "of-48-states"]),
+            (text_in("robot-49"), ["refused-14-states", "of-49-states"]),
+            (b"x" * 4097, ["refused-14-bytes", "refused-14-bytes-and-otherwise-at-fault",
+                           "of-4097-bytes"]),
+            (text_in("robot-49") + b"rule=step: other\n",
+             ["refused-for-another-cause-with-too-many-states", "refused-17"]),
+        ]:
+            found = corpus_texts.reasons_of(text, printed(text))
+            self.assertEqual(found, expected)
+            self.assertLessEqual(set(found), set(corpus_texts.REASONS))
+
+
+class ProgramTest(unittest.TestCase):
+    """Scripts in the program's place; each reads its input and prints something."""
+
+    def setUp(self):
+        folder = tempfile.TemporaryDirectory()
+        self.addCleanup(folder.cleanup)
+        self.path = os.path.join(folder.name, "ambig")
+
+    def script(self, last):
+        with open(self.path, "w") as file:
+            file.write("#!/bin/sh\ncat >/dev/null\n%s\n" % last)
+        os.chmod(self.path, 0o755)
+
+    def differs(self, text=EXAMPLE):
+        return difference(self.path, Sample("corpus", text), printed(text)) is not None
+
+    def test_the_right_output(self):
+        self.script("printf 'states=6\\nverdict=unambiguous\\nreached=11\\n'")
+        self.assertFalse(self.differs())
+        self.assertTrue(self.differs(EXAMPLE[:-1]))
+
+    def test_wrong_outputs(self):
+        for output in ("", "states=6\\nverdict=unambiguous\\nreached=12\\n",
+                       "states=6\\nverdict=unambiguous\\nreached=11",
+                       "states=6\\nverdict=unambiguous\\nreached=11\\n\\n",
+                       "states=6\\nverdict=potential\\n"):
+            self.script("printf '%s'" % output)
+            self.assertTrue(self.differs())
+
+    def test_the_status_is_not_compared_but_a_signal_is_wrong(self):
+        right = "printf 'states=6\\nverdict=unambiguous\\nreached=11\\n'; "
+        self.script(right + "exit 3")
+        self.assertFalse(self.differs())
+        self.script(right + "kill -9 $$")
+        self.assertTrue(self.differs())
+
+    def test_an_input_that_is_not_read_to_its_end(self):
+        self.script("")
+        with open(self.path, "w") as file:
+            file.write("#!/bin/sh\nprintf 'refused=14\\nat=0\\n'\n")
+        self.assertFalse(self.differs(b"\n" * 200000))
+
+    def test_counts_and_verdict(self):
+        self.script("printf 'states=6\\nverdict=unambiguous\\nreached=11\\n'")
+        texts = [Sample("corpus", EXAMPLE)] * FEWEST + [Sample("cut", EXAMPLE[:-1])]
+        with redirect_stdout(StringIO()) as out, redirect_stderr(StringIO()) as errors:
+            code = compare_program(self.path, texts)
+        self.assertEqual(code, 1)
+        self.assertIn("corpus %d\n" % FEWEST, out.getvalue())
+        self.assertIn("\nunambiguous %d\n" % FEWEST, out.getvalue())
+        self.assertTrue(out.getvalue().endswith("texts 6 different 1\n"))
+        self.assertIn("fewer than 5 texts: potential\n", errors.getvalue())
+        self.assertNotIn("fewer than 5 texts: unambiguous\n", errors.getvalue())
+        self.assertIn("expected b'refused=16\\nat=3\\n'", errors.getvalue())
+
+
+if __name__ == "__main__":
+    unittest.main()
