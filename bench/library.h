@@ -1,0 +1,19 @@
+/* The library's two functions, as the benchmark calls them: the one place to change if the exported functions change.
+ * The replies have the layout of searches.h: cause, at, verdict (0 refused, 1 unambiguous, 2 potential) and count; cause, at.
+ * With STAND_IN defined, same.c stands in for the library, so that the benchmark itself can be tried without it. */
+#ifndef LIBRARY_H
+#define LIBRARY_H
+
+#include "searches.h"
+
+#ifdef STAND_IN
+#define library_search same_search
+#define library_check same_check
+#else
+search_function ambiguity_search;
+check_function ambiguity_check_certificate;
+#define library_search ambiguity_search
+#define library_check ambiguity_check_certificate
+#endif
+
+#endif

@@ -1,0 +1,104 @@
+/* What the searches and certificate checks of this folder answer, and what they share: document 01's limits, the causes of
+ * refusal that they meet, and the table check. */
+#ifndef SEARCHES_H
+#define SEARCHES_H
+
+#include <stddef.h>
+#include <stdint.h>
+#include <string.h>
+
+enum { MAX_TERMINALS = 127, MAX_NONTERMINALS = 127, START = 128, MAX_LENGTH = 12, MAX_RULES = 100, MAX_STATES = 256 };
+
+enum { REFUSED = 0, UNAMBIGUOUS = 1, POTENTIAL = 2 };
+
+/* cause 0: not refused. count: the size of the smallest set, or the witness's number of entries. */
+typedef struct {
+    uint64_t cause, at, verdict, count;
+} search_reply;
+
+/* cause 0: accepted. */
+typedef struct {
+    uint64_t cause, at;
+} check_reply;
+
+typedef search_reply search_function(size_t t, size_t n, const uint8_t *table, size_t table_len, uint8_t *certificate,
+                                     size_t certificate_len, uint32_t *queue, size_t queue_len, uint32_t *parents,
+                                     size_t parents_len, uint32_t *witness, size_t witness_len);
+
+typedef check_reply check_function(size_t t, size_t n, const uint8_t *table, size_t table_len, const uint8_t *certificate,
+                                   size_t certificate_len);
+
+struct grammar;
+
+/* plain.c: plain_search stops when it finds (1,1,1), plain_search_whole finishes the set first; plain_reached is the set's size. */
+search_function plain_search, plain_search_whole;
+check_function plain_check;
+size_t plain_reached(const struct grammar *g, uint32_t *queue, uint32_t *parents);
+
+/* same.c */
+search_function same_search;
+check_function same_check;
+
+/* A checked table: each rule is its left code, its length and its codes. */
+struct grammar {
+    unsigned t, n, rules, states;
+    const uint8_t *rule[MAX_RULES];
+};
+
+static inline search_reply search_refused(uint64_t cause, uint64_t at)
+{
+    return (search_reply){cause, at, REFUSED, 0};
+}
+
+static inline int is_declared(unsigned t, unsigned n, unsigned code)
+{
+    return (code >= 1 && code <= t) || (code >= START && code < START + n);
+}
+
+static inline int is_repeated(const struct grammar *g, const uint8_t *rule)
+{
+    for (unsigned i = 0; i < g->rules; i++) {
+        const uint8_t *earlier = g->rule[i];
+        if (earlier[0] == rule[0] && earlier[1] == rule[1] && memcmp(earlier + 2, rule + 2, rule[1]) == 0)
+            return 1;
+    }
+    return 0;
+}
+
+/* Causes 1 to 8, in document 01's order. */
+static inline check_reply check_table(size_t t, size_t n, const uint8_t *table, size_t table_len, struct grammar *g)
+{
+    if (t > MAX_TERMINALS || n < 1 || n > MAX_NONTERMINALS)
+        return (check_reply){1, 0};
+    g->t = (unsigned)t;
+    g->n = (unsigned)n;
+    g->rules = 0;
+    g->states = 4;
+    for (size_t at = 0; at < table_len;) {
+        const uint8_t *rule = table + at;
+        if (g->rules == MAX_RULES)
+            return (check_reply){7, at};
+        if (table_len - at < 2)
+            return (check_reply){2, at};
+        if (rule[0] < START || rule[0] >= START + n)
+            return (check_reply){3, at};
+        unsigned k = rule[1];
+        if (k > MAX_LENGTH)
+            return (check_reply){4, at};
+        if (table_len - at - 2 < k)
+            return (check_reply){2, at};
+        for (unsigned i = 0; i < k; i++)
+            if (!is_declared(g->t, g->n, rule[2 + i]))
+                return (check_reply){5, at + 2 + i};
+        if (is_repeated(g, rule))
+            return (check_reply){6, at};
+        if (g->states + k + 1 > MAX_STATES)
+            return (check_reply){8, at};
+        g->rule[g->rules++] = rule;
+        g->states += k + 1;
+        at += 2 + k;
+    }
+    return (check_reply){0, 0};
+}
+
+#endif
