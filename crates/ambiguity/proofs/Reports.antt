@@ -19,7 +19,7 @@ use Rattle.search.specs.Promise.{isPotential}
 use Rattle.report.specs.Report.{judge, decimal, line, statesIs, verdictIs, reachedIs, unambiguous, potential, verdictLines, printed, reportOf, reportSize, reported, Reports}
 use Rattle.report.specs.declared.Reported.{Reported}
 use Rattle.report.specs.declared.Reported.the-variants.{Written}
-use Rattle.report.proofs.Bounds.{judged-text, never-short}
+use Rattle.report.proofs.Sizes.{judged-text, never-short}
 use Rattle.report.proofs.Written.{report-done}
 use Rattle.ambiguity.proofs.Searches.{parting, not-parting}
 use Rattle.ambiguity.specs.Reports.{ReportLines, ReportTheorems}

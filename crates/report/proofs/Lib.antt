@@ -1,4 +1,5 @@
-pub mod Bounds
+pub mod Pins
 pub mod Decimal
-pub mod JudgingLaws
+pub mod Sizes
+pub mod Told
 pub mod Written

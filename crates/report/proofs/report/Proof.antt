@@ -8,7 +8,7 @@ use lib.ListN.{length, take, length-replicate}
 use lib.Seq.{length-take-le}
 use Rattle.report.specs.Report.{reportOf}
 use Rattle.report.specs.Contracts.{linesOf}
-use Rattle.report.proofs.Bounds.{never-short}
+use Rattle.report.proofs.Sizes.{never-short}
 use Rattle.report.proofs.Written.{lines-of, front-written, report-short, report-all}
 use Rattle.report.proofs.report.Statement.{statement}
 use Rattle.report.proofs.report.Tie as tie
@@ -36,7 +36,7 @@ put-judged-requires : tie.Need-put-judged-requires
 put-judged-requires c κs = omega (arith, ap length (lines (c .before)), never-short (c .before .before .before .before .args .text .now), length-replicate {A = ℕ} 64 0)
 
 returns : tie.Need-returns
-returns c = report-short (c .before .before .before .before .before .before .before .args .text .now) (c .before .before .before .before .before .before .before .args .out .now) (c .before .before .put-judged .result) (size (c .before .before)) (c .if1 .taken)
+returns c = report-short (c .before .before .before .before .before .before .before .args .text .now) (c .before .before .before .before .before .before .before .args .out .now) (c .before .before .put-judged .result) (size (c .before .before)) (omega (arith, c .if1 .taken))
 
 array-share-prefix-lines : tie.Need-array-share-prefix-lines
 array-share-prefix-lines c = omega (arith, inside (c .before .before .before), c .before .before .before .put-judged .kept .0, length-replicate {A = ℕ} 64 0)

@@ -8,7 +8,7 @@ use Rattle.grammar.specs.Limits.{limits}
 use Rattle.grammar.specs.TableCheck.{checkTable}
 use Rattle.search.specs.Promise.{lent}
 use Rattle.report.specs.Contracts.{judgedOf}
-use Rattle.report.proofs.JudgingLaws.{judgedFrom, searched}
+use Rattle.report.proofs.Told.{judgedFrom, searched}
 use Rattle.report.proofs.judging.judge_table.Statement.{statement}
 use Rattle.report.proofs.judging.judge_table.Tie as tie
 

@@ -11,7 +11,7 @@ use Rattle.text.specs.declared.TextRead.the-variants as reader
 use Rattle.report.specs.Report.{judge}
 use Rattle.report.specs.Contracts.{Small, judgedOf}
 use Rattle.report.specs.declared.Judged.the-variants.{Refused}
-use Rattle.report.proofs.JudgingLaws.{long-text, text-refused, many-states, front-fits, small, same-judged}
+use Rattle.report.proofs.Told.{long-text, text-refused, many-states, front-fits, small, same-judged}
 use Rattle.report.proofs.judging.judge_text.Statement.{statement}
 use Rattle.report.proofs.judging.judge_text.Tie as tie
 
@@ -19,32 +19,32 @@ stops : (k : tie.After-read-text) (cause at : ℕ) → k .read-text .result ≡ 
     → Refused cause at ≡ judgedOf (judge (k .before .before .before .before .before .before .args .text .now))
 stops k = text-refused (k .before .before .before .before .before .before .args .text .now) (replicate 512 0) (replicate 254 0) (replicate 254 0)
     (length-replicate {A = ℕ} 512 0) (length-replicate {A = ℕ} 254 0) (length-replicate {A = ℕ} 254 0) (k .read-text .result)
-    (k .read-text .last .1 .0) (k .read-text .last .1 .1 .0) (k .read-text .last .1 .1 .1 .0) (k .read-text .ensures) (k .before .before .before .before .if1 .left)
+    (k .read-text .last .1 .0) (k .read-text .last .1 .1 .0) (k .read-text .last .1 .1 .1 .0) (k .read-text .ensures) (omega (arith, k .before .before .before .before .if1 .left))
 
 many : (k : tie.After-read-text) (t n e q : ℕ) → k .read-text .result ≡ reader.Read t n e q → 48 < q
     → Refused 14 0 ≡ judgedOf (judge (k .before .before .before .before .before .before .args .text .now))
 many k = many-states (k .before .before .before .before .before .before .args .text .now) (replicate 512 0) (replicate 254 0) (replicate 254 0)
     (length-replicate {A = ℕ} 512 0) (length-replicate {A = ℕ} 254 0) (length-replicate {A = ℕ} 254 0) (k .read-text .result)
-    (k .read-text .last .1 .0) (k .read-text .last .1 .1 .0) (k .read-text .last .1 .1 .1 .0) (k .read-text .ensures) (k .before .before .before .before .if1 .left)
+    (k .read-text .last .1 .0) (k .read-text .last .1 .1 .0) (k .read-text .last .1 .1 .1 .0) (k .read-text .ensures) (omega (arith, k .before .before .before .before .if1 .left))
 
 fits : (k : tie.After-read-text) (t n e q : ℕ) → k .read-text .result ≡ reader.Read t n e q → e ≤ length (k .read-text .last .1 .0)
 fits k = front-fits (k .before .before .before .before .before .before .args .text .now) (replicate 512 0) (replicate 254 0) (replicate 254 0)
     (length-replicate {A = ℕ} 512 0) (length-replicate {A = ℕ} 254 0) (length-replicate {A = ℕ} 254 0) (k .read-text .result)
-    (k .read-text .last .1 .0) (k .read-text .last .1 .1 .0) (k .read-text .last .1 .1 .1 .0) (k .read-text .ensures) (k .before .before .before .before .if1 .left)
+    (k .read-text .last .1 .0) (k .read-text .last .1 .1 .0) (k .read-text .last .1 .1 .1 .0) (k .read-text .ensures) (omega (arith, k .before .before .before .before .if1 .left))
 
 few : (k : tie.After-read-text) (t n e q : ℕ) → k .read-text .result ≡ reader.Read t n e q → q ≤ 48 → Small t n (take e (k .read-text .last .1 .0)) q
 few k = small (k .before .before .before .before .before .before .args .text .now) (replicate 512 0) (replicate 254 0) (replicate 254 0)
     (length-replicate {A = ℕ} 512 0) (length-replicate {A = ℕ} 254 0) (length-replicate {A = ℕ} 254 0) (k .read-text .result)
-    (k .read-text .last .1 .0) (k .read-text .last .1 .1 .0) (k .read-text .last .1 .1 .1 .0) (k .read-text .ensures) (k .before .before .before .before .if1 .left)
+    (k .read-text .last .1 .0) (k .read-text .last .1 .1 .0) (k .read-text .last .1 .1 .1 .0) (k .read-text .ensures) (omega (arith, k .before .before .before .before .if1 .left))
 
 same : (k : tie.After-read-text) (t n e q : ℕ) → k .read-text .result ≡ reader.Read t n e q → q ≤ 48
     → judgedOf (checkTable limits t n (take e (k .read-text .last .1 .0))) ≡ judgedOf (judge (k .before .before .before .before .before .before .args .text .now))
 same k = same-judged (k .before .before .before .before .before .before .args .text .now) (replicate 512 0) (replicate 254 0) (replicate 254 0)
     (length-replicate {A = ℕ} 512 0) (length-replicate {A = ℕ} 254 0) (length-replicate {A = ℕ} 254 0) (k .read-text .result)
-    (k .read-text .last .1 .0) (k .read-text .last .1 .1 .0) (k .read-text .last .1 .1 .1 .0) (k .read-text .ensures) (k .before .before .before .before .if1 .left)
+    (k .read-text .last .1 .0) (k .read-text .last .1 .1 .0) (k .read-text .last .1 .1 .1 .0) (k .read-text .ensures) (omega (arith, k .before .before .before .before .if1 .left))
 
 returns : tie.Need-returns
-returns c = long-text (c .before .before .args .text .now) (c .if1 .taken)
+returns c = long-text (c .before .before .args .text .now) (omega (arith, c .if1 .taken))
 
 slice-aggregate-read-text : tie.Need-slice-aggregate-read-text
 slice-aggregate-read-text c = search needs

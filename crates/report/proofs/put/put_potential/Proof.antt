@@ -31,7 +31,7 @@ slice-aggregate-put-line-2 : tie.Need-slice-aggregate-put-line-2
 slice-aggregate-put-line-2 c = search needs
 
 put-line-requires : tie.Need-put-line-requires
-put-line-requires c κs = filling-all (after-states (c .before .before .before .before .before))
+put-line-requires c κs = omega (arith, filling-all (after-states (c .before .before .before .before .before)))
 
 same-length : tie.Need-same-length
 same-length c = search needs

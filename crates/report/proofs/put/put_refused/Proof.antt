@@ -28,7 +28,7 @@ slice-aggregate-put-count-2 : tie.Need-slice-aggregate-put-count-2
 slice-aggregate-put-count-2 c = search needs
 
 put-count-requires-2 : tie.Need-put-count-requires-2
-put-count-requires-2 c κs = filling-all (after-cause (c .before .before .before .before))
+put-count-requires-2 c κs = omega (arith, filling-all (after-cause (c .before .before .before .before)))
 
 same-length : tie.Need-same-length
 same-length c = search needs

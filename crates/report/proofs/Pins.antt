@@ -1,0 +1,79 @@
+-- Small closed cases of the definitions: document 01's example, the three kinds of answer, 48 states and 49, and a fault of the
+-- text before the states. An edit of a definition in specs/ fails here. Assumes nothing.
+use mathlib.Core.Path.{_≡_, refl}
+use mathlib.Core.List.{List, [], _∷_}
+use Prim.Native.Nat.{ℕ}
+use Prim.Native.Char.{code}
+use Prim.Native.String.{String, [] as empty, _∷_ as _then_}
+use lib.ListN.{replicate}
+use Rattle.grammar.specs.Grammar.{Grammar, stateCount}
+use Rattle.grammar.specs.Refusal.{Answer, done, refused, refuseUnless, andThen}
+use Rattle.grammar.specs.TableCheck.{sameCodes, isAmong}
+use Rattle.triples.specs.Records.{each, aheads, rulesOf, completed, past, aheadRow, openings, closings, leftAlone, rightAlone, bothShift, bothClose, choices, insert, ordered, records}
+use Rattle.triples.specs.Smallest.{isElement, push, pushAll, explore, successors, smallest}
+use Rattle.text.specs.Pieces.{splitOn}
+use Rattle.text.specs.Names.{isNameByte, all, any, isName, folded, sameName, hasDouble, place}
+use Rattle.text.specs.Keys.{keyTable, keyLengths, key, valueOf}
+use Rattle.text.specs.Read.{refuseNone, namesOf, declaration, bodyOf, sidesOf, numberOf, isKnown}
+use Rattle.text.specs.Read.{codeOf, ruleOf, ruleLine, ruleLines, wholeLine, readLines, readText}
+use Rattle.text.specs.Rules.{admit, checkText}
+use Rattle.report.specs.Report.{judge, decimalTo, reportOf}
+
+-- the bytes of an ASCII text
+bytes : String → List ℕ
+bytes empty = []
+bytes (c then s) = code c ∷ bytes s
+
+-- to unfold one of these is to unfold all that it uses
+judged : String → Answer Grammar
+unfolding bytes judge checkText admit isAmong sameCodes stateCount readText readLines wholeLine ruleLines ruleLine ruleOf codeOf
+    isKnown numberOf place sidesOf bodyOf declaration namesOf refuseNone valueOf key keyTable keyLengths hasDouble sameName folded
+    isName any all isNameByte splitOn refuseUnless andThen
+judged text = judge (bytes text)
+
+shown : String → List ℕ
+unfolding judged reportOf decimalTo each aheads rulesOf completed past aheadRow openings closings leftAlone rightAlone bothShift
+    bothClose choices insert ordered records isElement push pushAll explore successors smallest
+shown text = reportOf (bytes text)
+
+-- document 01's example
+example : shown "terminals=a\nnonterminals=S\nrule=S: a\n" ≡ bytes "states=6\nverdict=unambiguous\nreached=11\n"
+unfolding shown
+example = refl
+
+-- a potential verdict prints two lines
+two-lines : shown "terminals=a\nnonterminals=S\nrule=S: S\n" ≡ bytes "states=6\nverdict=potential\n"
+unfolding shown
+two-lines = refl
+
+-- a refusal
+refusal : shown "terminals=a\nnonterminals=S\nrule=S: b\n" ≡ bytes "refused=17\nat=3\n"
+unfolding shown
+refusal = refl
+
+-- the cause, or 0
+abbrev cause : Answer Grammar → ℕ
+cause (done G) = 0
+cause (refused c p) = c
+
+-- 48 states pass, 49 do not, and a rule that stands twice comes before them
+states-48 : cause (judged "terminals=a\nnonterminals=S\nrule=S: a a a a a a a a a a a a\nrule=S: a a a a a a a a a a a\nrule=S: a a a a a a a a a a\nrule=S: a a a a a a a\n") ≡ 0
+unfolding judged
+states-48 = refl
+
+states-49 : judged "terminals=a\nnonterminals=S\nrule=S: a a a a a a a a a a a a\nrule=S: a a a a a a a a a a a\nrule=S: a a a a a a a a a a\nrule=S: a a a a a a a a\n" ≡ refused 14 0
+unfolding judged
+states-49 = refl
+
+fault-first : judged "terminals=a\nnonterminals=S\nrule=S: a a a a a a a a a a a a\nrule=S: a a a a a a a a a a a\nrule=S: a a a a a a a a a a\nrule=S: a a a a a a a a\nrule=S: a a a a a a a a\n" ≡ refused 6 49
+unfolding judged
+fault-first = refl
+
+-- 4,096 bytes are read, 4,097 are not
+bytes-4096 : judge (replicate 4096 0) ≡ refused 16 1
+unfolding judged
+bytes-4096 = refl
+
+bytes-4097 : judge (replicate 4097 0) ≡ refused 14 0
+unfolding judged
+bytes-4097 = refl
