@@ -4,18 +4,19 @@ use mathlib.Core.Bool.{Bool, true, false, not, _&&_, _||_}
 use mathlib.Core.List.{List}
 use Prim.Native.Nat.{ℕ, zero, suc, _+_, _-_, _*_, _/_, _%_, _≤_, _<_}
 use native.Mathlib.Omega.{arith}
-use native.Mathlib.Nat.{mul-le-mul, mod-lt, div-div-eq-div-mul, div-add-mod'}
+use native.Mathlib.Nat.{suc-mul, mul-comm, mul-add, add-mul, mul-assoc, mul-le-mul, mod-lt, div-lt-iff-lt-mul, div-eq-of-lt-le, div-div-eq-div-mul, div-add-mod'}
 use lib.Dec.{eqb, leb, ltb}
 use lib.ListN.{getD}
 use borrow.Author.Tests.{lt-ltb, le-ltb, le-leb, eq-eqb, ne-eqb}
 use Rattle.grammar.specs.Basics.{choose}
 use Rattle.grammar.specs.Limits.{limits}
+use Rattle.grammar.proofs.Answers.{no-bool}
 use Rattle.triples.specs.Index.{index, tripleCount, layerOf, leftOf, rightOf}
 use Rattle.triples.proofs.Index.{digits, layer-of, left-of, right-of}
 use Rattle.plans.specs.declared.Side.{Side}
 use Rattle.plans.specs.declared.Plan.{Plan}
-use Rattle.plans.specs.Contracts.{SideFits, Fits, Safe}
-use Rattle.plans.specs.Plan.{Rows, readsAt, sideOf, aloneOf, layerAfter, shiftOf, pairsOf, planFor, planned, nextOf, planOf}
+use Rattle.plans.specs.Contracts.{inverseOf, SideFits, Fits, Safe, Idle}
+use Rattle.plans.specs.Plan.{Rows, rows, readsAt, sideOf, aloneOf, layerAfter, shiftOf, pairsOf, planFor, planned, nextOf, planOf}
 
 pub choose-le : (b : Bool) (x y n : ℕ) → x ≤ n → y ≤ n → choose b x y ≤ n
 choose-le true x y n h k = h
@@ -209,12 +210,37 @@ by-digits Q i r f b h l e g k =
     (subst (λ (r : ℕ). (f * Q ≤ r) × (r - f * Q < Q) × (i % Q < Q) × (index Q f (r - f * Q) (i % Q) ≡ i)) (sym e)
     (one-division Q i f h l (subst (λ (r : ℕ). f ≡ choose (ltb r Q) 0 1) e g)))
 
-pub layer-of-row : (Q r f : ℕ) → f ≡ choose (ltb r Q) 0 1 → f * Q ≤ Q
-layer-of-row Q r f e = layer-times f Q (let h = choose-le (ltb r Q) 0 1 1 (omega arith) (omega arith) in omega (arith, h, e))
+pub layer-bit : (Q r : ℕ) {f : ℕ} → f ≡ choose (ltb r Q) 0 1 → f ≤ 1
+layer-bit Q r e = let h = choose-le (ltb r Q) 0 1 1 (omega arith) (omega arith) in omega (arith, h, e)
 
--- an index is small
-pub index-small : (Q i : ℕ) → 4 ≤ Q → Q ≤ limits .maxStates → i < tripleCount Q → i < 4294967296
-index-small Q i h k l = let w = square-of Q h k in omega (arith, w .1)
+pub layer-of-row : (Q r f : ℕ) → f ≡ choose (ltb r Q) 0 1 → f * Q ≤ Q
+layer-of-row Q r f e = layer-times f Q (layer-bit Q r e)
+
+-- an index divided by a product: the inverse times Q is 2³² and at most Q more, which is too little to count for an index
+inverse-times : (Q : ℕ) → 0 < Q → (e : ℕ) × (e ≤ Q) × (inverseOf Q * Q ≡ 4294967296 + e)
+inverse-times Q h =
+    let r = mod-lt 4294967296 h in
+    let w = div-add-mod' 4294967296 Q in
+    (Q - 4294967296 % Q, omega arith, omega (arith, r, w, suc-mul (4294967296 / Q) Q))
+
+row-bounds : (Q i M e r b : ℕ) → 4 ≤ Q → Q ≤ limits .maxStates → r < 512 → b < Q → r * Q + b ≡ i → e ≤ Q → M * Q ≡ 4294967296 + e
+    → (r * 4294967296 ≤ i * M) × (i * M < (r + 1) * 4294967296)
+row-bounds Q i M e r b four few rl bl ie el me =
+    let whole : i * M ≡ r * 4294967296 + r * e + b * M =
+      ap (λ (n : ℕ). n * M) (sym ie) ∙ add-mul (r * Q) b M
+      ∙ ap (λ (n : ℕ). n + b * M) (mul-assoc r Q M ∙ ap (λ (n : ℕ). r * n) (mul-comm Q M ∙ me) ∙ mul-add r 4294967296 e) in
+    let top = mul-le-mul {n₁ = suc b} {m₁ = M} {n₂ = Q} {m₂ = M} bl (let z : M ≤ M = omega arith in z) in
+    let small = mul-le-mul {n₁ = r} {m₁ = e} {n₂ = 512} {m₂ = 256} (omega arith) (omega arith) in
+    let large = mul-le-mul {n₁ = M} {m₁ = Q} {n₂ = M} {m₂ = 256} (let z : M ≤ M = omega arith in z) few in
+    (omega (arith, whole), omega (arith, whole, top, small, large, suc-mul b M, mul-comm Q M, me))
+
+pub by-inverse : (Q i : ℕ) → 4 ≤ Q → Q ≤ limits .maxStates → i < tripleCount Q
+    → (i * inverseOf Q / 4294967296 ≡ i / Q) × (i * inverseOf Q < 18446744073709551616)
+by-inverse Q i four few l =
+    let few-rows : i / Q < 2 * Q = div-lt-iff-lt-mul {k = Q} {x = i} {y = 2 * Q} (omega arith) .1 (subst (λ (n : ℕ). i < n) (sym (mul-assoc 2 Q Q)) l) in
+    let t = inverse-times Q (omega arith) in
+    let w = row-bounds Q i (inverseOf Q) (t .0) (i / Q) (i % Q) four few (omega (arith, few-rows)) (mod-lt i (omega arith)) (div-add-mod' i Q) (t .1) (t .2) in
+    (div-eq-of-lt-le 4294967296 (w .0) (w .1), omega (arith, w .1, few-rows))
 
 -- the plan by the digits of an index is the plan of the index
 pub plan-digits : (R : Rows) (t m Q i f a b : ℕ) → a < Q → b < Q → index Q f a b ≡ i
@@ -228,3 +254,30 @@ plan-digits R t m Q i f a b ha hb e =
     sym (ap (λ (g : ℕ). planFor R t m Q i g (leftOf Q i) (rightOf Q i) (side (leftOf Q i)) (side (rightOf Q i))) fe
     ∙ ap (λ (p : ℕ). planFor R t m Q i f p (rightOf Q i) (side p) (side (rightOf Q i))) ae
     ∙ ap (λ (q : ℕ). planFor R t m Q i f a q (side a) (side q)) be)
+
+-- without targets on either side and with different codes ahead there is no successor
+alone-none : (ahead : List ℕ) (t m f : ℕ) (s : Side) (o : ℕ) → s .span ≡ 0 → aloneOf ahead t m f s o ≡ 0
+alone-none ahead t m f s o e = omega (arith, alone-le ahead t m f s o, e)
+
+pairs-none : (number : List ℕ) (m f a b : ℕ) (x y : Side) → x .span ≡ 0 → pairsOf number m f a b x y ≡ 0
+pairs-none number m f a b x y e = omega (arith, pairs-le number m f a b x y, ap (λ (n : ℕ). n * y .span) e)
+
+not-both : (b c d : Bool) → c ≡ false → _≡_ {A = ℕ} (choose (b && (c && d)) 1 0) 0
+not-both true false d e = refl
+not-both false false d e = refl
+not-both b true d e = no-bool e
+
+shift-none : (ahead : List ℕ) (t f a b : ℕ) → (getD ahead a 0 ≡ getD ahead b 0 → ⊥) → shiftOf ahead t f a b ≡ 0
+unfolding shiftOf
+shift-none ahead t f a b n = not-both (leb 1 (getD ahead a 0)) (eqb (getD ahead a 0) (getD ahead b 0)) (eqb f 0 || readsAt ahead t a) (ne-eqb _ _ n)
+
+pub codes-differ : (x y : ℕ) → not (eqb x y) ≡ true → x ≡ y → ⊥
+codes-differ x y e q = no-bool (sym e ∙ ap not (eq-eqb x y q))
+
+pub none-idle : (ahead member first : List ℕ) (Q i f a b : ℕ) (x y : Side) → a < Q → b < Q → index Q f a b ≡ i
+    → x ≡ sideOf member first a → y ≡ sideOf member first b → x .span + y .span ≡ 0 → (getD ahead a 0 ≡ getD ahead b 0 → ⊥) → Idle ahead member first Q i
+none-idle ahead member first Q i f a b x y ha hb e ex ey none n number t m =
+    let xs : sideOf member first a .span ≡ 0 = omega (arith, ap (λ (s : Side). s .span) ex) in
+    let ys : sideOf member first b .span ≡ 0 = omega (arith, ap (λ (s : Side). s .span) ey) in
+    ap (λ (P : Plan). P .total) (sym (plan-digits (rows ahead number member first) t m Q i f a b ha hb e))
+    ∙ omega (arith, alone-none ahead t m f (sideOf member first a) b xs, alone-none ahead t m f (sideOf member first b) a ys, shift-none ahead t f a b n, pairs-none number m f a b (sideOf member first a) (sideOf member first b) xs)

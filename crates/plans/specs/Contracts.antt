@@ -9,8 +9,12 @@ use Rattle.grammar.specs.Grammar.{Grammar}
 use Rattle.automaton.specs.Items.{states}
 use Rattle.triples.specs.Index.{tripleCount}
 use Rattle.triples.specs.Smallest.{successors}
-use Rattle.plans.specs.Plan.{Rows, planOf, nextOf}
+use Rattle.plans.specs.Plan.{Rows, rows, planOf, nextOf}
 use Rattle.plans.specs.declared.Plan.{Plan}
+
+-- what an index below 2Q² is multiplied by, and 2³² then divided off, to divide it by Q
+abbrev pub inverseOf : ℕ → ℕ
+inverseOf Q = 4294967296 / Q + 1
 
 -- the class of p has its targets laid out
 pub record SideFits (member first : List ℕ) (p : ℕ) : Type 0 where
@@ -41,6 +45,10 @@ pub record Verified (R : Rows) (targets : List ℕ) (t m Q : ℕ) : Type 0 where
   pub fits : Fits (R .member) (R .first) Q
   pub safe : (i : ℕ) → i < tripleCount Q → Safe (planOf R t m Q i) Q
   pub inside : (i k : ℕ) → i < tripleCount Q → k < planOf R t m Q i .total → nextOf (planOf R t m Q i) targets Q k < tripleCount Q
+
+-- whatever the rules' numbers, the index has no successors
+abbrev pub Idle : List ℕ → List ℕ → List ℕ → ℕ → ℕ → Type 0
+Idle ahead member first Q i = (number : List ℕ) (t m : ℕ) → planOf (rows ahead number member first) t m Q i .total ≡ 0
 
 -- j is one of a plan's successors
 abbrev pub Has : Plan → List ℕ → ℕ → ℕ → Type 0

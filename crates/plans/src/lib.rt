@@ -2,12 +2,13 @@
 // pairs of two closings. specs/Plan.antt says which is the k-th.
 ghost use mathlib.Core.Path.{_≡_};
 ghost use Prim.Native.Nat.{_+_, _-_, _*_, _/_, _%_, _≤_, _<_};
+ghost use mathlib.Core.Bool.{true};
 ghost use lib.Dec.{ltb};
 ghost use Rattle.grammar.specs.Basics.{choose};
 ghost use Rattle.grammar.specs.Limits.{limits};
-ghost use Rattle.triples.specs.Index.{tripleCount};
+ghost use Rattle.triples.specs.Index.{index, tripleCount};
 ghost use Rattle.plans.specs.Plan.{rows, readsAt, sideOf, aloneOf, layerAfter, shiftOf, pairsOf, planFor, planOf};
-ghost use Rattle.plans.specs.Contracts.{SideFits, Fits};
+ghost use Rattle.plans.specs.Contracts.{inverseOf, SideFits, Fits, Idle};
 use grammar::MAX_STATES;
 use moves::CLASSES;
 
@@ -32,6 +33,13 @@ pub struct Plan {
     pub beside: usize,
     pub columns: usize,
     pub square: usize,
+}
+
+// The layer and the two states of an index.
+pub struct Digits {
+    pub layer: usize,
+    pub left: usize,
+    pub right: usize,
 }
 
 // A cell of a row as a number.
@@ -186,8 +194,24 @@ pub fn plan_of<'a>(
     }
 }
 
+// 2³² / q + 1, by which an index is divided.
+pub fn inverse_of(q: usize) -> usize
+    requires { ⌜ 0 < q ⌝ }
+    ensures { λ r. ⌜ r ≡ inverseOf q ⌝ }
+{
+    4294967296 / q + 1
+}
+
+// The row i / q of an index. A product takes a fraction of a division's time.
+fn row_of(i: usize, q: usize, inverse: usize) -> usize
+    requires { ⌜ (4 ≤ q) × (q ≤ limits .maxStates) × (i < tripleCount q) × (inverse ≡ inverseOf q) ⌝ }
+    ensures { λ r. ⌜ r ≡ i / q ⌝ }
+{
+    i * inverse / 4294967296
+}
+
 // The layer of the index i, where row is i / q.
-pub fn layer_of(row: usize, q: usize) -> usize
+fn layer_of(row: usize, q: usize) -> usize
     ensures { λ r. ⌜ r ≡ choose (ltb row q) 0 1 ⌝ }
 {
     if row < q {
@@ -196,23 +220,55 @@ pub fn layer_of(row: usize, q: usize) -> usize
     1
 }
 
-// The row i / q of an index. Half as wide a division takes a fraction of the time.
-pub fn row_of(i: usize, q: usize) -> usize
-    requires { ⌜ (i < 4294967296) × (0 < q) × (q < 4294967296) ⌝ }
-    ensures { λ r. ⌜ r ≡ i / q ⌝ }
-{
-    (i as u32 / q as u32) as usize
-}
-
 // The column i % q of an index, where row is i / q.
-pub fn column_of(i: usize, q: usize, row: usize) -> usize
+fn column_of(i: usize, q: usize, row: usize) -> usize
     requires { ⌜ row ≡ i / q ⌝ }
     ensures { λ r. ⌜ r ≡ i % q ⌝ }
 {
     i - row * q
 }
 
-// The plan of the successors of an index.
+// The layer and the two states of an index.
+pub fn digits_of(i: usize, q: usize, inverse: usize) -> Digits
+    requires { ⌜ (4 ≤ q) × (q ≤ limits .maxStates) × (i < tripleCount q) × (inverse ≡ inverseOf q) ⌝ }
+    ensures { λ r. ⌜ (r .layer ≤ 1) × (r .left < q) × (r .right < q) × (index q (r .layer) (r .left) (r .right) ≡ i) ⌝ }
+{
+    let row = row_of(i, q, inverse);
+    let layer = layer_of(row, q);
+    let left = row - layer * q;
+    let right = column_of(i, q, row);
+    Digits {
+        layer: layer,
+        left: left,
+        right: right,
+    }
+}
+
+// Is it plain at a glance that an index has no successors? Neither side has targets, and the codes ahead differ.
+pub fn is_idle<'a>(
+    ahead: &'a [u16; MAX_STATES],
+    member: &'a [u16; MAX_STATES],
+    first: &'a [u16; CLASSES],
+    q: usize,
+    inverse: usize,
+    i: usize,
+) -> bool
+    requires { ⌜ Fits (now member) (now first) q ⌝ }
+    requires { ⌜ (i < tripleCount q) × (inverse ≡ inverseOf q) ⌝ }
+    ensures { λ r. ⌜ (r ≡ true → Idle (now (ahead .entry)) (now (member .entry)) (now (first .entry)) q i) ⌝ }
+{
+    let d = digits_of(i, q, inverse);
+    let a = d.left;
+    let b = d.right;
+    let x = side_of(member, first, a);
+    let y = side_of(member, first, b);
+    if x.span + y.span != 0 {
+        return false;
+    }
+    ahead[a] != ahead[b]
+}
+
+// The plan of the successors of an index. With the layer known there is less to be tested.
 pub fn plan_at<'a>(
     ahead: &'a [u16; MAX_STATES],
     number: &'a [u16; MAX_STATES],
@@ -221,15 +277,16 @@ pub fn plan_at<'a>(
     t: u16,
     m: u16,
     q: usize,
+    inverse: usize,
     i: usize,
 ) -> Plan
     requires { ⌜ Fits (now member) (now first) q ⌝ }
-    requires { ⌜ i < tripleCount q ⌝ }
+    requires { ⌜ (i < tripleCount q) × (inverse ≡ inverseOf q) ⌝ }
     ensures { λ r. ⌜ r ≡ planOf (rows (now (ahead .entry)) (now (number .entry)) (now (member .entry)) (now (first .entry))) t m q i ⌝ }
 {
-    let row = row_of(i, q);
-    let f = layer_of(row, q);
-    let a = row - f * q;
-    let b = column_of(i, q, row);
-    plan_of(ahead, number, member, first, t, m, q, i, f, a, b)
+    let d = digits_of(i, q, inverse);
+    if d.layer == 0 {
+        return plan_of(ahead, number, member, first, t, m, q, i, 0, d.left, d.right);
+    }
+    plan_of(ahead, number, member, first, t, m, q, i, 1, d.left, d.right)
 }
