@@ -1,20 +1,21 @@
--- A flag is set past the marks; where a block ends that is still to be pushed. Assumes nothing.
+-- A flag is set past the marks; a block is opened. Assumes nothing.
 use Prim.Native.Nat.{ℕ, _+_, _-_, _*_, _≤_, _<_}
 use mathlib.Core.Path.{_≡_, refl, sym, subst, _∙_}
-use mathlib.Core.Bool.{Bool, true, false, _||_}
+use mathlib.Core.Bool.{true}
+use mathlib.Core.Logic.{_⊎_, inl, inr}
 use mathlib.Core.List.{List}
 use native.Mathlib.Omega.{arith}
-use borrow.Author.Tests.{eqb-true, eqb-false, ltb-true, ltb-false}
-use lib.Dec.{eqb, ltb}
+use native.Mathlib.Decide.{ℕ-discrete}
 use lib.ListN.{length, getD}
 use lib.Seq.{length-take-le, getD-take}
-use Rattle.grammar.specs.Basics.{choose, Mem}
+use Rattle.grammar.specs.Basics.{Mem}
 use Rattle.triples.specs.Index.{tripleCount}
 use Rattle.triples.specs.Certificate.{isSet}
 use Rattle.triple_laws.proofs.Members.{place-mem}
 use Rattle.bits.specs.Bits.{withBit}
 use Rattle.bits.proofs.Laws.{set-other, set-kept, set-length, set-small}
-use Rattle.search.specs.State.{State, state, used, flagBase, Marked, Later, openEnd, flagIf}
+use Rattle.search.specs.State.{State, state, used, flagBase, Marked, Later, Opened, short, shut, fresh}
+use Rattle.search.proofs.AddsLaws.{later-same}
 
 -- what stands at a used place
 pub used-at : (Q : ℕ) (s : State) (k : ℕ) → Marked Q s → k < s .count → Mem (getD (s .queue) k 0) (used s)
@@ -55,38 +56,27 @@ module _ (Q : ℕ) (s : State) (g : Marked Q s) (key : ℕ) (high : flagBase Q �
     parents-rest = refl;
   }
 
--- where a block ends that is still to be pushed
-pub open-cases : (C : ℕ → Type 0) (marks : List ℕ) (key from span : ℕ) → (span ≡ 0 → C from) → (isSet marks key ≡ true → C from)
-    → (0 < span → C (from + span)) → C (openEnd marks key from span)
-unfolding openEnd
-open-cases C marks key from span none set-before fresh = go (eqb span 0) refl (isSet marks key) refl
-  where
-    go : (a : Bool) → eqb span 0 ≡ a → (b : Bool) → isSet marks key ≡ b → C (choose (a || b) from (from + span))
-    go true e b f = none (eqb-true span 0 e)
-    go false e true f = set-before f
-    go false e false f = fresh (let ne : span ≡ 0 → ⊥ = eqb-false span 0 e in omega arith)
+pub open-range : {marks marks′ : List ℕ} {key from span end : ℕ} → Opened marks key from span end marks′ → (from ≤ end) × (end ≤ from + span)
+open-range (short l) = (omega arith, omega arith)
+open-range (shut e) = (omega arith, omega arith)
+open-range (fresh l) = (omega arith, omega arith)
 
--- the same as a fact
-pub data Opened (marks : List ℕ) (key from span end : ℕ) : Type 0 where
-  shut-empty : span ≡ 0 → end ≡ from → Opened marks key from span end
-  shut-set : isSet marks key ≡ true → end ≡ from → Opened marks key from span end
-  fresh : 0 < span → end ≡ from + span → Opened marks key from span end
+-- no flag but the block's own is set
+pub open-flags : {marks marks′ : List ℕ} {key from span end : ℕ} → (0 < span → key < 8 * length marks) → Opened marks key from span end marks′ → (x : ℕ)
+    → isSet marks′ x ≡ true → (isSet marks x ≡ true) ⊎ ((1 < span) × (end ≡ from + span) × (x ≡ key))
+open-flags room (short l) x e = inl e
+open-flags room (shut f) x e = inl e
+open-flags {marks} {key = key} room (fresh l) x e = elim (ℕ-discrete key x) [
+  | yes q ↦ inr (l, refl, sym q)
+  | no n ↦ inl (sym (set-other marks key x (room (omega arith)) n) ∙ e)
+]
 
-pub opened : (marks : List ℕ) (key from span end : ℕ) → end ≡ openEnd marks key from span → Opened marks key from span end
-opened marks key from span end e =
-    subst (Opened marks key from span) (sym e)
-    (open-cases (Opened marks key from span) marks key from span (λ z. shut-empty z refl) (λ f. shut-set f refl) (λ l. fresh l refl))
+-- the state with these marks
+abbrev pub withMarks : State → List ℕ → State
+withMarks s marks = state (s .queue) (s .parents) marks (s .count)
 
-pub open-range : (marks : List ℕ) (key from span end : ℕ) → Opened marks key from span end → (from ≤ end) × (end ≤ from + span)
-open-range marks key from span end (shut-empty z e) = (omega arith, omega arith)
-open-range marks key from span end (shut-set f e) = (omega arith, omega arith)
-open-range marks key from span end (fresh l e) = (omega arith, omega arith)
-
-pub flag-cases : (C : List ℕ → Type 0) (marks : List ℕ) (from end key : ℕ) → (from < end → C (withBit marks key)) → (end ≤ from → C marks)
-    → C (flagIf marks from end key)
-unfolding flagIf
-flag-cases C marks from end key set-now no-set = go (ltb from end) refl
-  where
-    go : (a : Bool) → ltb from end ≡ a → C (choose a (withBit marks key) marks)
-    go true e = set-now (ltb-true from end e)
-    go false e = no-set (ltb-false from end e)
+pub open-state : {Q : ℕ} {marks′ : List ℕ} {key from span end : ℕ} → (s : State) → Marked Q s → (0 < span → (flagBase Q ≤ key) × (key < 8 * length (s .marks)))
+    → Opened (s .marks) key from span end marks′ → Marked Q (withMarks s marks′) × Later Q s (withMarks s marks′)
+open-state {Q} s g room (short l) = (g, later-same Q s)
+open-state {Q} s g room (shut f) = (g, later-same Q s)
+open-state {Q} {key = key} s g room (fresh l) = let r = room (omega arith) in (flag-marked Q s g key (r .0) (r .1), flag-later Q s g key (r .0) (r .1))

@@ -11,12 +11,12 @@ use Rattle.plans.specs.declared.Plan.{Plan}
 use Rattle.plans.specs.Plan.{Rows, planOf}
 use Rattle.plans.specs.Contracts.{Safe}
 use Rattle.plans.proofs.PlanLaws.{square-of}
-use Rattle.search.specs.State.{State, state, Pushed, Grid, Sides, left, right, both, flagBase, Marked, openEnd, flagIf, Once, leftFirst, rightFirst, pairFirst, pairs, plan, Laid, Going, TakenUp}
-use Rattle.search.proofs.FlagLaws.{open-range, opened}
+use Rattle.search.specs.State.{State, state, Pushed, Grid, Sides, left, right, both, flagBase, Marked, Opened, Once, leftFirst, rightFirst, pairFirst, pairs, plan, Laid, Going, TakenUp}
+use Rattle.search.proofs.FlagLaws.{withMarks}
 use Rattle.search.proofs.AddsLaws.{later-same}
 use Rattle.search.proofs.NextLaws.{shape-of, plan-square, next-inside, left-next, right-next, shift-next}
 use Rattle.search.proofs.GoingLaws.{left-key, right-key, pair-key}
-use Rattle.search.proofs.TakeLaws.{i-below, columns-some, whole-lines, pairs-follow, HalfTaken, half-taken, taken-sides, taken-pairs}
+use Rattle.search.proofs.TakeLaws.{i-below, columns-some, whole-lines, pairs-follow, HalfTaken, both-opened, half-taken, taken-sides, taken-pairs}
 
 -- what the calls need of a plan
 pub record Fitting (targets : List ℕ) (Q : ℕ) (p : Plan) : Type 0 where
@@ -101,20 +101,21 @@ module _ (R : Rows) (targets : List ℕ) (t m Q : ℕ) (L : Laid R targets t m Q
     -- the calls for the sides, one after the other
     abbrev Half : Plan → Type 0
     Half p =
-        (flags n left-end right-end : ℕ) → flags ≡ flagBase Q → n ≡ tripleCount Q
-        → left-end ≡ openEnd (s .marks) (flags + (p .«left_base» + getD targets (p .«left_from») 0 * Q)) (p .«left_from») (p .left)
-        → right-end ≡ openEnd (s .marks) (flags + n + (p .«right_base» + getD targets (p .«right_from») 0 * 1)) (p .«right_from») (p .right)
-        → (s₁ : State) → Pushed place (Sides targets Q (p .«left_from») left-end (p .«left_base») (p .«right_from») right-end (p .«right_base») (p .shift) (p .beside)) s s₁
-        → (marks₂ marks₃ : List ℕ)
-        → marks₂ ≡ flagIf (s₁ .marks) (p .«left_from») left-end (flags + (p .«left_base» + getD targets (p .«left_from») 0 * Q))
-        → marks₃ ≡ flagIf marks₂ (p .«right_from») right-end (flags + n + (p .«right_base» + getD targets (p .«right_from») 0 * 1))
-        → HalfTaken R targets t m Q L i₀ s (state (s₁ .queue) (s₁ .parents) marks₃ (s₁ .count))
+        (flags n left-end right-end : ℕ) (marks₁ marks₂ : List ℕ) → flags ≡ flagBase Q → n ≡ tripleCount Q
+        → Opened (s .marks) (flags + (p .«left_base» + getD targets (p .«left_from») 0 * Q)) (p .«left_from») (p .left) left-end marks₁
+        → Opened marks₁ (flags + n + (p .«right_base» + getD targets (p .«right_from») 0 * 1)) (p .«right_from») (p .right) right-end marks₂
+        → Marked Q (withMarks s marks₂)
+        × ((s₁ : State) → Pushed place (Sides targets Q (p .«left_from») left-end (p .«left_base») (p .«right_from») right-end (p .«right_base») (p .shift) (p .beside)) (withMarks s marks₂) s₁
+        → HalfTaken R targets t m Q L i₀ s s₁)
 
     pub half-of : Half p
-    half-of = subst Half (sym e) (λ flags n le re ef en ol or s₁ pushed m₂ m₃ e₂ e₃.
+    half-of = subst Half (sym e) (λ flags n le re m₁ m₂ ef en ol or.
         let one = mul-one (getD targets (P .«right_from») 0) in
-        half-taken R targets t m Q L s g place inside (flags + (P .«left_base» + getD targets (P .«left_from») 0 * Q))
-        (flags + n + (P .«right_base» + getD targets (P .«right_from») 0 * 1)) le re (omega arith) (omega arith) ol or s₁ pushed m₂ m₃ e₂ e₃)
+        let kl = flags + (P .«left_base» + getD targets (P .«left_from») 0 * Q) in
+        let kr = flags + n + (P .«right_base» + getD targets (P .«right_from») 0 * 1) in (
+          both-opened R targets t m Q L s g place inside kl kr le re m₁ m₂ (omega arith) (omega arith) ol or,
+          λ s₁ pushed. half-taken R targets t m Q L s g place inside kl kr le re m₁ m₂ (omega arith) (omega arith) ol or s₁ pushed,
+        ))
 
     -- nothing follows
     pub taken-nothing : p .total ≡ 0 → TakenUp R targets t m Q place s s

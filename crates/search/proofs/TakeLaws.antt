@@ -2,20 +2,21 @@
 use Prim.Native.Nat.{ℕ, _+_, _-_, _*_, _/_, _%_, _≤_, _<_}
 use mathlib.Core.Path.{_≡_, refl, ap, ap₂, sym, subst, _∙_}
 use mathlib.Core.Bool.{true}
+use mathlib.Core.Logic.{_⊎_, inl, inr}
 use mathlib.Core.List.{List}
 use native.Mathlib.Omega.{arith}
 use native.Mathlib.Nat.{mul-one, mod-lt, div-lt-iff-lt-mul, mul-div-cancel}
-use lib.ListN.{getD}
+use lib.ListN.{length, getD}
 use Rattle.triples.specs.Index.{tripleCount}
 use Rattle.triples.specs.Certificate.{isSet}
 use Rattle.bits.specs.Bits.{withBit}
 use Rattle.plans.specs.declared.Plan.{Plan}
 use Rattle.plans.specs.Plan.{Rows, pairAt}
-use Rattle.search.specs.State.{State, state, Pushed, Grid, Sides, left, right, both, flagBase, Later, openEnd, flagIf, Once, again, first, leftFirst, rightFirst, pairFirst, pairs, plan, NextOf, Laid, Going, TakenUp}
+use Rattle.search.specs.State.{State, state, Pushed, Grid, Sides, left, right, both, flagBase, Marked, Later, Opened, short, shut, fresh, Once, again, first, leftFirst, rightFirst, pairFirst, pairs, plan, NextOf, Laid, Going, TakenUp}
 use Rattle.search.proofs.AddsLaws.{later-same, later-join, adds-later}
-use Rattle.search.proofs.FlagLaws.{entry-below, flagged, flag-later, Opened, shut-empty, shut-set, fresh, opened, open-range, flag-cases}
+use Rattle.search.proofs.FlagLaws.{entry-below, flagged, flag-later, open-range, open-flags, withMarks, open-state}
 use Rattle.search.proofs.NextLaws.{shape-of, pair-below, quotient, remainder, left-next, right-next, shift-next, pair-next, next-cases, next-inside}
-use Rattle.search.proofs.GoingLaws.{adds-going, left-key, right-key, pair-key, flag-left, flag-right, flag-pair}
+use Rattle.search.proofs.GoingLaws.{GoingWith, going-with, with-going, with-marks, adds-with, flag-before, adds-going, left-alike, right-alike, left-key, right-key, pair-key, flag-pair}
 
 module _ (R : Rows) (targets : List ℕ) (t m Q : ℕ) (L : Laid R targets t m Q) where
   abbrev N : ℕ
@@ -33,34 +34,6 @@ module _ (R : Rows) (targets : List ℕ) (t m Q : ℕ) (L : Laid R targets t m Q
   abbrev rightAt : ℕ → ℕ → ℕ
   rightAt i k = P i .«right_base» + getD targets (P i .«right_from» + k) 0
 
-  -- the flag is set if the block was pushed
-  module _ (s : State) (g : Going R targets t m Q s) where
-    abbrev withFlag : List ℕ → State
-    withFlag marks = state (s .queue) (s .parents) marks (s .count)
-
-    abbrev Flags : List ℕ → Type 0
-    Flags marks = Going R targets t m Q (withFlag marks) × Later Q s (withFlag marks)
-
-    pub flags-left : (i key end : ℕ) → i < N → key ≡ flagBase Q + leftFirst (P i) targets Q → end ≤ P i .«left_from» + P i .left
-        → ((k : ℕ) → k < P i .left → isSet (s .marks) (leftAt i k) ≡ true) → Flags (flagIf (s .marks) (P i .«left_from») end key)
-    flags-left i key end h e high all =
-        flag-cases Flags (s .marks) (P i .«left_from») end key
-        (λ l. let some : 0 < P i .left = omega arith in
-        let low = left-key R targets t m Q L s g i some h in
-        subst (λ (z : ℕ). Flags (withBit (s .marks) z)) (sym e)
-        (flag-left R targets t m Q L s g i h some all, flag-later Q s (g .marked) (flagBase Q + leftFirst (P i) targets Q) (omega arith) (omega (arith, g .marked .marks-room))))
-        (λ l. (g, later-same Q s))
-
-    pub flags-right : (i key end : ℕ) → i < N → key ≡ flagBase Q + N + rightFirst (P i) targets → end ≤ P i .«right_from» + P i .right
-        → ((k : ℕ) → k < P i .right → isSet (s .marks) (rightAt i k) ≡ true) → Flags (flagIf (s .marks) (P i .«right_from») end key)
-    flags-right i key end h e high all =
-        flag-cases Flags (s .marks) (P i .«right_from») end key
-        (λ l. let some : 0 < P i .right = omega arith in
-        let low = right-key R targets t m Q L s g i some h in
-        subst (λ (z : ℕ). Flags (withBit (s .marks) z)) (sym e)
-        (flag-right R targets t m Q L s g i h some all, flag-later Q s (g .marked) (flagBase Q + N + rightFirst (P i) targets) (omega arith) (omega (arith, g .marked .marks-room))))
-        (λ l. (g, later-same Q s))
-
   -- the moves of one side alone and the shift are taken up
   pub record HalfTaken (i : ℕ) (s s′ : State) : Type 0 where
     pub going : Going R targets t m Q s′
@@ -76,73 +49,127 @@ module _ (R : Rows) (targets : List ℕ) (t m Q : ℕ) (L : Laid R targets t m Q
     pub i-below : i₀ < N
     i-below = entry-below Q s place (g .marked) inside
 
-    module _ (left-key-is right-key-is left-end right-end : ℕ)
+    module _ (left-key-is right-key-is left-end right-end : ℕ) (marks₁ marks₂ : List ℕ)
         (el : left-key-is ≡ flagBase Q + leftFirst (P i₀) targets Q) (er : right-key-is ≡ flagBase Q + N + rightFirst (P i₀) targets)
-        (ol : left-end ≡ openEnd (s .marks) left-key-is (P i₀ .«left_from») (P i₀ .left))
-        (or : right-end ≡ openEnd (s .marks) right-key-is (P i₀ .«right_from») (P i₀ .right)) where
-      open-left : Opened (s .marks) left-key-is (P i₀ .«left_from») (P i₀ .left) left-end
-      open-left = opened (s .marks) left-key-is (P i₀ .«left_from») (P i₀ .left) left-end ol
-
-      open-right : Opened (s .marks) right-key-is (P i₀ .«right_from») (P i₀ .right) right-end
-      open-right = opened (s .marks) right-key-is (P i₀ .«right_from») (P i₀ .right) right-end or
-
+        (ol : Opened (s .marks) left-key-is (P i₀ .«left_from») (P i₀ .left) left-end marks₁)
+        (or : Opened marks₁ right-key-is (P i₀ .«right_from») (P i₀ .right) right-end marks₂) where
       abbrev pub Some : ℕ → Type 0
       Some x = Sides targets Q (P i₀ .«left_from») left-end (P i₀ .«left_base») (P i₀ .«right_from») right-end (P i₀ .«right_base») (P i₀ .shift) (P i₀ .beside) x
 
       pub some-follow : (x : ℕ) → Some x → NextOf R targets t m Q i₀ x
       some-follow x (left (k, a, b, e)) =
-          let c = open-range _ _ _ _ _ open-left in
+          let c = open-range ol in
           let q : P i₀ .«left_from» + (k - P i₀ .«left_from») ≡ k = omega arith in
           subst (Next i₀) (ap (λ (z : ℕ). P i₀ .«left_base» + getD targets z 0 * Q) q ∙ sym e) (left-next R targets t m Q L i₀ (k - P i₀ .«left_from») (omega (arith, c .1)))
       some-follow x (right (k, a, b, e)) =
-          let c = open-range _ _ _ _ _ open-right in
+          let c = open-range or in
           let q : P i₀ .«right_from» + (k - P i₀ .«right_from») ≡ k = omega arith in
           subst (Next i₀) (ap (λ (z : ℕ). P i₀ .«right_base» + getD targets z 0) q ∙ ap (λ (z : ℕ). P i₀ .«right_base» + z) (sym (mul-one (getD targets k 0))) ∙ sym e)
           (right-next R targets t m Q L i₀ (k - P i₀ .«right_from») (omega (arith, c .1)))
       some-follow x (both l e) = subst (Next i₀) (sym e) (shift-next R targets t m Q L i₀ l)
 
-      module _ (s₁ : State) (pushed : Pushed place Some s s₁) where
-        g₁ : Going R targets t m Q s₁
-        g₁ = adds-going R targets t m Q L s g place inside Some some-follow s₁ (pushed .adds)
+      left-room : 0 < P i₀ .left → (flagBase Q ≤ left-key-is) × (left-key-is < flagBase Q + N) × (left-key-is < 8 * length (s .marks))
+      left-room l = let low = left-key R targets t m Q L s g i₀ l i-below in (omega arith, omega arith, omega (arith, g .marked .marks-room))
+
+      left-opened : Marked Q (withMarks s marks₁) × Later Q s (withMarks s marks₁)
+      left-opened = open-state s (g .marked) (λ l. let r = left-room l in (r .0, r .2)) ol
+
+      right-room : 0 < P i₀ .right → (flagBase Q + N ≤ right-key-is) × (right-key-is < flagBase Q + 2 * N) × (right-key-is < 8 * length marks₁)
+      right-room l = let low = right-key R targets t m Q L s g i₀ l i-below in (omega arith, omega arith, omega (arith, left-opened .0 .marks-room))
+
+      right-opened : Marked Q (withMarks s marks₂) × Later Q (withMarks s marks₁) (withMarks s marks₂)
+      right-opened = open-state (withMarks s marks₁) (left-opened .0) (λ l. let r = right-room l in (omega (arith, r .0), r .2)) or
+
+      pub both-opened : Marked Q (withMarks s marks₂)
+      both-opened = right-opened .0
+
+      module _ (s₁ : State) (pushed : Pushed place Some (withMarks s marks₂) s₁) where
+        w₀ : GoingWith R targets t m Q L (s .marks) (withMarks s marks₂)
+        w₀ =
+            with-marks R targets t m Q L (withMarks s marks₁) marks₂
+            (with-marks R targets t m Q L s marks₁ (going-with R targets t m Q L s g) (left-opened .0) (left-opened .1)) (right-opened .0) (right-opened .1)
+
+        w₁ : GoingWith R targets t m Q L (s .marks) s₁
+        w₁ = adds-with R targets t m Q L (s .marks) (withMarks s marks₂) w₀ place inside Some some-follow s₁ (pushed .adds)
+
+        old : (x : ℕ) → flagBase Q ≤ x → isSet (s₁ .marks) x ≡ true → isSet marks₂ x ≡ true
+        old = flag-before R targets t m Q L (s .marks) (withMarks s marks₂) w₀ place inside Some some-follow s₁ (pushed .adds)
 
         l₁ : Later Q s s₁
-        l₁ = adds-later Q place Some (λ x h. next-inside R targets t m Q L i₀ x i-below (some-follow x h)) s s₁ (g .marked) (pushed .adds)
+        l₁ =
+            later-join (later-join (left-opened .1) (right-opened .1))
+            (adds-later Q place Some (λ x h. next-inside R targets t m Q L i₀ x i-below (some-follow x h)) (withMarks s marks₂) s₁ (right-opened .0) (pushed .adds))
 
         lefts₁ : (k : ℕ) → k < P i₀ .left → isSet (s₁ .marks) (leftAt i₀ k) ≡ true
-        lefts₁ k l = go open-left
+        lefts₁ k l = go ol (λ b. pushed .all (leftAt i₀ k) (left (P i₀ .«left_from» + k, omega arith, b, refl)))
           where
-            go : Opened (s .marks) left-key-is (P i₀ .«left_from») (P i₀ .left) left-end → isSet (s₁ .marks) (leftAt i₀ k) ≡ true
-            go (shut-empty z e) = absurd (omega arith)
-            go (shut-set f e) = l₁ .marks _ (g .flagged .left i₀ k i-below l (subst (λ (z : ℕ). isSet (s .marks) z ≡ true) el f))
-            go (fresh z e) = pushed .all (leftAt i₀ k) (left (P i₀ .«left_from» + k, omega arith, omega arith, refl))
+            go : {end : ℕ} {marks : List ℕ} → Opened (s .marks) left-key-is (P i₀ .«left_from») (P i₀ .left) end marks
+                → (P i₀ .«left_from» + k < end → isSet (s₁ .marks) (leftAt i₀ k) ≡ true) → isSet (s₁ .marks) (leftAt i₀ k) ≡ true
+            go (short z) now = now (omega arith)
+            go (shut f) now = w₁ .flagged .left i₀ k i-below l (subst (λ (z : ℕ). isSet (s .marks) z ≡ true) el f)
+            go (fresh z) now = now (omega arith)
 
         rights₁ : (k : ℕ) → k < P i₀ .right → isSet (s₁ .marks) (rightAt i₀ k) ≡ true
-        rights₁ k l = go open-right
+        rights₁ k l = go or (λ b.
+            pushed .all (rightAt i₀ k)
+            (right (P i₀ .«right_from» + k, omega arith, b, ap (λ (z : ℕ). P i₀ .«right_base» + z) (sym (mul-one (getD targets (P i₀ .«right_from» + k) 0))))))
           where
-            go : Opened (s .marks) right-key-is (P i₀ .«right_from») (P i₀ .right) right-end → isSet (s₁ .marks) (rightAt i₀ k) ≡ true
-            go (shut-empty z e) = absurd (omega arith)
-            go (shut-set f e) = l₁ .marks _ (g .flagged .right i₀ k i-below l (subst (λ (z : ℕ). isSet (s .marks) z ≡ true) er f))
-            go (fresh z e) =
-                pushed .all (rightAt i₀ k)
-                (right (P i₀ .«right_from» + k, omega arith, omega arith, ap (λ (z : ℕ). P i₀ .«right_base» + z) (sym (mul-one (getD targets (P i₀ .«right_from» + k) 0)))))
+            before : isSet marks₁ right-key-is ≡ true → isSet (s .marks) right-key-is ≡ true
+            before f = elim (open-flags (λ l. left-room l .2) ol right-key-is f) [
+              | inl e ↦ e
+              | inr q ↦ let a = left-room (omega (arith, q .0)) in let b = right-room (omega arith) in absurd (omega (arith, q .2, a .1, b .0))
+            ]
 
-        pub half-taken : (marks₂ marks₃ : List ℕ) → marks₂ ≡ flagIf (s₁ .marks) (P i₀ .«left_from») left-end left-key-is
-            → marks₃ ≡ flagIf marks₂ (P i₀ .«right_from») right-end right-key-is → HalfTaken i₀ s (state (s₁ .queue) (s₁ .parents) marks₃ (s₁ .count))
-        half-taken marks₂ marks₃ e₂ e₃ =
-            let two = flags-left s₁ g₁ i₀ left-key-is left-end i-below el (open-range _ _ _ _ _ open-left .1) lefts₁ in
-            let s₂ = state (s₁ .queue) (s₁ .parents) (flagIf (s₁ .marks) (P i₀ .«left_from») left-end left-key-is) (s₁ .count) in
-            let three = flags-right s₂ (two .0) i₀ right-key-is right-end i-below er (open-range _ _ _ _ _ open-right .1) (λ k l. two .1 .marks _ (rights₁ k l)) in
-            let s₃ = state (s₁ .queue) (s₁ .parents) (flagIf (s₂ .marks) (P i₀ .«right_from») right-end right-key-is) (s₁ .count) in
-            let l₂ = later-join (two .1) (three .1) in
-            let whole : HalfTaken i₀ s s₃ = record {
-              going = three .0;
-              later = later-join l₁ l₂;
-              lefts = λ k l. l₂ .marks _ (lefts₁ k l);
-              rights = λ k l. l₂ .marks _ (rights₁ k l);
-              shift = λ l. l₂ .marks _ (pushed .all (P i₀ .beside) (both l refl));
-            } in
-            subst (λ (z : List ℕ). HalfTaken i₀ s (state (s₁ .queue) (s₁ .parents) z (s₁ .count)))
-            (sym (e₃ ∙ ap (λ (z : List ℕ). flagIf z (P i₀ .«right_from») right-end right-key-is) e₂)) whole
+            go : {end : ℕ} {marks : List ℕ} → Opened marks₁ right-key-is (P i₀ .«right_from») (P i₀ .right) end marks
+                → (P i₀ .«right_from» + k < end → isSet (s₁ .marks) (rightAt i₀ k) ≡ true) → isSet (s₁ .marks) (rightAt i₀ k) ≡ true
+            go (short z) now = now (omega arith)
+            go (shut f) now = w₁ .flagged .right i₀ k i-below l (subst (λ (z : ℕ). isSet (s .marks) z ≡ true) er (before f))
+            go (fresh z) now = now (omega arith)
+
+        -- a flag that is set now was set before, or is that of one of the two blocks
+        flags₁ : (x : ℕ) → flagBase Q ≤ x → isSet (s₁ .marks) x ≡ true
+            → (isSet (s .marks) x ≡ true) ⊎ (((0 < P i₀ .left) × (x ≡ left-key-is)) ⊎ ((0 < P i₀ .right) × (x ≡ right-key-is)))
+        flags₁ x h e = elim (open-flags (λ l. right-room l .2) or x (old x h e)) [
+          | inl f ↦ elim (open-flags (λ l. left-room l .2) ol x f) [
+            | inl b ↦ inl b
+            | inr q ↦ inr (inl (omega (arith, q .0), q .2))
+          ]
+          | inr q ↦ inr (inr (omega (arith, q .0), q .2))
+        ]
+
+        going₁ : Going R targets t m Q s₁
+        going₁ = with-going R targets t m Q L s₁ w₁ (record { left = on-left; right = on-right; pair = on-pair })
+          where
+            on-left : (i k : ℕ) → i < N → k < P i .left → isSet (s₁ .marks) (flagBase Q + leftFirst (P i) targets Q) ≡ true → isSet (s₁ .marks) (leftAt i k) ≡ true
+            on-left i k h l e = elim (flags₁ (flagBase Q + leftFirst (P i) targets Q) (omega arith) e) [
+              | inl f ↦ w₁ .flagged .left i k h l f
+              | inr (inl q) ↦ left-alike R targets t m Q L (s₁ .marks) i₀ i k i-below h l (q .0) (omega (arith, q .1)) lefts₁
+              | inr (inr q) ↦
+                  let a = left-key R targets t m Q L s g i (omega arith) h in let b = right-room (q .0) in absurd (omega (arith, q .1, a, b .0))
+            ]
+
+            on-right : (i k : ℕ) → i < N → k < P i .right → isSet (s₁ .marks) (flagBase Q + N + rightFirst (P i) targets) ≡ true → isSet (s₁ .marks) (rightAt i k) ≡ true
+            on-right i k h l e = elim (flags₁ (flagBase Q + N + rightFirst (P i) targets) (omega arith) e) [
+              | inl f ↦ w₁ .flagged .right i k h l f
+              | inr (inl q) ↦ let a = left-room (q .0) in absurd (omega (arith, q .1, a .1))
+              | inr (inr q) ↦ right-alike R targets t m Q L (s₁ .marks) i₀ i k i-below h l (q .0) (omega (arith, q .1)) rights₁
+            ]
+
+            on-pair : (i k : ℕ) → i < N → k < pairs (P i) → isSet (s₁ .marks) (flagBase Q + 2 * N + pairFirst (P i) targets Q) ≡ true → isSet (s₁ .marks) (pairAt (P i) targets Q k) ≡ true
+            on-pair i k h l e = elim (flags₁ (flagBase Q + 2 * N + pairFirst (P i) targets Q) (omega arith) e) [
+              | inl f ↦ w₁ .flagged .pair i k h l f
+              | inr (inl q) ↦ let a = left-room (q .0) in absurd (omega (arith, q .1, a .1))
+              | inr (inr q) ↦ let a = right-room (q .0) in absurd (omega (arith, q .1, a .1))
+            ]
+
+        pub half-taken : HalfTaken i₀ s s₁
+        half-taken = record {
+          going = going₁;
+          later = l₁;
+          lefts = lefts₁;
+          rights = rights₁;
+          shift = λ l. pushed .all (P i₀ .beside) (both l refl);
+        }
 
     -- the pairs of two closings, line by line
     pub columns-some : 0 < pairs (P i₀) → 0 < P i₀ .columns

@@ -1,11 +1,10 @@
 -- The rows of the search while it explores, and what its inner functions promise of them. Assumes nothing.
 use Prim.Native.Nat.{ℕ, _+_, _-_, _*_, _≤_, _<_}
 use mathlib.Core.Path.{_≡_}
-use mathlib.Core.Bool.{true, false, _||_}
+use mathlib.Core.Bool.{true, false}
 use mathlib.Core.List.{List}
-use lib.Dec.{eqb, ltb}
 use lib.ListN.{length, getD, take, drop, set}
-use Rattle.grammar.specs.Basics.{choose, Mem, Distinct}
+use Rattle.grammar.specs.Basics.{Mem, Distinct}
 use Rattle.grammar.specs.Limits.{limits}
 use Rattle.triples.specs.Index.{index, tripleCount}
 use Rattle.triples.specs.Certificate.{byteCount, isSet}
@@ -92,13 +91,12 @@ pub record Zero (Q : ℕ) (marks : List ℕ) : Type 0 where
   pub room : flagBase Q + 3 * tripleCount Q ≤ 8 * length marks
   pub clear : (b : ℕ) → getD marks b 0 ≡ 0
 
--- where a block ends that is still to be pushed: at its begin if it is empty or its flag is set
-unfoldable pub openEnd : List ℕ → ℕ → ℕ → ℕ → ℕ
-openEnd marks key from span = choose (eqb span 0 || isSet marks key) from (from + span)
-
--- the flag of a block that was pushed is set
-unfoldable pub flagIf : List ℕ → ℕ → ℕ → ℕ → List ℕ
-flagIf marks from end key = choose (ltb from end) (withBit marks key) marks
+-- a block is opened: where it ends that is still to be pushed, and the marks then. A longer block has a flag at its key: if it is set,
+-- nothing is to be pushed, else it is set
+pub data Opened (marks : List ℕ) (key from span : ℕ) : ℕ → List ℕ → Type 0 where
+  short : span ≤ 1 → Opened marks key from span (from + span) marks
+  shut : isSet marks key ≡ true → Opened marks key from span from marks
+  fresh : 1 < span → Opened marks key from span (from + span) (withBit marks key)
 
 -- a block is pushed and its flag set, unless the flag was set
 pub data Once (place : ℕ) (P : ℕ → Type 0) (key : ℕ) (s : State) : State → Type 0 where
@@ -143,13 +141,13 @@ module _ (R : Rows) (targets : List ℕ) (t m Q : ℕ) where
         → (pairs (plan i) ≡ pairs (plan j)) × (plan i .«left_from» ≡ plan j .«left_from») × (plan i .«right_from» ≡ plan j .«right_from») × (plan i .columns ≡ plan j .columns)
 
   -- a block has its flag at its first index, past the marks: one row of flags for left blocks, one for right blocks, one for pairs;
-  -- what a set flag's block has is marked
-  pub record Flagged (marks : List ℕ) : Type 0 where
-    pub left : (i k : ℕ) → i < tripleCount Q → k < plan i .left → isSet marks (flagBase Q + leftFirst (plan i) targets Q) ≡ true
+  -- where a flag is set, all that its block has is marked
+  pub record Flagged (flags marks : List ℕ) : Type 0 where
+    pub left : (i k : ℕ) → i < tripleCount Q → k < plan i .left → isSet flags (flagBase Q + leftFirst (plan i) targets Q) ≡ true
         → isSet marks (plan i .«left_base» + getD targets (plan i .«left_from» + k) 0 * Q) ≡ true
-    pub right : (i k : ℕ) → i < tripleCount Q → k < plan i .right → isSet marks (flagBase Q + tripleCount Q + rightFirst (plan i) targets) ≡ true
+    pub right : (i k : ℕ) → i < tripleCount Q → k < plan i .right → isSet flags (flagBase Q + tripleCount Q + rightFirst (plan i) targets) ≡ true
         → isSet marks (plan i .«right_base» + getD targets (plan i .«right_from» + k) 0) ≡ true
-    pub pair : (i k : ℕ) → i < tripleCount Q → k < pairs (plan i) → isSet marks (flagBase Q + 2 * tripleCount Q + pairFirst (plan i) targets Q) ≡ true
+    pub pair : (i k : ℕ) → i < tripleCount Q → k < pairs (plan i) → isSet flags (flagBase Q + 2 * tripleCount Q + pairFirst (plan i) targets Q) ≡ true
         → isSet marks (pairAt (plan i) targets Q k) ≡ true
 
   -- the index at place k of the queue was found from an earlier place
@@ -165,7 +163,7 @@ module _ (R : Rows) (targets : List ℕ) (t m Q : ℕ) where
     pub some : 0 < s .count
     pub first : getD (s .queue) 0 0 ≡ 0
     pub found : (k : ℕ) → 0 < k → k < s .count → FoundFrom s k
-    pub flagged : Flagged (s .marks)
+    pub flagged : Flagged (s .marks) (s .marks)
 
   -- the index at a place is taken up: all that follows it is found
   pub record TakenUp (place : ℕ) (s s′ : State) : Type 0 where

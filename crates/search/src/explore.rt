@@ -83,6 +83,7 @@ pub fn explore<'a>(
     ensures { λ r. ⌜ Explored (rows (now (ahead .entry)) (now (number .entry)) (now (member .entry)) (now (first .entry))) (now (targets .entry)) t m q
         (now (queue .entry)) (now (parents .entry)) (state (now (queue .exit)) (now (parents .exit)) (now (marks .exit)) r) ⌝ }
 {
+    let inverse = plans::inverse_of(q);
     queue[0] = 0;
     bits::set_bit(marks, 0);
     let mut count = 1;
@@ -97,6 +98,7 @@ pub fn explore<'a>(
             t,
             m,
             q,
+            inverse,
             queue,
             parents,
             marks,

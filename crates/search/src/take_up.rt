@@ -6,7 +6,8 @@ ghost use lib.ListN.{length, getD};
 ghost use Rattle.grammar.specs.Limits.{limits};
 ghost use Rattle.triples.specs.Index.{tripleCount};
 ghost use Rattle.plans.specs.Plan.{rows};
-ghost use Rattle.search.specs.State.{state, Marked, Pushed, Grid, Sides, Once, Laid, Going, TakenUp, openEnd, flagIf};
+ghost use Rattle.plans.specs.Contracts.{inverseOf};
+ghost use Rattle.search.specs.State.{state, Marked, Pushed, Grid, Sides, Opened, Once, Laid, Going, TakenUp};
 use super::explore::expand;
 use super::explore::push;
 use grammar::MAX_STATES;
@@ -34,9 +35,9 @@ fn split(row: &[u16], from: usize, to: usize, base: usize, stride: usize, limit:
     to
 }
 
-// Where a block ends that is still to be pushed: at its begin if it is empty or its flag is set.
+// Where a block ends that is still to be pushed: at its begin if its flag is set; else the flag is set. One index or none needs no flag.
 fn open_end(
-    marks: &[u8],
+    marks: &mut [u8],
     row: &[u16],
     from: usize,
     span: usize,
@@ -46,34 +47,17 @@ fn open_end(
 ) -> usize
     requires { ⌜ (from + span ≤ length (now row)) × (from + span ≤ 1048576) × (base ≤ 1048576) × (stride ≤ limits .maxStates) × (flags ≤ 1048576) ⌝ }
     requires { ⌜ (0 < span → flags + (base + getD (now row) from 0 * stride) < 8 * length (now marks)) ⌝ }
-    ensures { λ r. ⌜ r ≡ openEnd (now (marks .entry)) (flags + (base + getD (now (row .entry)) from 0 * stride)) from span ⌝ }
+    ensures { λ r. ⌜ Opened (now (marks .entry)) (flags + (base + getD (now (row .entry)) from 0 * stride)) from span r (now (marks .exit)) ⌝ }
 {
-    if span == 0 {
+    if span < 2 {
+        return from + span;
+    }
+    let flag = flags + (base + plans::wide(row[from]) * stride);
+    if bits::is_set(marks, flag) {
         return from;
     }
-    if bits::is_set(marks, flags + (base + plans::wide(row[from]) * stride)) {
-        return from;
-    }
+    bits::set_bit(marks, flag);
     from + span
-}
-
-// Sets the flag of a block that was pushed.
-fn set_flag(
-    marks: &mut [u8],
-    row: &[u16],
-    from: usize,
-    end: usize,
-    base: usize,
-    stride: usize,
-    flags: usize,
-)
-    requires { ⌜ (end ≤ length (now row)) × (base ≤ 1048576) × (stride ≤ limits .maxStates) × (flags ≤ 1048576) ⌝ }
-    requires { ⌜ (from < end → flags + (base + getD (now row) from 0 * stride) < 8 * length (now marks)) ⌝ }
-    ensures { λ _. ⌜ now (marks .exit) ≡ flagIf (now (marks .entry)) from end (flags + (base + getD (now (row .entry)) from 0 * stride)) ⌝ }
-{
-    if from < end {
-        bits::set_bit(marks, flags + (base + plans::wide(row[from]) * stride));
-    }
 }
 
 // Pushes an index if `shift` is not 0.
@@ -270,6 +254,7 @@ pub fn take_up<'a>(
     t: u16,
     m: u16,
     q: usize,
+    inverse: usize,
     queue: &mut [u32],
     parents: &mut [u32],
     marks: &mut [u8],
@@ -278,16 +263,16 @@ pub fn take_up<'a>(
 ) -> usize
     requires { ⌜ Laid (rows (now ahead) (now number) (now member) (now first)) (now targets) t m q ⌝ }
     requires { ⌜ Going (rows (now ahead) (now number) (now member) (now first)) (now targets) t m q (state (now queue) (now parents) (now marks) count) ⌝ }
-    requires { ⌜ place < count ⌝ }
+    requires { ⌜ (place < count) × (inverse ≡ inverseOf q) ⌝ }
     ensures { λ r. ⌜ TakenUp (rows (now (ahead .entry)) (now (number .entry)) (now (member .entry)) (now (first .entry))) (now (targets .entry)) t m q place
         (state (now (queue .entry)) (now (parents .entry)) (now (marks .entry)) count)
         (state (now (queue .exit)) (now (parents .exit)) (now (marks .exit)) r) ⌝ }
 {
     let i = entry(queue[place]);
-    let p = plans::plan_at(ahead, number, member, first, t, m, q, i);
-    if p.total == 0 {
+    if plans::is_idle(ahead, member, first, q, inverse, i) {
         return count;
     }
+    let p = plans::plan_at(ahead, number, member, first, t, m, q, inverse, i);
     let n = 2 * (q * q);
     let flags = (n + 7) / 8 * 8;
     let left_end = open_end(marks, targets, p.left_from, p.left, p.left_base, q, flags);
@@ -316,16 +301,6 @@ pub fn take_up<'a>(
         p.right_base,
         p.shift,
         p.beside,
-    );
-    set_flag(marks, targets, p.left_from, left_end, p.left_base, q, flags);
-    set_flag(
-        marks,
-        targets,
-        p.right_from,
-        right_end,
-        p.right_base,
-        1,
-        flags + n,
     );
     let pairs = p.total - p.left - p.right - p.shift;
     if pairs == 0 {

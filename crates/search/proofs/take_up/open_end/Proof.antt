@@ -1,99 +1,113 @@
--- open_end meets its contract: its two tests are those of the definition.
-use mathlib.Core.Path.{_≡_, sym, ap, _∙_, subst}
-use mathlib.Core.Bool.{Bool, true, false, _||_}
-use mathlib.Core.List.{List}
-use Prim.Native.Nat.{ℕ, _+_, _*_, _≤_, _<_}
-use native.Mathlib.Omega.{arith}
-use lib.ListN.{length, getD}
-use borrow.Author.Tests.{eq-eqb, ne-eqb}
-use Rattle.grammar.specs.Basics.{choose}
-use Rattle.triples.specs.Certificate.{isSet}
-use Rattle.search.specs.State.{openEnd}
-use Rattle.search.proofs.AddsLaws.{wide-fits}
+-- open_end meets its contract: its two tests are the cases of the definition.
 use borrow.Author.Needs.{needs}
+use native.Mathlib.Omega.{arith}
+use Prim.Native.Nat.{ℕ, _+_, _*_, _≤_, _<_}
+use mathlib.Core.Path.{_≡_, ap, sym, subst, _∙_}
+use mathlib.Core.Bool.{true}
+use mathlib.Core.List.{List}
+use lib.ListN.{length, getD}
+use Rattle.triples.specs.Certificate.{isSet}
+use Rattle.bits.specs.Bits.{withBit}
+use Rattle.search.specs.State.{Opened, short, shut, fresh}
+use Rattle.search.proofs.AddsLaws.{wide-fits}
 use Rattle.search.proofs.take_up.open_end.Statement.{statement}
 use Rattle.search.proofs.take_up.open_end.Tie as tie
-
-open-empty : (marks : List ℕ) (key from span : ℕ) → span ≡ 0 → from ≡ openEnd marks key from span
-unfolding openEnd
-open-empty marks key from span h = ap (λ (t : Bool). choose (t || isSet marks key) from (from + span)) (sym (eq-eqb span 0 h))
-
-open-set : (marks : List ℕ) (key from span : ℕ) → (span ≡ 0 → ⊥) → isSet marks key ≡ true → from ≡ openEnd marks key from span
-unfolding openEnd
-open-set marks key from span h e =
-    ap (λ (t : Bool). choose t from (from + span)) (sym e)
-    ∙ ap (λ (t : Bool). choose (t || isSet marks key) from (from + span)) (sym (ne-eqb span 0 h))
-
-open-free : (marks : List ℕ) (key from span : ℕ) → (span ≡ 0 → ⊥) → isSet marks key ≡ false → from + span ≡ openEnd marks key from span
-unfolding openEnd
-open-free marks key from span h e =
-    ap (λ (t : Bool). choose t from (from + span)) (sym e)
-    ∙ ap (λ (t : Bool). choose (t || isSet marks key) from (from + span)) (sym (ne-eqb span 0 h))
+use Rattle.search.proofs.take_up.open_end.Reads as reads
+use Rattle.search.proofs.take_up.open_end.Lts as lts
+use Rattle.bits.proofs.is_set.Reads as is-set-reads
+use Rattle.bits.proofs.set_bit.Reads as set-bit-reads
+use Rattle.plans.proofs.wide.Reads as wide-reads
 
 small : (c : tie.After-wide) → c .wide .result * c .before .before .before .before .before .args .stride ≤ 16777216
 small c = wide-fits (c .wide .result) (c .before .before .before .before .before .args .stride) (c .wide .ensures .1) (c .before .before .before .before .before .pre .0 .3)
 
-seen : (c : tie.After-is-set) →
-    let a = c .before .before .before .before .before .before .args in
-    isSet (a .marks .now) (a .flags + (a .base + getD (a .row .now) (a .from) 0 * a .stride)) ≡ c .is-set .result
-seen c =
-    let a = c .before .before .before .before .before .before .args in
-    ap (λ (u : ℕ). isSet (a .marks .now) (a .flags + (a .base + u * a .stride))) (sym (c .before .wide .ensures .0)) ∙ sym (c .is-set .ensures)
-
-returns : tie.Need-returns
-returns c =
-    let a = c .before .before .before .args in
-    open-empty (a .marks .now) (a .flags + (a .base + getD (a .row .now) (a .from) 0 * a .stride)) (a .from) (a .span) (c .if1 .taken)
-
-mul-wide : tie.Need-mul-wide
-mul-wide c = search needs
-
-shared-slice-read-wide : tie.Need-shared-slice-read-wide
-shared-slice-read-wide c = search needs
-
-wide-requires : tie.Need-wide-requires
-wide-requires c κs = search needs
-
-mul-is-set : tie.Need-mul-is-set
-mul-is-set c = omega (arith, small c)
-
-add-is-set : tie.Need-add-is-set
-add-is-set c = omega (arith, small c, c .before .before .before .before .before .pre .0 .2)
-
-add-is-set-2 : tie.Need-add-is-set-2
-add-is-set-2 c = omega (arith, small c, c .before .before .before .before .before .pre .0 .2, c .before .before .before .before .before .pre .0 .4)
-
-is-set-requires : tie.Need-is-set-requires
-is-set-requires c κs =
-    let e = c .before .before .before .before .before in
-    let a = e .args in
+inside : (c : tie.After-wide) → let a = c .before .before .before .before .before .args in a .flags + (a .base + c .wide .result * a .stride) < 8 * length (a .marks .now)
+inside c =
+    let e = c .before .before .before .before .before in let a = e .args in
     subst (λ (u : ℕ). a .flags + (a .base + u * a .stride) < 8 * length (a .marks .now)) (sym (c .wide .ensures .0)) (e .pre .1 (omega (arith, c .before .before .if1 .left)))
 
-returns-2 : tie.Need-returns-2
-returns-2 c =
-    let a = c .before .before .before .before .before .before .before .args in
-    open-set (a .marks .now) (a .flags + (a .base + getD (a .row .now) (a .from) 0 * a .stride)) (a .from) (a .span) (c .before .before .before .before .if1 .left) (seen (c .before) ∙ c .if2 .taken)
-
+-- src/take_up.rt:53:16
 add-result : tie.Need-add-result
 add-result c = search needs
 
+-- src/take_up.rt:53:9
+returns : tie.Need-returns
+returns c = short (omega (arith, c .if1 .taken))
+
+-- src/take_up.rt:55:44
+mul-wide : tie.Need-mul-wide
+mul-wide c = search needs
+
+-- src/take_up.rt:55:44
+shared-slice-read-wide : tie.Need-shared-slice-read-wide
+shared-slice-read-wide c = search needs
+
+-- src/take_up.rt:55:32
+wide-requires : tie.Need-wide-requires
+wide-requires c κs = search needs
+
+-- src/take_up.rt:55:32
+mul-flag : tie.Need-mul-flag
+mul-flag c = omega (arith, small c)
+
+-- src/take_up.rt:55:25
+add-flag : tie.Need-add-flag
+add-flag c = omega (arith, small c, c .before .before .before .before .before .pre .0 .2)
+
+-- src/take_up.rt:55:16
+add-flag-2 : tie.Need-add-flag-2
+add-flag-2 c = omega (arith, small c, c .before .before .before .before .before .pre .0 .2, c .before .before .before .before .before .pre .0 .4)
+
+-- src/take_up.rt:56:8
+is-set-requires : tie.Need-is-set-requires
+is-set-requires c κs = inside (c .before)
+
+-- src/take_up.rt:57:9
+same-length : tie.Need-same-length
+same-length c = search needs
+
+-- src/take_up.rt:57:9
+returns-2 : tie.Need-returns-2
+returns-2 c =
+    let w = c .before .before .before in let a = w .before .before .before .before .before .args in
+    shut (ap (λ (u : ℕ). isSet (a .marks .now) (a .flags + (a .base + u * a .stride))) (sym (w .wide .ensures .0)) ∙ sym (c .before .is-set .ensures) ∙ c .if2 .taken)
+
+-- src/take_up.rt:59:5
+set-bit-requires : tie.Need-set-bit-requires
+set-bit-requires c κs = inside (c .before .before .before .before)
+
+-- src/take_up.rt:60:5
+add-result-2 : tie.Need-add-result-2
+add-result-2 c = search needs
+
+-- src/take_up.rt:39:1
+same-length-2 : tie.Need-same-length-2
+same-length-2 c = search needs
+
+-- src/take_up.rt:39:1
 returns-3 : tie.Need-returns-3
 returns-3 c =
-    let a = c .before .before .before .before .before .before .before .args in
-    open-free (a .marks .now) (a .flags + (a .base + getD (a .row .now) (a .from) 0 * a .stride)) (a .from) (a .span) (c .before .before .before .before .if1 .left) (seen (c .before) ∙ c .if2 .left)
+    let w = c .before .before .before .before .before .before .before in let e = w .before .before .before .before .before in let a = e .args in
+    subst (Opened (a .marks .now) (a .flags + (a .base + getD (a .row .now) (a .from) 0 * a .stride)) (a .from) (a .span) (a .from + a .span))
+    (ap (λ (u : ℕ). withBit (a .marks .now) (a .flags + (a .base + u * a .stride))) (sym (w .wide .ensures .0)) ∙ sym (c .before .before .set-bit .ensures))
+    (fresh (omega (arith, w .before .before .if1 .left)))
 
 pub open-end-spec : {M : Type 1} → statement M
 open-end-spec =
     tie.close
     (tie.spec
+    add-result
     returns
     mul-wide
     shared-slice-read-wide
     wide-requires
-    mul-is-set
-    add-is-set
-    add-is-set-2
+    mul-flag
+    add-flag
+    add-flag-2
     is-set-requires
+    same-length
     returns-2
-    add-result
+    set-bit-requires
+    add-result-2
+    same-length-2
     returns-3)
