@@ -31,7 +31,7 @@ use Rattle.triple_laws.proofs.Laws.{size-cardinal}
 use Rattle.plans.specs.Plan.{Rows}
 use Rattle.plans.specs.Contracts.{Planned}
 use Rattle.search.specs.Promise.{Told, isPotential, lent, cleared}
-use Rattle.search.specs.State.{State, used, flagBase, NextOf, Marked, Explored}
+use Rattle.explore.specs.State.{State, used, flagBase, NextOf, Marked, Explored}
 use Rattle.search.specs.Finish.{Ahead, here, back, Answered}
 use Rattle.search.specs.declared.SearchVerdict.{SearchVerdict}
 use Rattle.search.specs.declared.SearchVerdict.the-variants.{Unambiguous, Potential, Refused}

@@ -14,7 +14,7 @@ use Rattle.triples.specs.Certificate.{byteCount, isSet}
 use Rattle.plans.specs.Plan.{Rows}
 use Rattle.plans.specs.Contracts.{Planned}
 use Rattle.search.specs.Promise.{Lent, Told, isPotential}
-use Rattle.search.specs.State.{State}
+use Rattle.explore.specs.State.{State}
 use Rattle.search.specs.declared.SearchVerdict.{SearchVerdict}
 use Rattle.search.specs.declared.SearchVerdict.the-variants.{Unambiguous, Potential, Refused}
 

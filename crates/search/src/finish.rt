@@ -6,7 +6,7 @@ ghost use Rattle.grammar.specs.Basics.{over};
 ghost use Rattle.grammar.specs.Limits.{limits};
 ghost use Rattle.triples.specs.Index.{tripleCount};
 ghost use Rattle.triples.specs.Certificate.{byteCount};
-ghost use Rattle.search.specs.State.{state, Marked};
+ghost use Rattle.explore.specs.State.{state, Marked};
 ghost use Rattle.search.specs.Finish.{Depth, Linked, StandsIn, Written, Answered};
 use super::SearchVerdict;
 

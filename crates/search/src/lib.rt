@@ -1,17 +1,14 @@
 // The search: explores what is reached from (0,0,0), first in first out, and writes the smallest closed set as a certificate or a
 // witness. All is tested before a byte is written, so a refusal leaves what is lent as it was.
-mod explore;
 mod finish;
-mod take_up;
 
 ghost use Prim.Native.Nat.{_≤_};
 ghost use Rattle.grammar.specs.Limits.{limits};
 ghost use Rattle.moves.specs.Tables.{IsRecord};
 ghost use Rattle.plans.specs.Plan.{rows};
 ghost use Rattle.search.specs.Promise.{lent, Searches};
-ghost use Rattle.search.specs.State.{Laid, Zero};
+ghost use Rattle.explore.specs.State.{Laid, Zero};
 ghost use Rattle.search.specs.Finish.{Enough, Searched, BuiltSearched};
-use explore::explore;
 use finish::answer;
 use finish::clear;
 use grammar::BUFFER_TOO_SHORT;
@@ -62,7 +59,7 @@ fn search_rows<'a>(
         (lent (now (certificate .entry)) (now (queue .entry)) (now (parents .entry)) (now (witness .entry))) r
         (lent (now (certificate .exit)) (now (queue .exit)) (now (parents .exit)) (now (witness .exit))) ⌝ }
 {
-    let count = explore(
+    let count = explore::explore(
         ahead,
         number,
         member,

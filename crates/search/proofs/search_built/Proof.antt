@@ -8,7 +8,7 @@ use lib.ListN.{length}
 use Rattle.grammar.specs.Limits.{limits}
 use Rattle.moves.proofs.Built.{few-nonterminals, room-of}
 use Rattle.plans.proofs.PlannedLaws.{planned-of}
-use Rattle.search.proofs.LaidLaws.{laid-of}
+use Rattle.explore.proofs.LaidLaws.{laid-of}
 use Rattle.search.proofs.search_built.Statement.{statement}
 use Rattle.search.proofs.search_built.Tie as tie
 use Rattle.search.proofs.search_built.Reads as reads

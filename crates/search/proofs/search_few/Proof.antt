@@ -5,7 +5,7 @@ use Prim.Native.Nat.{ℕ, _+_, _-_, _*_, _≤_, _<_}
 use mathlib.Core.Path.{_≡_, refl, ap, sym, subst, subst₂, _∙_}
 use mathlib.Core.List.{List}
 use native.Mathlib.Nat.{mul-le-mul}
-use Rattle.search.proofs.ExploreLaws.{zeros, few-bytes}
+use Rattle.explore.proofs.ExploreLaws.{zeros, few-bytes}
 use Rattle.search.proofs.search_few.Statement.{statement}
 use Rattle.search.proofs.search_few.Tie as tie
 use Rattle.search.proofs.search_few.Reads as reads

@@ -15,7 +15,7 @@ use Rattle.search.proofs.search_rows.Statement.{statement}
 use Rattle.search.proofs.search_rows.Tie as tie
 use Rattle.search.proofs.search_rows.Reads as reads
 use Rattle.search.proofs.search_rows.Lts as lts
-use Rattle.search.proofs.explore.explore.Reads as explore-reads
+use Rattle.explore.proofs.explore.Reads as explore-reads
 use Rattle.search.proofs.finish.answer.Reads as answer-reads
 use Rattle.search.proofs.finish.clear.Reads as clear-reads
 
