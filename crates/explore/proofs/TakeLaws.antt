@@ -9,13 +9,13 @@ use native.Mathlib.Nat.{mul-one, mod-lt, div-lt-iff-lt-mul, mul-div-cancel}
 use lib.ListN.{length, getD}
 use Rattle.triples.specs.Index.{tripleCount}
 use Rattle.triples.specs.Certificate.{isSet}
-use Rattle.bits.specs.Bits.{withBit}
 use Rattle.plans.specs.declared.Plan.{Plan}
 use Rattle.plans.specs.Plan.{Rows, pairAt}
+use Rattle.plans.proofs.PlannedLaws.{pair-below, quotient, remainder}
 use Rattle.explore.specs.State.{State, state, Pushed, Grid, Sides, left, right, both, flagBase, Marked, Later, Opened, short, shut, fresh, Once, again, first, leftFirst, rightFirst, pairFirst, pairs, plan, NextOf, Laid, Going, TakenUp}
 use Rattle.explore.proofs.AddsLaws.{later-same, later-join, adds-later}
 use Rattle.explore.proofs.FlagLaws.{entry-below, flagged, flag-later, open-range, open-flags, withMarks, open-state}
-use Rattle.explore.proofs.NextLaws.{shape-of, pair-below, quotient, remainder, left-next, right-next, shift-next, pair-next, next-cases, next-inside}
+use Rattle.explore.proofs.NextLaws.{shape-of, left-next, right-next, shift-next, pair-next, next-cases, next-inside}
 use Rattle.explore.proofs.GoingLaws.{GoingWith, going-with, with-going, with-marks, adds-with, flag-before, adds-going, left-alike, right-alike, left-key, right-key, pair-key, flag-pair}
 
 module _ (R : Rows) (targets : List ℕ) (t m Q : ℕ) (L : Laid R targets t m Q) where

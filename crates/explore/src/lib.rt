@@ -8,9 +8,9 @@ ghost use Rattle.grammar.specs.Limits.{limits};
 ghost use Rattle.triples.specs.Index.{tripleCount};
 ghost use Rattle.plans.specs.Plan.{rows};
 ghost use Rattle.explore.specs.State.{state, Marked, Pushed, Along, Laid, Zero, Explored};
-use take_up::take_up;
 use grammar::MAX_STATES;
 use moves::CLASSES;
+use take_up::take_up;
 
 // Puts an index at the queue's end unless it is marked. `place` is the place that it was found from.
 pub fn push(

@@ -227,8 +227,8 @@ row-bounds : (Q i M e r b : ℕ) → 4 ≤ Q → Q ≤ limits .maxStates → r <
     → (r * 4294967296 ≤ i * M) × (i * M < (r + 1) * 4294967296)
 row-bounds Q i M e r b four few rl bl ie el me =
     let whole : i * M ≡ r * 4294967296 + r * e + b * M =
-      ap (λ (n : ℕ). n * M) (sym ie) ∙ add-mul (r * Q) b M
-      ∙ ap (λ (n : ℕ). n + b * M) (mul-assoc r Q M ∙ ap (λ (n : ℕ). r * n) (mul-comm Q M ∙ me) ∙ mul-add r 4294967296 e) in
+    ap (λ (n : ℕ). n * M) (sym ie) ∙ add-mul (r * Q) b M
+    ∙ ap (λ (n : ℕ). n + b * M) (mul-assoc r Q M ∙ ap (λ (n : ℕ). r * n) (mul-comm Q M ∙ me) ∙ mul-add r 4294967296 e) in
     let top = mul-le-mul {n₁ = suc b} {m₁ = M} {n₂ = Q} {m₂ = M} bl (let z : M ≤ M = omega arith in z) in
     let small = mul-le-mul {n₁ = r} {m₁ = e} {n₂ = 512} {m₂ = 256} (omega arith) (omega arith) in
     let large = mul-le-mul {n₁ = M} {m₁ = Q} {n₂ = M} {m₂ = 256} (let z : M ≤ M = omega arith in z) few in

@@ -47,11 +47,14 @@ swapped : (x y z : ℕ) → x + y + z ≡ x + z + y
 swapped x y z = omega arith
 
 -- a pair of numbers as one, and back
-pair-below : (a b x y : ℕ) → x < a → y < b → x * b + y < a * b
+pub pair-below : (a b x y : ℕ) → x < a → y < b → x * b + y < a * b
 pair-below a b x y h k = omega (arith, mul-le-mul {n₁ = suc x} {m₁ = b} {n₂ = a} {m₂ = b} h (let z : b ≤ b = omega arith in z), suc-mul x b)
 
-quotient : (x b y : ℕ) → y < b → (x * b + y) / b ≡ x
+pub quotient : (x b y : ℕ) → y < b → (x * b + y) / b ≡ x
 quotient x b y h = mul-add-div-right (omega arith) x y ∙ ap (λ (z : ℕ). x + z) (div-eq-of-lt h) ∙ omega arith
+
+pub remainder : (x b y : ℕ) → y < b → (x * b + y) % b ≡ y
+remainder x b y h = mul-add-mod-self-right x b y ∙ mod-eq-of-lt h
 
 module _ (G : Grammar) (W : WellFormed limits G) (old new : Tables) (X : Built G old new) (long : limits .maxStates ≤ length (new .targets)) where
   apart : limits .maxTerminals < limits .nonterminalBase
@@ -310,7 +313,7 @@ module _ (G : Grammar) (W : WellFormed limits G) (old new : Tables) (X : Built G
       let l = pair-below (side p .span) s (c .0) (d .0) (c .1) (d .1) in
       let w = pairs-is (new .number) m p q (side p) (side q) kp kq n in
       let eu : (K - x - y - z) / s ≡ c .0 = ap (λ (j : ℕ). j / s) o ∙ quotient (c .0) s (d .0) (d .1) in
-      let ev : (K - x - y - z) % s ≡ d .0 = ap (λ (j : ℕ). j % s) o ∙ mul-add-mod-self-right (c .0) s (d .0) ∙ mod-eq-of-lt (d .1) in
+      let ev : (K - x - y - z) % s ≡ d .0 = ap (λ (j : ℕ). j % s) o ∙ remainder (c .0) s (d .0) (d .1) in
       let f : Q * Q + u * Q + v ≡ index Q 1 u v = omega arith in (
         K,
         omega (arith, l, w),

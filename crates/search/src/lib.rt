@@ -3,7 +3,6 @@
 mod finish;
 
 ghost use Prim.Native.Nat.{_≤_};
-ghost use Rattle.grammar.specs.Limits.{limits};
 ghost use Rattle.moves.specs.Tables.{IsRecord};
 ghost use Rattle.plans.specs.Plan.{rows};
 ghost use Rattle.search.specs.Promise.{lent, Searches};

@@ -1,13 +1,12 @@
 -- explore meets its contract: each turn takes up the index at the head, and what is found is never more than 2Q².
-use borrow.Author.Needs.{needs}
 use native.Mathlib.Omega.{arith}
-use Prim.Native.Nat.{ℕ, _+_, _-_, _*_, _≤_, _<_}
-use mathlib.Core.Path.{_≡_, refl, ap, sym, subst, _∙_}
+use Prim.Native.Nat.{ℕ, _-_, _≤_}
+use mathlib.Core.Path.{_≡_, refl, sym, subst}
 use mathlib.Core.List.{List}
 use lib.ListN.{length, set, length-set}
 use Rattle.triples.specs.Index.{tripleCount}
 use Rattle.plans.specs.Plan.{Rows, rows}
-use Rattle.explore.specs.State.{State, state, Laid}
+use Rattle.explore.specs.State.{state, Laid}
 use Rattle.explore.proofs.AddsLaws.{count-small}
 use Rattle.explore.proofs.ExploreLaws.{Turn, some-triples, turn-start, turn-next, turn-end}
 use Rattle.explore.proofs.explore.Statement.{statement}

@@ -1,9 +1,7 @@
 -- is_idle meets its contract: no block has a target, and no symbol is shifted.
 use borrow.Author.Needs.{needs}
 use native.Mathlib.Omega.{arith}
-use mathlib.Core.Path.{_≡_, sym}
-use Prim.Native.Nat.{_≤_}
-use Rattle.grammar.specs.Limits.{limits}
+use mathlib.Core.Path.{sym}
 use Rattle.grammar.proofs.Answers.{no-bool}
 use Rattle.plans.proofs.PlanLaws.{span-le, codes-differ, none-idle}
 use Rattle.plans.proofs.is_idle.Statement.{statement}

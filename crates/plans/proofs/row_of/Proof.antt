@@ -1,7 +1,7 @@
 -- row_of meets its contract: the inverse divides an index.
 use native.Mathlib.Omega.{arith}
 use Prim.Native.Nat.{ℕ, _*_, _/_}
-use mathlib.Core.Path.{_≡_, ap, _∙_}
+use mathlib.Core.Path.{ap, _∙_}
 use Rattle.plans.proofs.PlanLaws.{by-inverse}
 use Rattle.plans.proofs.row_of.Statement.{statement}
 use Rattle.plans.proofs.row_of.Tie as tie

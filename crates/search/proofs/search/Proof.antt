@@ -1,15 +1,12 @@
 -- search meets its contract: the table check answers first, then the four lengths are compared; a refusal changes nothing.
 use borrow.Author.Needs.{needs}
 use native.Mathlib.Omega.{arith}
-use Prim.Native.Nat.{ℕ, _+_, _-_, _*_, _≤_, _<_}
-use mathlib.Core.Path.{_≡_, refl, ap, sym, subst, subst₂, _∙_}
+use Prim.Native.Nat.{ℕ, _-_, _*_, _≤_}
+use mathlib.Core.Path.{_≡_, refl, ap, sym, subst}
 use mathlib.Core.Bool.{false}
-use mathlib.Core.List.{List}
-use lib.ListN.{length}
-use Rattle.grammar.specs.Limits.{limits}
 use Rattle.grammar.specs.Grammar.{Grammar}
 use Rattle.grammar.specs.Record.{recordOf}
-use Rattle.grammar.specs.Refusal.{Answer, refused, done}
+use Rattle.grammar.specs.Refusal.{Answer, refused}
 use Rattle.grammar.specs.declared.CheckedGrammar.{CheckedGrammar}
 use Rattle.automaton.specs.Items.{states}
 use Rattle.moves.proofs.Built.{few-states}
@@ -17,7 +14,6 @@ use Rattle.plans.proofs.PlanLaws.{product-le}
 use Rattle.table_check.proofs.Callers.{PassedTable, passed-table, refused-table}
 use Rattle.search.specs.Promise.{Lent, lent, isEnough, Answers}
 use Rattle.search.specs.Finish.{Enough}
-use Rattle.search.specs.declared.SearchVerdict.{SearchVerdict}
 use Rattle.search.specs.declared.SearchVerdict.the-variants.{Refused}
 use Rattle.search.proofs.LentLaws.{is-enough, short-certificate, short-queue, short-parents, short-witness, search-refused, search-short, search-enough}
 use Rattle.search.proofs.search.Statement.{statement}

@@ -1,11 +1,7 @@
 -- search_built meets its contract: the built rows are those of the grammar that the record stands for.
 use borrow.Author.Needs.{needs}
 use native.Mathlib.Omega.{arith}
-use Prim.Native.Nat.{ℕ, _+_, _-_, _*_, _≤_, _<_}
-use mathlib.Core.Path.{_≡_, refl, ap, sym, subst, subst₂, _∙_}
-use mathlib.Core.List.{List}
-use lib.ListN.{length}
-use Rattle.grammar.specs.Limits.{limits}
+use Prim.Native.Nat.{_-_}
 use Rattle.moves.proofs.Built.{few-nonterminals, room-of}
 use Rattle.plans.proofs.PlannedLaws.{planned-of}
 use Rattle.explore.proofs.LaidLaws.{laid-of}

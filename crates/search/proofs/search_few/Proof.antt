@@ -1,9 +1,7 @@
 -- search_few meets its contract: few states need few bytes.
 use borrow.Author.Needs.{needs}
 use native.Mathlib.Omega.{arith}
-use Prim.Native.Nat.{ℕ, _+_, _-_, _*_, _≤_, _<_}
-use mathlib.Core.Path.{_≡_, refl, ap, sym, subst, subst₂, _∙_}
-use mathlib.Core.List.{List}
+use Prim.Native.Nat.{_-_, _*_}
 use native.Mathlib.Nat.{mul-le-mul}
 use Rattle.explore.proofs.ExploreLaws.{zeros, few-bytes}
 use Rattle.search.proofs.search_few.Statement.{statement}

@@ -1,10 +1,9 @@
 -- search_rows meets its contract: what is explored is the smallest closed set, the answer is by its marks, and the rows are cleared.
 use borrow.Author.Needs.{needs}
 use native.Mathlib.Omega.{arith}
-use Prim.Native.Nat.{ℕ, _+_, _-_, _*_, _≤_, _<_}
-use mathlib.Core.Path.{_≡_, refl, ap, sym, subst, subst₂, _∙_}
+use Prim.Native.Nat.{ℕ, _-_, _*_, _≤_}
+use mathlib.Core.Path.{sym, subst₂}
 use mathlib.Core.List.{List}
-use lib.ListN.{length}
 use Rattle.grammar.specs.Limits.{limits}
 use Rattle.plans.specs.Plan.{Rows, rows}
 use Rattle.plans.proofs.PlanLaws.{square-of}

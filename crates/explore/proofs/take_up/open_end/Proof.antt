@@ -2,9 +2,7 @@
 use borrow.Author.Needs.{needs}
 use native.Mathlib.Omega.{arith}
 use Prim.Native.Nat.{ℕ, _+_, _*_, _≤_, _<_}
-use mathlib.Core.Path.{_≡_, ap, sym, subst, _∙_}
-use mathlib.Core.Bool.{true}
-use mathlib.Core.List.{List}
+use mathlib.Core.Path.{ap, sym, subst, _∙_}
 use lib.ListN.{length, getD}
 use Rattle.triples.specs.Certificate.{isSet}
 use Rattle.bits.specs.Bits.{withBit}

@@ -3,15 +3,12 @@ use borrow.Author.Needs.{needs}
 use native.Mathlib.Omega.{arith}
 use Prim.Native.Nat.{ℕ, _+_, _-_, _*_, _/_, _≤_, _<_}
 use mathlib.Core.Path.{_≡_, refl, ap, sym, subst, _∙_}
-use mathlib.Core.List.{List}
-use lib.ListN.{length, getD}
-use Rattle.grammar.specs.Limits.{limits}
+use lib.ListN.{getD}
 use Rattle.triples.specs.Index.{tripleCount}
 use Rattle.plans.specs.Plan.{Rows, rows, planOf}
 use Rattle.plans.proofs.PlanLaws.{square-of}
 use Rattle.explore.specs.State.{State, state, flagBase, pairs, plan, Laid, Going}
 use Rattle.explore.proofs.FlagLaws.{open-range, entry-below}
-use Rattle.explore.proofs.TakeLaws.{HalfTaken}
 use Rattle.explore.proofs.PlanFits.{Fitting, fitting-of, half-of, taken-nothing, taken-none, taken-some}
 use Rattle.explore.proofs.take_up.take_up.Statement.{statement}
 use Rattle.explore.proofs.take_up.take_up.Tie as tie
