@@ -1,4 +1,4 @@
--- take_up meets its contract: the calls, one after the other, are those of the laws of taking up.
+-- take_up meets its contract: its calls, one after the other, are those of the laws of taking up.
 use borrow.Author.Needs.{needs}
 use native.Mathlib.Omega.{arith}
 use Prim.Native.Nat.{ℕ, _+_, _-_, _*_, _/_, _≤_, _<_}
