@@ -8,20 +8,24 @@ All numbers are little endian. A file depends on the seed alone.
 
 import hashlib
 import random
+import struct
 import sys
-from typing import Callable, Iterator, List, NamedTuple, Optional, Sequence, TypeVar
+from typing import Callable, Iterator, List, NamedTuple, Optional, Sequence, Tuple, TypeVar
 
-from table_cases import CASE_HEADER, MAX_TABLE, Rng, write_lines
 from tables import Refusal
 
 SEED = 1
 FEWEST = 20                    # cases that each reason must have
 SHORT = 4                      # bytes of a length, an entry, a layer or a state
 LARGEST = 2 ** (8 * SHORT) - 1
+MAX_TABLE = 65536              # bytes of one table
+CASE_HEADER = struct.Struct("<QQI")
+LAST = 2 ** 64 - 1             # largest t or n
 
 # The reasons of a refused table, in every file of cases.
 TABLE_REASONS = [str(cause) for cause in range(1, 9)]
 
+Rng = random.Random
 Case = TypeVar("Case")
 Group = Callable[[Rng], Iterator[Case]]
 
@@ -30,7 +34,8 @@ class Kind(NamedTuple):
     """What the verbs need of one kind of cases.
 
     `all` gives the cases, `encode` and `decode` are their bytes, `answer` is
-    a case's line and `reasons_of` those of `reasons` that it meets.
+    a case's line and `reasons_of` those of `reasons` that it meets. `prefix`
+    stands before the verbs.
     """
 
     all: Callable
@@ -39,12 +44,24 @@ class Kind(NamedTuple):
     answer: Callable
     reasons: Sequence[str]
     reasons_of: Callable
+    prefix: str = ""
+    fewest: int = FEWEST
 
 
 # Bytes.
 
 def encode_number(value: int) -> bytes:
     return value.to_bytes(SHORT, "little")
+
+
+def encode_entries(entries: Sequence[int]) -> bytes:
+    """The number of entries, then the entries."""
+    return encode_number(len(entries)) + b"".join(map(encode_number, entries))
+
+
+def encode_bytes(data: bytes) -> bytes:
+    """The number of bytes, then the bytes."""
+    return encode_number(len(data)) + data
 
 
 def encode_table(t: int, n: int, table: bytes) -> bytes:
@@ -69,8 +86,11 @@ class Reader:
         self.place += size
         return self.data[self.place - size:self.place]
 
-    def number(self) -> int:
-        return int.from_bytes(self.take(SHORT), "little")
+    def number(self, most: int = LARGEST) -> int:
+        value = int.from_bytes(self.take(SHORT), "little")
+        if value > most:
+            raise ValueError("a number of a case is too large")
+        return value
 
     def numbers(self, count: int) -> List[int]:
         part = self.take(SHORT * count)
@@ -83,6 +103,10 @@ class Reader:
         if size > MAX_TABLE:
             raise ValueError("a table is too long")
         return t, n, self.take(size)
+
+    def entries(self, most: int = LARGEST) -> Tuple[int, ...]:
+        """A number of entries, then the entries."""
+        return tuple(self.numbers(self.number(most)))
 
 
 def decode_all(kind: Kind, data: bytes) -> Iterator:
@@ -99,14 +123,19 @@ def read_cases(kind: Kind, path: str) -> list:
 
 # Cases and lines.
 
-def cases_of(groups: Sequence[Group]) -> Iterator[Case]:
+def cases_of(groups: Sequence[Group], seed: int = SEED) -> Iterator[Case]:
     """Every group's cases, each group with a generator of its own; none twice."""
     seen = set()
     for number, group in enumerate(groups):
-        for case in group(random.Random(SEED * 1000 + number)):
+        for case in group(Rng(seed * 1000 + number)):
             if case not in seen:
                 seen.add(case)
                 yield case
+
+
+def numbers(values: Sequence[int]) -> str:
+    """A list in a line."""
+    return ",".join(map(str, values))
 
 
 def refused(refusal: Refusal) -> str:
@@ -120,6 +149,12 @@ def accepted_or_refused(fault: Optional[Refusal]) -> str:
 
 
 # Verbs.
+
+def write_lines(path: str, lines: Sequence[str]) -> None:
+    """The lines, each ended by byte 10."""
+    with open(path, "wb") as file:
+        file.write("".join(line + "\n" for line in lines).encode("ascii"))
+
 
 def write_cases(kind: Kind, path: str) -> None:
     """The verb `cases`."""
@@ -149,18 +184,19 @@ def write_answers(
     write_lines(out_path, answers)
     lines = ["%s %d" % pair for pair in counts.items()]
     write_lines(counts_path, lines + ["cases %d" % len(answers)])
-    return [name for name, count in counts.items() if count < FEWEST]
+    return [name for name, count in counts.items() if count < kind.fewest]
 
 
-def main(kind: Kind, usage: str, words: Sequence[str]) -> int:
+def main(usage: str, words: Sequence[str], *kinds: Kind) -> int:
     """Runs a verb: 0, or 1 with the reasons that are too rare, or 2."""
-    if len(words) == 2 and words[0] == "cases":
-        write_cases(kind, words[1])
-        return 0
-    if len(words) == 4 and words[0] == "answers":
-        rare = write_answers(kind, *words[1:])
-        for name in rare:
-            print("fewer than %d cases: %s" % (FEWEST, name), file=sys.stderr)
-        return 1 if rare else 0
+    for kind in kinds:
+        if len(words) == 2 and words[0] == kind.prefix + "cases":
+            write_cases(kind, words[1])
+            return 0
+        if len(words) == 4 and words[0] == kind.prefix + "answers":
+            rare = write_answers(kind, *words[1:])
+            for name in rare:
+                print("fewer than %d cases: %s" % (kind.fewest, name), file=sys.stderr)
+            return 1 if rare else 0
     print(usage, file=sys.stderr)
     return 2

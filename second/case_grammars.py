@@ -6,9 +6,10 @@ A grammar is given as t, n and its table.
 from functools import lru_cache
 from typing import Callable, Dict, List, Tuple
 
+from case_files import LAST, Rng
 from table_cases import (
-    FIGURES, LAST, Rng, Rule, base_grammar, encode, faulty_rule, random_code,
-    random_lengths, random_rules,
+    FIGURES, Rule, base_grammar, encode, faulty_rule, random_code, random_lengths,
+    random_rules,
 )
 from table_reasons import rule_start
 from tables import (
@@ -21,7 +22,9 @@ Table = Tuple[int, int, bytes]
 # Document 01, "Grammars on file", in its order.
 ROWS: List[Table] = [(t, n, encode(rules)) for t, n, rules in FIGURES]
 ONE_A = ROWS[2]                # S→a
+ONE_A_BYTES = bytes.fromhex("15 50 21 15 08 00 00 00 00")    # its certificate
 LEFT_LIST, NESTED = ROWS[3:5]  # the two rows with Q = 9
+CYCLE = ROWS[5]                # S→S, Q = 6, potential
 
 
 def spelled(*lines: str) -> Table:

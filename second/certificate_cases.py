@@ -11,7 +11,7 @@ import sys
 from typing import Iterator, NamedTuple, Optional
 
 from case_files import (
-    Kind, Reader, accepted_or_refused, cases_of, encode_number, encode_table, main,
+    Kind, Reader, Rng, accepted_or_refused, cases_of, encode_bytes, encode_table, main,
 )
 from case_grammars import (
     CLASSICS, LEFT_LIST, NESTED, ONE_A, ROWS, STATEMENTS, Table, faulty_tables, keywords,
@@ -19,7 +19,7 @@ from case_grammars import (
 )
 from certificate_reasons import REASONS, reasons_of
 from certificates import check_certificate
-from table_cases import Rng, random_bytes
+from table_cases import random_bytes
 from tables import MAX_STATES
 from triples import (
     BYTE, Triples, certificate_length, certificate_of, closure, held_indexes,
@@ -294,8 +294,7 @@ def answer(case: Case) -> str:
 
 def encode_case(case: Case) -> bytes:
     """One case of the file of inputs."""
-    return (encode_table(*case[:3]) + encode_number(len(case.certificate))
-            + case.certificate)
+    return encode_table(*case[:3]) + encode_bytes(case.certificate)
 
 
 def decode_case(reader: Reader) -> Case:
@@ -308,4 +307,4 @@ KIND = Kind(lambda: cases_of(GROUPS), encode_case, decode_case, answer,
             REASONS, lambda case: reasons_of(*case))
 
 if __name__ == "__main__":
-    sys.exit(main(KIND, __doc__, sys.argv[1:]))
+    sys.exit(main(__doc__, sys.argv[1:], KIND))

@@ -20,7 +20,7 @@ ENDING = ".grammar"
 NOTHING = "-"             # in a column that says nothing of a grammar
 EMPTY = "(empty)"         # the sentence without symbols
 
-UNAMBIGUOUS, POTENTIAL = VERDICTS = "unambiguous", "potential"
+UNAMBIGUOUS, POTENTIAL = "unambiguous", "potential"
 AMBIGUOUS, FALSE_ALARM = "ambiguous", "false-alarm"
 TRUTHS = {UNAMBIGUOUS: UNAMBIGUOUS, AMBIGUOUS: POTENTIAL, FALSE_ALARM: POTENTIAL}
 KINDS = "row", "classic", "robot"

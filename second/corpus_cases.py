@@ -16,7 +16,7 @@ import sys
 from functools import lru_cache
 from typing import Dict, FrozenSet, Iterator, List, Optional, Sequence
 
-from case_files import Kind, cases_of, main
+from case_files import Kind, Rng, cases_of, main
 from case_grammars import Table, good
 from corpus import counts, entries, faults, table_in
 from corpus_texts import GROUPS as TEXT_GROUPS
@@ -29,7 +29,6 @@ from search_cases import (
     Case, answer, decode_case, encode_case, exact_and_longer, witness_ok,
 )
 from searches import Potential, needed, search
-from table_cases import Rng
 from tables import Refusal
 
 FEWEST = 5                # texts that each group and each reason must have
@@ -153,7 +152,7 @@ def run(words: Sequence[str]) -> int:
         return witness_ok(words[1], words[2])
     if len(words) == 3 and list(words[:2]) == ["program", "ambig"]:
         return compare_program(words[2], list(samples()))
-    return main(KIND, __doc__, words)
+    return main(__doc__, words, KIND)
 
 
 if __name__ == "__main__":

@@ -4,15 +4,14 @@ The corpus, grown grammars, both damaged in one byte or cut, texts with one faul
 of each cause, and texts of too many bytes or states.
 """
 
-import random
 from functools import lru_cache
 from typing import Callable, Dict, Iterator, List, NamedTuple, Optional, Sequence, Tuple
 
+from case_files import Rng
 from corpus import entries, text_in
 from named_grammars import join_lines, lines_of, text_of
 from program import MAX_BYTES, MAX_STATES
 from robot_grammars import grown, states_of
-from table_cases import Rng
 from tables import (
     FIXED_STATES, MAX_LENGTH, MAX_NONTERMINALS, MAX_RULES, MAX_TERMINALS, Refusal,
 )
@@ -262,7 +261,7 @@ GROUPS: Dict[str, Callable[[Rng], Iterator[bytes]]] = {
 def samples() -> Iterator[Sample]:
     """Every group's texts, each group with a generator of its own."""
     for number, (group, texts) in enumerate(GROUPS.items()):
-        for text in texts(random.Random(SEED * 1000 + number)):
+        for text in texts(Rng(SEED * 1000 + number)):
             yield Sample(group, text)
 
 

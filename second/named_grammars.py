@@ -3,16 +3,13 @@
 The texts here are put together without the writer of text.py.
 """
 
-import random
 from typing import Dict, List, NamedTuple, Sequence
 
+from case_files import Rng
 from table_cases import FIGURES, Rule, encode, large_grammar, random_rules, small_grammar
 from tables import MAX_LENGTH, MAX_NONTERMINALS, MAX_TERMINALS, START
 from text import MAX_NAME, NAME_BYTES, Lent
 
-Rng = random.Random
-
-LONGEST_TEXT = 8719      # bytes of the longest text that is read
 MAX_BYTES = 70000        # bytes of the longest text, or names, of a case
 MAX_LENT = 70000         # entries of the longest row that a case lends
 

@@ -8,17 +8,15 @@ the number of records (4 bytes) and the records: layer, left and right (4 bytes
 each), all little endian. At most 512 records.
 """
 
-import random
 import sys
 from typing import Iterator, List, NamedTuple, Sequence, Tuple
 
 from case_files import (
-    LARGEST, TABLE_REASONS, Kind, Reader, accepted_or_refused, cases_of,
+    LARGEST, TABLE_REASONS, Kind, Reader, Rng, accepted_or_refused, cases_of,
     encode_number, encode_table, main,
 )
 from case_grammars import triples_in
 from certificates import Record, check_records, checked_triples, records_fault
-from table_cases import Rng
 from tables import Refusal
 from triples import Triple, Triples
 from ways import longer, shortest
@@ -51,7 +49,7 @@ def records_of(states: int, entries: Sequence[int]) -> Tuple[Record, ...]:
 def rows(rng: Rng) -> Iterator[Case]:
     """The rows of the witness cases as records, some of each group."""
     for number, group in enumerate(ROW_GROUPS):
-        found = [case for case in group(random.Random(rng.randrange(2 ** 32) + number))
+        found = [case for case in group(Rng(rng.randrange(2 ** 32) + number))
                  if len(case.entries) <= MOST]
         for case in rng.sample(found, min(PER_GROUP, len(found))):
             triples = checked_triples(*case[:3])
@@ -196,4 +194,4 @@ KIND = Kind(lambda: cases_of(GROUPS), encode_case, decode_case, answer,
             REASONS, lambda case: reasons_of(*case))
 
 if __name__ == "__main__":
-    sys.exit(main(KIND, __doc__, sys.argv[1:]))
+    sys.exit(main(__doc__, sys.argv[1:], KIND))

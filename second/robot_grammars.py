@@ -6,8 +6,9 @@ then a laboratory may change the grammar. Many become ambiguous by that.
 
 from typing import Callable, Dict, List
 
+from case_files import Rng
 from named_grammars import Named
-from table_cases import Rng, Rule, encode
+from table_cases import Rule, encode
 from tables import FIXED_STATES, MAX_LENGTH, MAX_STATES, START
 
 Lines = Dict[str, List[str]]      # by left name the right sides, names apart by spaces

@@ -16,7 +16,7 @@ import sys
 from typing import Iterator, List, NamedTuple, Optional, Sequence, Tuple
 
 from case_files import (
-    TABLE_REASONS, Kind, Reader, cases_of, encode_number, encode_table, main,
+    TABLE_REASONS, Kind, Reader, Rng, cases_of, encode_number, encode_table, main,
     read_cases, refused,
 )
 from case_grammars import (
@@ -26,7 +26,7 @@ from case_grammars import (
 from certificates import check_witness, checked_triples
 from derivations import used_rules
 from searches import Lent, Potential, Unambiguous, needed, search
-from table_cases import Rng, encode
+from table_cases import encode
 from tables import MAX_STATES, START, Grammar, Refusal, check_table
 from triples import is_potential, reached
 
@@ -315,7 +315,7 @@ def run(words: Sequence[str]) -> int:
     """The verbs, `witness-ok` beside those of every file of cases."""
     if len(words) == 3 and words[0] == "witness-ok":
         return witness_ok(words[1], words[2])
-    return main(KIND, __doc__, words)
+    return main(__doc__, words, KIND)
 
 
 if __name__ == "__main__":

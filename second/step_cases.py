@@ -11,7 +11,7 @@ import sys
 from typing import Iterator, List, NamedTuple, Tuple
 
 from case_files import (
-    LARGEST, TABLE_REASONS, Kind, Reader, cases_of, encode_number, encode_table,
+    LARGEST, TABLE_REASONS, Kind, Reader, Rng, cases_of, encode_number, encode_table,
     main, refused,
 )
 from case_grammars import (
@@ -19,7 +19,7 @@ from case_grammars import (
     operators, some, triples_in,
 )
 from certificates import checked_triples
-from table_cases import Rng, encode
+from table_cases import encode
 from tables import MAX_STATES, START, Refusal
 from triples import (
     CLOSING, OPENING, STILL, SYMBOL, Move, Step, Triple, Triples, in_range,
@@ -283,4 +283,4 @@ def decode_case(reader: Reader) -> Case:
 KIND = Kind(lambda: cases_of(GROUPS), encode_case, decode_case, answer, REASONS, reasons_of)
 
 if __name__ == "__main__":
-    sys.exit(main(KIND, __doc__, sys.argv[1:]))
+    sys.exit(main(__doc__, sys.argv[1:], KIND))

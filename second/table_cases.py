@@ -7,26 +7,17 @@ A case is t and n (8 bytes each), the table's length (4 bytes), all little
 endian, then the table. The inputs depend on the seed alone.
 """
 
-import random
-import struct
 import sys
-from typing import Callable, Iterator, List, Sequence, Tuple
+from typing import Iterator, List, Sequence, Tuple
 
-from table_reasons import REASONS, reasons_of
-from tables import (
-    FIXED_STATES, MAX_LENGTH, MAX_RULES, MAX_STATES,
-    START, Refusal, check_table,
+from case_files import (
+    LAST, MAX_TABLE, Group, Kind, Reader, Rng, cases_of, encode_table, main, numbers, refused,
 )
-
-SEED = 1
-FEWEST = 50                    # cases that each reason must have
-MAX_TABLE = 65536              # bytes of one table
-CASE_HEADER = struct.Struct("<QQI")
-LAST = 2 ** 64 - 1             # largest t or n
+from table_reasons import REASONS, reasons_of
+from tables import FIXED_STATES, MAX_LENGTH, MAX_RULES, MAX_STATES, START, Refusal, check_table
 
 Case = Tuple[int, int, bytes]
 Rule = Tuple[int, bytes]       # left code and right codes
-Rng = random.Random
 
 S, A, B = START, START + 1, START + 2
 a, b = 1, 2
@@ -412,54 +403,20 @@ def long_tables(rng: Rng) -> Iterator[Case]:
             yield t, n, (encode(rules) + random_bytes(rng, size))[:size]
 
 
-GROUPS: List[Callable[[Rng], Iterator[Case]]] = [
+GROUPS: List[Group] = [
     figures, ranges, edge_codes, lengths_of_rules, short_tables, good_grammars,
     unused_rules, many_rules, many_states, equal_rules, several_faults,
     late_faults, faults_in_two_rules, prefixes, replaced_bytes, damaged, noise, long_tables,
 ]
 
 
-def all_cases() -> Iterator[Case]:
-    """Every group's cases, each group with a generator of its own; none twice."""
-    seen = set()
-    for number, group in enumerate(GROUPS):
-        for case in group(random.Random(SEED * 1000 + number)):
-            if case not in seen:
-                seen.add(case)
-                yield case
+# Answers.
 
-
-# Files.
-
-def encode_case(t: int, n: int, table: bytes) -> bytes:
-    """One case of the file of inputs."""
-    assert len(table) <= MAX_TABLE
-    return CASE_HEADER.pack(t, n, len(table)) + table
-
-
-def decode_cases(data: bytes) -> Iterator[Case]:
-    """The cases of a file of inputs; ValueError if it is cut or wrong."""
-    place = 0
-    while place < len(data):
-        if len(data) - place < CASE_HEADER.size:
-            raise ValueError("the file ends inside a case")
-        t, n, size = CASE_HEADER.unpack_from(data, place)
-        place += CASE_HEADER.size
-        if size > MAX_TABLE or len(data) - place < size:
-            raise ValueError("a table is too long, or the file ends inside it")
-        yield t, n, data[place:place + size]
-        place += size
-
-
-def numbers(values: Sequence[int]) -> str:
-    return ",".join(str(value) for value in values)
-
-
-def answer(t: int, n: int, table: bytes) -> str:
+def answer(case: Case) -> str:
     """The line of one case, without its byte 10."""
-    result = check_table(t, n, table)
+    result = check_table(*case)
     if isinstance(result, Refusal):
-        return "refused=%d at=%d" % (result.cause, result.position)
+        return refused(result)
     return "passed states=%d offsets=%s lefts=%s lengths=%s codes=%s" % (
         result.states,
         numbers([rule.offset for rule in result.rules]),
@@ -469,51 +426,8 @@ def answer(t: int, n: int, table: bytes) -> str:
     )
 
 
-def write_lines(path: str, lines: Sequence[str]) -> None:
-    """The lines, each ended by byte 10."""
-    with open(path, "wb") as file:
-        file.write("".join(line + "\n" for line in lines).encode("ascii"))
-
-
-def write_cases(path: str) -> None:
-    """The verb `cases`."""
-    with open(path, "wb") as file:
-        for case in all_cases():
-            file.write(encode_case(*case))
-
-
-def count_reasons(cases: Sequence[Case]) -> List[int]:
-    """How many cases meet each of REASONS, in their order."""
-    counts = {name: 0 for name in REASONS}
-    for case in cases:
-        for name in reasons_of(*case):
-            counts[name] += 1
-    return [counts[name] for name in REASONS]
-
-
-def write_answers(cases_path: str, out_path: str, counts_path: str) -> List[str]:
-    """The verb `answers`; gives the reasons that too few cases meet."""
-    with open(cases_path, "rb") as file:
-        cases = list(decode_cases(file.read()))
-    write_lines(out_path, [answer(*case) for case in cases])
-    counts = list(zip(REASONS, count_reasons(cases)))
-    lines = ["%s %d" % pair for pair in counts]
-    write_lines(counts_path, lines + ["cases %d" % len(cases)])
-    return [name for name, count in counts if count < FEWEST]
-
-
-def main(words: Sequence[str]) -> int:
-    if len(words) == 2 and words[0] == "cases":
-        write_cases(words[1])
-        return 0
-    if len(words) == 4 and words[0] == "answers":
-        rare = write_answers(*words[1:])
-        for name in rare:
-            print("fewer than %d cases: %s" % (FEWEST, name), file=sys.stderr)
-        return 1 if rare else 0
-    print(__doc__, file=sys.stderr)
-    return 2
-
+KIND = Kind(lambda: cases_of(GROUPS), lambda case: encode_table(*case), Reader.table, answer,
+            REASONS, lambda case: reasons_of(*case), fewest=50)
 
 if __name__ == "__main__":
-    sys.exit(main(sys.argv[1:]))
+    sys.exit(main(__doc__, sys.argv[1:], KIND))

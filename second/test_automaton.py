@@ -4,10 +4,9 @@ import unittest
 
 from automaton import Item, automaton_of, items_of, move_count
 from case_grammars import CLASSICS, ROWS, spelled
+from table_cases import A, S, a, b
 from tables import check_table
-
-S, A, B = 128, 129, 130
-a, b = 1, 2
+from test_tables import STATES
 
 
 def automaton(*lines):
@@ -17,7 +16,7 @@ def automaton(*lines):
 class StatesTest(unittest.TestCase):
     def test_states_of_the_grammars_on_file(self):
         counts = [automaton_of(check_table(*row)).states for row in ROWS]
-        self.assertEqual(counts, [4, 5, 6, 9, 9, 6, 8, 10, 10, 17])
+        self.assertEqual(counts, STATES)
 
     def test_items_come_rule_by_rule_and_dot_by_dot(self):
         grammar = check_table(*spelled("S: a S |", "A: b"))

@@ -53,8 +53,8 @@ class VerbsTest(unittest.TestCase):
             cases, out, counts = (os.path.join(folder, name) for name in "abc")
             errors = StringIO()
             with redirect_stderr(errors):
-                self.assertEqual(main(kind(count), "usage", ["cases", cases]), 0)
-                code = main(kind(count), "usage", ["answers", cases, out, counts])
+                self.assertEqual(main("usage", ["cases", cases], kind(count)), 0)
+                code = main("usage", ["answers", cases, out, counts], kind(count))
             with open(out, "rb") as file, open(counts, "rb") as other:
                 return code, errors.getvalue(), file.read(), other.read()
 
@@ -71,8 +71,9 @@ class VerbsTest(unittest.TestCase):
 
     def test_other_words(self):
         with redirect_stderr(StringIO()) as errors:
-            self.assertEqual(main(kind(1), "usage", ["cases"]), 2)
-        self.assertEqual(errors.getvalue(), "usage\n")
+            for words in (["cases"], ["cases", "a", "b"], ["other-cases", "a"], []):
+                self.assertEqual(main("usage", words, kind(1)), 2)
+        self.assertEqual(errors.getvalue(), "usage\n" * 4)
 
 
 if __name__ == "__main__":

@@ -2,40 +2,24 @@
 
 import unittest
 
-from case_files import decode_all, digest
-from case_grammars import ONE_A, ROWS, triples_in
+from case_files import Rng
+from case_grammars import CYCLE, ONE_A, ROWS, triples_in
 from certificate_cases import (
-    KIND, Case, answer, closed_superset, encode_case, flipped, smallest,
+    KIND, Case, answer, closed_superset, flipped, smallest,
 )
 from certificate_reasons import REASONS, reasons_of
-from table_cases import Rng
+from file_tests import TABLE, TABLE_BYTES, FileTests
 from triples import certificate_of, held_indexes, reached
 from ways import largest_set
 
-# SHA-256 of the file of cases.
-DIGEST = "96b0c5b6fb65a22c40575fac286374f8d12d90f3aa7c136a62e5f8199de51b53"
-
 EMPTY = ROWS[1]           # S→, Q = 5: bits 50 to 55 are spare
-CYCLE = ROWS[5]           # S→S, Q = 6, potential
 
 
-class FileTest(unittest.TestCase):
-    def test_the_cases_are_these_bytes(self):
-        self.assertEqual(digest(KIND), DIGEST)
-
-    def test_layout_of_a_case(self):
-        data = encode_case(Case(1, 1, b"\x80\x00", b"\x15\x50\x21"))
-        self.assertEqual(data, (
-            b"\x01" + bytes(7) + b"\x01" + bytes(7) + b"\x02\0\0\0" + b"\x80\x00"
-            + b"\x03\0\0\0" + b"\x15\x50\x21"))
-        self.assertEqual(list(decode_all(KIND, data * 2)),
-                         [Case(1, 1, b"\x80\x00", b"\x15\x50\x21")] * 2)
-
-    def test_a_cut_file_is_refused(self):
-        data = encode_case(Case(*ONE_A, smallest(ONE_A)))
-        for end in range(1, len(data)):
-            with self.assertRaises(ValueError):
-                list(decode_all(KIND, data[:end]))
+class FileTest(FileTests, unittest.TestCase):
+    KIND = KIND
+    DIGEST = "96b0c5b6fb65a22c40575fac286374f8d12d90f3aa7c136a62e5f8199de51b53"
+    CASE = Case(*TABLE, b"\x15\x50\x21")
+    BYTES = TABLE_BYTES + b"\x03\0\0\0" + b"\x15\x50\x21"
 
     def test_answer_lines(self):
         right = smallest(ONE_A)

@@ -3,7 +3,9 @@
 import unittest
 
 from case_files import cases_of
-from case_grammars import CLASSICS, LEFT_LIST, NESTED, ONE_A, ROWS, spelled, triples_in
+from case_grammars import (
+    CLASSICS, CYCLE, LEFT_LIST, NESTED, ONE_A, ONE_A_BYTES, ROWS, spelled, triples_in,
+)
 from certificate_cases import flipped, smallest
 from certificates import check_certificate, check_records, check_witness
 from misreadings import NAMES, misread_indexes
@@ -12,8 +14,6 @@ from triples import certificate_of, reached, triple_at
 from ways import largest_set, shortest
 from witness_cases import cut, extended, first_entries, wrong_entries
 
-ONE_A_BYTES = bytes.fromhex("15 50 21 15 08 00 00 00 00")
-CYCLE = ROWS[5]           # S→S, Q = 6
 TWO_WAYS = ROWS[8]        # S→A; S→B; A→; B→, Q = 10
 
 

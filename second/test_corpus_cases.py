@@ -17,20 +17,20 @@ from corpus import (
 from corpus_cases import FEWEST, KIND, REASONS, compare_program, difference, reasons_of, run
 from corpus_texts import Sample, padded, padding, samples
 from named_grammars import text_of
-from program import printed
+from program import AMPLE, printed
 from robot_grammars import CHANGES, grow, grown, named, states_of, table_of
 from search_cases import Case
 from searches import needed
 from tables import MAX_STATES
-from text import Lent, read_text
+from test_tables import STATES
+from text import read_text
+from text_read_inputs import EXAMPLE
 
 # SHA-256 of the file of cases, and of the program's texts, each after its length.
 DIGEST = "3f6f7857b7fd5a41260f8e5274a9bec9ab54a9aa77be4e1863daa207b3af88d9"
 TEXTS = "61915549c8c34e20b0adc5711f436cf085b3b0bbabfab40d19ac9dd88db2024e"
 
-EXAMPLE = b"terminals=a\nnonterminals=S\nrule=S: a\n"     # document 01's own
 RIGHT = b"states=6\nverdict=unambiguous\nreached=11\n"
-AMPLE = Lent(70000, 70000, 70000)
 
 
 class IndexTest(unittest.TestCase):
@@ -52,7 +52,7 @@ class IndexTest(unittest.TestCase):
     def test_document_01(self):
         rows = [entry for entry in entries() if entry.kind == "row"]
         self.assertEqual([table_in(entry.name) for entry in rows], ROWS)
-        self.assertEqual([entry.states for entry in rows], [4, 5, 6, 9, 9, 6, 8, 10, 10, 17])
+        self.assertEqual([entry.states for entry in rows], STATES)
         self.assertEqual([entry.size for entry in rows],
                          [5, 10, 11, 24, 30, None, None, None, None, 82])
 

@@ -2,34 +2,20 @@
 
 import unittest
 
-from case_files import LARGEST, decode_all, digest
-from case_grammars import ROWS
-from record_cases import KIND, REASONS, Case, answer, encode_case, reasons_of, records_of
+import file_tests
+from case_files import LARGEST
+from case_grammars import CYCLE
+from file_tests import TABLE, TABLE_BYTES, FileTests
+from record_cases import KIND, REASONS, Case, answer, reasons_of, records_of
 
-# SHA-256 of the file of cases.
-DIGEST = "d1d0593b91ced2bfa9c2e9305ab1fc875872b8b2336e8f4f70002665b27c4f83"
-
-CYCLE = ROWS[5]           # S→S, Q = 6
-WAY = records_of(6, (0, 2, 14, 16, 23, 45, 43))
+WAY = records_of(6, file_tests.WAY)
 
 
-class FileTest(unittest.TestCase):
-    def test_the_cases_are_these_bytes(self):
-        self.assertEqual(digest(KIND), DIGEST)
-
-    def test_layout_of_a_case(self):
-        case = Case(1, 1, b"\x80\x00", ((2, 258, LARGEST),))
-        data = encode_case(case)
-        self.assertEqual(data, (
-            b"\x01" + bytes(7) + b"\x01" + bytes(7) + b"\x02\0\0\0" + b"\x80\x00"
-            + b"\x01\0\0\0" + b"\x02\0\0\0" + b"\x02\x01\0\0" + b"\xff" * 4))
-        self.assertEqual(list(decode_all(KIND, data * 2)), [case] * 2)
-
-    def test_a_cut_file_is_refused(self):
-        data = encode_case(Case(*CYCLE, WAY))
-        for end in range(1, len(data)):
-            with self.assertRaises(ValueError):
-                list(decode_all(KIND, data[:end]))
+class FileTest(FileTests, unittest.TestCase):
+    KIND = KIND
+    DIGEST = "d1d0593b91ced2bfa9c2e9305ab1fc875872b8b2336e8f4f70002665b27c4f83"
+    CASE = Case(*TABLE, ((2, 258, LARGEST),))
+    BYTES = TABLE_BYTES + b"\x01\0\0\0" + b"\x02\0\0\0" + b"\x02\x01\0\0" + b"\xff" * 4
 
     def test_answer_lines(self):
         self.assertEqual(answer(Case(*CYCLE, WAY)), "accepted")

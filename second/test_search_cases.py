@@ -6,37 +6,21 @@ import unittest
 from contextlib import redirect_stderr, redirect_stdout
 from io import StringIO
 
-from case_files import decode_all, digest
-from case_grammars import ONE_A, ROWS
+from case_files import encode_entries
+from case_grammars import CYCLE, ONE_A, ROWS
+from file_tests import TABLE, TABLE_BYTES, WAY, FileTests
 from search_cases import KIND, REASONS, Case, answer, encode_case, reasons_of, run
 from searches import Lent
-from witness_cases import encode_entries
 
-# SHA-256 of the file of cases.
-DIGEST = "f71a4a670a95dccac11ce8c4444fe2377e0381dad2097ec1ea495fc644ee05ec"
-
-CYCLE = ROWS[5]           # S→S, Q = 6
-WAY = [0, 2, 14, 16, 23, 45, 43]
 ENOUGH = Lent(9, 72, 72, 72)
 
 
-class FileTest(unittest.TestCase):
-    def test_the_cases_are_these_bytes(self):
-        self.assertEqual(digest(KIND), DIGEST)
-
-    def test_layout_of_a_case(self):
-        case = Case(1, 1, b"\x80\x00", Lent(258, 3, 4, 5), 255)
-        data = encode_case(case)
-        self.assertEqual(data, (
-            b"\x01" + bytes(7) + b"\x01" + bytes(7) + b"\x02\0\0\0" + b"\x80\x00"
-            + b"\x02\x01\0\0" + b"\x03\0\0\0" + b"\x04\0\0\0" + b"\x05\0\0\0" + b"\xff"))
-        self.assertEqual(list(decode_all(KIND, data * 2)), [case] * 2)
-
-    def test_a_cut_file_is_refused(self):
-        data = encode_case(Case(*ONE_A, ENOUGH, 0))
-        for end in range(1, len(data)):
-            with self.assertRaises(ValueError):
-                list(decode_all(KIND, data[:end]))
+class FileTest(FileTests, unittest.TestCase):
+    KIND = KIND
+    DIGEST = "f71a4a670a95dccac11ce8c4444fe2377e0381dad2097ec1ea495fc644ee05ec"
+    CASE = Case(*TABLE, Lent(258, 3, 4, 5), 255)
+    BYTES = (TABLE_BYTES + b"\x02\x01\0\0" + b"\x03\0\0\0" + b"\x04\0\0\0" + b"\x05\0\0\0"
+             + b"\xff")
 
     def test_answer_lines(self):
         self.assertEqual(answer(Case(*ONE_A, ENOUGH, 7)),
@@ -103,7 +87,7 @@ class WitnessOkTest(unittest.TestCase):
     def test_wrong(self):
         self.assertEqual(self.verb(self.found(WAY[:3], WAY)), (
             1, "accepted 1 wrong 1\n", "case 1: refused=15 at=3\n"))
-        self.assertEqual(self.verb(self.found([], WAY + [0])), (
+        self.assertEqual(self.verb(self.found((), WAY + (0,))), (
             1, "accepted 0 wrong 2\n",
             "case 1: refused=15 at=0\ncase 4: refused=15 at=7\n"))
 
@@ -113,8 +97,8 @@ class WitnessOkTest(unittest.TestCase):
             self.assertEqual(self.verb(found[:end])[0], 1)
         self.assertEqual(self.verb(found + b"\0")[0], 1)
         self.assertEqual(self.verb(self.found(WAY, WAY, WAY))[0], 1)
-        self.assertEqual(self.verb(self.found(WAY, WAY[:3] + [16] * 66 + WAY[4:]))[0], 0)
-        self.assertEqual(self.verb(self.found(WAY, WAY[:3] + [16] * 67 + WAY[4:]))[0], 1)
+        self.assertEqual(self.verb(self.found(WAY, WAY[:3] + (16,) * 66 + WAY[4:]))[0], 0)
+        self.assertEqual(self.verb(self.found(WAY, WAY[:3] + (16,) * 67 + WAY[4:]))[0], 1)
 
 
 if __name__ == "__main__":

@@ -2,7 +2,7 @@
 
 import unittest
 
-from case_grammars import CLASSICS, ONE_A, ROWS, states_of
+from case_grammars import CLASSICS, ONE_A, ONE_A_BYTES, ROWS, states_of
 from certificates import check_certificate
 from searches import Lent, Potential, Unambiguous, needed, search
 from tables import Refusal
@@ -37,9 +37,8 @@ class LentTest(unittest.TestCase):
 
 class VerdictTest(unittest.TestCase):
     def test_one_a(self):
-        right = bytes.fromhex("15 50 21 15 08 00 00 00 00")
         for lent in (needed(6), PLENTY):
-            self.assertEqual(search(*ONE_A, lent), Unambiguous(11, right))
+            self.assertEqual(search(*ONE_A, lent), Unambiguous(11, ONE_A_BYTES))
 
     def test_rows(self):
         results = [search(*row, PLENTY) for row in ROWS]

@@ -2,34 +2,17 @@
 
 import unittest
 
-from case_files import decode_all, digest
-from case_grammars import ONE_A, ROWS, spelled
-from step_cases import KIND, REASONS, Case, answer, encode_case, reasons_of
+from case_grammars import CYCLE, ONE_A, spelled
+from file_tests import TABLE, TABLE_BYTES, FileTests
+from step_cases import KIND, REASONS, Case, answer, reasons_of
 from triples import Triple
 
-# SHA-256 of the file of cases.
-DIGEST = "0e322c7729409df869ef1399d5c1d18e81945eea52b8b693565294fa93061697"
 
-CYCLE = ROWS[5]           # S→S, Q = 6
-
-
-class FileTest(unittest.TestCase):
-    def test_the_cases_are_these_bytes(self):
-        self.assertEqual(digest(KIND), DIGEST)
-
-    def test_layout_of_a_case(self):
-        data = encode_case(Case(1, 1, b"\x80\x00", Triple(1, 2, 258)))
-        self.assertEqual(data, (
-            b"\x01" + bytes(7) + b"\x01" + bytes(7) + b"\x02\0\0\0" + b"\x80\x00"
-            + b"\x01\0\0\0" + b"\x02\0\0\0" + b"\x02\x01\0\0"))
-        self.assertEqual(list(decode_all(KIND, data * 2)),
-                         [Case(1, 1, b"\x80\x00", Triple(1, 2, 258))] * 2)
-
-    def test_a_cut_file_is_refused(self):
-        data = encode_case(Case(*ONE_A, Triple(0, 0, 0)))
-        for end in range(1, len(data)):
-            with self.assertRaises(ValueError):
-                list(decode_all(KIND, data[:end]))
+class FileTest(FileTests, unittest.TestCase):
+    KIND = KIND
+    DIGEST = "0e322c7729409df869ef1399d5c1d18e81945eea52b8b693565294fa93061697"
+    CASE = Case(*TABLE, Triple(1, 2, 258))
+    BYTES = TABLE_BYTES + b"\x01\0\0\0" + b"\x02\0\0\0" + b"\x02\x01\0\0"
 
 
 class AnswerTest(unittest.TestCase):

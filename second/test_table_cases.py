@@ -1,50 +1,31 @@
 """Tests of the case file, the answer lines and the sorting by reasons."""
 
-import hashlib
 import unittest
 
 from derivations import used_rules
-from table_cases import all_cases, answer, decode_cases, encode_case
+from file_tests import TABLE, TABLE_BYTES, FileTests
+from table_cases import KIND, A, B, S, a, answer
 from table_reasons import reasons_of
 from tables import check_table
+from test_tables import full_table, terminal_rules
 
-# SHA-256 of the file of cases.
-DIGEST = "da26daf59c83b30fc8eef4572ff2b8a5d9b50027ca9a8f9a9aeb122b10d20c12"
-
-S, A, B = 128, 129, 130
-a = 1
-FULL = b"".join(bytes([S, 12] + [1 + i] * 12) for i in range(19)) + bytes([S, 4] + [a] * 4)
-HUNDRED = b"".join(bytes([S, 1, 1 + i]) for i in range(100))
+FULL = full_table()
+HUNDRED = terminal_rules(100)
 
 
-class FileTest(unittest.TestCase):
-    def test_the_cases_are_these_bytes(self):
-        digest = hashlib.sha256()
-        for case in all_cases():
-            digest.update(encode_case(*case))
-        self.assertEqual(digest.hexdigest(), DIGEST)
-
-    def test_layout_of_a_case(self):
-        data = encode_case(2 ** 64 - 1, 258, b"\x80\x00")
-        self.assertEqual(
-            data, b"\xff" * 8 + b"\x02\x01" + bytes(6) + b"\x02\0\0\0" + b"\x80\x00")
-        self.assertEqual(
-            list(decode_cases(data + encode_case(0, 1, b""))),
-            [(2 ** 64 - 1, 258, b"\x80\x00"), (0, 1, b"")])
-
-    def test_a_cut_file_is_refused(self):
-        data = encode_case(1, 1, b"\x80\x00")
-        for end in range(1, len(data)):
-            with self.assertRaises(ValueError):
-                list(decode_cases(data[:end]))
+class FileTest(FileTests, unittest.TestCase):
+    KIND = KIND
+    DIGEST = "da26daf59c83b30fc8eef4572ff2b8a5d9b50027ca9a8f9a9aeb122b10d20c12"
+    CASE = TABLE
+    BYTES = TABLE_BYTES
 
     def test_answer_lines(self):
         self.assertEqual(
-            answer(1, 2, bytes([S, 2, A, a, A, 0])),
+            answer((1, 2, bytes([S, 2, A, a, A, 0]))),
             "passed states=8 offsets=0,4 lefts=128,129 lengths=2,0 codes=129,1")
         self.assertEqual(
-            answer(0, 1, b""), "passed states=4 offsets= lefts= lengths= codes=")
-        self.assertEqual(answer(0, 1, bytes([S, 1, a])), "refused=5 at=2")
+            answer((0, 1, b"")), "passed states=4 offsets= lefts= lengths= codes=")
+        self.assertEqual(answer((0, 1, bytes([S, 1, a]))), "refused=5 at=2")
 
 
 class UsedRulesTest(unittest.TestCase):

@@ -2,10 +2,11 @@
 
 import unittest
 
+from table_cases import FIGURES, A, S, a, b, encode
 from tables import Grammar, Refusal, Rule, check_table
 
-S, A, B = 128, 129, 130
-a, b = 1, 2
+# Q of document 01's "Grammars on file".
+STATES = [4, 5, 6, 9, 9, 6, 8, 10, 10, 17]
 
 
 def table(*rules):
@@ -44,17 +45,9 @@ class FiguresTest(TableTest):
     """Document 01, "Grammars on file", and its line on the limits."""
 
     def test_states_of_the_grammars_on_file(self):
-        self.passed(0, 1, b"", 4, 0)
-        self.passed(0, 1, table([S]), 5, 1)
-        self.passed(1, 1, table([S, a]), 6, 1)
-        self.passed(1, 1, table([S, S, a], [S, a]), 9, 2)
-        self.passed(2, 1, table([S, a, S, b], [S]), 9, 2)
-        self.passed(0, 1, table([S, S]), 6, 1)
-        self.passed(1, 1, table([S, S], [S, a]), 8, 2)
-        self.passed(1, 1, table([S, a, S, a], [S, a]), 10, 2)
-        self.passed(0, 3, table([S, A], [S, B], [A], [B]), 10, 4)
-        self.passed(
-            1, 3, table([S, A], [S, B], [A, A, a, a], [A, a], [B, a, a]), 17, 5)
+        self.assertEqual(len(FIGURES), len(STATES))
+        for (t, n, rules), states in zip(FIGURES, STATES):
+            self.passed(t, n, encode(rules), states, len(rules))
 
     def test_k_of_12_passes_and_13_does_not(self):
         self.passed(1, 1, bytes([S, 12] + [a] * 12), 17, 1)

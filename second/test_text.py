@@ -4,15 +4,15 @@ import random
 import unittest
 
 from named_grammars import (
-    LONGEST_TEXT, Named, ample_lent, exact_lent, figures_named, full_named,
+    Named, ample_lent, exact_lent, figures_named, full_named,
     large_named, longest_named, random_names, small_named, text_of,
 )
-from table_cases import encode
+from table_cases import A, S, encode
 from tables import Refusal
+from test_tables import STATES
 from text import Lent, Text, is_name, read_text, write_text
 from text_write_inputs import overlapping, packed, scattered
 
-S, A = 128, 129
 AMPLE = Lent(400, 300, 300)
 FRONT = b"terminals=a,b\nnonterminals=S,A\n"
 LETTERS = b"ABCDEFGHIJKLMNOPQRSTUVWXYZabcdefghijklmnopqrstuvwxyz"
@@ -66,10 +66,9 @@ class FiguresTest(ReaderTest):
         self.assertEqual((result.starts, result.lengths), ((10, 25), (1, 1)))
 
     def test_states_of_the_grammars_on_file(self):
-        states = [4, 5, 6, 9, 9, 6, 8, 10, 10, 17]
-        for grammar, expected in zip(figures_named(), states):
+        for grammar, states in zip(figures_named(), STATES):
             table = encode(grammar.rules)
-            self.read(text_of(grammar), grammar.t, grammar.n, table, expected)
+            self.read(text_of(grammar), grammar.t, grammar.n, table, states)
 
     def test_k_of_12_passes_and_13_does_not(self):
         self.read(rules(b"S:" + b" a" * 12), 2, 2, [S, 12] + [1] * 12, 17)
@@ -86,7 +85,7 @@ class FiguresTest(ReaderTest):
 
     def test_the_longest_text_that_is_read(self):
         grammar = longest_named(random.Random(1))
-        self.assertEqual(len(text_of(grammar)), LONGEST_TEXT)
+        self.assertEqual(len(text_of(grammar)), 8719)
         table = encode(grammar.rules)
         self.read(text_of(grammar), 127, 127, table, 256, exact_lent(grammar))
 

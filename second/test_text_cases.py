@@ -1,72 +1,43 @@
 """Tests of the reader's and writer's case files, answers and reasons."""
 
-import hashlib
 import random
 import unittest
 
-import text_cases
 import text_read_inputs
 import text_read_reasons
 import text_write_inputs
 import text_write_reasons
+from case_files import decode_all
+from file_tests import TABLE, TABLE_BYTES, FileTests
 from named_grammars import text_of
+from table_cases import S
 from tables import Refusal
 from text import Lent, Text, read_lines, read_text, write_text
+from test_text import AMPLE, FRONT, WORD
+from text_cases import READ, WRITE, read_answer, write_answer
 from text_write_reasons import Case
 
-# SHA-256 of the files of cases.
-READ_DIGEST = "dba768ba3af16ac604d29b0871bd53d4308bd2d11ec2be80611f8a20155d3ba3"
-WRITE_DIGEST = "442eeb86ae89d3982f5a178d63ceab5dbfc223c0bf1f0a8076bc021190ada390"
 
-S, A = 128, 129
-AMPLE = Lent(400, 300, 300)
-FRONT = b"terminals=a,b\nnonterminals=S,A\n"
-WORD = 2 ** 32
+class ReadFileTest(FileTests, unittest.TestCase):
+    KIND = READ
+    DIGEST = "dba768ba3af16ac604d29b0871bd53d4308bd2d11ec2be80611f8a20155d3ba3"
+    CASE = b"a\n", Lent(258, 3, 0)
+    BYTES = b"\2\0\0\0a\n\2\1\0\0\3\0\0\0\0\0\0\0"
 
 
-class FileTest(unittest.TestCase):
-    def test_the_cases_are_these_bytes(self):
-        digest = hashlib.sha256()
-        for case in text_read_inputs.all_cases():
-            digest.update(text_cases.encode_read_case(*case))
-        self.assertEqual(digest.hexdigest(), READ_DIGEST)
-        digest = hashlib.sha256()
-        for case in text_write_inputs.all_cases():
-            digest.update(text_cases.encode_write_case(case))
-        self.assertEqual(digest.hexdigest(), WRITE_DIGEST)
+class WriteFileTest(FileTests, unittest.TestCase):
+    KIND = WRITE
+    DIGEST = "442eeb86ae89d3982f5a178d63ceab5dbfc223c0bf1f0a8076bc021190ada390"
+    CASE = Case(*TABLE, b"ab", (WORD - 1, 1), (3,), 513)
+    BYTES = (TABLE_BYTES + b"\2\0\0\0ab" + b"\2\0\0\0\xff\xff\xff\xff\1\0\0\0"
+             + b"\1\0\0\0\3\0\0\0" + b"\1\2\0\0")
 
-    def test_layout_of_a_read_case(self):
-        data = text_cases.encode_read_case(b"a\n", Lent(258, 3, 0))
-        self.assertEqual(data, b"\2\0\0\0a\n\2\1\0\0\3\0\0\0\0\0\0\0")
-        more = text_cases.encode_read_case(b"", AMPLE)
-        self.assertEqual(list(text_cases.decode_read_cases(data + more)),
-                         [(b"a\n", Lent(258, 3, 0)), (b"", AMPLE)])
 
-    def test_layout_of_a_write_case(self):
-        case = Case(2 ** 64 - 1, 258, b"\x80\0", b"ab", (WORD - 1, 1), (3,), 513)
-        data = text_cases.encode_write_case(case)
-        self.assertEqual(
-            data, b"\xff" * 8 + b"\2\1" + bytes(6) + b"\2\0\0\0\x80\0" + b"\2\0\0\0ab"
-            + b"\2\0\0\0\xff\xff\xff\xff\1\0\0\0" + b"\1\0\0\0\3\0\0\0" + b"\1\2\0\0")
-        empty = Case(0, 1, b"", b"", (), (), 0)
-        both = data + text_cases.encode_write_case(empty)
-        self.assertEqual(list(text_cases.decode_write_cases(both)), [case, empty])
-
-    def test_a_cut_file_is_refused(self):
-        data = text_cases.encode_read_case(b"a\n", AMPLE)
-        for end in range(1, len(data)):
-            with self.assertRaises(ValueError):
-                list(text_cases.decode_read_cases(data[:end]))
-        data = text_cases.encode_write_case(Case(1, 1, b"\x80\0", b"ab", (1, 2), (3,), 5))
-        for end in range(1, len(data)):
-            with self.assertRaises(ValueError):
-                list(text_cases.decode_write_cases(data[:end]))
-
+class InputsTest(unittest.TestCase):
     def test_too_large_numbers_are_refused(self):
-        with self.assertRaises(ValueError):
-            list(text_cases.decode_read_cases(b"\xff" * 99999))
-        with self.assertRaises(ValueError):
-            list(text_cases.decode_write_cases(b"\xff" * 99999))
+        for kind in (READ, WRITE):
+            with self.assertRaises(ValueError):
+                list(decode_all(kind, b"\xff" * 99999))
 
     def test_sizes_of_long_texts(self):
         for size in (65535, 65536, 65537, 70000):
@@ -82,20 +53,20 @@ class FileTest(unittest.TestCase):
 class AnswerTest(unittest.TestCase):
     def test_read_answers(self):
         self.assertEqual(
-            text_cases.read_answer(FRONT + b"rule=A: b S\nrule=S:\n", AMPLE),
+            read_answer((FRONT + b"rule=A: b S\nrule=S:\n", AMPLE)),
             "read terminals=2 nonterminals=2 states=8 table=129,2,2,128,128,0 "
             "starts=10,12,27,29 lengths=1,1,1,1")
         self.assertEqual(
-            text_cases.read_answer(b"terminals=\nnonterminals=Start\n", Lent(0, 1, 1)),
+            read_answer((b"terminals=\nnonterminals=Start\n", Lent(0, 1, 1))),
             "read terminals=0 nonterminals=1 states=4 table= starts=24 lengths=5")
-        self.assertEqual(text_cases.read_answer(b"", AMPLE), "refused=16 at=1")
+        self.assertEqual(read_answer((b"", AMPLE)), "refused=16 at=1")
 
     def test_write_answers(self):
         case = Case(0, 1, b"", b"S", (0,), (1,), 26)
         self.assertEqual(
-            text_cases.write_answer(case),
+            write_answer(case),
             "written=26 text=7465726d696e616c733d0a6e6f6e7465726d696e616c733d530a")
-        self.assertEqual(text_cases.write_answer(case._replace(room=25)), "refused=14 at=0")
+        self.assertEqual(write_answer(case._replace(room=25)), "refused=14 at=0")
 
     def test_what_is_read_is_written_back(self):
         for text, lent in text_read_inputs.all_cases():
@@ -116,15 +87,6 @@ class AnswerTest(unittest.TestCase):
                 [text[s:s + k] for s, k in zip(result.starts, result.lengths)],
                 [case.names[s:s + k] for s, k in zip(case.starts, case.lengths)]
                 [:case.t + case.n])
-
-    def test_counts(self):
-        counts = text_cases.count_reasons(["x", "y", "z"], iter([["x", "z"], [], ["z"]]))
-        self.assertEqual(counts, [("x", 1), ("y", 0), ("z", 2)])
-
-    def test_wrong_words(self):
-        self.assertNotIn(("read-cases", 3), text_cases.VERBS)
-        self.assertEqual(sorted(text_cases.VERBS), [
-            ("read-answers", 3), ("read-cases", 1), ("write-answers", 3), ("write-cases", 1)])
 
 
 class ReadReasonsTest(unittest.TestCase):

@@ -4,15 +4,15 @@ import random
 import unittest
 
 from automaton import after_dot, automaton_of, items_of, move_count
-from case_grammars import CLASSICS, ONE_A, ROWS, small_random, spelled, triples_in
+from case_grammars import (
+    CLASSICS, ONE_A, ONE_A_BYTES, ROWS, small_random, spelled, triples_in,
+)
+from table_cases import S, a
 from tables import START, check_table
 from triples import (
     STILL, Step, Triple, Triples, certificate_length, certificate_of, choice_count,
     held_indexes, index_of, is_potential, reached, steps, triple_at,
 )
-
-S = 128
-a = 1
 
 
 def opening(rule):
@@ -50,7 +50,7 @@ class FiguresTest(unittest.TestCase):
     def test_certificate_of_one_a(self):
         triples = triples_in(ONE_A)
         certificate = certificate_of(triples.states, reached(triples))
-        self.assertEqual(certificate, bytes.fromhex("15 50 21 15 08 00 00 00 00"))
+        self.assertEqual(certificate, ONE_A_BYTES)
 
     def test_a_nonterminal_shift_is_not_forgotten(self):
         self.assertIn(3 * 4 + 3, reached(triples_in(ROWS[0])))

@@ -2,38 +2,20 @@
 
 import unittest
 
-from case_files import LARGEST, decode_all, digest
-from case_grammars import ONE_A, ROWS, triples_in
+from case_files import LARGEST, Rng
+from case_grammars import CYCLE, ONE_A, ROWS, triples_in
 from certificates import witness_fault
-from table_cases import Rng
+from file_tests import TABLE, TABLE_BYTES, WAY, FileTests
 from ways import longer, shortest, wander
-from witness_cases import KIND, Case, answer, encode_case
+from witness_cases import KIND, Case, answer
 from witness_reasons import REASONS, reasons_of
 
-# SHA-256 of the file of cases.
-DIGEST = "b76fa821ff1e82b7a413aaf851016a2375eba4aecb62dc4cf7720284a34f45ec"
 
-CYCLE = ROWS[5]           # S→S, Q = 6
-WAY = (0, 2, 14, 16, 23, 45, 43)
-
-
-class FileTest(unittest.TestCase):
-    def test_the_cases_are_these_bytes(self):
-        self.assertEqual(digest(KIND), DIGEST)
-
-    def test_layout_of_a_case(self):
-        data = encode_case(Case(1, 1, b"\x80\x00", (258, LARGEST)))
-        self.assertEqual(data, (
-            b"\x01" + bytes(7) + b"\x01" + bytes(7) + b"\x02\0\0\0" + b"\x80\x00"
-            + b"\x02\0\0\0" + b"\x02\x01\0\0" + b"\xff" * 4))
-        self.assertEqual(list(decode_all(KIND, data * 2)),
-                         [Case(1, 1, b"\x80\x00", (258, LARGEST))] * 2)
-
-    def test_a_cut_file_is_refused(self):
-        data = encode_case(Case(*CYCLE, WAY))
-        for end in range(1, len(data)):
-            with self.assertRaises(ValueError):
-                list(decode_all(KIND, data[:end]))
+class FileTest(FileTests, unittest.TestCase):
+    KIND = KIND
+    DIGEST = "b76fa821ff1e82b7a413aaf851016a2375eba4aecb62dc4cf7720284a34f45ec"
+    CASE = Case(*TABLE, (258, LARGEST))
+    BYTES = TABLE_BYTES + b"\x02\0\0\0" + b"\x02\x01\0\0" + b"\xff" * 4
 
     def test_answer_lines(self):
         self.assertEqual(answer(Case(*CYCLE, WAY)), "accepted")

@@ -1,8 +1,8 @@
 """The inputs of the reader's cases, in groups; they depend on the seed alone."""
 
-import random
-from typing import Callable, Iterator, List, Sequence, Tuple
+from typing import Iterator, List, Sequence, Tuple
 
+from case_files import Group, Rng, cases_of
 from named_grammars import (
     MAX_BYTES, MAX_LENT, Named, ample_lent, any_lent, counted_names, exact_lent,
     figures_named, full_named, join_lines, large_named, lines_of, long_names,
@@ -15,7 +15,6 @@ from text import MAX_NAME, MAX_TEXT, Lent
 SEED = 2
 
 Case = Tuple[bytes, Lent]
-Rng = random.Random
 S = START
 
 EXAMPLE = b"terminals=a\nnonterminals=S\nrule=S: a\n"     # document 01's own
@@ -652,7 +651,7 @@ def longest_texts(rng: Rng) -> Iterator[Case]:
     yield from at_ease(rng, long_texts_of(rng, MAX_TEXT - 1))
 
 
-GROUPS: List[Callable[[Rng], Iterator[Case]]] = [
+GROUPS: List[Group] = [
     figures, good_small, good_large, lent_rows, replaced_bytes, changed_bytes,
     cut_texts, no_lines, damaged, noise, line_ends, moved_lines, blank_lines, keys,
     lists, name_lengths, all_bytes, equal_names, counts_of_names, thousands_of_names,
@@ -662,10 +661,5 @@ GROUPS: List[Callable[[Rng], Iterator[Case]]] = [
 
 
 def all_cases() -> Iterator[Case]:
-    """Every group's cases, each group with a generator of its own; none twice."""
-    seen = set()
-    for number, group in enumerate(GROUPS):
-        for case in group(random.Random(SEED * 1000 + number)):
-            if case not in seen:
-                seen.add(case)
-                yield case
+    """Every group's cases."""
+    return cases_of(GROUPS, SEED)

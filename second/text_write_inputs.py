@@ -1,9 +1,9 @@
 """The inputs of the writer's cases, in groups; they depend on the seed alone."""
 
-import random
-from typing import Callable, Dict, Iterator, List, Sequence, Tuple
+from typing import Dict, Iterator, List, Sequence, Tuple
 
 import table_cases
+from case_files import LAST, Group, Rng, cases_of
 from named_grammars import (
     MAX_LENT, Named, figures_named, full_named, large_named, longest_named, random_name,
     random_names, small_named, text_of,
@@ -14,9 +14,7 @@ from text import MAX_NAME, NAME_BYTES
 from text_write_reasons import SHORTEST, WORD, Case
 
 SEED = 3
-LAST = 2 ** 64 - 1             # largest t or n
 
-Rng = random.Random
 Rows = Tuple[bytes, List[int], List[int]]      # name bytes, starts and lengths
 
 
@@ -372,7 +370,7 @@ def no_names(rng: Rng) -> Iterator[Case]:
                 yield Case(t, n, b"", b"", starts, lengths, enough_room(rng))
 
 
-GROUPS: List[Callable[[Rng], Iterator[Case]]] = [
+GROUPS: List[Group] = [
     figures, good_small, good_large, overlapping_names, rooms, longer_rows, ranges,
     faulty_tables, short_rows, spans_past_the_bytes, name_lengths, all_bytes,
     equal_names, crossing_names, several_faults, damaged_bytes, no_names,
@@ -380,10 +378,5 @@ GROUPS: List[Callable[[Rng], Iterator[Case]]] = [
 
 
 def all_cases() -> Iterator[Case]:
-    """Every group's cases, each group with a generator of its own; none twice."""
-    seen = set()
-    for number, group in enumerate(GROUPS):
-        for case in group(random.Random(SEED * 1000 + number)):
-            if case not in seen:
-                seen.add(case)
-                yield case
+    """Every group's cases."""
+    return cases_of(GROUPS, SEED)

@@ -6,8 +6,8 @@ rows of random trees.
 
 from typing import Dict, List, Tuple
 
+from case_files import Rng
 from derivations import CODES, nonterminals_of, used_rules
-from table_cases import Rng
 from tables import START, Grammar, Rule
 
 MOST = 2                  # "it has two trees": more need not be told apart

@@ -3,7 +3,7 @@
 from functools import lru_cache
 from typing import Dict, FrozenSet, List
 
-from table_cases import Rng
+from case_files import Rng
 from triples import Triples, is_potential, reached
 
 

@@ -9,19 +9,18 @@ endian.
 """
 
 import sys
-from typing import Dict, Iterator, List, NamedTuple, Sequence, Tuple
+from typing import Dict, Iterator, List, NamedTuple, Tuple
 
 from case_files import (
-    LARGEST, Kind, Reader, accepted_or_refused, cases_of, encode_number, encode_table,
-    main,
+    LARGEST, Kind, Reader, Rng, accepted_or_refused, cases_of, encode_entries,
+    encode_table, main,
 )
 from case_grammars import (
-    CLASSICS, ONE_A, ROWS, STATEMENTS, Table, faulty_tables, keywords, larger_random,
+    CLASSICS, CYCLE, ONE_A, ROWS, STATEMENTS, Table, faulty_tables, keywords, larger_random,
     operators, rules_before_the_fault, some, states_of, triples_in,
 )
 from certificates import check_witness
 from misreadings import NAMES, misread_indexes
-from table_cases import Rng
 from tables import MAX_STATES
 from triples import is_potential, reached
 from ways import longer, shortest, wander, way_from, way_to
@@ -167,9 +166,9 @@ def faulty(rng: Rng) -> Iterator[Case]:
         if states_of(good) < 40 and is_potential(triples_in(good)):
             yield Case(*table, tuple(shortest(triples_in(good))))
         yield Case(*table, rng.choice([(), (0,), (0, LARGEST), (1, 2, 3)]))
-    way = tuple(shortest(triples_in(ROWS[5])))
+    way = tuple(shortest(triples_in(CYCLE)))
     for t in range(128, 160):
-        yield Case(t, *ROWS[5][1:], way)
+        yield Case(t, *CYCLE[1:], way)
     yield Case(*ONE_A, way)
 
 
@@ -193,19 +192,13 @@ def encode_case(case: Case) -> bytes:
     return encode_table(*case[:3]) + encode_entries(case.entries)
 
 
-def encode_entries(entries: Sequence[int]) -> bytes:
-    """The number of entries, then the entries."""
-    return encode_number(len(entries)) + b"".join(map(encode_number, entries))
-
-
 def decode_case(reader: Reader) -> Case:
     """The next case of a file of inputs."""
-    t, n, table = reader.table()
-    return Case(t, n, table, tuple(reader.numbers(reader.number())))
+    return Case(*reader.table(), reader.entries())
 
 
 KIND = Kind(lambda: cases_of(GROUPS), encode_case, decode_case, answer,
             REASONS, lambda case: reasons_of(*case))
 
 if __name__ == "__main__":
-    sys.exit(main(KIND, __doc__, sys.argv[1:]))
+    sys.exit(main(__doc__, sys.argv[1:], KIND))

@@ -1,0 +1,29 @@
+"""What the tests of the files of cases share."""
+
+from case_files import decode_all, digest
+
+TABLE = 1, 1, b"\x80\x00"
+TABLE_BYTES = b"\x01" + bytes(7) + b"\x01" + bytes(7) + b"\x02\0\0\0" + b"\x80\x00"
+
+WAY = 0, 2, 14, 16, 23, 45, 43      # a witness of S→S, Q = 6
+
+
+class FileTests:
+    """Tests of one kind of cases, for a TestCase that has these four."""
+
+    KIND = None
+    DIGEST = None         # SHA-256 of the file of cases
+    CASE = None           # some case
+    BYTES = None          # its bytes
+
+    def test_the_cases_are_these_bytes(self):
+        self.assertEqual(digest(self.KIND), self.DIGEST)
+
+    def test_layout_of_a_case(self):
+        self.assertEqual(self.KIND.encode(self.CASE), self.BYTES)
+        self.assertEqual(list(decode_all(self.KIND, self.BYTES * 2)), [self.CASE] * 2)
+
+    def test_a_cut_file_is_refused(self):
+        for end in range(1, len(self.BYTES)):
+            with self.assertRaises(ValueError):
+                list(decode_all(self.KIND, self.BYTES[:end]))
