@@ -9,7 +9,7 @@ from text import Lent, Text, read_text
 MAX_BYTES = 4096          # "up to 4,096 bytes"
 MAX_STATES = 48           # "and 48 states"
 TOO_MUCH = Refusal(14, 0)
-AMPLE = Lent(MAX_BYTES, MAX_BYTES, MAX_BYTES)    # no text of the program needs as much
+AMPLE = Lent(MAX_BYTES, MAX_BYTES, MAX_BYTES)    # no grammar needs as much
 
 
 def taken(text: bytes) -> Union[Text, Refusal]:
@@ -27,8 +27,12 @@ def taken(text: bytes) -> Union[Text, Refusal]:
 
 
 def printed(text: bytes) -> bytes:
-    """All that the program prints: "Q, verdict, size", or a refusal's two lines."""
-    result = taken(text)
+    """All that the program prints."""
+    return judged(taken(text))
+
+
+def judged(result: Union[Text, Refusal]) -> bytes:
+    """The lines of what was read: "Q, verdict, size", or a refusal's two lines."""
     if isinstance(result, Refusal):
         return b"refused=%d\nat=%d\n" % result
     table = result.terminals, result.nonterminals, result.table

@@ -40,7 +40,7 @@
 #define AMBIGUITY_MAX_NAMES (AMBIGUITY_MAX_TERMINALS + AMBIGUITY_MAX_NONTERMINALS)
 
 /* The stack that a call may use, below the caller's frame: bindings/c/stack.c measures it on a painted stack, at Q = 256. The
- * reader has a tree of names there (267,255 bytes measured), the search its marks (73,591 bytes, for few states too); of
+ * reader has a tree of names there (267,255 bytes measured), the search its marks (73,575 bytes, for few states too); of
  * the others nth_step goes deepest (8,183 bytes). */
 #define AMBIGUITY_STACK_BYTES 12288
 #define AMBIGUITY_READ_TEXT_STACK_BYTES 274432
