@@ -1,4 +1,4 @@
-"""Each must-fail edit was refused because a fact fails, and docs/MUST-FAIL.md has a line for it.
+"""Each must-fail edit was refused because a fact fails, and docs/MUST-FAIL.md has a line for it, and for no other.
 
 Reads the logs that `rt ci` leaves in target/must-fail/CRATE/EDIT/.log. Exits with 1 and says which edit is at fault.
 """
@@ -9,6 +9,7 @@ import sys
 
 ROOT = pathlib.Path(__file__).resolve().parent.parent
 UNFIT = re.compile(r"has no `Need-[^`]*` that can be named from here")
+ROW = re.compile(r"^\| (\w+) \| (\w+) \|", re.MULTILINE)
 
 
 def first_error(log):
@@ -20,11 +21,15 @@ def first_error(log):
 
 
 def faults():
-    table = (ROOT / "docs" / "MUST-FAIL.md").read_text(encoding="utf-8")
-    for edit in sorted((ROOT / "crates").glob("*/must-fail/*.edit")):
-        crate, name = edit.parent.parent.name, edit.stem
-        if f"| {crate} | {name} |" not in table:
-            yield f"{crate}/{name}: docs/MUST-FAIL.md has no line for it"
+    """What speaks against the edits, a line each."""
+    listed = ROW.findall((ROOT / "docs" / "MUST-FAIL.md").read_text(encoding="utf-8"))[1:]
+    edits = [(edit.parent.parent.name, edit.stem) for edit in sorted((ROOT / "crates").glob("*/must-fail/*.edit"))]
+    for crate, name in listed:
+        if (crate, name) not in edits:
+            yield f"{crate}/{name}: docs/MUST-FAIL.md has a line for it, and no edit is so named"
+    for crate, name in edits:
+        if listed.count((crate, name)) != 1:
+            yield f"{crate}/{name}: docs/MUST-FAIL.md has not one line for it"
         log = ROOT / "target" / "must-fail" / crate / name / ".log"
         if not log.exists():
             yield f"{crate}/{name}: no log"

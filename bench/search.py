@@ -34,8 +34,6 @@ def archive(options):
         return []
     if options.archive:
         return [options.archive]
-    if not (ROOT / "crates" / "ambiguity_c").exists():
-        sys.exit("crate ambiguity_c is not here: use --archive FILE, or --stand-in to try the benchmark without the library")
     run("rt", "staticlib", "ambiguity_c", cwd=ROOT)
     return [ROOT / "target" / "staticlib" / "libambiguity_c.a"]
 

@@ -49,8 +49,8 @@ def texts():
     yield "the same, the last a double of the first", filled("terminals=", names(15, "x" * 12), ",", "," + "x" * 12 + "aaa" + end)
     yield "the second line, against 127 names of the first", filled(
         "terminals=" + ",".join(declared(127, 15, "x" * 12)) + "\nnonterminals=", names(15, "y" * 12), ",", "\n")
-    terminals = declared(127, 2, "")
-    head = "terminals=" + ",".join(terminals) + "\nnonterminals=" + ",".join(declared(127, 2, "Z")[:62]) + "\n"
+    terminals = declared(127, 2)
+    head = "terminals=" + ",".join(terminals) + "\nnonterminals=" + ",".join(declared(62, 2, "Z")) + "\n"
     yield "one rule line of thousands of names", filled(head + "rule=Za: ", itertools.repeat(terminals[-1]), " ", "\n")
     yield "thousands of rule lines", filled(head, itertools.repeat("rule=Za: " + " ".join([terminals[-1]] * 12)), "\n", "\n")
     yield "thousands of short rule lines", filled(head, itertools.repeat("rule=Za:"), "\n", "\n")

@@ -1,5 +1,4 @@
 //! What the tests share: running the tools, and grammars on file.
-#![allow(dead_code)]
 
 use std::io::Write;
 use std::path::PathBuf;
