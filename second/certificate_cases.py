@@ -22,7 +22,7 @@ from certificates import check_certificate
 from table_cases import random_bytes
 from tables import MAX_STATES
 from triples import (
-    BYTE, Triples, certificate_length, certificate_of, closure, held_indexes,
+    BYTE, Triples, certificate_length, certificate_of, closure, held_indices,
     is_potential, reached,
 )
 from ways import largest_set
@@ -53,10 +53,10 @@ def closed_superset(rng: Rng, triples: Triples, adding: int) -> Optional[bytes]:
     return None if triples.last in held else certificate_of(triples.states, held)
 
 
-def flipped(certificate: bytes, *indexes: int) -> bytes:
+def flipped(certificate: bytes, *indices: int) -> bytes:
     """The certificate with these bits changed."""
     changed = bytearray(certificate)
-    for index in indexes:
+    for index in indices:
         changed[index // BYTE] ^= 1 << index % BYTE
     return bytes(changed)
 
@@ -174,7 +174,7 @@ def closed_sets(rng: Rng) -> Iterator[Case]:
             certificate = closed_superset(rng, triples, adding)
             if certificate is not None:
                 yield Case(*table, certificate)
-                held = held_indexes(certificate)
+                held = held_indices(certificate)
                 yield Case(*table, flipped(certificate, rng.choice(held)))
                 yield Case(*table, flipped(certificate, rng.randrange(triples.count)))
 
@@ -256,7 +256,7 @@ def larger(rng: Rng) -> Iterator[Case]:
 
 
 def largest_grammar(rng: Rng) -> Iterator[Case]:
-    """Q = 256: indexes up to 131,071."""
+    """Q = 256: indices up to 131,071."""
     table = keywords(rng, 30, MAX_STATES)
     triples = triples_in(table)
     right, held = smallest(table), sorted(reached(triples))
@@ -274,7 +274,7 @@ def largest_grammar(rng: Rng) -> Iterator[Case]:
         certificate = closed_superset(rng, triples, adding)
         if certificate is not None:
             yield Case(*table, certificate)
-            yield Case(*table, flipped(certificate, held_indexes(certificate)[-1]))
+            yield Case(*table, flipped(certificate, held_indices(certificate)[-1]))
 
 
 GROUPS = [

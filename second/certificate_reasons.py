@@ -12,7 +12,7 @@ from certificates import (
     certificate_fault, checked_triples, successor_fault,
 )
 from tables import MAX_STATES, Refusal
-from triples import Triples, certificate_length, held_indexes, is_potential, reached
+from triples import Triples, certificate_length, held_indices, is_potential, reached
 from ways import largest_set
 
 REASONS = [
@@ -69,7 +69,7 @@ def reasons_of(t: int, n: int, table: bytes, certificate: bytes) -> List[str]:
 
 def accepted_reasons(triples: Triples, certificate: bytes) -> List[str]:
     """How large an accepted certificate is."""
-    size = len(held_indexes(certificate))
+    size = len(held_indices(certificate))
     least = size == len(reached(triples))
     met = [
         ("accepted-smallest", least),
@@ -99,7 +99,7 @@ def length_reasons(triples: Triples, certificate: bytes) -> List[str]:
 
 def later_reasons(triples: Triples, certificate: bytes, fault: Refusal) -> List[str]:
     """How causes 10 to 13 show, and which later faults the order hides."""
-    held = [index for index in held_indexes(certificate) if index < triples.count]
+    held = [index for index in held_indices(certificate) if index < triples.count]
     if fault.cause == SUCCESSOR_MISSING:
         return successor_reasons(triples, held, fault.position)
     later = [
@@ -136,7 +136,7 @@ def successor_reasons(triples: Triples, held: List[int], holder: int) -> List[st
     return [name for name, there in met if there]
 
 
-def lacks_one(triples: Triples, holds: Set[int], indexes: List[int]) -> bool:
+def lacks_one(triples: Triples, holds: Set[int], indices: List[int]) -> bool:
     """Whether one of these has a successor that is not held."""
     return any(successor not in holds
-               for index in indexes for successor in triples.successors(index))
+               for index in indices for successor in triples.successors(index))

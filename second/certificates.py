@@ -9,7 +9,7 @@ from typing import Optional, Sequence, Tuple, Union
 
 from tables import Refusal, check_table
 from triples import (
-    FIRST, LAST, Triple, Triples, certificate_length, held_indexes, in_range,
+    FIRST, LAST, Triple, Triples, certificate_length, held_indices, in_range,
     steps, triples_of,
 )
 
@@ -48,7 +48,7 @@ def certificate_fault(triples: Triples, certificate: bytes) -> Optional[Refusal]
     """The first of causes 9 to 13 that a certificate has, or None."""
     if len(certificate) != certificate_length(triples.states):
         return Refusal(WRONG_LENGTH, 0)
-    held = held_indexes(certificate)
+    held = held_indices(certificate)
     for index in held:
         if index >= triples.count:
             return Refusal(SPARE_BIT, index)
@@ -60,7 +60,7 @@ def certificate_fault(triples: Triples, certificate: bytes) -> Optional[Refusal]
 
 
 def successor_fault(triples: Triples, held: Sequence[int]) -> Optional[Refusal]:
-    """Cause 13: of the held indexes the "lowest index that lacks one"."""
+    """Cause 13: of the held indices the "lowest index that lacks one"."""
     holds = set(held)
     for index in held:
         for successor in triples.successors(index):

@@ -18,7 +18,7 @@ from corpus import Found, found_in
 from program import AMPLE, judged
 from tables import Refusal
 from text import read_text
-from triples import held_indexes
+from triples import held_indices
 
 ON_A_LINE = 32            # bytes of the certificate
 
@@ -26,7 +26,7 @@ ON_A_LINE = 32            # bytes of the certificate
 def lines_of(found: Found, certificate: bytes) -> bytes:
     """A certificate as it is printed."""
     head = "certificate-form=1\nstates=%d\nrules=%d\nsize=%d\n" % (
-        found.grammar.states, len(found.grammar.rules), len(held_indexes(certificate)))
+        found.grammar.states, len(found.grammar.rules), len(held_indices(certificate)))
     places = range(0, len(certificate), ON_A_LINE)
     return (head + "".join("%04x: %s\n" % (place, certificate[place:place + ON_A_LINE].hex(" "))
                            for place in places)).encode("ascii")

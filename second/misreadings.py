@@ -111,7 +111,7 @@ def misread(automaton: Automaton, triple: Triple) -> Dict[Triple, str]:
     return {other: name for name, other in reversed(found) if other not in true}
 
 
-def misread_indexes(triples: Triples, index: int) -> Dict[int, str]:
+def misread_indices(triples: Triples, index: int) -> Dict[int, str]:
     """By index what follows in a misreading only."""
     found = misread(triples.automaton, triple_at(triples.states, index))
     return {index_of(triples.states, other): name for other, name in sorted(found.items())}

@@ -9,7 +9,7 @@ from certificate_cases import (
 )
 from certificate_reasons import REASONS, reasons_of
 from file_tests import TABLE, TABLE_BYTES, FileTests
-from triples import certificate_of, held_indexes, reached
+from triples import certificate_of, held_indices, reached
 from ways import largest_set
 
 EMPTY = ROWS[1]           # S→, Q = 5: bits 50 to 55 are spare
@@ -37,7 +37,7 @@ class SetsTest(unittest.TestCase):
         triples = triples_in(ONE_A)
         for seed in range(30):
             certificate = closed_superset(Rng(seed), triples, 2)
-            held = set(held_indexes(certificate))
+            held = set(held_indices(certificate))
             self.assertLessEqual(reached(triples), held)
             self.assertLessEqual(held, largest_set(triples))
             self.assertTrue(all(set(triples.successors(index)) <= held for index in held))

@@ -8,7 +8,7 @@ from case_grammars import (
 )
 from certificate_cases import flipped, smallest
 from certificates import check_certificate, check_records, check_witness
-from misreadings import NAMES, misread_indexes
+from misreadings import NAMES, misread_indices
 from tables import Refusal
 from triples import certificate_of, reached, triple_at
 from ways import largest_set, shortest
@@ -233,7 +233,7 @@ class MisreadingsTest(unittest.TestCase):
         for table in ROWS + list(CLASSICS.values()):
             triples = triples_in(table)
             for index in sorted(reached(triples)):
-                wrong = misread_indexes(triples, index)
+                wrong = misread_indices(triples, index)
                 self.assertFalse(set(wrong) & set(triples.successors(index)))
                 self.assertLess(max(wrong, default=0), triples.count)
                 found.update(wrong.values())

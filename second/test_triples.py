@@ -11,7 +11,7 @@ from table_cases import S, a
 from tables import START, check_table
 from triples import (
     STILL, Step, Triple, Triples, certificate_length, certificate_of, choice_count,
-    held_indexes, index_of, is_potential, reached, steps, triple_at,
+    held_indices, index_of, is_potential, reached, steps, triple_at,
 )
 
 
@@ -72,7 +72,7 @@ class IndexTest(unittest.TestCase):
 
     def test_bits(self):
         self.assertEqual(certificate_of(4, [0, 9, 31]), bytes([1, 2, 0, 128]))
-        self.assertEqual(held_indexes(bytes([1, 2, 0, 128])), [0, 9, 31])
+        self.assertEqual(held_indices(bytes([1, 2, 0, 128])), [0, 9, 31])
 
 
 class StepsTest(unittest.TestCase):

@@ -39,7 +39,7 @@ FIRST = Triple(0, BEGIN, BEGIN)   # (0,0,0)
 LAST = Triple(1, END, END)        # (1,1,1)
 
 
-# Indexes.
+# Indices.
 
 def index_of(states: int, triple: Triple) -> int:
     """The "index f×Q² + p×Q + q"."""
@@ -149,12 +149,12 @@ class Triples:
         self._known: Dict[int, Tuple[int, ...]] = {}
 
     def successors(self, index: int) -> Tuple[int, ...]:
-        """The indexes of the successors, ascending, none twice."""
+        """The indices of the successors, ascending, none twice."""
         known = self._known.get(index)
         if known is None:
             found = unordered_steps(self.automaton, triple_at(self.states, index))
-            indexes = {index_of(self.states, step.next) for step in found}
-            known = self._known[index] = tuple(sorted(indexes))
+            indices = {index_of(self.states, step.next) for step in found}
+            known = self._known[index] = tuple(sorted(indices))
         return known
 
 
@@ -165,13 +165,13 @@ def triples_of(grammar: Grammar) -> Triples:
 
 
 def closure(
-    triples: Triples, indexes: Iterable[int], closed: FrozenSet[int] = frozenset()
+    triples: Triples, indices: Iterable[int], closed: FrozenSet[int] = frozenset()
 ) -> FrozenSet[int]:
-    """The smallest set with these indexes and every successor of what it holds.
+    """The smallest set with these indices and every successor of what it holds.
 
     It also holds `closed`, which must hold its successors already.
     """
-    waiting = [index for index in indexes if index not in closed]
+    waiting = [index for index in indices if index not in closed]
     held = set(closed).union(waiting)
     while waiting:
         for index in triples.successors(waiting.pop()):
@@ -210,16 +210,16 @@ def certificate_length(states: int) -> int:
     return (LAYERS * states * states + BYTE - 1) // BYTE
 
 
-def certificate_of(states: int, indexes: Iterable[int]) -> bytes:
+def certificate_of(states: int, indices: Iterable[int]) -> bytes:
     """"index 8b+c being bit c of byte b, bit 0 the lowest"."""
     certificate = bytearray(certificate_length(states))
-    for index in indexes:
+    for index in indices:
         certificate[index // BYTE] |= 1 << index % BYTE
     return bytes(certificate)
 
 
-def held_indexes(certificate: bytes) -> List[int]:
-    """The indexes whose bits are 1, ascending."""
+def held_indices(certificate: bytes) -> List[int]:
+    """The indices whose bits are 1, ascending."""
     return [BYTE * place + bit
             for place, byte in enumerate(certificate) if byte
             for bit in BITS_OF[byte]]

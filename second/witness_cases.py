@@ -20,7 +20,7 @@ from case_grammars import (
     operators, rules_before_the_fault, some, states_of, triples_in,
 )
 from certificates import check_witness
-from misreadings import NAMES, misread_indexes
+from misreadings import NAMES, misread_indices
 from tables import MAX_STATES
 from triples import is_potential, reached
 from ways import longer, shortest, wander, way_from, way_to
@@ -112,7 +112,7 @@ def misread_entries(rng: Rng) -> Iterator[Case]:
         held = sorted(reached(triples))
         by_name: Dict[str, List[Tuple[int, int]]] = {name: [] for name in NAMES}
         for index in held:
-            for other, name in misread_indexes(triples, index).items():
+            for other, name in misread_indices(triples, index).items():
                 by_name[name].append((index, other))
         for row in by_name.values():
             if row:

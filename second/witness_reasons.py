@@ -8,7 +8,7 @@ from typing import List, Sequence, Tuple
 
 from case_files import LARGEST, TABLE_REASONS
 from certificates import checked_triples, witness_fault
-from misreadings import NAMES, misread_indexes
+from misreadings import NAMES, misread_indices
 from tables import Refusal
 from triples import Triples, is_potential, reached
 from ways import shortest
@@ -115,5 +115,5 @@ def misread_reasons(
     triples: Triples, before: int, entry: int, inside: bool
 ) -> List[Tuple[str, bool]]:
     """The misreading in which the entry would be right."""
-    found = misread_indexes(triples, before) if inside else {}
+    found = misread_indices(triples, before) if inside else {}
     return [("15-" + found[entry], True)] if entry in found else []
