@@ -7,7 +7,7 @@ from functools import lru_cache
 from typing import Callable, Dict, List, Tuple
 
 from case_files import LAST, Rng
-from table_cases import (
+from random_tables import (
     FIGURES, Rule, base_grammar, encode, faulty_rule, random_code, random_lengths,
     random_rules,
 )

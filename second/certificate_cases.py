@@ -19,7 +19,7 @@ from case_grammars import (
 )
 from certificate_reasons import REASONS, reasons_of
 from certificates import check_certificate
-from table_cases import random_bytes
+from random_tables import random_bytes
 from tables import MAX_STATES
 from triples import (
     BYTE, Triples, certificate_length, certificate_of, closure, held_indices,

@@ -6,7 +6,7 @@ The texts here are put together without the writer of text.py.
 from typing import Dict, List, NamedTuple, Sequence
 
 from case_files import Rng
-from table_cases import FIGURES, Rule, encode, large_grammar, random_rules, small_grammar
+from random_tables import FIGURES, Rule, encode, large_grammar, random_rules, small_grammar
 from tables import MAX_LENGTH, MAX_NONTERMINALS, MAX_TERMINALS, START
 from text import MAX_NAME, NAME_BYTES, Lent
 

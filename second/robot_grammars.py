@@ -8,7 +8,7 @@ from typing import Callable, Dict, List
 
 from case_files import Rng
 from named_grammars import Named
-from table_cases import Rule, encode
+from random_tables import Rule, encode
 from tables import FIXED_STATES, MAX_LENGTH, MAX_STATES, START
 
 Lines = Dict[str, List[str]]      # by left name the right sides, names apart by spaces

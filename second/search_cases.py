@@ -25,8 +25,8 @@ from case_grammars import (
 )
 from certificates import check_witness, checked_triples
 from derivations import used_rules
+from random_tables import encode
 from searches import Lent, Potential, Unambiguous, needed, search
-from table_cases import encode
 from tables import MAX_STATES, START, Grammar, Refusal, check_table
 from triples import is_potential, reached
 

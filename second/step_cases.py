@@ -19,7 +19,7 @@ from case_grammars import (
     operators, some, triples_in,
 )
 from certificates import checked_triples
-from table_cases import encode
+from random_tables import encode
 from tables import MAX_STATES, START, Refusal
 from triples import (
     CLOSING, OPENING, STILL, SYMBOL, Move, Step, Triple, Triples, in_range,

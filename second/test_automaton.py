@@ -4,7 +4,7 @@ import unittest
 
 from automaton import Item, automaton_of, items_of, move_count
 from case_grammars import CLASSICS, ROWS, spelled
-from table_cases import A, S, a, b
+from random_tables import A, S, a, b
 from tables import check_table
 from test_tables import STATES
 

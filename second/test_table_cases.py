@@ -4,7 +4,8 @@ import unittest
 
 from derivations import used_rules
 from file_tests import TABLE, TABLE_BYTES, FileTests
-from table_cases import KIND, A, B, S, a, answer
+from random_tables import A, B, S, a
+from table_cases import KIND, answer
 from table_reasons import reasons_of
 from tables import check_table
 from test_tables import full_table, terminal_rules

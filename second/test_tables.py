@@ -2,7 +2,7 @@
 
 import unittest
 
-from table_cases import FIGURES, A, S, a, b, encode
+from random_tables import FIGURES, A, S, a, b, encode
 from tables import Grammar, Refusal, Rule, check_table
 
 # Q of document 01's "Grammars on file".

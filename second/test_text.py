@@ -7,7 +7,7 @@ from named_grammars import (
     Named, ample_lent, exact_lent, figures_named, full_named,
     large_named, longest_named, random_names, small_named, text_of,
 )
-from table_cases import A, S, encode
+from random_tables import A, S, encode
 from tables import Refusal
 from test_tables import STATES
 from text import Lent, Text, is_name, read_text, write_text

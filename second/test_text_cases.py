@@ -10,10 +10,10 @@ import text_write_reasons
 from case_files import decode_all
 from file_tests import TABLE, TABLE_BYTES, FileTests
 from named_grammars import text_of
-from table_cases import S
+from random_tables import S
 from tables import Refusal
-from text import Lent, Text, read_lines, read_text, write_text
 from test_text import AMPLE, FRONT, WORD
+from text import Lent, Text, read_lines, read_text, write_text
 from text_cases import READ, WRITE, read_answer, write_answer
 from text_write_reasons import Case
 

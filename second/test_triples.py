@@ -7,7 +7,7 @@ from automaton import after_dot, automaton_of, items_of, move_count
 from case_grammars import (
     CLASSICS, ONE_A, ONE_A_BYTES, ROWS, small_random, spelled, triples_in,
 )
-from table_cases import S, a
+from random_tables import S, a
 from tables import START, check_table
 from triples import (
     STILL, Step, Triple, Triples, certificate_length, certificate_of, choice_count,

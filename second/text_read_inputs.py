@@ -8,7 +8,7 @@ from named_grammars import (
     figures_named, full_named, join_lines, large_named, lines_of, long_names,
     longest_named, random_name, random_names, rule_line, small_named, text_of, with_names,
 )
-from table_cases import random_rule, random_rules
+from random_tables import random_rule, random_rules
 from tables import MAX_LENGTH, MAX_RULES, MAX_STATES, START
 from text import MAX_NAME, MAX_TEXT, Lent
 

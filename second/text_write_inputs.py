@@ -8,7 +8,7 @@ from named_grammars import (
     MAX_LENT, Named, figures_named, full_named, large_named, longest_named, random_name,
     random_names, small_named, text_of,
 )
-from table_cases import encode, random_rules
+from random_tables import encode, random_rules
 from tables import MAX_RULES, MAX_STATES, START
 from text import MAX_NAME, NAME_BYTES
 from text_write_reasons import SHORTEST, WORD, Case
