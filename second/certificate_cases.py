@@ -3,8 +3,7 @@
     certificate_cases.py cases FILE                writes the inputs
     certificate_cases.py answers CASES OUT COUNTS  answers them and counts the reasons
 
-A case is t and n (8 bytes each), the table's length (4 bytes), the table, then
-the certificate's length (4 bytes) and the certificate, all little endian.
+README.md beside this file has the layout of a case.
 """
 
 import sys

@@ -3,9 +3,7 @@
     record_cases.py cases FILE                writes the inputs
     record_cases.py answers CASES OUT COUNTS  answers them and counts the reasons
 
-A case is t and n (8 bytes each), the table's length (4 bytes), the table, then
-the number of records (4 bytes) and the records: layer, left and right (4 bytes
-each), all little endian. At most 512 records.
+README.md beside this file has the layout of a case.
 """
 
 import sys

@@ -4,12 +4,7 @@
     search_cases.py answers CASES OUT COUNTS  answers them and counts the reasons
     search_cases.py witness-ok CASES FOUND    checks the witnesses that were found
 
-A case is t and n (8 bytes each), the table's length (4 bytes), the table, then
-what is lent (4 bytes each): certificate bytes, and entries of queue, parents
-and witness; then one byte that these are filled with. All is little endian.
-
-FOUND has for each potential case, in order, the witness's number of entries
-and the entries (4 bytes each), and nothing for the other cases.
+README.md beside this file has the layout of a case and of FOUND.
 """
 
 import sys

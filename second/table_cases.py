@@ -3,8 +3,7 @@
     table_cases.py cases FILE                writes the inputs
     table_cases.py answers CASES OUT COUNTS  answers them and counts the reasons
 
-A case is t and n (8 bytes each), the table's length (4 bytes), all little
-endian, then the table. The inputs depend on the seed alone.
+README.md beside this file has the layout of a case.
 """
 
 import sys

@@ -5,13 +5,7 @@
     text_cases.py write-cases FILE                 writes the writer's inputs
     text_cases.py write-answers CASES OUT COUNTS   answers them, counts the reasons
 
-All numbers of a case are little endian. A reader's case is the text's length
-(4 bytes), the text, then the lengths of the rows lent for the table, the
-starts and the lengths (4 bytes each). A writer's case is t and n (8 bytes
-each), the table's length (4 bytes) and bytes, the name bytes' length (4 bytes)
-and bytes, the number of starts (4 bytes) and the starts (4 bytes each), the
-number of lengths (4 bytes) and the lengths (4 bytes each), and the room of the
-output (4 bytes). The inputs depend on the seeds alone.
+README.md beside this file has the layout of a case.
 """
 
 import sys

@@ -3,9 +3,7 @@
     witness_cases.py cases FILE                writes the inputs
     witness_cases.py answers CASES OUT COUNTS  answers them and counts the reasons
 
-A case is t and n (8 bytes each), the table's length (4 bytes), the table, then
-the number of entries (4 bytes) and the entries (4 bytes each), all little
-endian.
+README.md beside this file has the layout of a case.
 """
 
 import sys
