@@ -1,6 +1,7 @@
--- What check_table, check_witness, check_certificate and nth_step promise of their answers, by the entry's `ensures`: each promise
--- determines the answer. That a refusal is the first in document 01's order is in the definitions that the promises equal.
--- The promise of the search is in search/specs/Promise.antt, those of reader and writer in text/specs/Promise.antt.
+-- What check_table, check_witness, check_witness_records, check_certificate and nth_step promise of their answers, by the entry's
+-- `ensures`: each promise determines the answer. That a refusal is the first in document 01's order is in the definitions that
+-- the promises equal. The promise of the search is in search/specs/Promise.antt, those of reader and writer in
+-- text/specs/Promise.antt, that of the report in report/specs/Report.antt.
 -- Source: document 01. Assumes nothing.
 use Prim.Native.Nat.{ℕ, _<_}
 use mathlib.Core.Path.{_≡_}

@@ -1,8 +1,9 @@
 -- What holds of the library, whatever the input: theorems over what the public entries promise. A promise is the entry's
 -- `ensures`; it determines the answer, the choice of witness alone excepted. The promises are in specs/Entries.antt and in the
--- Promise.antt of search and of text; specs/Searches.antt and specs/Texts.antt have what follows for the search and for texts,
--- proofs/FrontPage.antt the value of the record. Source: document 01; the demands of the mission by number. Of demand 1, that a
--- refusal is the first in document 01's order is in the definitions that the promises equal. Assumes nothing.
+-- Promise.antt of search and of text; specs/Searches.antt, specs/Texts.antt and specs/Reports.antt have what follows for the
+-- search, for texts and for the program, proofs/FrontPage.antt the value of the record. Source: document 01; README.md has the
+-- demands. Of demand 1, that a refusal is the first in document 01's order is in the definitions that the promises equal.
+-- Assumes nothing.
 use Prim.Native.Nat.{ℕ, _+_, _≤_, _<_}
 use mathlib.Core.Path.{_≡_}
 use mathlib.Core.List.{List, map}

@@ -1,4 +1,4 @@
--- What follows from the promise of the search, whatever the input. Source: document 01; the demands of the mission by number.
+-- What follows from the promise of the search, whatever the input. Source: document 01; README.md has the demands.
 -- Assumes nothing.
 use Prim.Native.Nat.{ℕ}
 use mathlib.Core.Path.{_≡_}

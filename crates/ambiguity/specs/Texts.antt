@@ -1,5 +1,5 @@
--- What follows from the promises of the reader and the writer, whatever the input. Source: document 01; the demands of the mission
--- by number. Assumes nothing.
+-- What follows from the promises of the reader and the writer, whatever the input. Source: document 01; README.md has the
+-- demands. Assumes nothing.
 use Prim.Native.Nat.{ℕ, _+_, _≤_}
 use mathlib.Core.Path.{_≡_}
 use mathlib.Core.List.{List}

@@ -1,4 +1,5 @@
--- What the search, the reader and the writer promise to C: the entry's own promise, of an answer whose C form is returned. Assumes nothing.
+-- What the search, the reader and the writer promise to C: the entry's own promise, of an answer whose C form is returned.
+-- Assumes nothing.
 use Prim.Native.Nat.{ℕ}
 use mathlib.Core.Path.{_≡_}
 use mathlib.Core.List.{List}

@@ -52,7 +52,7 @@ fn between(b: u8, lo: u8, hi: u8) -> bool
 }
 
 // An ASCII letter, a digit or a hyphen.
-pub fn is_name_byte(b: u8) -> bool
+fn is_name_byte(b: u8) -> bool
     ensures { λ r. ⌜ r ≡ isNameByte b ⌝ }
 {
     if between(b, 97, 122) {
@@ -88,7 +88,7 @@ pub fn is_name(s: &[u8]) -> bool
     true
 }
 
-// What of a byte counts where names are compared.
+// What of a byte counts where names are compared: all of it. All comparisons of names go through this function.
 pub fn fold(b: u8) -> u8
     ensures { λ r. ⌜ r ≡ folded b ⌝ }
 {

@@ -11,7 +11,7 @@ use grammar::BUFFER_TOO_SHORT;
 use search::SearchVerdict;
 use text::TextRead;
 
-// No table of a grammar has more entries, and no grammar more names.
+// Room for every table of a grammar, which has 352 entries at most, and for all names.
 const ENTRIES: usize = 512;
 
 const NAMES: usize = 254;
