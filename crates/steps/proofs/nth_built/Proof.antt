@@ -7,48 +7,35 @@ use Rattle.moves.proofs.Built.{few-nonterminals, few-states, room-of}
 use Rattle.steps.proofs.Answers.{laid-in, built-nth}
 use Rattle.steps.proofs.nth_built.Statement.{statement}
 use Rattle.steps.proofs.nth_built.Tie as tie
-use Rattle.steps.proofs.nth_built.Reads as reads
-use Rattle.steps.proofs.nth_built.Lts as lts
 use Rattle.moves.proofs.build.Reads as build-reads
-use Rattle.steps.proofs.nth_rows.Reads as nth-rows-reads
 
--- src/lib.rt:572:9
 slice-aggregate-build : tie.Need-slice-aggregate-build
 slice-aggregate-build c = search needs
 
--- src/lib.rt:573:9
 slice-aggregate-build-2 : tie.Need-slice-aggregate-build-2
 slice-aggregate-build-2 c = search needs
 
--- src/lib.rt:574:9
 slice-aggregate-build-3 : tie.Need-slice-aggregate-build-3
 slice-aggregate-build-3 c = search needs
 
--- src/lib.rt:575:9
 slice-aggregate-build-4 : tie.Need-slice-aggregate-build-4
 slice-aggregate-build-4 c = search needs
 
--- src/lib.rt:576:9
 slice-aggregate-build-5 : tie.Need-slice-aggregate-build-5
 slice-aggregate-build-5 c = search needs
 
--- src/lib.rt:577:9
 slice-aggregate-build-6 : tie.Need-slice-aggregate-build-6
 slice-aggregate-build-6 c = search needs
 
--- src/lib.rt:570:5
 build-requires : tie.Need-build-requires
 build-requires c κs = let a = c .before .before .before .before .before .before .args in (c .before .before .before .before .before .before .pre .0, room-of (a .g) _ (c .before .before .before .before .before .before .pre .0) (search needs) (search needs) (search needs) (search needs) (search needs) (search needs))
 
--- src/lib.rt:580:13
 add-m : tie.Need-add-m
 add-m c = omega (arith, few-nonterminals (c .before .before .before .before .before .before .before .before .before .before .before .before .before .before .args .g) (c .before .before .before .before .before .before .before .before .before .before .before .before .before .before .pre .0))
 
--- src/lib.rt:582:43
 slice-aggregate-nth-rows : tie.Need-slice-aggregate-nth-rows
 slice-aggregate-nth-rows c = search needs
 
--- src/lib.rt:581:5
 nth-rows-requires : tie.Need-nth-rows-requires
 nth-rows-requires c κs = let a = c .before .before .before .before .before .before .before .before .before .before .before .before .before .before .before .before .before .before .before .args in
     let i = c .before .before .before .before .before .before .before .before .before .before .before .before .before .before .before .before .before .before .before .pre .0 in (
@@ -59,7 +46,6 @@ nth-rows-requires c κs = let a = c .before .before .before .before .before .bef
       ),
     )
 
--- src/lib.rt:558:1
 returns : tie.Need-returns
 returns c = let a = c .before .before .before .before .before .before .before .before .before .before .before .before .before .before .before .before .before .before .before .before .args in
     λ G W e. c .nth-rows .ensures ∙ ap recordAnswer (built-nth (a .g) G W e _ _ (c .before .before .before .before .before .before .before .before .before .before .before .before .before .build .ensures G e) (a .f) (a .p) (a .q) (a .k) (c .before .before .before .before .before .before .before .before .before .before .before .before .before .before .before .before .before .before .before .before .pre .1 .0) (c .before .before .before .before .before .before .before .before .before .before .before .before .before .before .before .before .before .before .before .before .pre .1 .1))

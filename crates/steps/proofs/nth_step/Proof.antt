@@ -9,20 +9,14 @@ use Rattle.grammar.proofs.Answers.{then-goes, then-stops}
 use Rattle.table_check.proofs.Callers.{PassedTable, passed-table, refused-table}
 use Rattle.steps.proofs.nth_step.Statement.{statement}
 use Rattle.steps.proofs.nth_step.Tie as tie
-use Rattle.steps.proofs.nth_step.Reads as reads
-use Rattle.steps.proofs.nth_step.Lts as lts
-use Rattle.steps.proofs.nth_of.Reads as nth-of-reads
 use Rattle.table_check.proofs.check_table.Reads as check-table-reads
 
--- src/lib.rt:611:9
 check-table-requires : tie.Need-check-table-requires
 check-table-requires c κs = search needs
 
--- src/lib.rt:614:31
 enum-known-verdict : tie.Need-enum-known-verdict
 enum-known-verdict c = search needs
 
--- src/lib.rt:615:13
 returns : tie.Need-returns
 unfolding nthStep
 returns c =
@@ -31,7 +25,6 @@ returns c =
     let r = refused-table (a .t) (a .n) (a .table .now) (c .before .before .before .check-table .result) (c .before .before .before .check-table .ensures) (v .0 .0) (v .0 .1 .0) (v .1) in
     ap stepAnswer (sym (then-stops _ (λ (G : Grammar). done (nthRecord limits G (a .layer) (a .left) (a .right) (a .nth))) (v .0 .0) (v .0 .1 .0) r))
 
--- src/lib.rt:618:17
 enum-told : tie.Need-enum-told
 enum-told c = search needs
 
@@ -41,11 +34,9 @@ passed c =
     let a = c .before .before .before .before .before .args in
     passed-table (a .t) (a .n) (a .table .now) (c .before .before .before .check-table .result) (c .before .before .before .check-table .ensures) (c .before .enum-told .given .1)
 
--- src/lib.rt:619:13
 nth-of-requires : tie.Need-nth-of-requires
 nth-of-requires c κs = let p = passed c in record { grammar = p .grammar; wellFormed = p .wellFormed; same = p .same }
 
--- src/lib.rt:619:13
 returns-2 : tie.Need-returns-2
 unfolding nthStep
 returns-2 c =
