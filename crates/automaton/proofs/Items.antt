@@ -1,13 +1,12 @@
 -- State numbers and items, both ways; every move of the position automaton stays below Q. Assumes nothing.
 use Prim.Native.Nat.{ℕ, suc, zero, _+_, _-_, _≤_, _<_}
-use mathlib.Core.Path.{_≡_, refl, subst, sym, ap, _∙_}
-use mathlib.Core.Logic.{_⊎_, inl, inr}
+use mathlib.Core.Path.{_≡_, refl, sym, ap, _∙_}
 use mathlib.Core.List.{List, [], _∷_}
 use lib.ListN.{length, getD}
 use native.Mathlib.Omega.{arith}
 use native.Mathlib.Decide.{ℕ-discrete, decLt}
 use Rattle.grammar.specs.Limits.{Limits}
-use Rattle.grammar.specs.Grammar.{Rule, Grammar, IsRule, rule, stateCount}
+use Rattle.grammar.specs.Grammar.{Rule, Grammar, rule, stateCount}
 use Rattle.automaton.specs.Items.{states, lengthOf, base, Item, Before}
 use Rattle.automaton.specs.Position.{Opens, opens-start, opens-rule, Closes, closes-start, closes-rule, Shifts, shifts}
 
@@ -88,9 +87,6 @@ module _ (L : Limits) (G : Grammar) where
     | yes b ↦ item-under m p (omega arith) l b
     | no b ↦ (m, p - base L G m, record { rule = omega arith; dot = omega arith; state = omega arith })
   ]
-
-  pub item-at : (p : ℕ) → 2 ≤ p → p < states G → (i d : ℕ) × Item L G p i d
-  item-at p l u = item-under (suc (length (G .rules))) p (omega arith) l (omega (arith, base-end))
 
   -- a state before a symbol is below Q, and so is the one past it
   pub before-below : {x p : ℕ} → Before L G x p → suc p < states G

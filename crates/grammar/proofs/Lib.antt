@@ -1,6 +1,8 @@
 pub mod Pins
 pub mod TreePins
 pub mod Answers
+pub mod Lists
+pub mod Columns
 pub mod Scans
 pub mod Plain
 pub mod Rules

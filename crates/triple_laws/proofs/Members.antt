@@ -1,5 +1,6 @@
 -- Membership and doubles in lists. Assumes nothing.
 use mathlib.Core.Path.{_≡_, refl, sym, subst, ap}
+use mathlib.Core.Bool.{Bool, true, false}
 use mathlib.Core.Logic.{_⊎_, inl, inr, _↔_}
 use mathlib.Core.List.{List, [], _∷_, _++_, map}
 use Prim.Native.Nat.{ℕ, zero, suc, _≤_, _<_}
@@ -8,13 +9,9 @@ use native.Mathlib.Nat.{eq-or-lt-of-le, le-of-suc-le-suc}
 use lib.ListN.{length, getD}
 use Rattle.grammar.specs.Basics.{Mem, here, there, Distinct, none, more}
 use Rattle.grammar.proofs.Plain.{mem-cases}
-use mathlib.Core.Bool.{Bool, true, false}
 use Rattle.grammar.proofs.Answers.{no-bool}
+pub use Rattle.grammar.proofs.Lists.{no-element, place-mem}
 use Rattle.triples.specs.Records.{when, each}
-
--- the empty list has no element
-pub no-element : {A : Type 0} {a : A} → Mem a [] → ⊥
-no-element = elim [ ]
 
 -- an element of the first part is one of the whole
 pub mem-left : {A : Type 0} {a : A} {l : List A} (m : List A) → Mem a l → Mem a (l ++ m)
@@ -43,12 +40,6 @@ mem-either {a = a} (b ∷ l) m h = go (mem-cases h) (mem-either l m)
 pub mem-place : {A : Type 0} {a : A} {l : List A} (d : A) → Mem a l → (k : ℕ) × (k < length l) × (getD l k d ≡ a)
 mem-place d here = (0, omega arith, refl)
 mem-place d (there h) = let p = mem-place d h in (suc (p .0), omega (arith, p .1), p .2)
-
--- what stands at a place is an element
-pub place-mem : {A : Type 0} (l : List A) (k : ℕ) (d : A) → k < length l → Mem (getD l k d) l
-place-mem [] k d h = absurd (omega arith)
-place-mem (a ∷ l) zero d h = here
-place-mem (a ∷ l) (suc k) d h = there (place-mem l k d (omega arith))
 
 -- the list without one place of an element
 without : {A : Type 0} {a : A} {l : List A} → Mem a l → List A

@@ -31,7 +31,7 @@ use Rattle.triple_laws.proofs.Single.{key-back, key-other, step-path, o
 abbrev pub side : Step → ℕ
 side s = kind 0 0 0 1 (s .«on_left»)
 
-side-small : (m : Move) → kind 0 0 0 1 m ≤ 1
+pub side-small : (m : Move) → kind 0 0 0 1 m ≤ 1
 side-small (Opening i) = omega arith
 side-small (Closing i) = omega arith
 side-small (Symbol x) = omega arith
