@@ -14,7 +14,7 @@ use Rattle.automaton.specs.Items.{states}
 use Rattle.automaton.specs.Position.{Opens, Closes}
 use Rattle.automaton.proofs.Items.{opens-below, closes-below}
 use Rattle.triples.specs.Records.{aheads, aheadRow}
-use Rattle.moves.specs.Tables.{places, Ascends, classOf, memberLine, targetLine, numberLine, kinds, lines, memberRow, targetRow, numberRow, memberClass, targetClass, targets}
+use Rattle.moves.specs.Tables.{Ascends, classOf, memberLine, targetLine, numberLine, kinds, lines, memberRow, targetRow, numberRow, memberClass, targetClass, targets}
 use Rattle.moves.proofs.Places.{places-exactly, places-ascend, ascends-wide}
 use Rattle.moves.proofs.Lines.{left, right, lineBase, at-every, row-length, known, other, coded, number-full, number-at, member-full, target-full, member-inside, member-end, target-start, target-past}
 use Rattle.moves.proofs.Links.{Link, lines-states, line-left, line-right, opens-link, closes-link, link-opens, link-closes}
@@ -47,10 +47,6 @@ module _ (L : Limits) (G : Grammar) where
   targets-ascend p =
       ascends-wide 0 (0 + length (targetRow L G)) 0 (states G) (targets L G p) (omega arith) (omega (arith, target-length))
       (places-ascend (memberClass L G p) (targetRow L G) 0)
-
-  -- members of one class have the same targets
-  pub same-targets : (p q : ℕ) → memberClass L G p ≡ memberClass L G q → targets L G p ≡ targets L G q
-  same-targets p q e = ap (places (targetRow L G)) e
 
 -- one class of a member and of a target: the same nonterminal
 same-code : (L : Limits) (m x y a : ℕ) → x < L .nonterminalBase + m → y < L .nonterminalBase + m → a ≤ m

@@ -1,6 +1,6 @@
 -- The walk over the records against the definition of the witness check. Assumes nothing.
 use Prim.Native.Nat.{ℕ, suc, _+_, _-_, _*_, _≤_, _<_}
-use mathlib.Core.Path.{_≡_, refl, ap, sym, subst, _∙_}
+use mathlib.Core.Path.{_≡_, refl, ap, sym, _∙_}
 use mathlib.Core.Bool.{Bool, true, false}
 use mathlib.Core.List.{List, [], _∷_, map}
 use native.Mathlib.Omega.{arith}
@@ -22,7 +22,6 @@ use Rattle.triples.specs.Index.{index, tripleCount}
 use Rattle.triples.specs.Smallest.{isElement, successors}
 use Rattle.triples.specs.Verdict.{checkVerdict}
 use Rattle.triples.specs.Witness.{entryOf, checkOn, checkRow, checkWitnessRecords}
-use Rattle.triples.specs.declared.CheckVerdict.{CheckVerdict}
 use Rattle.triples.specs.declared.CheckVerdict.the-variants.{Accepted, Refused}
 use Rattle.triple_laws.proofs.CertificateCheck.{index-zero}
 use Rattle.witness_check.specs.Contracts.{stepAt}
@@ -100,9 +99,6 @@ at-end false place = refl
 module _ (G : Grammar) (w : Board) (s : Sized w) (R : ReadyFor G w) where
   many : 32 ≤ tripleCount (w .states)
   many = let h : 16 ≤ w .states * w .states = mul-le-mul {n₁ = 4} {m₁ = 4} (s .least) (s .least) in omega arith
-
-  entries : List TripleRecord → List ℕ
-  entries es = map (entryOf (w .states)) (triples es)
 
   ends : (at place : ℕ) → at < tripleCount (w .states) → endOf (w .states) at place ≡ checkVerdict (checkOn limits G at place [])
   unfolding endOf checkOn
