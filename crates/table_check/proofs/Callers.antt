@@ -10,7 +10,6 @@ use Rattle.grammar.specs.Refusal.{Answer, done, refused}
 use Rattle.grammar.specs.TableCheck.{checkTable, tableChecked}
 use Rattle.grammar.specs.declared.CheckedGrammar.{CheckedGrammar}
 use Rattle.grammar.specs.declared.TableChecked.{TableChecked}
-use Rattle.grammar.specs.declared.TableVerdict.{TableVerdict}
 use Rattle.grammar.specs.declared.TableVerdict.the-variants.{Passed, Refused}
 use Rattle.grammar.proofs.WellFormed.{takes-only, room}
 

@@ -1,6 +1,6 @@
 -- The record of a checked grammar with one rule more. Assumes nothing.
 use mathlib.Core.Path.{_≡_, refl, ap, ap₂, sym, _∙_}
-use mathlib.Core.Bool.{Bool, true, false, not, _||_}
+use mathlib.Core.Bool.{Bool, true, false}
 use mathlib.Core.List.{List, [], _∷_, _++_, append-nil, append-assoc}
 use Prim.Native.Nat.{ℕ, zero, suc, _+_, _-_, _*_, _≤_, _<_}
 use native.Mathlib.Omega.{arith}
@@ -16,6 +16,7 @@ use Rattle.grammar.specs.Record.{padded, offsets, lefts, lengths, codes, record
 use Rattle.grammar.specs.declared.CheckedGrammar.{CheckedGrammar}
 use Rattle.grammar.proofs.Steps.{grammarOf}
 use Rattle.grammar.proofs.WellFormed.{states-snoc}
+use Rattle.grammar.proofs.Columns.{lefts-length, lengths-length}
 
 -- x is less than n past b exactly when it is below b + n
 pub below-shift : (b x n : ℕ) → b ≤ x → ltb (x - b) n ≡ ltb x (b + n)
@@ -99,16 +100,6 @@ offsets-more o (s ∷ rs) r =
     ap (o ∷_) (offsets-more (o + 2 + length (s .right)) rs r ∙ ap (λ (z : ℕ). offsets (o + 2 + length (s .right)) rs ++ (z ∷ []))
     (let q : o + 2 + length (s .right) + length (encode rs) ≡ o + suc (suc (length (s .right ++ encode rs))) = omega (arith, length-append (s .right) (encode rs)) in q))
 
-lefts-length : (rs : List Rule) → length (lefts rs) ≡ length rs
-unfolding lefts
-lefts-length [] = refl
-lefts-length (r ∷ rs) = ap suc (lefts-length rs)
-
-lens-length : (rs : List Rule) → length (lengths rs) ≡ length rs
-unfolding lengths
-lens-length [] = refl
-lens-length (r ∷ rs) = ap suc (lens-length rs)
-
 offsets-length : (o : ℕ) (rs : List Rule) → length (offsets o rs) ≡ length rs
 unfolding offsets
 offsets-length o [] = refl
@@ -118,12 +109,6 @@ pub encode-more : (rs : List Rule) (r : Rule) → encode (rs ++ (r ∷ [])) ≡ 
 unfolding encode
 encode-more [] r = ap (λ (l : List ℕ). r .left ∷ length (r .right) ∷ l) (append-nil (r .right))
 encode-more (s ∷ rs) r = ap (λ (l : List ℕ). s .left ∷ length (s .right) ∷ l) (ap (λ (l : List ℕ). s .right ++ l) (encode-more rs r) ∙ sym (append-assoc (s .right) (encode rs) (r .left ∷ length (r .right) ∷ r .right)))
-
--- the states bound the codes and the offsets
-pub sizes : (rs : List Rule) → stateCount rs ≡ 4 + length rs + length (codes rs)
-unfolding stateCount codes
-sizes [] = refl
-sizes (r ∷ rs) = omega (arith, sizes rs, length-append (r .right) (codes rs))
 
 pub offset-size : (rs : List Rule) → length (encode rs) ≡ 2 * length rs + length (codes rs)
 unfolding encode codes
@@ -154,7 +139,7 @@ added-record t n rs xs at k h e w =
     let pl : set (padded (limits .maxRules) (lefts rs)) (length rs) (getD xs at 0) ≡ padded (limits .maxRules) (lefts (rs ++ (r ∷ [])))
     = set-padded (limits .maxRules) (lefts rs) (length rs) (getD xs at 0) (lefts-length rs) h ∙ ap (padded (limits .maxRules)) (sym (lefts-more rs r)) in
     let pn : set (padded (limits .maxRules) (lengths rs)) (length rs) k ≡ padded (limits .maxRules) (lengths (rs ++ (r ∷ [])))
-    = set-padded (limits .maxRules) (lengths rs) (length rs) k (lens-length rs) h
+    = set-padded (limits .maxRules) (lengths rs) (length rs) k (lengths-length rs) h
     ∙ ap (padded (limits .maxRules)) (ap (λ (z : ℕ). lengths rs ++ (z ∷ [])) (sym m) ∙ sym (lens-more rs r)) in
     let pd : paste (padded (limits .maxStates) (codes rs)) (length (codes rs)) b k ≡ padded (limits .maxStates) (codes (rs ++ (r ∷ [])))
     = paste-padded (limits .maxStates) (codes rs) b (length (codes rs)) k refl d ∙ ap (padded (limits .maxStates)) (sym (codes-more rs r)) in

@@ -1,12 +1,12 @@
 -- The walk over a table: the record holds the rules before the offset, and checking on from there is checking from the start.
 -- Assumes nothing.
 use mathlib.Core.Path.{_≡_, refl, ap, ap₂, sym, subst, _∙_}
-use mathlib.Core.Bool.{Bool, true, false, not}
+use mathlib.Core.Bool.{true, false}
 use mathlib.Core.List.{List, [], _∷_, _++_, append-assoc}
-use Prim.Native.Nat.{ℕ, zero, suc, _+_, _-_, _*_, _≤_, _<_}
+use Prim.Native.Nat.{ℕ, zero, suc, _+_, _-_, _≤_, _<_}
 use native.Mathlib.Omega.{arith}
 use native.Mathlib.Numerals.{add-one}
-use lib.Dec.{leb, ltb}
+use lib.Dec.{ltb}
 use lib.ListN.{length, take, drop, getD, length-drop, length-append}
 use lib.Seq.{paste, length-take-le, take-add, drop-cons}
 use borrow.Author.Tests.{ltb-true, lt-ltb, le-ltb, lt-leb, le-leb}
@@ -19,11 +19,12 @@ use Rattle.grammar.specs.TableCheck.{isAmong, inRange, readRule, nextRule, chec
 use Rattle.grammar.specs.declared.CheckedGrammar.{CheckedGrammar}
 use Rattle.grammar.proofs.Answers.{unless-holds, unless-fails, unless-done, refused-as}
 use Rattle.grammar.proofs.Rules.{decode-encode}
-use Rattle.grammar.proofs.Steps.{grammarOf, check-end, check-full, check-more, check-fault, table-done, table-refused, Read, read-done, Next, next-done}
+use Rattle.grammar.proofs.Steps.{grammarOf, check-end, check-full, check-more, check-fault, table-done, table-refused, Read, read-done, next-done}
 use Rattle.grammar.proofs.WellFormed.{states-snoc}
+use Rattle.grammar.proofs.Columns.{sizes}
 use Rattle.table_check.specs.Contracts.{ruleRead, Front, Before, nextOrFull}
 use Rattle.table_check.specs.declared.RuleRead.the-variants.{Length, Fault}
-use Rattle.table_check.proofs.RecordLaws.{withRule, added, added-as, encode-more, sizes, offset-size, codes-row, added-record}
+use Rattle.table_check.proofs.RecordLaws.{withRule, added, added-as, encode-more, offset-size, codes-row, added-record}
 
 decoded : (table : List ℕ) (at : ℕ) (rules : List Rule) → take at table ≡ encode rules → decode (take at table) ≡ rules
 decoded table at rules e = ap decode e ∙ decode-encode rules

@@ -17,14 +17,6 @@ use Rattle.table_check.specs.Contracts.{nextOrFull}
 use Rattle.table_check.proofs.WalkLaws.{Walk, Room, walk-start, walk-before, walk-room, walk-on, walk-end, walk-fault, length-read, fault-read}
 use Rattle.table_check.proofs.check_table.Statement.{statement}
 use Rattle.table_check.proofs.check_table.Tie as tie
-use Rattle.table_check.proofs.check_table.Reads as reads
-use Rattle.table_check.proofs.check_table.Lts as lts
-use Rattle.table_check.proofs.code.Reads as code-reads
-use Rattle.table_check.proofs.in_range.Reads as in-range-reads
-use Rattle.table_check.proofs.next_rule.Reads as next-rule-reads
-use Rattle.table_check.proofs.put_codes.Reads as put-codes-reads
-use Rattle.table_check.proofs.refuse.Reads as refuse-reads
-use Rattle.table_check.proofs.without_rules.Reads as without-rules-reads
 
 abbrev Inv-loop : tie.InvT-loop
 Inv-loop t n table terminals nonterminals g₀ at₀ g at = Walk table t n g at
@@ -44,145 +36,112 @@ told c = length-read _ (c .before .read2 .given .0 .0) (sym (c .before .before .
 room : (c : tie.After-known-told2 Inv-loop μ-loop) → Room (c .before .before .before .before .before .loop .g) (c .before .before .before .before .before .before .before .before .before .before .args .table .now) (c .before .before .before .before .before .loop .at) (c .before .read2 .given .0 .0)
 room c = walk-room (c .before .read2 .given .0 .0) (c .before .before .before .before .before .loop .inv) (told c)
 
--- src/lib.rt:235:9
 in-range-requires : tie.Need-in-range-requires Inv-loop μ-loop
 in-range-requires c κs = search needs
 
--- src/lib.rt:236:9
 refuse-requires : tie.Need-refuse-requires Inv-loop μ-loop
 refuse-requires c κs = search needs
 
--- src/lib.rt:236:9
 returns : tie.Need-returns Inv-loop μ-loop
 returns c =
     let a = c .before .before .before .before .args in
     c .refuse .ensures ∙ ap tableChecked (sym (table-out limits (a .t) (a .n) (a .table .now)
     (sym (c .before .before .in-range .ensures) ∙ not-true (c .before .before .in-range .result) (c .before .if1 .taken))))
 
--- src/lib.rt:238:21
 cast-terminals : tie.Need-cast-terminals Inv-loop μ-loop
 cast-terminals c = let a = c .before .before .before .args in omega (arith, in-range limits (a .t) (a .n) .0 (ranges c))
 
--- src/lib.rt:239:24
 cast-nonterminals : tie.Need-cast-nonterminals Inv-loop μ-loop
 cast-nonterminals c = let a = c .before .before .before .args in omega (arith, in-range limits (a .t) (a .n) .0 (ranges c))
 
--- src/lib.rt:240:17
 without-rules-requires : tie.Need-without-rules-requires Inv-loop μ-loop
 without-rules-requires c κs = search needs
 
--- src/lib.rt:242:5
 loop-holds : tie.Need-loop-holds Inv-loop μ-loop
 loop-holds c =
     let a = c .before .before .before .before .args in
     subst (λ (g : CheckedGrammar). Walk (a .table .now) (a .t) (a .n) g 0) (sym (c .without-rules .ensures)) (walk-start (a .table .now) (a .t) (a .n) (ranges (c .before)))
 
--- src/lib.rt:246:13
 next-rule-requires : tie.Need-next-rule-requires Inv-loop μ-loop
 next-rule-requires c κs = walk-before (c .before .loop .inv)
 
--- src/lib.rt:248:29
 enum-known-read : tie.Need-enum-known-read Inv-loop μ-loop
 enum-known-read c = search needs
 
--- src/lib.rt:249:17
 refuse-requires-2 : tie.Need-refuse-requires-2 Inv-loop μ-loop
 refuse-requires-2 c κs = search needs
 
--- src/lib.rt:249:17
 returns-2 : tie.Need-returns-2 Inv-loop μ-loop
 returns-2 c =
     let e = c .before .before .read .given in
     c .refuse2 .ensures
     ∙ walk-fault (e .0 .0) (e .0 .1 .0) (c .before .before .before .before .before .before .loop .inv) (c .before .before .before .before .before .loop-test .taken) (fault-read _ (e .0 .0) (e .0 .1 .0) (sym (c .before .before .before .before .next-rule .ensures) ∙ e .1))
 
--- src/lib.rt:251:30
 enum-known-read-2 : tie.Need-enum-known-read-2 Inv-loop μ-loop
 enum-known-read-2 c = search needs
 
--- src/lib.rt:252:54
 add-put-codes : tie.Need-add-put-codes Inv-loop μ-loop
 add-put-codes c = search needs
 
--- src/lib.rt:252:17
 put-codes-requires : tie.Need-put-codes-requires Inv-loop μ-loop
 put-codes-requires c κs = let r = room (c .before) in (r .row, r .used, r .whole)
 
--- src/lib.rt:253:36
 cast-g : tie.Need-cast-g Inv-loop μ-loop
 cast-g c = omega (arith, room (c .before .before))
 
--- src/lib.rt:253:17
 mul-g : tie.Need-mul-g Inv-loop μ-loop
 mul-g c = omega (arith, room (c .before .before))
 
--- src/lib.rt:253:17
 element-write-g : tie.Need-element-write-g Inv-loop μ-loop
 element-write-g c = room (c .before .before) .count
 
--- src/lib.rt:254:39
 shared-slice-read-code : tie.Need-shared-slice-read-code Inv-loop μ-loop
 shared-slice-read-code c = omega (arith, room (c .before .before .before))
 
--- src/lib.rt:254:34
 code-requires : tie.Need-code-requires Inv-loop μ-loop
 code-requires c κs = search needs
 
--- src/lib.rt:254:17
 mul-g-2 : tie.Need-mul-g-2 Inv-loop μ-loop
 mul-g-2 c = omega (arith, room (c .before .before .before .before))
 
--- src/lib.rt:254:17
 element-write-g-2 : tie.Need-element-write-g-2 Inv-loop μ-loop
 element-write-g-2 c = room (c .before .before .before .before) .count
 
--- src/lib.rt:255:36
 cast-g-2 : tie.Need-cast-g-2 Inv-loop μ-loop
 cast-g-2 c = omega (arith, room (c .before .before .before .before))
 
--- src/lib.rt:255:17
 mul-g-3 : tie.Need-mul-g-3 Inv-loop μ-loop
 mul-g-3 c = omega (arith, room (c .before .before .before .before))
 
--- src/lib.rt:255:17
 element-write-g-3 : tie.Need-element-write-g-3 Inv-loop μ-loop
 element-write-g-3 c = room (c .before .before .before .before) .count
 
--- src/lib.rt:256:27
 add-g : tie.Need-add-g Inv-loop μ-loop
 add-g c = omega (arith, room (c .before .before .before .before))
 
--- src/lib.rt:257:26
 add-g-2 : tie.Need-add-g-2 Inv-loop μ-loop
 add-g-2 c = omega (arith, room (c .before .before .before .before))
 
--- src/lib.rt:258:28
 add-g-3 : tie.Need-add-g-3 Inv-loop μ-loop
 add-g-3 c = omega (arith, room (c .before .before .before .before))
 
--- src/lib.rt:258:28
 add-g-4 : tie.Need-add-g-4 Inv-loop μ-loop
 add-g-4 c = omega (arith, room (c .before .before .before .before))
 
--- src/lib.rt:259:22
 add-at : tie.Need-add-at Inv-loop μ-loop
 add-at c = omega (arith, room (c .before .before .before .before))
 
--- src/lib.rt:259:22
 add-at-2 : tie.Need-add-at-2 Inv-loop μ-loop
 add-at-2 c = omega (arith, room (c .before .before .before .before))
 
--- src/lib.rt:242:5
 loop-less : tie.Need-loop-less Inv-loop μ-loop
 loop-less c = omega (arith, room (c .before .before .before .before))
 
--- src/lib.rt:242:5
 loop-again : tie.Need-loop-again Inv-loop μ-loop
 loop-again c =
     walk-on (c .before .before .before .before .before .read2 .given .0 .0) (c .code .result) _ (c .before .before .before .before .before .before .before .before .before .loop .inv) (c .before .before .before .before .before .before .before .before .loop-test .taken) (told (c .before .before .before .before))
     (c .before .before .put-codes .ensures) (c .code .ensures)
 
--- src/lib.rt:232:1
 returns-3 : tie.Need-returns-3 Inv-loop μ-loop
 returns-3 c =
     ap (λ (g : CheckedGrammar). record { verdict = Passed; grammar = g }) (c .before .loop .inv .shows) ∙ walk-end (c .before .loop .inv) (c .loop-test .left)

@@ -1,27 +1,20 @@
 -- declared meets its contract: a code is tried as a terminal, then as a nonterminal.
-use borrow.Author.Needs.{needs}
 use native.Mathlib.Omega.{arith}
-use borrow.Author.Tests.{lt-ltb, le-ltb, le-leb, lt-leb, eq-eqb, ne-eqb, not-true, not-false}
-use Prim.Native.Nat.{ℕ, _+_, _-_, _≤_, _<_}
+use borrow.Author.Tests.{le-leb, lt-leb}
+use Prim.Native.Nat.{_-_, _<_}
 use Rattle.table_check.proofs.RecordLaws.{below-shift}
 use Rattle.table_check.proofs.declared.Statement.{statement}
 use Rattle.table_check.proofs.declared.Tie as tie
-use Rattle.table_check.proofs.declared.Reads as reads
-use Rattle.table_check.proofs.declared.Lts as lts
 
--- src/lib.rt:67:9
 returns : tie.Need-returns
 returns c = let x = c .before .args .x in let h : x < 128 = omega (arith, c .if1 .taken) in simp (lt-leb 1 x (c .if1 .taken), lt-leb 128 x h)
 
--- src/lib.rt:70:9
 returns-2 : tie.Need-returns-2
 returns-2 c = simp (le-leb 1 _ (c .before .if1 .left), le-leb _ _ (c .if2 .taken))
 
--- src/lib.rt:73:9
 returns-3 : tie.Need-returns-3
 returns-3 c = simp (le-leb 1 _ (c .before .before .if1 .left), lt-leb _ _ (c .before .if2 .left), lt-leb 128 _ (c .if3 .taken))
 
--- src/lib.rt:63:1
 returns-4 : tie.Need-returns-4
 returns-4 c = simp (le-leb 1 _ (c .before .before .if1 .left), lt-leb _ _ (c .before .if2 .left), le-leb 128 _ (c .if3 .left)) (below-shift 128 _ _ (c .if3 .left))
 

@@ -1,19 +1,15 @@
 -- declared_front meets its contract: the codes before i are declared, so the count is i and the count of the rest.
 use borrow.Author.Needs.{needs}
 use native.Mathlib.Omega.{arith}
-use borrow.Author.Tests.{lt-ltb, le-ltb, le-leb, lt-leb, eq-eqb, ne-eqb, not-true, not-false}
-use Prim.Native.Nat.{ℕ, _+_, _-_, _≤_, _<_}
-use mathlib.Core.Path.{_≡_, refl, ap, sym, subst, _∙_}
-use lib.ListN.{length, getD, take, drop, set}
+use borrow.Author.Tests.{not-true, not-false}
+use Prim.Native.Nat.{_+_, _-_, _≤_}
+use mathlib.Core.Path.{_≡_, ap, sym, _∙_}
+use lib.ListN.{length, getD, drop}
 use Rattle.grammar.specs.Limits.{limits}
 use Rattle.grammar.specs.TableCheck.{isDeclared, declaredFront}
 use Rattle.grammar.proofs.Scans.{front-more, front-stops, front-ends}
 use Rattle.table_check.proofs.declared_front.Statement.{statement}
 use Rattle.table_check.proofs.declared_front.Tie as tie
-use Rattle.table_check.proofs.declared_front.Reads as reads
-use Rattle.table_check.proofs.declared_front.Lts as lts
-use Rattle.table_check.proofs.code.Reads as code-reads
-use Rattle.table_check.proofs.declared.Reads as declared-reads
 
 abbrev Inv-loop : tie.InvT-loop
 Inv-loop right t n i₀ i = (i ≤ length right) × (i + declaredFront limits t n (drop i right) ≡ declaredFront limits t n right)
@@ -21,19 +17,15 @@ Inv-loop right t n i₀ i = (i ≤ length right) × (i + declaredFront limits t 
 abbrev μ-loop : tie.MeasureT-loop
 μ-loop right t n i₀ i = length right - i
 
--- src/lib.rt:83:5
 loop-holds : tie.Need-loop-holds Inv-loop μ-loop
 loop-holds c = search needs
 
--- src/lib.rt:84:22
 shared-slice-read-code : tie.Need-shared-slice-read-code Inv-loop μ-loop
 shared-slice-read-code c = search needs
 
--- src/lib.rt:84:13
 code-requires : tie.Need-code-requires Inv-loop μ-loop
 code-requires c κs = search needs
 
--- src/lib.rt:85:13
 declared-requires : tie.Need-declared-requires Inv-loop μ-loop
 declared-requires c κs = search needs
 
@@ -44,7 +36,6 @@ told c =
     let a = c .before .before .before .before .before .before .args in
     ap (isDeclared limits (a .t) (a .n)) (sym (c .before .code .ensures)) ∙ sym (c .declared .ensures)
 
--- src/lib.rt:86:13
 returns : tie.Need-returns Inv-loop μ-loop
 returns c =
     let l = c .before .before .before .before .before .loop in
@@ -52,15 +43,12 @@ returns c =
     let z = front-stops limits (a .t) (a .n) (l .i) (a .right .now) (omega arith) (told (c .before) ∙ not-true (c .before .declared .result) (c .if1 .taken)) in
     omega (arith, z, l .inv .1)
 
--- src/lib.rt:88:9
 add-i : tie.Need-add-i Inv-loop μ-loop
 add-i c = search needs
 
--- src/lib.rt:83:5
 loop-less : tie.Need-loop-less Inv-loop μ-loop
 loop-less c = search needs
 
--- src/lib.rt:83:5
 loop-again : tie.Need-loop-again Inv-loop μ-loop
 loop-again c =
     let l = c .before .before .before .before .before .loop in
@@ -68,7 +56,6 @@ loop-again c =
     let z = front-more limits (a .t) (a .n) (l .i) (a .right .now) (omega arith) (told (c .before) ∙ not-false (c .before .declared .result) (c .if1 .left)) in
     (omega arith, omega (arith, z, l .inv .1))
 
--- src/lib.rt:79:1
 returns-2 : tie.Need-returns-2 Inv-loop μ-loop
 returns-2 c =
     let l = c .before .loop in

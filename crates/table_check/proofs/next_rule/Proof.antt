@@ -1,8 +1,8 @@
 -- next_rule meets its contract: 7 first, then the rule alone, then 6 and 8.
 use borrow.Author.Needs.{needs}
 use native.Mathlib.Omega.{arith}
-use Prim.Native.Nat.{ℕ, _+_, _-_, _≤_, _<_}
-use mathlib.Core.Path.{_≡_, refl, ap, sym, subst, _∙_}
+use Prim.Native.Nat.{_-_, _≤_}
+use mathlib.Core.Path.{_≡_, ap, sym, _∙_}
 use Rattle.grammar.specs.Limits.{limits}
 use Rattle.grammar.specs.Refusal.{done}
 use Rattle.grammar.specs.TableCheck.{readRule}
@@ -11,10 +11,6 @@ use Rattle.table_check.specs.Contracts.{ruleRead}
 use Rattle.table_check.proofs.WalkLaws.{before-front, before-total, next-full, next-fault, next-repeated, next-large, next-good, length-read, fault-read}
 use Rattle.table_check.proofs.next_rule.Statement.{statement}
 use Rattle.table_check.proofs.next_rule.Tie as tie
-use Rattle.table_check.proofs.next_rule.Reads as reads
-use Rattle.table_check.proofs.next_rule.Lts as lts
-use Rattle.table_check.proofs.read_rule.Reads as read-rule-reads
-use Rattle.table_check.proofs.repeats.Reads as repeats-reads
 
 -- the rule alone is without fault, and short
 read : (c : tie.After-known-told) → let a = c .before .before .before .before .before .before .args in readRule limits (a .t) (a .n) (a .table .now) (a .at) ≡ done (c .before .read .given .0 .0)
@@ -23,25 +19,20 @@ read c = length-read _ (c .before .read .given .0 .0) (sym (c .before .before .b
 short : (c : tie.After-known-told) → c .before .read .given .0 .0 ≤ limits .maxLength
 short c = let a = c .before .before .before .before .before .before .args in read-done limits (a .t) (a .n) (a .table .now) (a .at) (c .before .read .given .0 .0) (read c) .few
 
--- src/lib.rt:177:9
 returns : tie.Need-returns
 returns c =
     let a = c .before .before .args in
     ap ruleRead (next-full (a .t) (a .n) (a .table .now) (a .count) (a .at) (c .if1 .taken))
 
--- src/lib.rt:179:9
 read-rule-requires : tie.Need-read-rule-requires
 read-rule-requires c κs = search needs
 
--- src/lib.rt:180:26
 enum-known-read : tie.Need-enum-known-read
 enum-known-read c = search needs
 
--- src/lib.rt:181:9
 enum-told : tie.Need-enum-told
 enum-told c = search needs
 
--- src/lib.rt:181:9
 returns-2 : tie.Need-returns-2
 returns-2 c =
     let a = c .before .before .before .before .before .args in
@@ -49,11 +40,9 @@ returns-2 c =
     let f = fault-read _ (e .0 .0) (e .0 .1 .0) (sym (c .before .before .read-rule .ensures) ∙ e .1) in
     e .1 ∙ ap ruleRead (next-fault (a .t) (a .n) (a .table .now) (a .count) (a .at) (e .0 .0) (e .0 .1 .0) (c .before .before .before .if1 .left) f)
 
--- src/lib.rt:183:8
 repeats-requires : tie.Need-repeats-requires
 repeats-requires c κs = let a = c .before .before .before .before .before .before .args in before-front (a .t) (a .n) (c .before .read .given .0 .0) (c .before .before .before .before .before .before .pre) (read c)
 
--- src/lib.rt:184:9
 returns-3 : tie.Need-returns-3
 returns-3 c =
     let a = c .before .before .before .before .before .before .before .before .args in
@@ -61,15 +50,12 @@ returns-3 c =
     (next-repeated (a .t) (a .n) (a .table .now) (a .count) (a .at) (c .before .before .before .read .given .0 .0) (c .before .before .before .before .before .before .if1 .left) (read (c .before .before))
     (sym (c .before .repeats .ensures) ∙ c .if2 .taken))
 
--- src/lib.rt:186:21
 add-if3 : tie.Need-add-if3
 add-if3 c = omega (arith, short (c .before .before), c .before .before .before .before .before .before .before .before .pre .few)
 
--- src/lib.rt:186:21
 add-if3-2 : tie.Need-add-if3-2
 add-if3-2 c = omega (arith, short (c .before .before), c .before .before .before .before .before .before .before .before .pre .few)
 
--- src/lib.rt:187:9
 returns-4 : tie.Need-returns-4
 returns-4 c =
     let a = c .before .before .before .before .before .before .before .before .before .args in
@@ -77,7 +63,6 @@ returns-4 c =
     (next-large (a .t) (a .n) (a .table .now) (a .count) (a .states) (a .at) (c .before .before .before .before .read .given .0 .0) (c .before .before .before .before .before .before .before .if1 .left) (read (c .before .before .before))
     (sym (c .before .before .repeats .ensures) ∙ c .before .if2 .left) (before-total (c .before .before .before .before .before .before .before .before .before .pre)) (c .if3 .taken))
 
--- src/lib.rt:172:1
 returns-5 : tie.Need-returns-5
 returns-5 c =
     let a = c .before .before .before .before .before .before .before .before .before .args in

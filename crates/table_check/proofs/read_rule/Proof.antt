@@ -1,10 +1,10 @@
 -- read_rule meets its contract: its early returns are the tests of the definition, in the same order.
 use borrow.Author.Needs.{needs}
 use native.Mathlib.Omega.{arith}
-use borrow.Author.Tests.{lt-ltb, le-ltb, le-leb, lt-leb, eq-eqb, ne-eqb, not-true, not-false}
+use borrow.Author.Tests.{lt-ltb, le-ltb, le-leb, lt-leb}
 use Prim.Native.Nat.{ℕ, _+_, _-_, _≤_, _<_}
-use mathlib.Core.Path.{_≡_, refl, ap, sym, subst, _∙_}
-use lib.ListN.{length, getD, take, drop, set}
+use mathlib.Core.Path.{_≡_, ap, _∙_}
+use lib.ListN.{take, drop}
 use native.Mathlib.Nat.{add-sub-cancel-left}
 use Rattle.grammar.specs.Limits.{limits}
 use Rattle.grammar.specs.Table.{leftAt, lengthAt}
@@ -12,11 +12,7 @@ use Rattle.grammar.specs.Refusal.{refuseUnless}
 use Rattle.grammar.specs.TableCheck.{declaredFront, declaredFrontAt, readRule}
 use Rattle.table_check.proofs.read_rule.Statement.{statement}
 use Rattle.table_check.proofs.read_rule.Tie as tie
-use Rattle.table_check.proofs.read_rule.Reads as reads
-use Rattle.table_check.proofs.read_rule.Lts as lts
-use Rattle.table_check.proofs.declared_front.Reads as declared-front-reads
 
--- src/lib.rt:98:8
 sub-if1 : tie.Need-sub-if1
 sub-if1 c = search needs
 
@@ -29,25 +25,20 @@ front c =
     ∙ ap (λ (m : ℕ). declaredFront limits (a .t) (a .n) (take m (drop (a .at + 2) (a .table .now))))
     (add-sub-cancel-left (a .at + 2) (lengthAt (a .table .now) (a .at)))
 
--- src/lib.rt:99:9
 returns : tie.Need-returns
 unfolding readRule refuseUnless
 returns c = simp (lt-leb 2 _ (c .if1 .taken))
 
--- src/lib.rt:101:16
 shared-slice-read-left : tie.Need-shared-slice-read-left
 shared-slice-read-left c = search needs
 
--- src/lib.rt:101:16
 cast-left : tie.Need-cast-left
 cast-left c = omega (arith, c .shared-slice-known2 .given (c .before .before .before .args .at))
 
--- src/lib.rt:103:9
 returns-2 : tie.Need-returns-2
 unfolding readRule refuseUnless
 returns-2 c = simp (le-leb 2 _ (c .before .before .if1 .left), lt-leb 128 _ (c .if2 .taken))
 
--- src/lib.rt:106:9
 returns-3 : tie.Need-returns-3
 unfolding readRule refuseUnless
 returns-3 c =
@@ -56,19 +47,15 @@ returns-3 c =
     let h : 128 + a .n ≤ x = omega (arith, c .if3 .taken, c .before .if2 .left) in
     simp (le-leb 2 _ (c .before .before .before .if1 .left), le-leb 128 _ (c .before .if2 .left), le-ltb x (128 + a .n) h)
 
--- src/lib.rt:108:19
 add-k : tie.Need-add-k
 add-k c = search needs
 
--- src/lib.rt:108:13
 shared-slice-read-k : tie.Need-shared-slice-read-k
 shared-slice-read-k c = search needs
 
--- src/lib.rt:108:13
 cast-k : tie.Need-cast-k
 cast-k c = omega (arith, c .shared-slice-known3 .given (c .before .before .before .before .before .before .args .at + 1))
 
--- src/lib.rt:110:9
 returns-4 : tie.Need-returns-4
 unfolding readRule refuseUnless
 returns-4 c =
@@ -78,15 +65,12 @@ returns-4 c =
     let h : x < 128 + a .n = omega (arith, c .before .before .if3 .left, c .before .before .before .if2 .left) in
     simp (le-leb 2 _ (c .before .before .before .before .before .if1 .left), le-leb 128 x (c .before .before .before .if2 .left), lt-ltb x (128 + a .n) h, lt-leb k 12 (c .if4 .taken))
 
--- src/lib.rt:112:17
 add-start : tie.Need-add-start
 add-start c = search needs
 
--- src/lib.rt:113:8
 sub-if5 : tie.Need-sub-if5
 sub-if5 c = search needs
 
--- src/lib.rt:114:9
 returns-5 : tie.Need-returns-5
 unfolding readRule refuseUnless
 returns-5 c =
@@ -96,31 +80,24 @@ returns-5 c =
     let h : x < 128 + a .n = omega (arith, c .before .before .before .if3 .left, c .before .before .before .before .if2 .left) in
     simp (le-leb 2 _ (c .before .before .before .before .before .before .if1 .left), le-leb 128 x (c .before .before .before .before .if2 .left), lt-ltb x (128 + a .n) h, le-leb k 12 (c .before .if4 .left), lt-leb k _ (c .if5 .taken))
 
--- src/lib.rt:116:15
 add-end : tie.Need-add-end
 add-end c = search needs
 
--- src/lib.rt:117:32
 sub-declared-front : tie.Need-sub-declared-front
 sub-declared-front c = search needs
 
--- src/lib.rt:117:32
 part-declared-front-start : tie.Need-part-declared-front-start
 part-declared-front-start c = search needs
 
--- src/lib.rt:117:32
 part-declared-front-end : tie.Need-part-declared-front-end
 part-declared-front-end c = search needs
 
--- src/lib.rt:117:9
 declared-front-requires : tie.Need-declared-front-requires
 declared-front-requires c κs = search needs
 
--- src/lib.rt:119:49
 add-t20 : tie.Need-add-t20
 add-t20 c = search needs
 
--- src/lib.rt:119:9
 returns-6 : tie.Need-returns-6
 unfolding readRule refuseUnless
 returns-6 c =
@@ -130,7 +107,6 @@ returns-6 c =
     let h : x < 128 + a .n = omega (arith, c .before .before .before .before .before .before .if3 .left, c .before .before .before .before .before .before .before .if2 .left) in
     simp (le-leb 2 _ (c .before .before .before .before .before .before .before .before .before .if1 .left), le-leb 128 x (c .before .before .before .before .before .before .before .if2 .left), lt-ltb x (128 + a .n) h, le-leb k 12 (c .before .before .before .before .if4 .left), le-leb k _ (c .before .before .before .if5 .left), ← (front (c .before)), lt-leb k _ (c .if6 .taken))
 
--- src/lib.rt:94:1
 returns-7 : tie.Need-returns-7
 unfolding readRule refuseUnless
 returns-7 c =

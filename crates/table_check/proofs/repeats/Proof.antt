@@ -1,18 +1,13 @@
 -- repeats meets its contract: the earlier rules are compared one by one.
 use borrow.Author.Needs.{needs}
 use native.Mathlib.Omega.{arith}
-use Prim.Native.Nat.{ℕ, _+_, _-_, _≤_, _<_}
-use mathlib.Core.Path.{_≡_, refl, ap, sym, subst, _∙_}
-use lib.ListN.{length, getD, take, drop, set}
+use Prim.Native.Nat.{ℕ, _+_, _-_, _≤_}
+use mathlib.Core.Path.{_≡_, ap, sym, subst, _∙_}
 use Rattle.grammar.specs.Table.{lengthAt, ruleAt}
 use Rattle.grammar.specs.TableCheck.{sameRule}
 use Rattle.table_check.proofs.EarlierLaws.{Behind, behind-start, behind-room, behind-found, behind-more, behind-end}
 use Rattle.table_check.proofs.repeats.Statement.{statement}
 use Rattle.table_check.proofs.repeats.Tie as tie
-use Rattle.table_check.proofs.repeats.Reads as reads
-use Rattle.table_check.proofs.repeats.Lts as lts
-use Rattle.table_check.proofs.same_rule.Reads as same-rule-reads
-use Rattle.table_check.proofs.wide.Reads as wide-reads
 
 abbrev Inv-loop : tie.InvT-loop
 Inv-loop table at k o₀ o = Behind table at k o
@@ -20,7 +15,6 @@ Inv-loop table at k o₀ o = Behind table at k o
 abbrev μ-loop : tie.MeasureT-loop
 μ-loop table at k o₀ o = at - o
 
--- src/lib.rt:161:5
 loop-holds : tie.Need-loop-holds Inv-loop μ-loop
 loop-holds c = behind-start (c .before .pre)
 
@@ -38,41 +32,32 @@ told c =
     let a = c .before .before .before .before .before .before .args in
     ap (λ (m : ℕ). sameRule (ruleAt (a .table .now) (l .o) m) (ruleAt (a .table .now) (a .at) (a .k))) (sym (c .before .wide .ensures)) ∙ sym (c .same-rule .ensures)
 
--- src/lib.rt:162:28
 add-wide : tie.Need-add-wide Inv-loop μ-loop
 add-wide c = omega (arith, behind-room (c .before .loop .inv) (c .loop-test .taken), c .before .loop .inv .whole)
 
--- src/lib.rt:162:22
 shared-slice-read-wide : tie.Need-shared-slice-read-wide Inv-loop μ-loop
 shared-slice-read-wide c = omega (arith, behind-room (c .before .before .loop .inv) (c .before .loop-test .taken), c .before .before .loop .inv .whole)
 
--- src/lib.rt:162:13
 wide-requires : tie.Need-wide-requires Inv-loop μ-loop
 wide-requires c κs = search needs
 
--- src/lib.rt:163:12
 same-rule-requires : tie.Need-same-rule-requires Inv-loop μ-loop
 same-rule-requires c κs = (omega (arith, room c), omega (arith, c .before .before .before .loop .inv .whole))
 
--- src/lib.rt:164:13
 returns : tie.Need-returns Inv-loop μ-loop
 returns c =
     let l = c .before .before .before .before .before .loop in
     behind-found (l .inv) (c .before .before .before .before .loop-test .taken) (told (c .before) ∙ c .if1 .taken)
 
--- src/lib.rt:166:13
 add-o : tie.Need-add-o Inv-loop μ-loop
 add-o c = omega (arith, room (c .before .before), c .before .before .before .before .before .loop .inv .whole)
 
--- src/lib.rt:166:13
 add-o-2 : tie.Need-add-o-2 Inv-loop μ-loop
 add-o-2 c = omega (arith, room (c .before .before), c .before .before .before .before .before .loop .inv .whole)
 
--- src/lib.rt:161:5
 loop-less : tie.Need-loop-less Inv-loop μ-loop
 loop-less c = omega (arith, room (c .before .before))
 
--- src/lib.rt:161:5
 loop-again : tie.Need-loop-again Inv-loop μ-loop
 loop-again c =
     let l = c .before .before .before .before .before .loop in
@@ -80,7 +65,6 @@ loop-again c =
     subst (λ (m : ℕ). Behind (a .table .now) (a .at) (a .k) (l .o + 2 + m)) (sym (c .before .before .wide .ensures))
     (behind-more (l .inv) (c .before .before .before .before .loop-test .taken) (told (c .before) ∙ c .if1 .left))
 
--- src/lib.rt:156:1
 returns-2 : tie.Need-returns-2 Inv-loop μ-loop
 returns-2 c = behind-end (c .before .loop .inv) (c .loop-test .left)
 

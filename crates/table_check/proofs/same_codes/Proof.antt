@@ -1,16 +1,14 @@
 -- same_codes meets its contract: the codes before i are equal, so the rest decides.
 use borrow.Author.Needs.{needs}
 use native.Mathlib.Omega.{arith}
-use borrow.Author.Tests.{lt-ltb, le-ltb, le-leb, lt-leb, eq-eqb, ne-eqb, not-true, not-false}
-use Prim.Native.Nat.{ℕ, _+_, _-_, _≤_, _<_}
-use mathlib.Core.Path.{_≡_, refl, ap, sym, subst, _∙_}
-use lib.ListN.{length, getD, take, drop, set}
+use borrow.Author.Tests.{eq-eqb, ne-eqb}
+use Prim.Native.Nat.{_-_, _≤_}
+use mathlib.Core.Path.{_≡_, _∙_}
+use lib.ListN.{length, drop}
 use Rattle.grammar.specs.TableCheck.{sameCodes}
 use Rattle.grammar.proofs.Scans.{same-more, same-differs, same-ends, same-lengths}
 use Rattle.table_check.proofs.same_codes.Statement.{statement}
 use Rattle.table_check.proofs.same_codes.Tie as tie
-use Rattle.table_check.proofs.same_codes.Reads as reads
-use Rattle.table_check.proofs.same_codes.Lts as lts
 
 abbrev Inv-loop : tie.InvT-loop
 Inv-loop a b i₀ i = (i ≤ length a) × (sameCodes (drop i a) (drop i b) ≡ sameCodes a b)
@@ -18,45 +16,36 @@ Inv-loop a b i₀ i = (i ≤ length a) × (sameCodes (drop i a) (drop i b) ≡ s
 abbrev μ-loop : tie.MeasureT-loop
 μ-loop a b i₀ i = length a - i
 
--- src/lib.rt:128:9
 returns : tie.Need-returns Inv-loop μ-loop
 returns c = same-lengths _ _ (c .if1 .taken)
 
--- src/lib.rt:131:5
 loop-holds : tie.Need-loop-holds Inv-loop μ-loop
 loop-holds c = search needs
 
--- src/lib.rt:132:12
 shared-slice-read-if2 : tie.Need-shared-slice-read-if2 Inv-loop μ-loop
 shared-slice-read-if2 c = search needs
 
--- src/lib.rt:132:20
 shared-slice-read-if2-2 : tie.Need-shared-slice-read-if2-2 Inv-loop μ-loop
 shared-slice-read-if2-2 c = search needs
 
--- src/lib.rt:133:13
 returns-2 : tie.Need-returns-2 Inv-loop μ-loop
 returns-2 c =
     let a = c .before .before .before .before .before .before .args in
     let l = c .before .before .before .before .loop in
     same-differs (a .a .now) (a .b .now) (l .i) (omega arith) (omega arith) (ne-eqb _ _ (c .if2 .taken)) ∙ l .inv .1
 
--- src/lib.rt:135:9
 add-i : tie.Need-add-i Inv-loop μ-loop
 add-i c = search needs
 
--- src/lib.rt:131:5
 loop-less : tie.Need-loop-less Inv-loop μ-loop
 loop-less c = search needs
 
--- src/lib.rt:131:5
 loop-again : tie.Need-loop-again Inv-loop μ-loop
 loop-again c =
     let a = c .before .before .before .before .before .before .args in
     let l = c .before .before .before .before .loop in
     (omega arith, same-more (a .a .now) (a .b .now) (l .i) (omega arith) (omega arith) (eq-eqb _ _ (c .if2 .left)) ∙ l .inv .1)
 
--- src/lib.rt:124:1
 returns-3 : tie.Need-returns-3 Inv-loop μ-loop
 returns-3 c =
     let a = c .before .before .before .args in

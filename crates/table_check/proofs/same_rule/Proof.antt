@@ -1,75 +1,56 @@
 -- same_rule meets its contract: left codes first, then the two parts of the table.
 use borrow.Author.Needs.{needs}
-use native.Mathlib.Omega.{arith}
-use borrow.Author.Tests.{lt-ltb, le-ltb, le-leb, lt-leb, eq-eqb, ne-eqb, not-true, not-false}
-use Prim.Native.Nat.{ℕ, _+_, _-_, _≤_, _<_}
-use mathlib.Core.Path.{_≡_, refl, ap, sym, subst, _∙_}
-use lib.ListN.{length, getD, take, drop, set}
+use borrow.Author.Tests.{eq-eqb, ne-eqb}
+use Prim.Native.Nat.{ℕ, _+_, _-_}
+use mathlib.Core.Path.{ap, _∙_}
+use lib.ListN.{take, drop}
 use native.Mathlib.Nat.{add-sub-cancel-left}
 use Rattle.grammar.specs.TableCheck.{sameCodes}
 use Rattle.table_check.proofs.same_rule.Statement.{statement}
 use Rattle.table_check.proofs.same_rule.Tie as tie
-use Rattle.table_check.proofs.same_rule.Reads as reads
-use Rattle.table_check.proofs.same_rule.Lts as lts
-use Rattle.table_check.proofs.same_codes.Reads as same-codes-reads
 
--- src/lib.rt:145:8
 shared-slice-read-if1 : tie.Need-shared-slice-read-if1
 shared-slice-read-if1 c = search needs
 
--- src/lib.rt:145:20
 shared-slice-read-if1-2 : tie.Need-shared-slice-read-if1-2
 shared-slice-read-if1-2 c = search needs
 
--- src/lib.rt:146:9
 returns : tie.Need-returns
 returns c = simp (ne-eqb _ _ (c .if1 .taken))
 
--- src/lib.rt:148:16
 add-from : tie.Need-add-from
 add-from c = search needs
 
--- src/lib.rt:149:14
 add-to : tie.Need-add-to
 add-to c = search needs
 
--- src/lib.rt:150:17
 add-start : tie.Need-add-start
 add-start c = search needs
 
--- src/lib.rt:151:15
 add-end : tie.Need-add-end
 add-end c = search needs
 
--- src/lib.rt:152:16
 sub-same-codes : tie.Need-sub-same-codes
 sub-same-codes c = search needs
 
--- src/lib.rt:152:16
 part-same-codes-start : tie.Need-part-same-codes-start
 part-same-codes-start c = search needs
 
--- src/lib.rt:152:16
 part-same-codes-end : tie.Need-part-same-codes-end
 part-same-codes-end c = search needs
 
--- src/lib.rt:152:34
 sub-same-codes-2 : tie.Need-sub-same-codes-2
 sub-same-codes-2 c = search needs
 
--- src/lib.rt:152:34
 part-same-codes-start-2 : tie.Need-part-same-codes-start-2
 part-same-codes-start-2 c = search needs
 
--- src/lib.rt:152:34
 part-same-codes-end-2 : tie.Need-part-same-codes-end-2
 part-same-codes-end-2 c = search needs
 
--- src/lib.rt:152:5
 same-codes-requires : tie.Need-same-codes-requires
 same-codes-requires c κs = search needs
 
--- src/lib.rt:141:1
 returns-2 : tie.Need-returns-2
 returns-2 c =
     let a = c .before .before .before .before .before .before .before .args in
