@@ -1,12 +1,11 @@
 -- The rows that crate moves builds say what the step test reads off them. Assumes nothing.
-use Prim.Native.Nat.{ℕ, suc, _+_, _*_, _≤_, _<_}
+use Prim.Native.Nat.{ℕ, _+_, _≤_, _<_}
 use mathlib.Core.Path.{_≡_, ap, sym, subst₂, _∙_}
 use mathlib.Core.Logic.{_↔_, _⊎_, inl, inr}
-use mathlib.Core.Bool.{Bool, true, _&&_}
-use mathlib.Core.List.{List}
+use mathlib.Core.Bool.{true, _&&_}
 use native.Mathlib.Omega.{arith}
 use native.Mathlib.Numerals.{add-one}
-use lib.Dec.{eqb, leb, ltb}
+use lib.Dec.{leb, ltb}
 use lib.ListN.{getD}
 use borrow.Author.Tests.{eqb-true, eq-eqb, leb-true, le-leb, ltb-true, lt-ltb}
 use Rattle.grammar.specs.Limits.{limits}
@@ -15,16 +14,15 @@ use Rattle.grammar.specs.Record.{recordOf}
 use Rattle.grammar.specs.declared.CheckedGrammar.{CheckedGrammar}
 use Rattle.grammar.proofs.Answers.{and-both, both-and}
 use Rattle.automaton.specs.Items.{states}
-use Rattle.automaton.specs.Position.{Opens, Closes, Shifts, position}
-use Rattle.automaton.proofs.Items.{closes-below}
-use Rattle.triples.specs.Records.{aheadRow, ahead, terminalAhead}
-use Rattle.triples.specs.Successor.{BeforeTerminal}
+use Rattle.automaton.specs.Position.{Opens, Closes}
+use Rattle.automaton.proofs.Items.{states-four, closes-below}
+use Rattle.triples.specs.Records.{ahead}
 use Rattle.triple_laws.proofs.Moves.{shift-ahead, terminal-ahead}
-use Rattle.moves.specs.Tables.{kinds, memberRow, targetRow, numberRow, memberClass, targetClass, Tables, Built}
+use Rattle.moves.specs.Tables.{Tables, Built, IsRecord}
 use Rattle.moves.proofs.Moves.{opens-class, closes-class, closes-number, member-target}
 use Rattle.moves.proofs.Columns.{read}
 use Rattle.moves.proofs.Built.{ahead-at, number-at, member-at, target-at}
-use Rattle.witness_check.specs.StepTest.{leadsTo, opensTo, closesTo, reads}
+use Rattle.witness_check.specs.StepTest.{leadsTo, opensTo, closesTo}
 use Rattle.witness_check.specs.Contracts.{RowsSay, Ready}
 
 module _ (G : Grammar) (W : WellFormed limits G) (old new : Tables) (X : Built G old new) where
@@ -90,10 +88,6 @@ module _ (G : Grammar) (W : WellFormed limits G) (old new : Tables) (X : Built G
     );
   }
 
-same-terminals : (g : CheckedGrammar) (G : Grammar) → g ≡ recordOf G → g .terminals ≡ G .terminals
-unfolding recordOf
-same-terminals g G e = ap (λ (g : CheckedGrammar). g .terminals) e
-
 -- the rows built for a record, with the record's numbers
 pub ready-of : (g : CheckedGrammar) (G : Grammar) → WellFormed limits G → g ≡ recordOf G → (old new : Tables) → Built G old new
     → Ready G (new .ahead) (new .number) (new .member) (new .target) (g .terminals) (g .nonterminals + 1) (g .states)
@@ -101,5 +95,9 @@ ready-of g G W e old new X = record {
   wellFormed = W;
   size = read g G e .total;
   rows = subst₂ (λ (t n : ℕ). RowsSay limits G (new .ahead) (new .number) (new .member) (new .target) t (n + 1))
-      (sym (same-terminals g G e)) (sym (read g G e .nonterminals)) (rows-say G W old new X);
+      (sym (read g G e .terminals)) (sym (read g G e .nonterminals)) (rows-say G W old new X);
 }
+
+-- a well-formed grammar has at least 4 states
+pub four : (g : CheckedGrammar) → IsRecord g → 4 ≤ g .states
+four g r = omega (arith, states-four limits (r .grammar), read g (r .grammar) (r .same) .total)

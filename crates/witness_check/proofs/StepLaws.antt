@@ -1,28 +1,24 @@
 -- The test of a step is true exactly of the successors. Assumes nothing.
 use Prim.Native.Nat.{ℕ, zero, suc, _+_, _≤_, _<_}
 use mathlib.Core.Path.{_≡_, refl, ap, sym, subst, _∙_}
-use mathlib.Core.Logic.{_↔_, _⊎_, inl, inr}
+use mathlib.Core.Logic.{_↔_, inl, inr}
 use mathlib.Core.Bool.{Bool, true, false, not, _&&_, _||_}
 use mathlib.Core.List.{List}
 use native.Mathlib.Omega.{arith}
-use lib.Dec.{eqb, leb, ltb}
+use lib.Dec.{eqb, leb}
 use lib.ListN.{getD}
 use borrow.Author.Tests.{eqb-true, eqb-false, eq-eqb, ne-eqb, leb-true, le-leb, not-true}
 use Rattle.grammar.specs.Limits.{Limits}
-use Rattle.grammar.specs.Grammar.{Grammar, WellFormed}
-use Rattle.grammar.proofs.Answers.{no-bool, and-both, both-and}
+use Rattle.grammar.specs.Grammar.{Grammar}
+use Rattle.grammar.proofs.Answers.{no-bool, and-both, both-and, or-one}
 use Rattle.automaton.specs.Items.{states}
-use Rattle.automaton.specs.Position.{Opens, Closes, Shifts, position}
-use Rattle.triples.specs.Successor.{BeforeTerminal, StepTo, Successor, open-left, open-right, shift-both, part-both, part-left, part-right, close-left, close-right, read-both}
+use Rattle.automaton.specs.Position.{Shifts, position}
+use Rattle.triples.specs.Successor.{StepTo, Successor, open-left, open-right, shift-both, part-both, part-left, part-right, close-left, close-right, read-both}
 use Rattle.triples.specs.declared.Move.{Move}
 use Rattle.triples.specs.declared.Move.the-variants.{Opening, Closing, Symbol, Still}
+use Rattle.moves.specs.Tables.{readsAt}
 use Rattle.witness_check.specs.Contracts.{RowsSay}
-use Rattle.witness_check.specs.StepTest.{leadsTo, opensTo, closesTo, reads, passBoth, stays, partsBoth, partsBeside, parts, follows, isStep}
-
--- one of two holds
-either : (a b : Bool) → a || b ≡ true → (a ≡ true) ⊎ (b ≡ true)
-either true b e = inl refl
-either false b e = inr e
+use Rattle.witness_check.specs.StepTest.{leadsTo, opensTo, closesTo, passBoth, stays, partsBoth, partsBeside, parts, follows, isStep}
 
 left-or : (a b : Bool) → a ≡ true → a || b ≡ true
 left-or true b e = refl
@@ -64,12 +60,12 @@ module _ (L : Limits) (G : Grammar) (ahead number member target : List ℕ) (t m
     -- layer 0
     pub stays-step : stays ahead member target m p q u v ≡ true → Successor (position L G) 0 p q 0 u v
     unfolding stays
-    stays-step e = elim (either (eqb v q && opensTo member target m p u) _ e) [
+    stays-step e = elim (or-one (eqb v q && opensTo member target m p u) _ e) [
       | inl a ↦
           let b = and-both (eqb v q) (opensTo member target m p u) a in
           let o = R .opens p u hp hu .0 (b .1) in
           subst (λ v. Successor (position L G) 0 p q 0 u v) (sym (eqb-true v q (b .0))) (Opening (o .0), Still, open-left (o .1))
-      | inr c ↦ elim (either (eqb u p && opensTo member target m q v) _ c) [
+      | inr c ↦ elim (or-one (eqb u p && opensTo member target m q v) _ c) [
         | inl a ↦
             let b = and-both (eqb u p) (opensTo member target m q v) a in
             let o = R .opens q v hq hv .0 (b .1) in
@@ -81,7 +77,7 @@ module _ (L : Limits) (G : Grammar) (ahead number member target : List ℕ) (t m
     -- from layer 0 to layer 1
     pub parts-step : parts ahead number member target t m p q u v ≡ true → Successor (position L G) 0 p q 1 u v
     unfolding parts
-    parts-step e = elim (either (partsBoth number member target m p q u v) (partsBeside ahead member target t m p u q v || partsBeside ahead member target t m q v p u) e) [
+    parts-step e = elim (or-one (partsBoth number member target m p q u v) (partsBeside ahead member target t m p u q v || partsBeside ahead member target t m q v p u) e) [
       | inl a ↦
           let b = and-both (closesTo member target m p u) _ a in
           let c = and-both (closesTo member target m q v) _ (b .1) in
@@ -89,15 +85,15 @@ module _ (L : Limits) (G : Grammar) (ahead number member target : List ℕ) (t m
           let k = R .closes q v hq hv .0 (c .0) in
           let n = eqb-false (getD number p 0) (getD number q 0) (not-true (eqb (getD number p 0) (getD number q 0)) (c .1)) in
           (Closing (o .0), Closing (k .0), part-both (λ x. n (R .closing (o .0) p u (o .1) ∙ x ∙ sym (R .closing (k .0) q v (k .1)))) (o .1) (k .1))
-      | inr c ↦ elim (either (partsBeside ahead member target t m p u q v) (partsBeside ahead member target t m q v p u) c) [
+      | inr c ↦ elim (or-one (partsBeside ahead member target t m p u q v) (partsBeside ahead member target t m q v p u) c) [
         | inl a ↦
             let b = and-both (eqb v q) _ a in
-            let d = and-both (closesTo member target m p u) (reads ahead t q) (b .1) in
+            let d = and-both (closesTo member target m p u) (readsAt ahead t q) (b .1) in
             let o = R .closes p u hp hu .0 (d .0) in
             subst (λ v. Successor (position L G) 0 p q 1 u v) (sym (eqb-true v q (b .0))) (Closing (o .0), Still, part-left (o .1) (R .terminal q hq .0 (d .1)))
         | inr a ↦
             let b = and-both (eqb u p) _ a in
-            let d = and-both (closesTo member target m q v) (reads ahead t p) (b .1) in
+            let d = and-both (closesTo member target m q v) (readsAt ahead t p) (b .1) in
             let o = R .closes q v hq hv .0 (d .0) in
             subst (λ u. Successor (position L G) 0 p q 1 u v) (sym (eqb-true u p (b .0))) (Still, Closing (o .0), part-right (o .1) (R .terminal p hp .0 (d .1)))
       ]
@@ -106,14 +102,14 @@ module _ (L : Limits) (G : Grammar) (ahead number member target : List ℕ) (t m
     -- layer 1
     pub follows-step : follows ahead member target t p q u v ≡ true → Successor (position L G) 1 p q 1 u v
     unfolding follows
-    follows-step e = elim (either (eqb v q && leadsTo member target p u) _ e) [
+    follows-step e = elim (or-one (eqb v q && leadsTo member target p u) _ e) [
       | inl a ↦
           let b = and-both (eqb v q) (leadsTo member target p u) a in
           subst (λ v. Successor (position L G) 1 p q 1 u v) (sym (eqb-true v q (b .0))) (elim (R .moves p u hp hu .0 (b .1)) [
             | inl o ↦ (Opening (o .0), Still, open-left (o .1))
             | inr o ↦ (Closing (o .0), Still, close-left (o .1))
           ])
-      | inr c ↦ elim (either (eqb u p && leadsTo member target q v) _ c) [
+      | inr c ↦ elim (or-one (eqb u p && leadsTo member target q v) _ c) [
         | inl a ↦
             let b = and-both (eqb u p) (leadsTo member target q v) a in
             subst (λ u. Successor (position L G) 1 p q 1 u v) (sym (eqb-true u p (b .0))) (elim (R .moves q v hq hv .0 (b .1)) [
@@ -121,7 +117,7 @@ module _ (L : Limits) (G : Grammar) (ahead number member target : List ℕ) (t m
               | inr o ↦ (Still, Closing (o .0), close-right (o .1))
             ])
         | inr a ↦
-            let b = and-both (reads ahead t p) _ a in
+            let b = and-both (readsAt ahead t p) _ a in
             let s = passes p q u v hp hq (b .1) in
             let r = R .terminal p hp .0 (b .0) in
             let x = R .shifts (r .0) p (r .2 .0) hp .0 (r .2 .1) in
@@ -178,7 +174,7 @@ module _ (L : Limits) (G : Grammar) (ahead number member target : List ℕ) (t m
   step-follows {p} {q} {u} {v} hp hq hu hv (l, r, read-both {a = x} k a b) =
       right-or (eqb v q && leadsTo member target p u) _
       (right-or (eqb u p && leadsTo member target q v) _
-      (both-and (reads ahead t p) _ (R .terminal p hp .1 (x, k, (u, a))) (passed x p q u v hp hq a b)))
+      (both-and (readsAt ahead t p) _ (R .terminal p hp .1 (x, k, (u, a))) (passed x p q u v hp hq a b)))
 
   -- nothing leads back to layer 0
   no-return : {p q u v : ℕ} {l r : Move} → StepTo (position L G) 1 p q 0 u v l r → ⊥

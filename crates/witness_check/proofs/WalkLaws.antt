@@ -1,7 +1,6 @@
 -- The walk along a row of indices, against the definition of the witness check. Assumes nothing.
-use Prim.Native.Nat.{ℕ, zero, suc, _+_, _*_, _≤_, _<_}
+use Prim.Native.Nat.{ℕ, suc, _+_, _*_, _≤_, _<_}
 use mathlib.Core.Path.{_≡_, refl, ap, sym, subst, _∙_}
-use mathlib.Core.Logic.{_↔_}
 use mathlib.Core.Bool.{Bool, true, false}
 use mathlib.Core.List.{List, [], _∷_}
 use native.Mathlib.Omega.{arith}
@@ -14,8 +13,8 @@ use borrow.Author.Tests.{eq-eqb, ne-eqb}
 use Rattle.grammar.specs.Basics.{Mem}
 use Rattle.grammar.specs.Limits.{limits}
 use Rattle.grammar.specs.Grammar.{Grammar}
-use Rattle.grammar.specs.Refusal.{Answer, done, refused, refuseUnless}
-use Rattle.grammar.proofs.Answers.{no-bool, unless-holds, unless-fails}
+use Rattle.grammar.specs.Refusal.{done, refused, refuseUnless}
+use Rattle.grammar.proofs.Answers.{unless-holds, unless-fails}
 use Rattle.automaton.specs.Items.{states}
 use Rattle.automaton.specs.Position.{position}
 use Rattle.automaton.proofs.Items.{states-four}
@@ -27,7 +26,6 @@ use Rattle.triples.proofs.Index.{digits, layer-of, left-of, right-of}
 use Rattle.triple_laws.proofs.Explore.{is-element, not-element}
 use Rattle.triple_laws.proofs.Records.{steps-in-range, successors-exact, successors-below}
 use Rattle.triple_laws.proofs.CertificateCheck.{index-zero}
-use Rattle.witness_check.specs.StepTest.{isStep}
 use Rattle.witness_check.specs.Contracts.{stepAt, Ready}
 use Rattle.witness_check.proofs.StepLaws.{step-exactly}
 

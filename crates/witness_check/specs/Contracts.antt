@@ -16,7 +16,8 @@ use Rattle.triples.specs.Successor.{BeforeTerminal}
 use Rattle.triples.specs.Verdict.{checkVerdict}
 use Rattle.triples.specs.Witness.{checkRow}
 use Rattle.triples.specs.declared.CheckVerdict.{CheckVerdict}
-use Rattle.witness_check.specs.StepTest.{leadsTo, opensTo, closesTo, reads, isStep}
+use Rattle.moves.specs.Tables.{readsAt}
+use Rattle.witness_check.specs.StepTest.{leadsTo, opensTo, closesTo, isStep}
 use Rattle.witness_check.specs.declared.Triple.{Triple}
 
 -- four states
@@ -43,7 +44,7 @@ pub record RowsSay (L : Limits) (G : Grammar) (ahead number member target : List
       → (leadsTo member target p u ≡ true) ↔ (((i : ℕ) × Opens L G i p u) ⊎ ((i : ℕ) × Closes L G i p u))
   pub closing : (i p u : ℕ) → Closes L G i p u → getD number p 0 ≡ i
   pub shifts : (x p u : ℕ) → p < states G → Shifts L G x p u ↔ ((getD ahead p 0 ≡ x) × (1 ≤ x) × (u ≡ p + 1))
-  pub terminal : (p : ℕ) → p < states G → (reads ahead t p ≡ true) ↔ BeforeTerminal (position L G) p
+  pub terminal : (p : ℕ) → p < states G → (readsAt ahead t p ≡ true) ↔ BeforeTerminal (position L G) p
 
 -- the rows are those of a well-formed grammar with Q states
 pub record Ready (G : Grammar) (ahead number member target : List ℕ) (t m Q : ℕ) : Type 0 where

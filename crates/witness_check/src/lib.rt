@@ -5,7 +5,7 @@ ghost use Prim.Native.Nat.{ℕ, _*_, _≤_, _<_};
 ghost use Rattle.grammar.specs.Limits.{limits};
 ghost use Rattle.triples.specs.Verdict.{checkVerdict};
 ghost use Rattle.triples.specs.Witness.{checkWitness};
-ghost use Rattle.witness_check.specs.StepTest.{leadsTo, opensTo, closesTo, reads, passBoth, leadsBeside, opensBeside, stays, partsBoth, partsBeside, parts, follows, isStep};
+ghost use Rattle.witness_check.specs.StepTest.{leadsTo, opensTo, closesTo, passBoth, leadsBeside, opensBeside, stays, partsBoth, partsBeside, parts, follows, isStep};
 ghost use Rattle.witness_check.specs.Contracts.{States, tripleOf, stepAt, Walked, RowChecked};
 ghost use Rattle.moves.specs.Tables.{IsRecord};
 use grammar::CheckedGrammar;
@@ -66,17 +66,6 @@ fn closes_to<'a>(
         return false;
     }
     leads_to(member, target, p, u)
-}
-
-// Does a state stand before a terminal?
-fn reads_next(ahead: &[u16; MAX_STATES], t: u16, p: usize) -> bool
-    requires { ⌜ p < limits .maxStates ⌝ }
-    ensures { λ r. ⌜ r ≡ reads (now (ahead .entry)) t p ⌝ }
-{
-    if ahead[p] < 1 {
-        return false;
-    }
-    ahead[p] <= t
 }
 
 // Do both sides pass the same symbol?
@@ -197,7 +186,7 @@ fn parts_beside<'a>(
     if !closes_to(member, target, m, p, u) {
         return false;
     }
-    reads_next(ahead, t, q)
+    moves::reads_next(ahead, t, q)
 }
 
 // Is (1, u, v) a successor of (0, p, q)?
@@ -245,7 +234,7 @@ fn goes_on<'a>(
     if leads_beside(member, target, q, v, p, u) {
         return true;
     }
-    if !reads_next(ahead, t, p) {
+    if !moves::reads_next(ahead, t, p) {
         return false;
     }
     pass_both(ahead, p, q, u, v)

@@ -1,19 +1,18 @@
 -- What the table check's verdict leaves for the walk. Assumes nothing.
-use Prim.Native.Nat.{ℕ, _≤_}
-use mathlib.Core.Path.{_≡_, refl, ap, sym, subst, _∙_}
+use Prim.Native.Nat.{ℕ}
+use mathlib.Core.Path.{_≡_, ap, sym, subst, _∙_}
 use mathlib.Core.List.{List}
 use native.Mathlib.Omega.{arith}
 use Rattle.grammar.specs.Limits.{limits}
 use Rattle.grammar.specs.Grammar.{Grammar}
-use Rattle.grammar.specs.Refusal.{Answer, done, refused}
+use Rattle.grammar.specs.Refusal.{Answer, refused}
 use Rattle.grammar.specs.TableCheck.{checkTable}
 use Rattle.grammar.specs.declared.CheckedGrammar.{CheckedGrammar}
-use Rattle.grammar.specs.declared.TableVerdict.{TableVerdict}
-use Rattle.grammar.specs.declared.TableVerdict.the-variants.{Passed, Refused}
+use Rattle.grammar.specs.declared.TableVerdict.the-variants.{Refused}
 use Rattle.grammar.proofs.Answers.{no-answer, done-inj}
 use Rattle.table_check.proofs.Callers.{PassedTable}
 use Rattle.witness_records.specs.declared.Board.{Board}
-use Rattle.witness_records.specs.Contracts.{Sized, ReadyFor, Laid, Begun}
+use Rattle.witness_records.specs.Contracts.{ReadyFor, Laid, Begun}
 
 same-cause : {A : Type 0} (c p d q : ℕ) → _≡_ {A = Answer A} (refused c p) (refused d q) → Refused c p ≡ Refused d q
 same-cause c p d q e = let x : c ≡ d = cc in let y : p ≡ q = cc in ap (λ c. Refused c p) x ∙ ap (λ p. Refused d p) y

@@ -1,5 +1,5 @@
 -- Records in range answer as the row of their indices does, and only such records are accepted. Assumes nothing.
-use Prim.Native.Nat.{ℕ, _+_, _*_, _≤_, _<_}
+use Prim.Native.Nat.{ℕ, _<_}
 use mathlib.Core.Path.{_≡_, refl, ap, ap₂, sym, subst, _∙_}
 use mathlib.Core.Bool.{Bool, true, false}
 use mathlib.Core.List.{List, [], _∷_, map}
@@ -13,11 +13,9 @@ use Rattle.grammar.specs.Refusal.{done}
 use Rattle.grammar.specs.TableCheck.{checkTable}
 use Rattle.grammar.proofs.Answers.{then-goes}
 use Rattle.automaton.specs.Items.{states}
-use Rattle.automaton.specs.Position.{position}
 use Rattle.automaton.proofs.Items.{states-four}
-use Rattle.triples.specs.Index.{index, tripleCount}
-use Rattle.triples.specs.Successor.{Successor}
-use Rattle.triples.specs.Witness.{LeadsOn, ends, goes, Witness, begins, entryOf, checkRow, checkWitness, checkWitnessRecords}
+use Rattle.triples.specs.Index.{tripleCount}
+use Rattle.triples.specs.Witness.{LeadsOn, goes, Witness, begins, entryOf, checkRow, checkWitness, checkWitnessRecords}
 use Rattle.triples.proofs.Index.{index-below}
 use Rattle.triple_laws.proofs.Records.{steps-in-range}
 use Rattle.witness_records.specs.declared.TripleRecord.{TripleRecord}

@@ -1,29 +1,20 @@
 -- check_witness meets its contract: the table check answers first; its record stands for the grammar of the definition.
 use borrow.Author.Needs.{needs}
-use native.Mathlib.Omega.{arith}
-use mathlib.Core.Path.{_≡_, refl, ap, sym, subst, _∙_}
+use mathlib.Core.Path.{ap, sym, _∙_}
 use Rattle.grammar.specs.Limits.{limits}
-use Rattle.grammar.specs.Refusal.{andThen}
 use Rattle.triples.specs.Verdict.{checkVerdict}
 use Rattle.triples.specs.Witness.{checkRow, checkWitness}
 use Rattle.grammar.proofs.Answers.{then-goes, then-stops}
 use Rattle.table_check.proofs.Callers.{PassedTable, passed-table, refused-table}
 use Rattle.witness_check.proofs.check_witness.Statement.{statement}
 use Rattle.witness_check.proofs.check_witness.Tie as tie
-use Rattle.witness_check.proofs.check_witness.Reads as reads
-use Rattle.witness_check.proofs.check_witness.Lts as lts
-use Rattle.table_check.proofs.check_table.Reads as check-table-reads
-use Rattle.witness_check.proofs.check_row.Reads as check-row-reads
 
--- src/lib.rt:393:9
 check-table-requires : tie.Need-check-table-requires
 check-table-requires c κs = search needs
 
--- src/lib.rt:396:31
 enum-known-verdict : tie.Need-enum-known-verdict
 enum-known-verdict c = search needs
 
--- src/lib.rt:397:13
 returns : tie.Need-returns
 unfolding checkWitness
 returns c =
@@ -32,7 +23,6 @@ returns c =
     let r = refused-table (a .t) (a .n) (a .table .now) (c .before .before .before .check-table .result) (c .before .before .before .check-table .ensures) (v .0 .0) (v .0 .1 .0) (v .1) in
     ap checkVerdict (sym (then-stops _ (λ G. checkRow limits G (a .row .now)) (v .0 .0) (v .0 .1 .0) r))
 
--- src/lib.rt:400:17
 enum-told : tie.Need-enum-told
 enum-told c = search needs
 
@@ -42,11 +32,9 @@ passed c =
     let a = c .before .before .before .before .before .before .args in
     passed-table (a .t) (a .n) (a .table .now) (c .before .before .before .check-table .result) (c .before .before .before .check-table .ensures) (c .before .enum-told .given .1)
 
--- src/lib.rt:401:13
 check-row-requires : tie.Need-check-row-requires
 check-row-requires c κs = let p = passed c in record { grammar = p .grammar; wellFormed = p .wellFormed; same = p .same }
 
--- src/lib.rt:401:13
 returns-2 : tie.Need-returns-2
 unfolding checkWitness
 returns-2 c =

@@ -1,30 +1,21 @@
 -- closes_to meets its contract: the class is below m, and leads there.
 use borrow.Author.Needs.{needs}
-use native.Mathlib.Omega.{arith}
-use borrow.Author.Tests.{lt-ltb, le-ltb, le-leb, lt-leb, eq-eqb, ne-eqb, not-true, not-false}
+use borrow.Author.Tests.{lt-ltb, le-ltb}
 use Rattle.witness_check.proofs.closes_to.Statement.{statement}
 use Rattle.witness_check.proofs.closes_to.Tie as tie
-use Rattle.witness_check.proofs.closes_to.Reads as reads
-use Rattle.witness_check.proofs.closes_to.Lts as lts
-use Rattle.witness_check.proofs.leads_to.Reads as leads-to-reads
 
--- src/lib.rt:48:13
 mul-if1 : tie.Need-mul-if1
 mul-if1 c = search needs
 
--- src/lib.rt:48:13
 element-copy-out-if1 : tie.Need-element-copy-out-if1
 element-copy-out-if1 c = search needs
 
--- src/lib.rt:49:9
 returns : tie.Need-returns
 returns c = simp (le-ltb _ _ (c .if1 .taken))
 
--- src/lib.rt:51:5
 leads-to-requires : tie.Need-leads-to-requires
 leads-to-requires c κs = search needs
 
--- src/lib.rt:44:1
 returns-2 : tie.Need-returns-2
 returns-2 c = simp (lt-ltb _ _ (c .before .if1 .left)) (c .leads-to .ensures)
 

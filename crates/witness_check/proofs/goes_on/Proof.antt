@@ -1,49 +1,35 @@
 -- goes_on meets its contract: three ways, tried one after the other.
 use borrow.Author.Needs.{needs}
-use native.Mathlib.Omega.{arith}
-use borrow.Author.Tests.{lt-ltb, le-ltb, le-leb, lt-leb, eq-eqb, ne-eqb, not-true, not-false}
-use mathlib.Core.Path.{_≡_, refl, ap, sym, subst, _∙_}
+use borrow.Author.Tests.{not-true, not-false}
+use mathlib.Core.Path.{sym, _∙_}
 use Rattle.witness_check.specs.StepTest.{follows}
 use Rattle.witness_check.proofs.goes_on.Statement.{statement}
 use Rattle.witness_check.proofs.goes_on.Tie as tie
-use Rattle.witness_check.proofs.goes_on.Reads as reads
-use Rattle.witness_check.proofs.goes_on.Lts as lts
-use Rattle.witness_check.proofs.leads_beside.Reads as leads-beside-reads
-use Rattle.witness_check.proofs.pass_both.Reads as pass-both-reads
-use Rattle.witness_check.proofs.reads_next.Reads as reads-next-reads
 
--- src/lib.rt:162:8
 leads-beside-requires : tie.Need-leads-beside-requires
 leads-beside-requires c κs = search needs
 
--- src/lib.rt:163:9
 returns : tie.Need-returns
 unfolding follows
 returns c = simp (sym (c .before .leads-beside .ensures) ∙ c .if1 .taken)
 
--- src/lib.rt:165:8
 leads-beside-requires-2 : tie.Need-leads-beside-requires-2
 leads-beside-requires-2 c κs = search needs
 
--- src/lib.rt:166:9
 returns-2 : tie.Need-returns-2
 unfolding follows
 returns-2 c = simp (sym (c .before .before .before .leads-beside .ensures) ∙ c .before .before .if1 .left, sym (c .before .leads-beside2 .ensures) ∙ c .if2 .taken)
 
--- src/lib.rt:168:9
 reads-next-requires : tie.Need-reads-next-requires
 reads-next-requires c κs = search needs
 
--- src/lib.rt:169:9
 returns-3 : tie.Need-returns-3
 unfolding follows
 returns-3 c = simp (sym (c .before .before .before .before .before .leads-beside .ensures) ∙ c .before .before .before .before .if1 .left, sym (c .before .before .before .leads-beside2 .ensures) ∙ c .before .before .if2 .left, sym (c .before .reads-next .ensures) ∙ not-true (c .before .reads-next .result) (c .if3 .taken))
 
--- src/lib.rt:171:5
 pass-both-requires : tie.Need-pass-both-requires
 pass-both-requires c κs = search needs
 
--- src/lib.rt:158:1
 returns-4 : tie.Need-returns-4
 unfolding follows
 returns-4 c = simp (sym (c .before .before .before .before .before .before .leads-beside .ensures) ∙ c .before .before .before .before .before .if1 .left, sym (c .before .before .before .before .leads-beside2 .ensures) ∙ c .before .before .before .if2 .left, sym (c .before .before .reads-next .ensures) ∙ not-false (c .before .before .reads-next .result) (c .before .if3 .left)) (c .pass-both .ensures)

@@ -1,45 +1,31 @@
 -- is_step meets its contract: the layers choose the test.
 use borrow.Author.Needs.{needs}
-use native.Mathlib.Omega.{arith}
-use borrow.Author.Tests.{lt-ltb, le-ltb, le-leb, lt-leb, eq-eqb, ne-eqb, not-true, not-false}
-use mathlib.Core.Path.{_≡_, refl, ap, sym, subst, _∙_}
+use borrow.Author.Tests.{eq-eqb, ne-eqb}
 use Rattle.witness_check.specs.StepTest.{isStep}
 use Rattle.witness_check.proofs.is_step.Statement.{statement}
 use Rattle.witness_check.proofs.is_step.Tie as tie
-use Rattle.witness_check.proofs.is_step.Reads as reads
-use Rattle.witness_check.proofs.is_step.Lts as lts
-use Rattle.witness_check.proofs.goes_on.Reads as goes-on-reads
-use Rattle.witness_check.proofs.parts_here.Reads as parts-here-reads
-use Rattle.witness_check.proofs.stays_together.Reads as stays-together-reads
 
--- src/lib.rt:286:13
 stays-together-requires : tie.Need-stays-together-requires
 stays-together-requires c κs = search needs
 
--- src/lib.rt:286:13
 returns : tie.Need-returns
 unfolding isStep
 returns c = simp (eq-eqb _ 0 (c .before .before .before .if1 .taken), eq-eqb _ 0 (c .before .if2 .taken)) (c .stays-together .ensures)
 
--- src/lib.rt:288:9
 parts-here-requires : tie.Need-parts-here-requires
 parts-here-requires c κs = search needs
 
--- src/lib.rt:288:9
 returns-2 : tie.Need-returns-2
 unfolding isStep
 returns-2 c = simp (eq-eqb _ 0 (c .before .before .before .if1 .taken), ne-eqb _ 0 (c .before .if2 .left)) (c .parts-here .ensures)
 
--- src/lib.rt:291:9
 returns-3 : tie.Need-returns-3
 unfolding isStep
 returns-3 c = simp (ne-eqb _ 0 (c .before .before .if1 .left), eq-eqb _ 0 (c .if3 .taken))
 
--- src/lib.rt:293:5
 goes-on-requires : tie.Need-goes-on-requires
 goes-on-requires c κs = search needs
 
--- src/lib.rt:267:1
 returns-4 : tie.Need-returns-4
 unfolding isStep
 returns-4 c = simp (ne-eqb _ 0 (c .before .before .before .if1 .left), ne-eqb _ 0 (c .before .if3 .left)) (c .goes-on .ensures)

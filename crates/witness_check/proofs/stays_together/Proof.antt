@@ -1,39 +1,27 @@
 -- stays_together meets its contract: three ways, tried one after the other.
 use borrow.Author.Needs.{needs}
-use native.Mathlib.Omega.{arith}
-use borrow.Author.Tests.{lt-ltb, le-ltb, le-leb, lt-leb, eq-eqb, ne-eqb, not-true, not-false}
-use mathlib.Core.Path.{_≡_, refl, ap, sym, subst, _∙_}
+use mathlib.Core.Path.{sym, _∙_}
 use Rattle.witness_check.specs.StepTest.{stays}
 use Rattle.witness_check.proofs.stays_together.Statement.{statement}
 use Rattle.witness_check.proofs.stays_together.Tie as tie
-use Rattle.witness_check.proofs.stays_together.Reads as reads
-use Rattle.witness_check.proofs.stays_together.Lts as lts
-use Rattle.witness_check.proofs.opens_beside.Reads as opens-beside-reads
-use Rattle.witness_check.proofs.pass_both.Reads as pass-both-reads
 
--- src/lib.rt:108:8
 opens-beside-requires : tie.Need-opens-beside-requires
 opens-beside-requires c κs = search needs
 
--- src/lib.rt:109:9
 returns : tie.Need-returns
 unfolding stays
 returns c = simp (sym (c .before .opens-beside .ensures) ∙ c .if1 .taken)
 
--- src/lib.rt:111:8
 opens-beside-requires-2 : tie.Need-opens-beside-requires-2
 opens-beside-requires-2 c κs = search needs
 
--- src/lib.rt:112:9
 returns-2 : tie.Need-returns-2
 unfolding stays
 returns-2 c = simp (sym (c .before .before .before .opens-beside .ensures) ∙ c .before .before .if1 .left, sym (c .before .opens-beside2 .ensures) ∙ c .if2 .taken)
 
--- src/lib.rt:114:5
 pass-both-requires : tie.Need-pass-both-requires
 pass-both-requires c κs = search needs
 
--- src/lib.rt:104:1
 returns-3 : tie.Need-returns-3
 unfolding stays
 returns-3 c = simp (sym (c .before .before .before .before .opens-beside .ensures) ∙ c .before .before .before .if1 .left, sym (c .before .before .opens-beside2 .ensures) ∙ c .before .if2 .left) (c .pass-both .ensures)

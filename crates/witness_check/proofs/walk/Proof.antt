@@ -1,15 +1,14 @@
 -- walk meets its contract: the rest of the row is checked from the entry before, so each turn is one step of the definition.
 use borrow.Author.Needs.{needs}
 use native.Mathlib.Omega.{arith}
-use borrow.Author.Tests.{lt-ltb, le-ltb, le-leb, lt-leb, eq-eqb, ne-eqb, not-true, not-false}
-use mathlib.Core.Path.{_≡_, refl, ap, sym, subst, _∙_}
+use borrow.Author.Tests.{not-true, not-false}
+use mathlib.Core.Path.{_≡_, refl, ap, sym, _∙_}
 use Prim.Native.Nat.{ℕ, _+_, _-_, _*_, _≤_, _<_}
 use native.Mathlib.Nat.{mul-le-mul}
 use mathlib.Core.List.{List, [], _∷_}
 use lib.ListN.{length, drop, getD}
 use Rattle.grammar.specs.Limits.{limits}
 use Rattle.grammar.specs.Grammar.{Grammar}
-use Rattle.grammar.specs.Refusal.{done, refused}
 use Rattle.triples.specs.Index.{tripleCount}
 use Rattle.triples.specs.Verdict.{checkVerdict}
 use Rattle.triples.specs.Witness.{checkOn, checkRow}
@@ -17,10 +16,6 @@ use Rattle.witness_check.specs.Contracts.{stepAt, Ready}
 use Rattle.witness_check.proofs.WalkLaws.{walk-empty, walk-first, walk-start, walk-beyond, walk-wrong, walk-more, walk-short, walk-ends}
 use Rattle.witness_check.proofs.walk.Statement.{statement}
 use Rattle.witness_check.proofs.walk.Tie as tie
-use Rattle.witness_check.proofs.walk.Reads as reads
-use Rattle.witness_check.proofs.walk.Lts as lts
-use Rattle.witness_check.proofs.is_successor.Reads as is-successor-reads
-use Rattle.witness_check.proofs.wide.Reads as wide-reads
 
 abbrev Inv-loop : tie.InvT-loop
 Inv-loop ahead number member target t m q row square count last₀ place₀ last place = (1 ≤ place) × (place ≤ length row) × (last < tripleCount q)
@@ -45,29 +40,23 @@ told c =
     let l = c .before .before .before .before .before .loop in
     ap (stepAt (a .ahead .now) (a .number .now) (a .member .now) (a .target .now) (a .t) (a .m) (a .q) (l .last)) (sym (c .before .before .wide .ensures)) ∙ sym (c .is-successor .ensures)
 
--- src/lib.rt:336:9
 returns : tie.Need-returns Inv-loop μ-loop
 returns c =
     let a = c .before .before .args in λ G R. ap checkVerdict (walk-empty G (a .ahead .now) (a .number .now) (a .member .now) (a .target .now) (a .t) (a .m) (a .q) R (a .row .now) (c .if1 .taken))
 
--- src/lib.rt:338:8
 shared-slice-read-if2 : tie.Need-shared-slice-read-if2 Inv-loop μ-loop
 shared-slice-read-if2 c = search needs
 
--- src/lib.rt:339:9
 returns-2 : tie.Need-returns-2 Inv-loop μ-loop
 returns-2 c =
     let a = c .before .before .before .before .args in λ G R. ap checkVerdict (walk-first G (a .ahead .now) (a .number .now) (a .member .now) (a .target .now) (a .t) (a .m) (a .q) R (a .row .now) (c .before .before .if1 .left) (c .if2 .taken))
 
--- src/lib.rt:341:18
 mul-square : tie.Need-mul-square Inv-loop μ-loop
 mul-square c = omega (arith, square (c .before .before .before .before .args .q) (c .before .before .before .before .pre .0) (c .before .before .before .before .pre .1))
 
--- src/lib.rt:342:17
 mul-count : tie.Need-mul-count Inv-loop μ-loop
 mul-count c = omega (arith, square (c .before .before .before .before .args .q) (c .before .before .before .before .pre .0) (c .before .before .before .before .pre .1))
 
--- src/lib.rt:345:5
 loop-holds : tie.Need-loop-holds Inv-loop μ-loop
 loop-holds c =
     let a = c .before .before .before .before .args in (
@@ -77,30 +66,24 @@ loop-holds c =
       λ G R. walk-start G (a .ahead .now) (a .number .now) (a .member .now) (a .target .now) (a .t) (a .m) (a .q) R (a .row .now) (c .before .before .if1 .left) (c .if2 .left),
     )
 
--- src/lib.rt:346:25
 mul-wide : tie.Need-mul-wide Inv-loop μ-loop
 mul-wide c = search needs
 
--- src/lib.rt:346:25
 shared-slice-read-wide : tie.Need-shared-slice-read-wide Inv-loop μ-loop
 shared-slice-read-wide c = search needs
 
--- src/lib.rt:346:13
 wide-requires : tie.Need-wide-requires Inv-loop μ-loop
 wide-requires c κs = search needs
 
--- src/lib.rt:348:13
 returns-3 : tie.Need-returns-3 Inv-loop μ-loop
 returns-3 c =
     let a = c .before .before .before .before .before .before .before .before .before .args in
     let l = c .before .before .before .before .loop in
     λ G R. ap checkVerdict (walk-beyond G (a .ahead .now) (a .number .now) (a .member .now) (a .target .now) (a .t) (a .m) (a .q) R (a .row .now) (l .last) (l .place) (c .before .before .before .loop-test .taken) (l .inv .2) (omega (arith, c .if3 .taken, c .before .wide .ensures)) ∙ l .inv .3 G R)
 
--- src/lib.rt:350:13
 is-successor-requires : tie.Need-is-successor-requires Inv-loop μ-loop
 is-successor-requires c κs = (omega (arith, c .before .before .before .before .before .before .before .before .before .pre .0), c .before .before .before .before .before .before .before .before .before .pre .1)
 
--- src/lib.rt:351:13
 returns-4 : tie.Need-returns-4 Inv-loop μ-loop
 returns-4 c =
     let a = c .before .before .before .before .before .before .before .before .before .before .before .args in
@@ -108,15 +91,12 @@ returns-4 c =
     λ G R. ap checkVerdict (walk-wrong G (a .ahead .now) (a .number .now) (a .member .now) (a .target .now) (a .t) (a .m) (a .q) R (a .row .now) (l .last) (l .place) (c .before .before .before .before .before .loop-test .taken) (l .inv .2) (omega (arith, c .before .before .if3 .left, c .before .before .before .wide .ensures))
     (told (c .before) ∙ not-true (c .before .is-successor .result) (c .if4 .taken)) ∙ l .inv .3 G R)
 
--- src/lib.rt:354:9
 add-place : tie.Need-add-place Inv-loop μ-loop
 add-place c = search needs
 
--- src/lib.rt:345:5
 loop-less : tie.Need-loop-less Inv-loop μ-loop
 loop-less c = search needs
 
--- src/lib.rt:345:5
 loop-again : tie.Need-loop-again Inv-loop μ-loop
 loop-again c =
     let a = c .before .before .before .before .before .before .before .before .before .before .before .args in
@@ -130,22 +110,18 @@ loop-again c =
           (told (c .before) ∙ not-false (c .before .is-successor .result) (c .if4 .left)) ∙ l .inv .3 G R,
     )
 
--- src/lib.rt:356:16
 add-if5 : tie.Need-add-if5 Inv-loop μ-loop
 add-if5 c = omega (arith, square (c .before .before .before .before .before .before .args .q) (c .before .before .before .before .before .before .pre .0) (c .before .before .before .before .before .before .pre .1))
 
--- src/lib.rt:356:16
 add-if5-2 : tie.Need-add-if5-2 Inv-loop μ-loop
 add-if5-2 c = omega (arith, square (c .before .before .before .before .before .before .args .q) (c .before .before .before .before .before .before .pre .0) (c .before .before .before .before .before .before .pre .1))
 
--- src/lib.rt:357:9
 returns-5 : tie.Need-returns-5 Inv-loop μ-loop
 returns-5 c =
     let a = c .before .before .before .before .before .before .before .args in
     let l = c .before .before .loop in
     λ G R. ap checkVerdict (walk-short G (a .ahead .now) (a .number .now) (a .member .now) (a .target .now) (a .t) (a .m) (a .q) R (a .row .now) (l .last) (l .place) (c .before .loop-test .left) (c .if5 .taken) ∙ l .inv .3 G R)
 
--- src/lib.rt:322:1
 returns-6 : tie.Need-returns-6 Inv-loop μ-loop
 returns-6 c =
     let a = c .before .before .before .before .before .before .before .args in
