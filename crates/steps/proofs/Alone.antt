@@ -9,6 +9,7 @@ use lib.Dec.{leb}
 use borrow.Author.Tests.{leb-true, le-leb}
 use Rattle.grammar.specs.Basics.{Mem, here}
 use Rattle.grammar.specs.Limits.{limits}
+use Rattle.grammar.proofs.Lists.{lt-or-le}
 use Rattle.triples.specs.Records.{when}
 use Rattle.triples.specs.declared.Step.{Step}
 use Rattle.triple_laws.proofs.Members.{no-element, only-one, mem-either, mem-left, mem-right, under-test, of-map}
@@ -16,7 +17,7 @@ use Rattle.triple_laws.proofs.Pairs.{Rising}
 use Rattle.moves.specs.Tables.{Ascends}
 use Rattle.steps.specs.declared.Sides.{Sides}
 use Rattle.steps.specs.Plan.{between, leftTo, rightTo, shiftOf, lefts, rights, above, shifted, after, below, alone}
-use Rattle.steps.proofs.Between.{lt-or-le, of-between, between-ascends}
+use Rattle.steps.proofs.Between.{of-between, between-ascends}
 use Rattle.steps.proofs.Windows.{Window, window-none, window-append, window-when, window-map}
 
 -- an element of two lists, one after the other

@@ -10,12 +10,12 @@ use Rattle.grammar.specs.Grammar.{Grammar, WellFormed}
 use Rattle.grammar.specs.Record.{recordOf}
 use Rattle.grammar.specs.declared.CheckedGrammar.{CheckedGrammar}
 use Rattle.automaton.specs.Items.{states}
-use Rattle.triples.specs.Records.{records}
 use Rattle.triples.specs.declared.Step.{Step}
 use Rattle.triple_laws.proofs.Members.{place-mem}
 use Rattle.moves.specs.Tables.{segment, targets, Tables, Built, IsRecord}
 use Rattle.moves.proofs.Moves.{targets-ascend, member-most}
 use Rattle.moves.proofs.Built.{member-at, segment-of, segment-order, segment-inside}
+use Rattle.moves.proofs.Columns.{read}
 use Rattle.steps.specs.declared.StepAnswer.the-variants.{NoMore}
 use Rattle.steps.specs.Steps.{nth, nthRecord, recordAnswer}
 use Rattle.steps.specs.Plan.{Laid, planned, rowsOf}
@@ -24,26 +24,13 @@ use Rattle.steps.proofs.Says.{built-says, rowsIn}
 use Rattle.steps.proofs.Planned.{planned-is, none-left, none-right}
 use Rattle.steps.proofs.Nth.{no-more}
 
--- the numbers of a record
-pub same-states : (g : CheckedGrammar) (G : Grammar) → g ≡ recordOf G → g .states ≡ states G
-unfolding recordOf
-same-states g G e = ap (λ (g : CheckedGrammar). g .states) e
-
-same-terminals : (g : CheckedGrammar) (G : Grammar) → g ≡ recordOf G → g .terminals ≡ G .terminals
-unfolding recordOf
-same-terminals g G e = ap (λ (g : CheckedGrammar). g .terminals) e
-
-same-nonterminals : (g : CheckedGrammar) (G : Grammar) → g ≡ recordOf G → g .nonterminals ≡ G .nonterminals
-unfolding recordOf
-same-nonterminals g G e = ap (λ (g : CheckedGrammar). g .nonterminals) e
-
 -- the rows are laid out for each state
 pub laid-in : (g : CheckedGrammar) (r : IsRecord g) (old new : Tables) → Built (r .grammar) old new → (p : ℕ) → p < g .states
     → limits .maxStates ≤ length (new .targets) → Laid (new .member) (new .first) (new .targets) p
 laid-in g r old new X p h n =
     let G = r .grammar in
     let W = r .wellFormed in
-    let i : p < states G = omega (arith, same-states g G (r .same)) in
+    let i : p < states G = omega (arith, read g G (r .same) .total) in
     let e = segment-of G old new X p i W in
     record {
       class = omega (arith, member-at G old new X p i, member-most limits G W (omega arith) p i, W .nonterminals .1);
@@ -61,9 +48,9 @@ pub built-nth : (g : CheckedGrammar) (G : Grammar) → WellFormed limits G → g
     → nth (planned (rowsOf (new .ahead) (new .number) (new .member) (new .first) (new .targets) (g .terminals) (g .nonterminals + 1)) f p q) k
     ≡ nthRecord limits G f p q k
 built-nth g G W e old new X f p q k hp hq =
-    let s = same-states g G e in
-    let t = same-terminals g G e in
-    let n = same-nonterminals g G e in
+    let s = read g G e .total in
+    let t = read g G e .terminals in
+    let n = read g G e .nonterminals in
     ap (λ (t : ℕ). nth (planned (rowsOf (new .ahead) (new .number) (new .member) (new .first) (new .targets) t (g .nonterminals + 1)) f p q) k) t
     ∙ ap (λ (n : ℕ). nth (planned (rowsOf (new .ahead) (new .number) (new .member) (new .first) (new .targets) (G .terminals) (n + 1)) f p q) k) n
     ∙ ap (λ (l : List Step). nth l k)
@@ -72,8 +59,8 @@ built-nth g G W e old new X f p q k hp hq =
 -- a state out of range
 pub beyond-left : (g : CheckedGrammar) (G : Grammar) → g ≡ recordOf G → (f p q k : ℕ) → g .states ≤ p → NoMore ≡ recordAnswer (nthRecord limits G f p q k)
 beyond-left g G e f p q k h =
-    no-more k ∙ ap (λ (l : List Step). recordAnswer (nth l k)) (sym (none-left G f p q (omega (arith, same-states g G e))))
+    no-more k ∙ ap (λ (l : List Step). recordAnswer (nth l k)) (sym (none-left G f p q (omega (arith, read g G e .total))))
 
 pub beyond-right : (g : CheckedGrammar) (G : Grammar) → g ≡ recordOf G → (f p q k : ℕ) → g .states ≤ q → NoMore ≡ recordAnswer (nthRecord limits G f p q k)
 beyond-right g G e f p q k h =
-    no-more k ∙ ap (λ (l : List Step). recordAnswer (nth l k)) (sym (none-right G f p q (omega (arith, same-states g G e))))
+    no-more k ∙ ap (λ (l : List Step). recordAnswer (nth l k)) (sym (none-right G f p q (omega (arith, read g G e .total))))

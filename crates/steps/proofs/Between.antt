@@ -6,21 +6,13 @@ use mathlib.Core.List.{List, [], _∷_, _++_}
 use mathlib.Core.Logic.{_⊎_, inl, inr, _↔_}
 use native.Mathlib.Omega.{arith}
 use lib.Dec.{leb, ltb}
-use borrow.Author.Tests.{leb-true, le-leb, ltb-true, ltb-false, lt-ltb}
+use borrow.Author.Tests.{leb-true, le-leb, ltb-true, lt-ltb}
 use Rattle.grammar.specs.Basics.{Mem, here, there}
 use Rattle.grammar.proofs.Answers.{no-bool, and-both, both-and}
 use Rattle.triples.specs.Records.{when}
 use Rattle.triple_laws.proofs.Members.{no-element, first-or, element-as}
 use Rattle.moves.specs.Tables.{Ascends}
 use Rattle.steps.specs.Plan.{inside, between}
-
--- one of two orders
-pub lt-or-le : (a b : ℕ) → (a < b) ⊎ (b ≤ a)
-lt-or-le a b = go (ltb a b) refl
-  where
-    go : (c : Bool) → ltb a b ≡ c → (a < b) ⊎ (b ≤ a)
-    go true e = inl (ltb-true a b e)
-    go false e = inr (ltb-false a b e)
 
 -- the first entry is kept if it is between the bounds, and else not
 between-cases : (P : List ℕ → Type 0) (a b x : ℕ) (l : List ℕ) → (a ≤ x → x < b → P (x ∷ l)) → ((a ≤ x → x < b → ⊥) → P l)

@@ -6,14 +6,13 @@ use mathlib.Core.List.{List, [], _∷_, _++_, map}
 use mathlib.Core.Option.{Option, none, some}
 use native.Mathlib.Omega.{arith}
 use native.Mathlib.Nat.{suc-mul, mod-lt, div-add-mod'}
-use native.Mathlib.Numerals.{add-one}
 use lib.Dec.{leb}
 use lib.ListN.{length, getD, drop, drop-of-length-le}
-use lib.Seq.{drop-cons}
 use borrow.Author.Tests.{le-leb, eq-eqb, ne-eqb}
 use Rattle.grammar.specs.Basics.{choose, Mem, here, there}
 use Rattle.grammar.specs.Limits.{limits}
 use Rattle.grammar.proofs.Answers.{no-bool}
+use Rattle.grammar.proofs.Lists.{drop-next}
 use Rattle.triples.specs.Records.{when, each, step}
 use Rattle.triples.specs.declared.Move.the-variants.{Closing}
 use Rattle.triples.specs.declared.Step.{Step}
@@ -28,13 +27,10 @@ use Rattle.steps.proofs.Between.{of-between}
 
 -- ---- one turn of the search for a target
 
-cons-at : (row : List ℕ) (i : ℕ) → i < length row → drop i row ≡ getD row i 0 ∷ drop (i + 1) row
-cons-at row i h = drop-cons row i 0 h ∙ ap (λ (j : ℕ). getD row i 0 ∷ drop j row) (sym (add-one i))
-
 pub pick-here : (a b : ℕ) (row : List ℕ) (i k : ℕ) → i < length row → k < weight a b (getD row i 0)
     → pickOf (between a b (drop i row)) k ≡ hit (getD row i 0)
 unfolding between pickOf
-pick-here a b row i k h l = ap (λ (l : List ℕ). pickOf (between a b l) k) (cons-at row i h) ∙ go (inside a b (getD row i 0)) k l
+pick-here a b row i k h l = ap (λ (l : List ℕ). pickOf (between a b l) k) (drop-next row i h) ∙ go (inside a b (getD row i 0)) k l
   where
     go : (c : Bool) (k : ℕ) → k < choose c 1 0 → pickOf (when c (getD row i 0 ∷ []) ++ between a b (drop (i + 1) row)) k ≡ hit (getD row i 0)
     go true zero l = refl
@@ -44,7 +40,7 @@ pick-here a b row i k h l = ap (λ (l : List ℕ). pickOf (between a b l) k) (co
 pub pick-on : (a b : ℕ) (row : List ℕ) (i k : ℕ) → i < length row → weight a b (getD row i 0) ≤ k
     → pickOf (between a b (drop (i + 1) row)) (k - weight a b (getD row i 0)) ≡ pickOf (between a b (drop i row)) k
 unfolding between pickOf
-pick-on a b row i k h l = sym (ap (λ (l : List ℕ). pickOf (between a b l) k) (cons-at row i h) ∙ go (inside a b (getD row i 0)) k l)
+pick-on a b row i k h l = sym (ap (λ (l : List ℕ). pickOf (between a b l) k) (drop-next row i h) ∙ go (inside a b (getD row i 0)) k l)
   where
     go : (c : Bool) (k : ℕ) → choose c 1 0 ≤ k → pickOf (when c (getD row i 0 ∷ []) ++ between a b (drop (i + 1) row)) k ≡ pickOf (between a b (drop (i + 1) row)) (k - choose c 1 0)
     go true zero l = absurd (omega arith)

@@ -12,6 +12,7 @@ use borrow.Author.Tests.{eq-eqb, ne-eqb}
 use Rattle.grammar.specs.Basics.{choose}
 use Rattle.grammar.specs.Limits.{limits}
 use Rattle.grammar.specs.Grammar.{Grammar}
+use Rattle.grammar.proofs.Lists.{lt-or-le}
 use Rattle.automaton.specs.Items.{states}
 use Rattle.triples.specs.Index.{index}
 use Rattle.triples.specs.Records.{nextIndex, key}
@@ -21,7 +22,6 @@ use Rattle.triple_laws.proofs.RecordDoubles.{kind}
 use Rattle.triple_laws.proofs.Placed.{place, side}
 use Rattle.moves.specs.Tables.{Ascends}
 use Rattle.steps.specs.Plan.{moveOf, leftTo, rightTo, shiftOf, alone, grid, isRead, shared, sides, planZero, planOne}
-use Rattle.steps.proofs.Between.{lt-or-le}
 use Rattle.steps.proofs.Windows.{window-none, window-append, window-map, window-each}
 use Rattle.steps.proofs.Alone.{Ranked, alone-rises}
 use Rattle.steps.proofs.Ways.{partOf}

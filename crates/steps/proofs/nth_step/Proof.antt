@@ -9,7 +9,6 @@ use Rattle.grammar.proofs.Answers.{then-goes, then-stops}
 use Rattle.table_check.proofs.Callers.{PassedTable, passed-table, refused-table}
 use Rattle.steps.proofs.nth_step.Statement.{statement}
 use Rattle.steps.proofs.nth_step.Tie as tie
-use Rattle.table_check.proofs.check_table.Reads as check-table-reads
 
 check-table-requires : tie.Need-check-table-requires
 check-table-requires c κs = search needs
