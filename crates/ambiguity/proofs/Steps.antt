@@ -19,15 +19,13 @@ use Rattle.grammar.proofs.Answers.{then-goes, then-stops}
 use Rattle.automaton.specs.Items.{states}
 use Rattle.triples.specs.Index.{index, tripleCount}
 use Rattle.triples.specs.Records.{when, nextIndex, key, choices, ordered, records}
-use Rattle.triples.specs.declared.Move.{Move}
-use Rattle.triples.specs.declared.Move.the-variants.{Opening, Closing, Symbol, Still}
 use Rattle.triples.specs.declared.Step.{Step}
 use Rattle.triples.proofs.Index.{index-below}
 use Rattle.triple_laws.proofs.Pairs.{Rising, pairs-none, pairs-more, pairs-join}
 use Rattle.triple_laws.proofs.Records.{steps-in-range, records-exact}
-use Rattle.triple_laws.proofs.RecordDoubles.{kind, records-distinct}
+use Rattle.triple_laws.proofs.RecordDoubles.{records-distinct}
 use Rattle.triple_laws.proofs.Single.{records-rise}
-use Rattle.triple_laws.proofs.Placed.{side, place, records-placed}
+use Rattle.triple_laws.proofs.Placed.{side, place, records-placed, side-small}
 use Rattle.steps.specs.Steps.{nth, nthRecord, nthStep, recordAnswer, stepAnswer}
 use Rattle.steps.specs.declared.StepAnswer.{StepAnswer}
 use Rattle.steps.specs.declared.StepAnswer.the-variants as step
@@ -100,12 +98,6 @@ rank-below : (a s n : ℕ) → s ≤ 1 → a ≤ n → rank a s < n + 2
 unfolding rank
 rank-below zero s n h k = omega arith
 rank-below (suc a) s n h k = omega arith
-
-side-small : (m : Move) → kind 0 0 0 1 m ≤ 1
-side-small (Opening i) = omega arith
-side-small (Closing i) = omega arith
-side-small (Symbol x) = omega arith
-side-small Still = omega arith
 
 choose-below : (b : Bool) (n : ℕ) → choose b 0 (suc n) ≤ suc n
 choose-below true n = omega arith

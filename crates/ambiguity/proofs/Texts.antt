@@ -1,11 +1,10 @@
 -- What follows from the promises of reader and writer. Assumes nothing.
 use Prim.Native.Nat.{ℕ, _+_, _≤_}
-use mathlib.Core.Path.{_≡_, refl, ap, sym, subst, _∙_}
+use mathlib.Core.Path.{_≡_, ap, sym, subst, _∙_}
 use mathlib.Core.List.{List, [], _++_}
 use native.Mathlib.Omega.{arith}
 use lib.ListN.{length, take, drop, length-append}
 use lib.Seq.{take-at}
-use Rattle.grammar.specs.Basics.{over}
 use Rattle.grammar.specs.Limits.{limits}
 use Rattle.grammar.specs.Table.{encode}
 use Rattle.grammar.specs.Refusal.{Answer, done, refused, andThen}
@@ -29,7 +28,7 @@ use Rattle.text.proofs.Spans.{length-lengths, length-name-starts}
 use Rattle.text.proofs.Admit.{read-admit, admit-refuses, Checked, text-checked}
 use Rattle.text.proofs.Gather.{gather-front, gather-read}
 use Rattle.text.proofs.RoundTrip.{apart, reads-into, into-checked, limits-short}
-use Rattle.text.proofs.Promises.{written-as, read-write, write-read}
+use Rattle.text.proofs.Promises.{written-as, read-write, write-read, read-as, after-done}
 use Rattle.ambiguity.specs.Entries.{TableAnswer}
 use Rattle.ambiguity.specs.Texts.{TextTheorems}
 
@@ -65,18 +64,6 @@ module _ (text : List ℕ) (s : Source) (d : readText limits text ≡ done s) (r
       = then-goes (readText limits text) rest s d ∙ then-goes (admit limits (limits .maxRules) [] 0 (s .rules)) (λ rules. done s) (x .0) (x .1) in
       p .answer ∙ ap textRead (reads-into limits (length table) (length starts) (length lengths) text s o i j k)
 
--- an answer that is read has a source
-read-as : (o : Answer Source) (t n e q : ℕ) → Read t n e q ≡ textRead o
-    → (s : Source) × (o ≡ done s) × (length (s .terminals) ≡ t) × (length (s .nonterminals) ≡ n) × (length (encode (s .rules)) ≡ e)
-read-as (done s) t n e q h = (s, refl, cc, cc, cc)
-read-as (refused c p) t n e q h = absurd (let z : _≡_ {A = ℕ} 0 1 = cc in omega arith)
-
--- a row after a result has it at its front
-after-done : {A : Type 0} (o : Answer A) (front : A → List ℕ) (old new : List ℕ) (a : A) → o ≡ done a
-    → new ≡ afterwards o front old → new ≡ front a ++ drop (length (front a)) old
-unfolding over
-after-done o front old new a e h = h ∙ ap (λ o. afterwards o front old) e
-
 module _ (text table starts lengths : List ℕ) (t n e q : ℕ) (table′ starts′ lengths′ : List ℕ)
     (p : ReadsText text table starts lengths (Read t n e q) table′ starts′ lengths′) where
   -- what was read, and the table written
@@ -84,18 +71,18 @@ module _ (text table starts lengths : List ℕ) (t n e q : ℕ) (table′ starts
   outcome = readInto limits (length table) (length starts) (length lengths) text
 
   source : Source
-  source = read-as outcome t n e q (p .answer) .0
+  source = read-as outcome t n e q (p .answer) .source
 
   into : outcome ≡ done source
   unfolding source
-  into = read-as outcome t n e q (p .answer) .1
+  into = read-as outcome t n e q (p .answer) .whole
 
   source-checked : Checked limits text source
   source-checked = text-checked limits apart text source (into-checked limits (length table) (length starts) (length lengths) text source into)
 
   counts : (length (source .terminals) ≡ t) × (length (source .nonterminals) ≡ n) × (length (encode (source .rules)) ≡ e)
   unfolding source
-  counts = let a = read-as outcome t n e q (p .answer) in (a .2, a .3, a .4)
+  counts = let a = read-as outcome t n e q (p .answer) in (a .terminals, a .nonterminals, a .entries)
 
   table-front : take e table′ ≡ encode (source .rules)
   table-front =

@@ -1,8 +1,8 @@
 -- What the reader and the search tell is how a text is judged. Assumes nothing.
-use Prim.Native.Nat.{ℕ, _+_, _*_, _≤_, _<_}
+use Prim.Native.Nat.{ℕ, _+_, _≤_, _<_}
 use mathlib.Core.Path.{_≡_, refl, ap, sym, subst, _∙_}
 use mathlib.Core.Bool.{Bool, true, false}
-use mathlib.Core.List.{List, [], _∷_, _++_}
+use mathlib.Core.List.{List, [], _∷_}
 use native.Mathlib.Omega.{arith}
 use native.Mathlib.Nat.{mul-le-mul}
 use borrow.Author.Tests.{le-leb, lt-leb}
@@ -26,7 +26,8 @@ use Rattle.text.specs.declared.TextRead.{TextRead}
 use Rattle.text.specs.declared.TextRead.the-variants as reader
 use Rattle.text.proofs.Admit.{text-checked}
 use Rattle.text.proofs.RoundTrip.{apart, reads-into}
-use Rattle.search.specs.Promise.{Lent, isPotential, isEnough, searchable, Told, Answers, Searches}
+use Rattle.text.proofs.Promises.{ReadAs, read-as, refuses-as}
+use Rattle.search.specs.Promise.{Lent, isPotential, searchable, Told, Answers, Searches}
 use Rattle.search.specs.declared.SearchVerdict.{SearchVerdict}
 use Rattle.search.specs.declared.SearchVerdict.the-variants as search
 use Rattle.search.proofs.LentLaws.{is-enough, search-enough}
@@ -95,23 +96,6 @@ into-checked text = go (checkText limits text) refl
         reads-into limits 512 254 254 text s e (omega (arith, entries-states (s .rules), w .count, w .size)) names names
     go (refused cause at) e = then-stops _ _ cause at e
 
--- what an answer of the reader says of the definition's
-read-refused : (o : Answer Source) (cause at : ℕ) → reader.Refused cause at ≡ textRead o → o ≡ refused cause at
-read-refused (done s) cause at h = absurd (let z : _≡_ {A = ℕ} 0 1 = cc in omega arith)
-read-refused (refused c p) cause at h = cc
-
-record ReadAs (o : Answer Source) (t n e q : ℕ) : Type 0 where
-  source : Source
-  whole : o ≡ done source
-  terminals : length (source .terminals) ≡ t
-  nonterminals : length (source .nonterminals) ≡ n
-  entries : length (encode (source .rules)) ≡ e
-  states : stateCount (source .rules) ≡ q
-
-read-as : (o : Answer Source) (t n e q : ℕ) → reader.Read t n e q ≡ textRead o → ReadAs o t n e q
-read-as (done s) t n e q h = record { source = s; whole = refl; terminals = cc; nonterminals = cc; entries = cc; states = cc }
-read-as (refused cause at) t n e q h = absurd (let z : _≡_ {A = ℕ} 0 1 = cc in omega arith)
-
 -- a longer text is 14 at 0
 pub long-text : (text : List ℕ) → 4096 < length text → Refused 14 0 ≡ judgedOf (judge text)
 unfolding judge
@@ -133,7 +117,7 @@ module _ (text table starts lengths : List ℕ) (i : length table ≡ 512) (j : 
   -- the reader refuses
   pub text-refused : (cause at : ℕ) → r ≡ reader.Refused cause at → Refused cause at ≡ judgedOf (judge text)
   text-refused cause at e =
-      let c = read-refused (checkText limits text) cause at (sym e ∙ h .answer ∙ ap textRead into) in
+      let c = refuses-as (checkText limits text) cause at (sym e ∙ h .answer ∙ ap textRead into) in
       sym (ap judgedOf (judged ∙ then-stops (checkText limits text) rest cause at c))
 
   module _ (t n e q : ℕ) (g : r ≡ reader.Read t n e q) where

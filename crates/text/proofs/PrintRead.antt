@@ -46,7 +46,8 @@ whole-done at (p ∷ q ∷ qs) go b e = (p, q, qs, refl, e)
 
 -- ---- a declaring line
 
-join-names : (v : List ℕ) → join 44 (namesOf v) ≡ v
+-- a value is its names with commas between
+pub join-names : (v : List ℕ) → join 44 (namesOf v) ≡ v
 unfolding namesOf join
 join-names [] = refl
 join-names (b ∷ v) = join-split 44 (b ∷ v)

@@ -17,7 +17,7 @@ use Rattle.text.specs.Rules.{readInto}
 use Rattle.text.specs.Print.{gather, writeInto}
 use Rattle.text.specs.Promise.{nameStarts, nameLengths, textRead, textWritten, afterwards, ReadsText, WritesText, SameAgain}
 use Rattle.text.specs.declared.TextRead.{TextRead}
-use Rattle.text.specs.declared.TextRead.the-variants.{Read}
+use Rattle.text.specs.declared.TextRead.the-variants.{Read, Refused}
 use Rattle.text.specs.declared.TextWritten.{TextWritten}
 use Rattle.text.specs.declared.TextWritten.the-variants.{Written}
 use Rattle.text.proofs.Spans.{length-lengths, length-name-starts}
@@ -27,24 +27,30 @@ use Rattle.text.proofs.RoundTrip.{into-checked, write-front, apart, lim
 use Rattle.text.proofs.RoundTrip.{limits-write-then-read}
 
 -- an answer with a result has that result
-record ReadAs (o : Answer Source) (t n e q : ℕ) : Type 0 where
-  source : Source
-  whole : o ≡ done source
-  terminals : length (source .terminals) ≡ t
-  nonterminals : length (source .nonterminals) ≡ n
-  entries : length (encode (source .rules)) ≡ e
-  states : stateCount (source .rules) ≡ q
+pub record ReadAs (o : Answer Source) (t n e q : ℕ) : Type 0 where
+  pub source : Source
+  pub whole : o ≡ done source
+  pub terminals : length (source .terminals) ≡ t
+  pub nonterminals : length (source .nonterminals) ≡ n
+  pub entries : length (encode (source .rules)) ≡ e
+  pub states : stateCount (source .rules) ≡ q
 
-read-as : (o : Answer Source) (t n e q : ℕ) → Read t n e q ≡ textRead o → ReadAs o t n e q
+pub read-as : (o : Answer Source) (t n e q : ℕ) → Read t n e q ≡ textRead o → ReadAs o t n e q
 read-as (done s) t n e q h = record { source = s; whole = refl; terminals = cc; nonterminals = cc; entries = cc; states = cc }
 read-as (refused c p) t n e q h = absurd (let z : _≡_ {A = ℕ} 0 1 = cc in omega arith)
 
+-- an answer that refuses has that refusal
+pub refuses-as : (o : Answer Source) (c p : ℕ) → Refused c p ≡ textRead o → o ≡ refused c p
+refuses-as (done s) c p h = absurd (let z : _≡_ {A = ℕ} 0 1 = cc in omega arith)
+refuses-as (refused d q) c p h = cc
+
+-- text that was written is that text
 pub written-as : (o : Answer (List ℕ)) (m : ℕ) → Written m ≡ textWritten o → (text : List ℕ) × (o ≡ done text) × (length text ≡ m)
 written-as (done text) m h = (text, refl, cc)
 written-as (refused c p) m h = absurd (let z : _≡_ {A = ℕ} 0 1 = cc in omega arith)
 
 -- a row after a result has it at its front
-after-done : {A : Type 0} (o : Answer A) (front : A → List ℕ) (old new : List ℕ) (a : A) → o ≡ done a
+pub after-done : {A : Type 0} (o : Answer A) (front : A → List ℕ) (old new : List ℕ) (a : A) → o ≡ done a
     → new ≡ afterwards o front old → new ≡ front a ++ drop (length (front a)) old
 unfolding over
 after-done o front old new a e h = h ∙ ap (λ o. afterwards o front old) e

@@ -147,7 +147,8 @@ unfolding ruleLines
 rules-step L at t names p [] h = absurd (omega arith)
 rules-step L at t names p (q ∷ qs) h = refl
 
-whole-step : {B : Type 0} (at : ℕ) (p : List ℕ) (qs : List (List ℕ)) (go : List ℕ → List (List ℕ) → Answer B) → 0 < length qs
+-- a whole line goes on
+pub whole-step : {B : Type 0} (at : ℕ) (p : List ℕ) (qs : List (List ℕ)) (go : List ℕ → List (List ℕ) → Answer B) → 0 < length qs
     → wholeLine at (p ∷ qs) go ≡ go p qs
 unfolding wholeLine
 whole-step at p [] go h = absurd (omega arith)

@@ -27,6 +27,22 @@ spelled text (at ∷ starts) (l ∷ lengths) = take l (drop at text) ∷ spelled
 abbrev pub Inside : List ℕ → List ℕ → List ℕ → Type 0
 Inside text starts lengths = (i : ℕ) → i < length starts → getD starts i 0 + getD lengths i 0 ≤ length text
 
+-- there are as many as starts
+pub length-spelled : (text starts lengths : List ℕ) → length starts ≡ length lengths → length (spelled text starts lengths) ≡ length starts
+unfolding spelled
+length-spelled text [] lengths h = refl
+length-spelled text (a ∷ starts) [] h = absurd (omega arith)
+length-spelled text (a ∷ starts) (l ∷ lengths) h = ap suc (length-spelled text starts lengths (omega arith))
+
+-- what is spelled at a place
+pub spelled-at : (text starts lengths : List ℕ) (i : ℕ) → length starts ≡ length lengths → i < length starts
+    → getD (spelled text starts lengths) i [] ≡ take (getD lengths i 0) (drop (getD starts i 0) text)
+unfolding spelled
+spelled-at text [] lengths i h l = absurd (omega arith)
+spelled-at text (a ∷ starts) [] i h l = absurd (omega arith)
+spelled-at text (a ∷ starts) (m ∷ lengths) zero h l = refl
+spelled-at text (a ∷ starts) (m ∷ lengths) (suc i) h l = spelled-at text starts lengths i (omega arith) (omega arith)
+
 -- there are as many starts as names
 pub length-starts : (at : ℕ) (ps : List (List ℕ)) → length (startsFrom at ps) ≡ length ps
 unfolding startsFrom
@@ -59,7 +75,7 @@ next-name text a p q ps post h =
     rw add-assoc (sym (drop-drop (length p + 1) a text)) ∙ ap (drop (length p + 1)) (h ∙ append-assoc p (ledBy 44 (q ∷ ps)) post)
     ∙ drop-append-add p (ledBy 44 (q ∷ ps) ++ post) 1
 
-spans-spell : (text : List ℕ) (a : ℕ) (ps : List (List ℕ)) (post : List ℕ) → drop a text ≡ join 44 ps ++ post
+pub spans-spell : (text : List ℕ) (a : ℕ) (ps : List (List ℕ)) (post : List ℕ) → drop a text ≡ join 44 ps ++ post
     → spelled text (startsFrom a ps) (nameLengths ps) ≡ ps
 unfolding spelled startsFrom nameLengths join ledBy
 spans-spell text a [] post h = refl
@@ -68,7 +84,7 @@ spans-spell text a (p ∷ q ∷ ps) post h =
     ap₂ (λ w ws. w ∷ ws) (ap (take (length p)) h ∙ rw (append-assoc, take-append-seam))
     (spans-spell text (a + length p + 1) (q ∷ ps) post (next-name text a p q ps post h))
 
-spans-inside : (text : List ℕ) (a : ℕ) (ps : List (List ℕ)) (post : List ℕ) → a ≤ length text → drop a text ≡ join 44 ps ++ post
+pub spans-inside : (text : List ℕ) (a : ℕ) (ps : List (List ℕ)) (post : List ℕ) → a ≤ length text → drop a text ≡ join 44 ps ++ post
     → Inside text (startsFrom a ps) (nameLengths ps)
 unfolding startsFrom nameLengths join ledBy
 spans-inside text a [] post l h i k = absurd (omega arith)
@@ -88,7 +104,7 @@ spans-inside text a (p ∷ q ∷ ps) post l h (suc i) k =
 
 -- ---- two rows end to end
 
-spelled-append : (text xs ys cs ds : List ℕ) → length xs ≡ length cs
+pub spelled-append : (text xs ys cs ds : List ℕ) → length xs ≡ length cs
     → spelled text (xs ++ ys) (cs ++ ds) ≡ spelled text xs cs ++ spelled text ys ds
 unfolding spelled
 spelled-append text [] ys [] ds h = refl
@@ -97,7 +113,7 @@ spelled-append text (a ∷ xs) ys [] ds h = absurd (omega arith)
 spelled-append text (a ∷ xs) ys (c ∷ cs) ds h = ap (λ ws. take c (drop a text) ∷ ws)
     (spelled-append text xs ys cs ds (omega arith))
 
-inside-append : (text xs ys cs ds : List ℕ) → length xs ≡ length cs → Inside text xs cs → Inside text ys ds
+pub inside-append : (text xs ys cs ds : List ℕ) → length xs ≡ length cs → Inside text xs cs → Inside text ys ds
     → Inside text (xs ++ ys) (cs ++ ds)
 inside-append text [] ys [] ds h p q i k = q i k
 inside-append text [] ys (c ∷ cs) ds h p q i k = absurd (omega arith)
@@ -106,7 +122,7 @@ inside-append text (a ∷ xs) ys (c ∷ cs) ds h p q zero k = p 0 (omega arith)
 inside-append text (a ∷ xs) ys (c ∷ cs) ds h p q (suc i) k =
     inside-append text xs ys cs ds (omega arith) (λ i k. p (suc i) (omega arith)) q i (omega arith)
 
-lengths-append : (ps qs : List (List ℕ)) → nameLengths (ps ++ qs) ≡ nameLengths ps ++ nameLengths qs
+pub lengths-append : (ps qs : List (List ℕ)) → nameLengths (ps ++ qs) ≡ nameLengths ps ++ nameLengths qs
 unfolding nameLengths
 lengths-append [] qs = refl
 lengths-append (p ∷ ps) qs = ap (λ ws. length p ∷ ws) (lengths-append ps qs)

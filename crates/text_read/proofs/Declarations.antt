@@ -14,6 +14,7 @@ use Rattle.text.specs.Pieces.{splitOn}
 use Rattle.text.specs.Names.{hasDouble}
 use Rattle.text.specs.Read.{namesOf, declaration, wholeLine, readLines}
 use Rattle.text.proofs.Pieces.{split-pos}
+use Rattle.text.proofs.ReadPrinted.{whole-step}
 use Rattle.names.specs.Found.{index, part}
 use Rattle.names.proofs.Pieces.{piece-more, piece-last, length-piece}
 use Rattle.text_read.specs.declared.Declared.{Declared}
@@ -29,13 +30,6 @@ told-names at k lo hi earlier line r start end count e t = subst (λ (r : Declar
 pub told-fault : (at k lo hi : ℕ) (earlier : List (List ℕ)) (line : List ℕ) (r : Declared) (cause place : ℕ) → r ≡ Fault cause place
     → DeclaredTold at k lo hi earlier line r → declaration at k lo hi earlier line ≡ refused cause place
 told-fault at k lo hi earlier line r cause place e t = subst (λ (r : Declared). DeclaredTold at k lo hi earlier line r) e t
-
--- a whole line goes on
-whole-on : {B : Type 0} (at : ℕ) (p : List ℕ) (qs : List (List ℕ)) (go : List ℕ → List (List ℕ) → Answer B) → 0 < length qs
-    → wholeLine at (p ∷ qs) go ≡ go p qs
-unfolding wholeLine
-whole-on at p [] go h = absurd (omega arith)
-whole-on at p (q ∷ qs) go h = refl
 
 -- one that lacks its byte 10 is refused
 whole-last : {B : Type 0} (at : ℕ) (p : List ℕ) (go : List ℕ → List (List ℕ) → Answer B) → wholeLine at (p ∷ []) go ≡ refused 16 at
@@ -73,7 +67,7 @@ module _ (text : List ℕ) (e : ℕ) (found : e ≡ 0 + index 10 (drop 0 text)) 
         ≡ andThen (declaration 1 0 0 127 [] (part 0 e text)) (λ ts. wholeLine 2 (splitOn 10 (drop (e + 1) text)) (readSecond ts))
     unfolding readLines
     first-on = ap (readLines limits) (piece-more 10 text 0 e (omega arith) found inside)
-        ∙ whole-on 1 (part 0 e text) (splitOn 10 (drop (e + 1) text)) _ (split-pos 10 _)
+        ∙ whole-step 1 (part 0 e text) (splitOn 10 (drop (e + 1) text)) _ (split-pos 10 _)
 
     pub first-fault : (c p : ℕ) → declaration 1 0 0 127 [] (part 0 e text) ≡ refused c p
         → readLines limits (splitOn 10 text) ≡ refused c p
@@ -113,7 +107,7 @@ module _ (text : List ℕ) (a e t : ℕ) (h : FirstHead text a e t) (f : ℕ) (f
     second-on =
         h .lines
         ∙ ap (λ ls. wholeLine 2 ls (readSecond (namesOf (part a e text)))) (piece-more 10 text (e + 1) f (omega (arith, h .ends)) found inside)
-        ∙ whole-on 2 (part (e + 1) f text) (splitOn 10 (drop (f + 1) text)) (readSecond (namesOf (part a e text))) (split-pos 10 _)
+        ∙ whole-step 2 (part (e + 1) f text) (splitOn 10 (drop (f + 1) text)) (readSecond (namesOf (part a e text))) (split-pos 10 _)
 
     pub second-fault : (c p : ℕ) → declaration 2 1 1 127 (namesOf (part a e text)) (part (e + 1) f text) ≡ refused c p
         → readLines limits (splitOn 10 text) ≡ refused c p

@@ -1,6 +1,6 @@
 -- Names looked up among those that rows spell in a text, and their codes.
 -- Assumes nothing.
-use Prim.Native.Nat.{ℕ, zero, suc, _+_, _-_, _≤_, _<_}
+use Prim.Native.Nat.{ℕ, suc, _+_, _-_, _≤_, _<_}
 use mathlib.Core.Path.{_≡_, refl, ap, _∙_}
 use mathlib.Core.List.{List, [], _∷_}
 use mathlib.Core.Bool.{Bool, true, false}
@@ -13,25 +13,11 @@ use Rattle.grammar.specs.Basics.{choose}
 use Rattle.grammar.specs.Limits.{limits}
 use Rattle.text.specs.Names.{all, sameName, place}
 use Rattle.text.specs.Read.{numberOf, isKnown, codeOf}
-use Rattle.text.proofs.Spans.{spelled}
+use Rattle.text.proofs.Spans.{spelled, spelled-at}
 use Rattle.text.proofs.Names.{known-number}
 use Rattle.text_read.specs.Lines.{codesOf}
 
 -- ---- names at spans
-
-pub length-spelled : (text starts lengths : List ℕ) → length starts ≡ length lengths → length (spelled text starts lengths) ≡ length starts
-unfolding spelled
-length-spelled text [] lengths h = refl
-length-spelled text (a ∷ starts) [] h = absurd (omega arith)
-length-spelled text (a ∷ starts) (l ∷ lengths) h = ap suc (length-spelled text starts lengths (omega arith))
-
-spelled-at : (text starts lengths : List ℕ) (i : ℕ) → length starts ≡ length lengths → i < length starts
-    → getD (spelled text starts lengths) i [] ≡ take (getD lengths i 0) (drop (getD starts i 0) text)
-unfolding spelled
-spelled-at text [] lengths i h l = absurd (omega arith)
-spelled-at text (a ∷ starts) [] i h l = absurd (omega arith)
-spelled-at text (a ∷ starts) (m ∷ lengths) zero h l = refl
-spelled-at text (a ∷ starts) (m ∷ lengths) (suc i) h l = spelled-at text starts lengths i (omega arith) (omega arith)
 
 -- a name as the part of the text that the code takes
 pub spelled-part : (text starts lengths : List ℕ) (i : ℕ) → length starts ≡ length lengths → i < length starts

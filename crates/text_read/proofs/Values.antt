@@ -8,7 +8,7 @@ use mathlib.Core.Option.{none, some}
 use native.Mathlib.Omega.{arith}
 use native.Mathlib.Nat.{add-zero}
 use native.Mathlib.Numerals.{add-one}
-use borrow.Author.Tests.{eq-eqb, ne-eqb, le-leb, lt-leb}
+use borrow.Author.Tests.{eq-eqb, ne-eqb, lt-leb}
 use lib.Dec.{eqb, leb}
 use lib.ListN.{length, drop, getD, drop-of-length-le, length-drop}
 use lib.Seq.{drop-cons, take-all}
@@ -18,6 +18,7 @@ use Rattle.text.specs.Pieces.{onto, splitOn}
 use Rattle.text.specs.Names.{within, all, isName, hasDouble}
 use Rattle.text.specs.Keys.{key, valueOf}
 use Rattle.text.specs.Read.{namesOf, refuseNone, declaration}
+use Rattle.text.proofs.Names.{both-within}
 use Rattle.names.specs.Found.{part}
 use Rattle.text_read.specs.declared.Split.{Split}
 use Rattle.text_read.specs.declared.Split.the-variants.{Value, Malformed}
@@ -143,9 +144,6 @@ within-above lo hi n h = rw (lt-leb n hi h) (go (leb lo n))
     go true = refl
     go false = refl
 
-within-in : (lo hi n : ℕ) → lo ≤ n → n ≤ hi → within lo hi n ≡ true
-within-in lo hi n l h = rw (le-leb lo n l, le-leb n hi h)
-
 module _ (at k lo hi : ℕ) (earlier : List (List ℕ)) (line : List ℕ) where
   pub decl-none : valueOf (key k) line ≡ none → declaration at k lo hi earlier line ≡ refused 16 at
   unfolding declaration refuseNone
@@ -186,7 +184,7 @@ module _ (at k lo hi : ℕ) (earlier : List (List ℕ)) (line : List ℕ) where
           starts = h .starts;
           ends = h .ends;
           inside = h .inside;
-          read = decl-done (within-in lo hi _ (omega arith) (omega arith));
+          read = decl-done (both-within lo hi _ (omega arith) (omega arith));
           counts = c;
           least = l;
           most = m;

@@ -29,10 +29,10 @@ use Rattle.text.specs.Promise.{startsFrom, nameStarts, nameLengths, textRead}
 use Rattle.text.specs.declared.TextRead.{TextRead}
 use Rattle.text.specs.declared.TextRead.the-variants.{Read, Refused}
 use Rattle.text.proofs.WellNamed.{WellNamedSource, mem-each, mem-none}
-use Rattle.text.proofs.PrintRead.{read-well}
+use Rattle.text.proofs.PrintRead.{read-well, join-names}
 use Rattle.text.proofs.Admit.{admit-same, table-admit, text-checked}
 use Rattle.text.proofs.RoundTrip.{apart}
-use Rattle.text.proofs.Spans.{spelled}
+use Rattle.text.proofs.Spans.{spelled, lengths-append}
 use Rattle.names.specs.Found.{part}
 use Rattle.text_read.specs.declared.Kept.{Kept}
 use Rattle.text_read.specs.declared.Kept.the-variants.{Entries, Fault}
@@ -40,7 +40,7 @@ use Rattle.text_read.specs.declared.Heads.{Heads}
 use Rattle.text_read.specs.declared.Heads.the-variants as H
 use Rattle.text_read.specs.Lines.{RulesReady, RulesKept, RulesTold}
 use Rattle.text_read.specs.Texts.{HeadsAt, HeadsTold, NamesFit, tableRead, Ready, TableTold, ChecksText}
-use Rattle.text_read.proofs.Places.{join-names, lengths-append, heads-spelled, heads-spans}
+use Rattle.text_read.proofs.Places.{heads-spelled, heads-spans}
 
 -- ---- the first rules
 

@@ -11,39 +11,17 @@ use lib.ListN.{length, take, length-append}
 use lib.Seq.{take-all}
 use Rattle.grammar.specs.Basics.{over}
 use Rattle.grammar.specs.Limits.{limits}
-use Rattle.grammar.specs.Grammar.{stateCount}
 use Rattle.grammar.specs.Table.{encode}
-use Rattle.grammar.specs.Refusal.{Answer, done, refused, refuseUnless}
-use Rattle.grammar.proofs.Answers.{both-and, unless-holds, unless-fails, then-goes, then-stops}
-use Rattle.text.specs.Read.{Source, symbolNames}
+use Rattle.grammar.specs.Refusal.{done, refused, refuseUnless}
+use Rattle.grammar.proofs.Answers.{both-and, unless-holds, unless-fails, then-goes, then-stops, and-false}
+use Rattle.text.specs.Read.{symbolNames}
 use Rattle.text.specs.Rules.{checkText, readInto}
 use Rattle.text.specs.Promise.{nameStarts, nameLengths, textRead, afterwards, ReadsText}
 use Rattle.text.specs.declared.TextRead.{TextRead}
 use Rattle.text.specs.declared.TextRead.the-variants.{Read, Refused}
 use Rattle.text.proofs.Spans.{length-lengths, length-name-starts}
+use Rattle.text.proofs.Promises.{ReadAs, read-as, refuses-as}
 use Rattle.text_read.specs.Texts.{ChecksText}
-
--- ---- what an answer of the code says of the definition's
-
-text-refused : (o : Answer Source) (c i : ℕ) → Refused c i ≡ textRead o → o ≡ refused c i
-text-refused (done s) c i h = absurd (let z : _≡_ {A = ℕ} 0 1 = cc in omega arith)
-text-refused (refused d j) c i h = cc
-
-record ReadAs (o : Answer Source) (t n e q : ℕ) : Type 0 where
-  source : Source
-  whole : o ≡ done source
-  terminals : length (source .terminals) ≡ t
-  nonterminals : length (source .nonterminals) ≡ n
-  entries : length (encode (source .rules)) ≡ e
-  states : stateCount (source .rules) ≡ q
-
-text-read : (o : Answer Source) (t n e q : ℕ) → Read t n e q ≡ textRead o → ReadAs o t n e q
-text-read (done s) t n e q h = record { source = s; whole = refl; terminals = cc; nonterminals = cc; entries = cc; states = cc }
-text-read (refused c i) t n e q h = absurd (let z : _≡_ {A = ℕ} 0 1 = cc in omega arith)
-
-and-false : (b : Bool) → b && false ≡ false
-and-false true = refl
-and-false false = refl
 
 -- a row that begins with a list is at least as long
 front-fits : (m : ℕ) (row xs : List ℕ) → take m row ≡ xs → length xs ≡ m → m ≤ length row
@@ -73,11 +51,11 @@ module _ (text table starts lengths : List ℕ) where
     pub read-refused : (c i : ℕ) → r ≡ Refused c i → ReadsText text table starts lengths r table starts lengths
     unfolding readInto
     read-refused c i e =
-        into-refused r c i e (then-stops _ _ c i (text-refused (checkText limits text) c i (sym e ∙ h .answer)))
+        into-refused r c i e (then-stops _ _ c i (refuses-as (checkText limits text) c i (sym e ∙ h .answer)))
 
     module _ (t n e q : ℕ) (g : r ≡ Read t n e q) where
       known : ReadAs (checkText limits text) t n e q
-      known = text-read (checkText limits text) t n e q (sym g ∙ h .answer)
+      known = read-as (checkText limits text) t n e q (sym g ∙ h .answer)
 
       count : length (symbolNames (known .source)) ≡ t + n
       count =

@@ -11,10 +11,10 @@ use lib.Seq.{drop-cons, slice, slice-cons, slice-empty, take-all, length-take-le
 use Rattle.grammar.specs.Limits.{limits}
 use Rattle.grammar.specs.Grammar.{Rule}
 use Rattle.text.specs.Pieces.{ledBy, join, endedBy}
-use Rattle.text.specs.Keys.{keyTable, keyLengths, key}
 use Rattle.text.specs.Read.{symbolOf}
 use Rattle.text.specs.Print.{printLine, nameOf, printRule, printed}
 use Rattle.text.specs.Promise.{nameLengths}
+use Rattle.text.proofs.Sizes.{line-size, key-sizes}
 use Rattle.text_write.specs.Length.{ledLength, joinLength, codeLength, ruleLength, rulesLength, textLength}
 use Rattle.text_write.specs.Contracts.{textOf}
 
@@ -106,14 +106,6 @@ lengths-at [] i = refl
 lengths-at (p ∷ ps) zero = refl
 lengths-at (p ∷ ps) (suc i) = lengths-at ps i
 
-length-line : (k : ℕ) (v : List ℕ) → length (printLine k v) ≡ length (key k) + suc (length v)
-unfolding printLine
-length-line k v = length-append (key k) (61 ∷ v)
-
-key-sizes : (length (key 0) ≡ 9) × (length (key 1) ≡ 12) × (length (key 2) ≡ 4)
-unfolding key keyTable keyLengths
-key-sizes = (refl, refl, refl)
-
 module _ (t : ℕ) (names : List (List ℕ)) where
   code-size : (code : ℕ) → length (nameOf limits t names code) ≡ codeLength limits t (nameLengths names) code
   unfolding nameOf codeLength
@@ -132,7 +124,7 @@ module _ (t : ℕ) (names : List (List ℕ)) where
       let ps = map (nameOf limits t names) (r .right) in
       let b : length (ledBy 32 ps) ≡ ledLength (map (codeLength limits t (nameLengths names)) (r .right))
       = length-led 32 ps ∙ ap ledLength (codes-size (r .right)) in
-      omega (arith, length-line 2 (x ++ 58 ∷ ledBy 32 ps), key-sizes .2, length-append x (58 ∷ ledBy 32 ps), code-size (r .left), b)
+      omega (arith, line-size 2 (x ++ 58 ∷ ledBy 32 ps), key-sizes .2, length-append x (58 ∷ ledBy 32 ps), code-size (r .left), b)
 
   rules-size : (rules : List Rule) → length (endedBy 10 (map (printRule limits t names) rules))
       ≡ rulesLength limits t (nameLengths names) rules
@@ -158,8 +150,8 @@ module _ (t : ℕ) (names : List (List ℕ)) where
         arith,
         length-append a (10 ∷ (b ++ 10 ∷ more)),
         length-append b (10 ∷ more),
-        length-line 0 (join 44 xs),
-        length-line 1 (join 44 ys),
+        line-size 0 (join 44 xs),
+        line-size 1 (join 44 ys),
         key-sizes .0,
         key-sizes .1,
       )

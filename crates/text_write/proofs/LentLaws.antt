@@ -20,26 +20,11 @@ use Rattle.text.specs.Read.{refuseNone}
 use Rattle.text.specs.Print.{nameAt, gather}
 use Rattle.text.specs.Promise.{nameLengths}
 use Rattle.text.proofs.Names.{no-value, some-inj}
-use Rattle.text.proofs.Spans.{spelled}
+use Rattle.text.proofs.Spans.{spelled, length-spelled, spelled-at}
 use Rattle.text.proofs.Gather.{name-at, gathered}
 use Rattle.text_write.specs.Contracts.{isWell, stopsAt, Rows}
 
 -- ---- the names of rows
-
-pub length-spelled : (bytes starts lengths : List ℕ) → length starts ≡ length lengths → length (spelled bytes starts lengths)
-    ≡ length starts
-unfolding spelled
-length-spelled bytes [] lengths h = refl
-length-spelled bytes (s ∷ ss) [] h = absurd (omega arith)
-length-spelled bytes (s ∷ ss) (l ∷ ls) h = ap suc (length-spelled bytes ss ls (omega arith))
-
-spelled-at : (bytes starts lengths : List ℕ) (i : ℕ) → length starts ≡ length lengths → i < length starts
-    → getD (spelled bytes starts lengths) i [] ≡ take (getD lengths i 0) (drop (getD starts i 0) bytes)
-unfolding spelled
-spelled-at bytes [] lengths i h l = absurd (omega arith)
-spelled-at bytes (s ∷ ss) [] i h l = absurd (omega arith)
-spelled-at bytes (s ∷ ss) (m ∷ ls) zero h l = refl
-spelled-at bytes (s ∷ ss) (m ∷ ls) (suc i) h l = spelled-at bytes ss ls i (omega arith) (omega arith)
 
 -- a name as the part of the bytes that the code takes
 name-part : {bytes starts lengths : List ℕ} (i : ℕ) → Rows bytes starts lengths → i < length starts

@@ -6,19 +6,16 @@ use mathlib.Core.List.{List, [], _∷_, _++_, map, append-assoc}
 use native.Mathlib.Omega.{arith}
 use native.Mathlib.Numerals.{add-one}
 use lib.ListN.{length, take, drop, getD, drop-of-length-le}
-use lib.Seq.{drop-cons, slice, slice-cons, take-all}
+use lib.Seq.{slice, slice-cons, take-all}
 use Rattle.grammar.specs.Limits.{limits}
 use Rattle.grammar.specs.Grammar.{Rule}
+use Rattle.grammar.proofs.Lists.{drop-next}
 use Rattle.text.specs.Pieces.{ledBy, join, endedBy}
 use Rattle.text.specs.Keys.{key}
 use Rattle.text.specs.Read.{symbolOf}
 use Rattle.text.specs.Print.{printLine, nameOf, printRule}
 use Rattle.text_write.specs.Contracts.{lineText, codesText, ruleText, textOf}
 use Rattle.text_write.proofs.LengthLaws.{slice-none, text-lines}
-
--- what is left of a row from entry i on
-pub drop-next : (xs : List ℕ) (i : ℕ) → i < length xs → drop i xs ≡ getD xs i 0 ∷ drop (i + 1) xs
-drop-next xs i h = rw (add-one, drop-cons xs i 0)
 
 -- ---- names in a list
 

@@ -5,9 +5,9 @@ use native.Mathlib.Omega.{arith}
 use borrow.Author.Needs.{needs}
 use lib.ListN.{length, drop, drop-of-length-le}
 use Rattle.text_write.proofs.Filling.{Filling, filling-start, filling-put, filling-at, filling-done}
-use Rattle.text_write.proofs.PutLaws.{drop-next}
 use Rattle.report.proofs.put.put_bytes.Statement.{statement}
 use Rattle.report.proofs.put.put_bytes.Tie as tie
+use Rattle.grammar.proofs.Lists.{drop-next}
 
 abbrev Inv-loop : tie.InvT-loop
 Inv-loop out₀ at src n i₀ out i = (i ≤ length src) × Filling at out₀ src (at + i) out (drop i src)

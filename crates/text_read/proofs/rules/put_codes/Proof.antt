@@ -10,12 +10,12 @@ use Rattle.text.specs.Pieces.{splitOn}
 use Rattle.text.specs.Names.{all}
 use Rattle.text.specs.Read.{isKnown}
 use Rattle.text.proofs.Pieces.{split-pos, all-head, all-tail}
-use Rattle.text.proofs.Spans.{spelled}
+use Rattle.text.proofs.Spans.{spelled, length-spelled}
 use Rattle.names.specs.Found.{part}
 use Rattle.names.proofs.Pieces.{piece-more, piece-last, piece-first}
 use Rattle.text_read.specs.Lines.{codesOf}
 use Rattle.text_read.proofs.Rows.{Filling, filling-start, filling-put, filling-done}
-use Rattle.text_read.proofs.Lookups.{length-spelled, known-below, codes-more, codes-none}
+use Rattle.text_read.proofs.Lookups.{known-below, codes-more, codes-none}
 use Rattle.text_read.proofs.rules.put_codes.Statement.{statement}
 use Rattle.text_read.proofs.rules.put_codes.Tie as tie
 

@@ -7,9 +7,9 @@ use lib.ListN.{length}
 use borrow.Author.Tests.{not-true, not-false}
 use Rattle.text.specs.Names.{sameName, place}
 use Rattle.text.specs.Read.{isKnown}
-use Rattle.text.proofs.Spans.{spelled}
+use Rattle.text.proofs.Spans.{spelled, length-spelled}
 use Rattle.names.specs.Found.{part}
-use Rattle.text_read.proofs.Lookups.{length-spelled, known-low, known-out, known-in}
+use Rattle.text_read.proofs.Lookups.{known-low, known-out, known-in}
 use Rattle.text_read.proofs.Shapes.{led-first}
 use Rattle.text_read.proofs.RuleLines.{value-left, value-right, value-many, value-done, body-part, body-all, head-part, rule-passed, rule-kept}
 use Rattle.text_read.proofs.rules.take_rule.Statement.{statement}

@@ -9,10 +9,10 @@ use Rattle.text.specs.Pieces.{splitOn}
 use Rattle.text.specs.Names.{all}
 use Rattle.text.specs.Read.{isKnown}
 use Rattle.text.proofs.Pieces.{all-none}
-use Rattle.text.proofs.Spans.{spelled}
+use Rattle.text.proofs.Spans.{spelled, length-spelled}
 use Rattle.names.specs.Found.{part}
 use Rattle.names.proofs.Pieces.{piece-more, piece-last, piece-first}
-use Rattle.text_read.proofs.Lookups.{length-spelled, known-out, known-in, all-yes, all-no}
+use Rattle.text_read.proofs.Lookups.{known-out, known-in, all-yes, all-no}
 use Rattle.text_read.proofs.symbols.all_known.Statement.{statement}
 use Rattle.text_read.proofs.symbols.all_known.Tie as tie
 

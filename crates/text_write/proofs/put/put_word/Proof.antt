@@ -8,9 +8,9 @@ use lib.ListN.{drop, length-drop, drop-of-length-le}
 use Rattle.text.specs.Keys.{key}
 use Rattle.names.proofs.Keys.{key-length-most, length-key, key-at}
 use Rattle.text_write.proofs.Filling.{Filling, filling-start, filling-room, filling-ran, filling-done}
-use Rattle.text_write.proofs.PutLaws.{drop-next}
 use Rattle.text_write.proofs.put.put_word.Statement.{statement}
 use Rattle.text_write.proofs.put.put_word.Tie as tie
+use Rattle.grammar.proofs.Lists.{drop-next}
 
 abbrev Inv-loop : tie.InvT-loop
 Inv-loop out₀ at k m i₀ j₀ out i j = (i ≤ m) × Filling at out₀ (key k) j out (drop i (key k))
