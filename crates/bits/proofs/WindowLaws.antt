@@ -9,11 +9,11 @@ use native.Mathlib.Nat.{div-eq-of-lt, zero-div, mul-le-mul-left, mul-assoc, add-
 use borrow.Author.Tests.{le-leb, lt-leb}
 use lib.Count.{trailingZeros, under, trailing-le}
 use lib.Dec.{eqb, leb}
-use lib.ListN.{getD}
+use lib.ListN.{length, getD}
 use lib.Pow.{pow-add, pow-pos, pow-mono, shr-lt, shr-shr}
 use Rattle.grammar.specs.Basics.{choose}
 use Rattle.triples.specs.Certificate.{bit, isSet}
-use Rattle.bits.specs.Windows.{Word, Window, windowEnd, LowestOne}
+use Rattle.bits.specs.Windows.{Word, Window, windowEnd, LowestOne, ClearTo}
 
 -- a bit of x + 2 ^ s * y is one of x below s, and one of y from s on
 join-low : (x y s c : ℕ) → c < s → (x + 2 ^ s * y) / 2 ^ c % 2 ≡ x / 2 ^ c % 2
@@ -105,6 +105,34 @@ window-clear bytes i e w s z k h l =
     let b : bit bytes k ≡ 0 =
     ap (bit bytes) (sym q) ∙ sym (s .bits (k - i) (omega arith)) ∙ ap (λ (n : ℕ). n / 2 ^ (k - i) % 2) z ∙ ap (λ (n : ℕ). n % 2) (zero-div (2 ^ (k - i))) in
     ap (λ (n : ℕ). eqb n 1) b
+
+-- a window ends with a byte, which is one of n
+abbrev Whole : ℕ → ℕ → Type 0
+Whole n e = (8 * (e / 8) ≡ e) × (e / 8 ≤ n)
+
+pub window-whole : (n i : ℕ) → i < 8 * n → (8 * (windowEnd n i / 8) ≡ windowEnd n i) × (windowEnd n i / 8 ≤ n)
+window-whole n i h = elim (decLt n (i / 8 + 8)) [
+  | yes l ↦ subst (λ (t : Bool). Whole n (choose t (i / 8 * 8 + 64) (i / 8 * 8 + 8))) (sym (lt-leb (i / 8 + 8) n l)) (omega arith, omega arith)
+  | no m ↦ subst (λ (t : Bool). Whole n (choose t (i / 8 * 8 + 64) (i / 8 * 8 + 8))) (sym (le-leb (i / 8 + 8) n (omega arith))) (omega arith, omega arith)
+]
+
+-- bytes that are 0 are passed over: at first none, then eight more
+pub clear-start : (bytes : List ℕ) (from : ℕ) → from ≤ length bytes → ClearTo bytes from from
+clear-start bytes from h = record { low = omega arith; high = h; clear = λ k l u. absurd (omega arith) }
+
+pub clear-eight : (bytes : List ℕ) (from b w : ℕ) → ClearTo bytes from b → b + 8 ≤ length bytes → Word bytes b 8 w → w ≡ 0 → ClearTo bytes from (b + 8)
+clear-eight bytes from b w old h s z = record { low = omega (arith, old .low); high = h; clear = clear }
+  where
+    eight : Window bytes (8 * b) (8 * b + 64) w
+    eight =
+        let e : 64 ≡ 8 * b + 64 - 8 * b = omega arith in
+        record { most = subst (λ (n : ℕ). w < 2 ^ n) e (s .most); bits = λ c l. s .bits c (omega arith) }
+
+    clear : (k : ℕ) → 8 * from ≤ k → k < 8 * (b + 8) → isSet bytes k ≡ false
+    clear k l u = elim (decLt k (8 * b)) [
+      | yes y ↦ old .clear k l y
+      | no n ↦ window-clear bytes (8 * b) (8 * b + 64) w eight z k (omega arith) (omega arith)
+    ]
 
 -- the lowest 1 lies in the window
 lowest-within : (bytes : List ℕ) (i e w r : ℕ) → Window bytes i e w → LowestOne w r → i + r < e

@@ -1,10 +1,12 @@
 -- Bits of several bytes as one number. Assumes nothing.
-use Prim.Native.Nat.{ℕ, _+_, _-_, _*_, _/_, _%_, _^_, _<_}
+use Prim.Native.Nat.{ℕ, _+_, _-_, _*_, _/_, _%_, _^_, _≤_, _<_}
 use mathlib.Core.Path.{_≡_}
+use mathlib.Core.Bool.{false}
 use mathlib.Core.List.{List}
 use lib.Dec.{leb}
+use lib.ListN.{length}
 use Rattle.grammar.specs.Basics.{choose}
-use Rattle.triples.specs.Certificate.{bit}
+use Rattle.triples.specs.Certificate.{bit, isSet}
 
 -- a number with the bits of n bytes from byte b on
 pub record Word (bytes : List ℕ) (b n w : ℕ) : Type 0 where
@@ -25,3 +27,9 @@ pub record LowestOne (w r : ℕ) : Type 0 where
   pub most : r < 64
   pub one : w / 2 ^ r % 2 ≡ 1
   pub below : (c : ℕ) → c < r → w / 2 ^ c % 2 ≡ 0
+
+-- no bit is 1 from byte `from` on and before byte r
+pub record ClearTo (bytes : List ℕ) (from r : ℕ) : Type 0 where
+  pub low : from ≤ r
+  pub high : r ≤ length bytes
+  pub clear : (k : ℕ) → 8 * from ≤ k → k < 8 * r → isSet bytes k ≡ false

@@ -4,7 +4,7 @@ ghost use Prim.Native.Nat.{_+_, _*_, _≤_, _<_};
 ghost use lib.ListN.{length};
 ghost use Rattle.triples.specs.Certificate.{isSet};
 ghost use Rattle.bits.specs.Bits.{withBit};
-ghost use Rattle.bits.specs.Windows.{Word, Window, windowEnd, LowestOne};
+ghost use Rattle.bits.specs.Windows.{Word, Window, windowEnd, LowestOne, ClearTo};
 
 // Is the bit 1?
 pub fn is_set(bytes: &[u8], i: usize) -> bool
@@ -73,6 +73,21 @@ pub fn window_end(bytes: &[u8], i: usize) -> usize
         return i / 8 * 8 + 64;
     }
     i / 8 * 8 + 8
+}
+
+// Passes over bytes that are 0, eight at a time: the byte before which it stops.
+pub fn skip_zeros(bytes: &[u8], from: usize) -> usize
+    requires { ⌜ from ≤ length (now bytes) ⌝ }
+    ensures { λ r. ⌜ ClearTo (now (bytes .entry)) from r ⌝ }
+{
+    let mut b = from;
+    while b + 8 <= bytes.len() {
+        if eight_bytes(bytes, b) != 0 {
+            return b;
+        }
+        b += 8;
+    }
+    b
 }
 
 // The place of the lowest 1 of a number that is not 0.
