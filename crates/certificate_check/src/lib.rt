@@ -13,7 +13,7 @@ ghost use Rattle.triples.specs.Certificate.{byteCount, isSet, lowest, checkCert
 ghost use Rattle.triples.specs.Verdict.{checkVerdict};
 ghost use Rattle.moves.specs.Tables.{IsRecord};
 ghost use Rattle.plans.specs.Plan.{rows, planned, nextOf};
-ghost use Rattle.plans.specs.Contracts.{Safe, Fits, Verified};
+ghost use Rattle.plans.specs.Contracts.{inverseOf, Safe, Fits, Verified};
 ghost use Rattle.certificate_check.specs.Shorter.{keptPairs, shortened};
 ghost use Rattle.certificate_check.specs.Contracts.{HeldWith, Rest, Scanned, Checked, BuiltChecked};
 use grammar::CERTIFICATE_LENGTH;
@@ -33,7 +33,7 @@ const WORTH: usize = 6;
 
 // The lowest set bit from `from` on and below `to`, or `to`.
 fn lowest_set(bytes: &[u8], from: usize, to: usize) -> usize
-    requires { ⌜ (from ≤ to) × (to ≤ 8 * length (now bytes)) × (to ≤ 8 * byteCount (limits .maxStates)) ⌝ }
+    requires { ⌜ (from ≤ to) × (to ≤ 8 * length (now bytes)) × (length (now bytes) ≤ byteCount (limits .maxStates)) ⌝ }
     ensures { λ r. ⌜ r ≡ lowest (isSet (now (bytes .entry))) (to - from) from ⌝ }
 {
     let mut i = from;
@@ -46,7 +46,7 @@ fn lowest_set(bytes: &[u8], from: usize, to: usize) -> usize
             }
             return to;
         }
-        i = bits::window_end(bytes, i);
+        i = 8 * bits::skip_zeros(bytes, bits::window_end(bytes, i) / 8);
     }
     to
 }
@@ -157,18 +157,18 @@ fn rest_of<'a>(
     t: u16,
     m: u16,
     q: usize,
+    inverse: usize,
     bytes: &'a [u8],
     i: usize,
 ) -> Plan
     requires { ⌜ Fits (now member) (now first) q ⌝ }
-    requires { ⌜ (i < tripleCount q) × (tripleCount q ≤ 8 * length (now bytes)) × (isSet (now bytes) i ≡ true) ⌝ }
+    requires { ⌜ (i < tripleCount q) × (tripleCount q ≤ 8 * length (now bytes)) × (isSet (now bytes) i ≡ true) × (inverse ≡ inverseOf q) ⌝ }
     ensures { λ r. ⌜ Rest (rows (now (ahead .entry)) (now (number .entry)) (now (member .entry)) (now (first .entry))) t m q (now (bytes .entry)) i r ⌝ }
 {
-    let row = plans::row_of(i, q);
-    let f = plans::layer_of(row, q);
-    let a = row - f * q;
-    let b = plans::column_of(i, q, row);
-    let plan = plans::plan_of(ahead, number, member, first, t, m, q, i, f, a, b);
+    let d = plans::digits_of(i, q, inverse);
+    let a = d.left;
+    let b = d.right;
+    let plan = plans::plan_of(ahead, number, member, first, t, m, q, i, d.layer, a, b);
     if plan.total < WORTH {
         return plan;
     }
@@ -229,36 +229,39 @@ fn lowest_lacking<'a>(
     bytes: &'a [u8],
 ) -> usize
     requires { ⌜ Verified (rows (now ahead) (now number) (now member) (now first)) (now targets) t m q ⌝ }
-    requires { ⌜ tripleCount q ≤ 8 * length (now bytes) ⌝ }
+    requires { ⌜ (tripleCount q ≤ 8 * length (now bytes)) × (length (now bytes) ≤ byteCount (limits .maxStates)) ⌝ }
     ensures { λ r. ⌜ Scanned (rows (now (ahead .entry)) (now (number .entry)) (now (member .entry)) (now (first .entry))) (now (targets .entry)) t m q (now (bytes .entry)) r ⌝ }
 {
     let count = 2 * (q * q);
+    let inverse = plans::inverse_of(q);
     let mut answer = count;
     let mut i = lowest_set(bytes, 0, count);
     'scan: while i < count {
-        let plan = rest_of(ahead, number, member, first, earlier, t, m, q, bytes, i);
-        let mut k = 0;
-        while k < plan.total {
-            let j = next_of(
-                plan.left,
-                plan.right,
-                plan.shift,
-                plan.left_from,
-                plan.right_from,
-                plan.left_base,
-                plan.right_base,
-                plan.beside,
-                plan.columns,
-                plan.square,
-                targets,
-                q,
-                k,
-            );
-            if bits::is_set(bytes, j) {
-                k += 1;
-            } else {
-                answer = i;
-                break 'scan;
+        if !plans::is_idle(ahead, member, first, q, inverse, i) {
+            let plan = rest_of(ahead, number, member, first, earlier, t, m, q, inverse, bytes, i);
+            let mut k = 0;
+            while k < plan.total {
+                let j = next_of(
+                    plan.left,
+                    plan.right,
+                    plan.shift,
+                    plan.left_from,
+                    plan.right_from,
+                    plan.left_base,
+                    plan.right_base,
+                    plan.beside,
+                    plan.columns,
+                    plan.square,
+                    targets,
+                    q,
+                    k,
+                );
+                if bits::is_set(bytes, j) {
+                    k += 1;
+                } else {
+                    answer = i;
+                    break 'scan;
+                }
             }
         }
         i = lowest_set(bytes, i + 1, count);

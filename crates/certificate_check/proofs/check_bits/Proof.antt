@@ -41,7 +41,7 @@ mul-lowest-set c = let a = c .before .before .args in let v = c .before .before 
 
 -- src/lib.rt:492:9
 lowest-set-requires : tie.Need-lowest-set-requires
-lowest-set-requires c κs = let a = c .before .before .args in let v = c .before .before .pre in let w = square-of (a .q) (v .fits .four) (v .fits .few) in (omega (arith, w .1), omega (arith, c .if1 .left), omega (arith, w .1))
+lowest-set-requires c κs = let a = c .before .before .args in let v = c .before .before .pre in let w = square-of (a .q) (v .fits .four) (v .fits .few) in (omega (arith, w .1), omega (arith, c .if1 .left), omega (arith, w .1, c .if1 .left))
 
 -- src/lib.rt:493:17
 mul-if2 : tie.Need-mul-if2
@@ -85,7 +85,7 @@ note-earlier-requires c κs = let v = c .before .before .before .before .before 
 
 -- src/lib.rt:505:9
 lowest-lacking-requires : tie.Need-lowest-lacking-requires
-lowest-lacking-requires c κs = let a = c .before .before .before .before .before .before .before .before .before .before .before .before .args in let v = c .before .before .before .before .before .before .before .before .before .before .before .before .pre in let w = square-of (a .q) (v .fits .four) (v .fits .few) in (v, omega (arith, c .before .before .before .before .before .before .before .before .before .before .if1 .left))
+lowest-lacking-requires c κs = let a = c .before .before .before .before .before .before .before .before .before .before .before .before .args in let v = c .before .before .before .before .before .before .before .before .before .before .before .before .pre in let w = square-of (a .q) (v .fits .four) (v .fits .few) in (v, (omega (arith, c .before .before .before .before .before .before .before .before .before .before .if1 .left), omega (arith, w .1, c .before .before .before .before .before .before .before .before .before .before .if1 .left)))
 
 -- src/lib.rt:518:9
 returns-5 : tie.Need-returns-5
