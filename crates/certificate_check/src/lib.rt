@@ -238,7 +238,19 @@ fn lowest_lacking<'a>(
     let mut i = lowest_set(bytes, 0, count);
     'scan: while i < count {
         if !plans::is_idle(ahead, member, first, q, inverse, i) {
-            let plan = rest_of(ahead, number, member, first, earlier, t, m, q, inverse, bytes, i);
+            let plan = rest_of(
+                ahead,
+                number,
+                member,
+                first,
+                earlier,
+                t,
+                m,
+                q,
+                inverse,
+                bytes,
+                i,
+            );
             let mut k = 0;
             while k < plan.total {
                 let j = next_of(

@@ -6,14 +6,14 @@ use mathlib.Core.List.{List, [], _∷_, _++_, append-assoc}
 use Prim.Native.Nat.{ℕ, zero, suc, _+_, _-_, _≤_, _<_}
 use native.Mathlib.Omega.{arith}
 use native.Mathlib.Numerals.{add-one}
-use lib.Dec.{ltb}
-use lib.ListN.{length, take, drop, getD, length-drop, length-append}
+use lib.Dec.{leb, ltb}
+use lib.ListN.{length, take, drop, getD, replicate, length-drop, length-append, List·getD-append}
 use lib.Seq.{paste, length-take-le, take-add, drop-cons}
 use borrow.Author.Tests.{ltb-true, lt-ltb, le-ltb, lt-leb, le-leb}
 use Rattle.grammar.specs.Limits.{limits}
 use Rattle.grammar.specs.Grammar.{Rule, stateCount}
 use Rattle.grammar.specs.Table.{encode, decode, leftAt, lengthAt, ruleAt}
-use Rattle.grammar.specs.Record.{recordOf, codes}
+use Rattle.grammar.specs.Record.{offsets, lefts, recordOf, codes}
 use Rattle.grammar.specs.Refusal.{Answer, done, refused, refuseUnless, andThen}
 use Rattle.grammar.specs.TableCheck.{isAmong, inRange, readRule, nextRule, checkFrom, checkTable, tableChecked}
 use Rattle.grammar.specs.declared.CheckedGrammar.{CheckedGrammar}
@@ -21,10 +21,10 @@ use Rattle.grammar.proofs.Answers.{unless-holds, unless-fails, unless-done, ref
 use Rattle.grammar.proofs.Rules.{decode-encode}
 use Rattle.grammar.proofs.Steps.{grammarOf, check-end, check-full, check-more, check-fault, table-done, table-refused, Read, read-done, next-done}
 use Rattle.grammar.proofs.WellFormed.{states-snoc}
-use Rattle.grammar.proofs.Columns.{sizes}
-use Rattle.table_check.specs.Contracts.{ruleRead, Front, Before, nextOrFull}
+use Rattle.grammar.proofs.Columns.{lefts-length, sizes}
+use Rattle.table_check.specs.Contracts.{ruleRead, Noted, Front, Before, nextOrFull}
 use Rattle.table_check.specs.declared.RuleRead.the-variants.{Length, Fault}
-use Rattle.table_check.proofs.RecordLaws.{withRule, added, added-as, encode-more, offset-size, codes-row, added-record}
+use Rattle.table_check.proofs.RecordLaws.{withRule, added, added-as, offsets-length, encode-more, offset-size, codes-row, added-record}
 
 decoded : (table : List ℕ) (at : ℕ) (rules : List Rule) → take at table ≡ encode rules → decode (take at table) ≡ rules
 decoded table at rules e = ap decode e ∙ decode-encode rules
@@ -39,11 +39,13 @@ fault-read (done j) c p e = let z : _≡_ {A = ℕ} 0 1 = cc in absurd (let o : 
 fault-read (refused d q) c p e = let x : d ≡ c = cc in let y : q ≡ p = cc in ap₂ (λ c p. refused c p) x y
 
 -- one rule: a rule that is read stands whole before the table's end
-pub before-front : {table : List ℕ} {size at : ℕ} (t n k : ℕ) → Before table size at → readRule limits t n table at ≡ done k → Front table at k
-before-front {table} {size} {at} t n k b e = record { rules = b .rules; front = b .front; whole = read-done limits t n table at k e .whole }
+pub before-front : {table places codes : List ℕ} {m size at : ℕ} (t n k : ℕ) → Before table places codes m size at → m < limits .maxRules
+    → readRule limits t n table at ≡ done k → Front table places codes m at k
+before-front {table} {places} {codes} {m} {size} {at} t n k b h e =
+    record { rules = b .rules; front = b .front; noted = b .noted; few = omega arith; whole = read-done limits t n table at k e .whole }
 
-pub before-total : {table : List ℕ} {size at : ℕ} → Before table size at → size ≡ stateCount (decode (take at table))
-before-total {table} {size} {at} b = b .total ∙ ap stateCount (sym (decoded table at (b .rules) (b .front)))
+pub before-total : {table places codes : List ℕ} {m size at : ℕ} → Before table places codes m size at → size ≡ stateCount (decode (take at table))
+before-total {table} {places} {codes} {m} {size} {at} b = b .total ∙ ap stateCount (sym (decoded table at (b .rules) (b .front)))
 
 -- its faults in their order: 7, those of the rule alone, 6, 8; or none
 pub next-full : (t n : ℕ) (table : List ℕ) (count at : ℕ) → limits .maxRules ≤ count → refused 7 at ≡ nextOrFull t n table count at
@@ -106,10 +108,27 @@ numbers t n {g} {rs} e = record {
   states = ap (λ (g : CheckedGrammar). g .states) e;
 }
 
-pub walk-before : {table : List ℕ} {t n : ℕ} {g : CheckedGrammar} {at : ℕ} → Walk table t n g at → Before table (g .states) at
+-- its rows tell where the rules stand, and their left codes
+noted : (t n : ℕ) (rs : List Rule) → let g = recordOf (grammarOf t n rs) in Noted (g .offsets) (g .lefts) (g .count) rs
+unfolding recordOf
+noted t n rs = record {
+  size = refl;
+  place = λ i h. List·getD-append (offsets 0 rs) (replicate (limits .maxRules - length (offsets 0 rs)) 0) 0 i (omega (arith, offsets-length 0 rs));
+  code = λ i h. List·getD-append (lefts rs) (replicate (limits .maxRules - length (lefts rs)) 0) 0 i (omega (arith, lefts-length rs));
+}
+
+pub walk-before : {table : List ℕ} {t n : ℕ} {g : CheckedGrammar} {at : ℕ} → Walk table t n g at
+    → Before table (g .offsets) (g .lefts) (g .count) (g .states) at
 walk-before {table} {t} {n} {g} {at} w =
     let m = numbers t n (w .shows) in
-    record { rules = w .rules; front = w .front; total = m .states; few = omega (arith, m .states, w .size); within = w .within }
+    record {
+      rules = w .rules;
+      front = w .front;
+      noted = subst (λ (g : CheckedGrammar). Noted (g .offsets) (g .lefts) (g .count) (w .rules)) (sym (w .shows)) (noted t n (w .rules));
+      total = m .states;
+      few = omega (arith, m .states, w .size);
+      within = w .within;
+    }
 
 -- what a rule that is taken says
 pub record Step (table : List ℕ) (t n : ℕ) (rs : List Rule) (at k : ℕ) : Type 0 where

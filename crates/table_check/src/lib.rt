@@ -2,15 +2,15 @@
 ghost use mathlib.Core.Path.{_≡_};
 ghost use mathlib.Core.List.{[]};
 ghost use Prim.Native.Nat.{_+_, _≤_};
-ghost use lib.ListN.{length, take, drop};
+ghost use lib.ListN.{length, getD, take, drop};
 ghost use lib.Seq.{paste};
 ghost use Rattle.grammar.specs.Limits.{limits};
-ghost use Rattle.grammar.specs.Table.{decode, ruleAt};
+ghost use Rattle.grammar.specs.Table.{decode, lengthAt, ruleAt};
 ghost use Rattle.grammar.specs.Record.{recordOf};
 ghost use Rattle.grammar.specs.Refusal.{refused};
 ghost use Rattle.grammar.specs.TableCheck.{inRange, isDeclared, declaredFront, readRule, sameCodes, sameRule, isAmong, checkTable, tableChecked};
 ghost use Rattle.grammar.proofs.Steps.{grammarOf};
-ghost use Rattle.table_check.specs.Contracts.{ruleRead, Front, Before, nextOrFull};
+ghost use Rattle.table_check.specs.Contracts.{ruleRead, Standing, Front, Before, nextOrFull};
 use grammar::CODE_UNDECLARED;
 use grammar::CheckedGrammar;
 use grammar::LEFT_UNDECLARED;
@@ -152,25 +152,68 @@ fn same_rule(table: &[u8], o: usize, m: usize, at: usize, k: usize) -> bool
     same_codes(&table[from..to], &table[start..end])
 }
 
-// Does an earlier rule equal the one of length k at an offset?
-fn repeats(table: &[u8], at: usize, k: usize) -> bool
-    requires { ⌜ Front (now table) at k ⌝ }
+// An offset as a place in the table.
+fn place(x: u16) -> usize
+    ensures { λ r. ⌜ r ≡ x ⌝ }
+{
+    x as usize
+}
+
+// Does the i-th rule equal the one of length k at an offset? Most differ in the left code.
+fn is_repeat<'a>(
+    table: &'a [u8],
+    offsets: &'a [u16; MAX_RULES],
+    lefts: &'a [u16; MAX_RULES],
+    i: usize,
+    at: usize,
+    k: usize,
+) -> bool
+    requires { ⌜ Standing (now table) (now offsets) (now lefts) i at k ⌝ }
+    ensures { λ r. ⌜ r ≡ sameRule (ruleAt (now (table .entry)) (getD (now (offsets .entry)) i 0) (lengthAt (now (table .entry)) (getD (now (offsets .entry)) i 0)))
+        (ruleAt (now (table .entry)) at k) ⌝ }
+{
+    if lefts[i] != code(table[at]) {
+        return false;
+    }
+    let o = place(offsets[i]);
+    let m = wide(table[o + 1]);
+    same_rule(table, o, m, at, k)
+}
+
+// Does one of the earlier rules equal the one of length k at an offset?
+fn repeats<'a>(
+    table: &'a [u8],
+    offsets: &'a [u16; MAX_RULES],
+    lefts: &'a [u16; MAX_RULES],
+    count: usize,
+    at: usize,
+    k: usize,
+) -> bool
+    requires { ⌜ Front (now table) (now offsets) (now lefts) count at k ⌝ }
     ensures { λ r. ⌜ r ≡ isAmong (ruleAt (now (table .entry)) at k) (decode (take at (now (table .entry)))) ⌝ }
 {
-    let mut o = 0;
-    while o < at {
-        let m = wide(table[o + 1]);
-        if same_rule(table, o, m, at, k) {
+    let mut i = 0;
+    while i < count {
+        if is_repeat(table, offsets, lefts, i, at, k) {
             return true;
         }
-        o = o + 2 + m;
+        i += 1;
     }
     false
 }
 
 // Causes 7, 2, 3, 4, 2, 5, 6, 8 for the rule at an offset; its length.
-fn next_rule(table: &[u8], t: u16, n: u16, count: usize, states: usize, at: usize) -> RuleRead
-    requires { ⌜ Before (now table) states at ⌝ }
+fn next_rule<'a>(
+    table: &'a [u8],
+    offsets: &'a [u16; MAX_RULES],
+    lefts: &'a [u16; MAX_RULES],
+    t: u16,
+    n: u16,
+    count: usize,
+    states: usize,
+    at: usize,
+) -> RuleRead
+    requires { ⌜ Before (now table) (now offsets) (now lefts) count states at ⌝ }
     ensures { λ r. ⌜ r ≡ ruleRead (nextOrFull t n (now (table .entry)) count at) ⌝ }
 {
     if MAX_RULES <= count {
@@ -180,7 +223,7 @@ fn next_rule(table: &[u8], t: u16, n: u16, count: usize, states: usize, at: usiz
     let RuleRead::Length(k) = read else {
         return read;
     };
-    if repeats(table, at, k) {
+    if repeats(table, offsets, lefts, count, at, k) {
         return RuleRead::Fault(RULE_REPEATED, at);
     }
     if MAX_STATES < states + k + 1 {
@@ -243,7 +286,16 @@ pub fn check_table(t: usize, n: usize, table: &[u8]) -> TableChecked
         let count = g.count;
         let used = g.used;
         let states = g.states;
-        let read = next_rule(table, terminals, nonterminals, count, states, at);
+        let read = next_rule(
+            table,
+            &g.offsets,
+            &g.lefts,
+            terminals,
+            nonterminals,
+            count,
+            states,
+            at,
+        );
         match read {
             RuleRead::Fault(cause, place) => {
                 return refuse(cause, place);

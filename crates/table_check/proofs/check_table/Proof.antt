@@ -29,12 +29,12 @@ ranges : (c : tie.Else1 Inv-loop μ-loop) → let a = c .before .before .before 
 ranges c = sym (c .before .in-range .ensures) ∙ not-false (c .before .in-range .result) (c .if1 .left)
 
 -- the rule at the offset is without fault, so the record has room for it
-told : (c : tie.After-known-told2 Inv-loop μ-loop) → let a = c .before .before .before .before .before .before .before .before .before .before .args in
-    nextOrFull (a .t) (a .n) (a .table .now) (c .before .before .before .before .before .loop .g .count) (c .before .before .before .before .before .loop .at) ≡ done (c .before .read2 .given .0 .0)
+told : (c : tie.After-known-told2 Inv-loop μ-loop) → let a = c .before .before .before .before .before .before .before .before .before .before .before .before .before .args in
+    nextOrFull (a .t) (a .n) (a .table .now) (c .before .before .before .before .before .before .before .before .loop .g .count) (c .before .before .before .before .before .before .before .before .loop .at) ≡ done (c .before .read2 .given .0 .0)
 told c = length-read _ (c .before .read2 .given .0 .0) (sym (c .before .before .before .next-rule .ensures) ∙ c .before .read2 .given .1)
 
-room : (c : tie.After-known-told2 Inv-loop μ-loop) → Room (c .before .before .before .before .before .loop .g) (c .before .before .before .before .before .before .before .before .before .before .args .table .now) (c .before .before .before .before .before .loop .at) (c .before .read2 .given .0 .0)
-room c = walk-room (c .before .read2 .given .0 .0) (c .before .before .before .before .before .loop .inv) (told c)
+room : (c : tie.After-known-told2 Inv-loop μ-loop) → Room (c .before .before .before .before .before .before .before .before .loop .g) (c .before .before .before .before .before .before .before .before .before .before .before .before .before .args .table .now) (c .before .before .before .before .before .before .before .before .loop .at) (c .before .read2 .given .0 .0)
+room c = walk-room (c .before .read2 .given .0 .0) (c .before .before .before .before .before .before .before .before .loop .inv) (told c)
 
 in-range-requires : tie.Need-in-range-requires Inv-loop μ-loop
 in-range-requires c κs = search needs
@@ -63,7 +63,7 @@ loop-holds c =
     subst (λ (g : CheckedGrammar). Walk (a .table .now) (a .t) (a .n) g 0) (sym (c .without-rules .ensures)) (walk-start (a .table .now) (a .t) (a .n) (ranges (c .before)))
 
 next-rule-requires : tie.Need-next-rule-requires Inv-loop μ-loop
-next-rule-requires c κs = walk-before (c .before .loop .inv)
+next-rule-requires c κs = walk-before (c .before .before .before .before .loop .inv)
 
 enum-known-read : tie.Need-enum-known-read Inv-loop μ-loop
 enum-known-read c = search needs
@@ -75,7 +75,7 @@ returns-2 : tie.Need-returns-2 Inv-loop μ-loop
 returns-2 c =
     let e = c .before .before .read .given in
     c .refuse2 .ensures
-    ∙ walk-fault (e .0 .0) (e .0 .1 .0) (c .before .before .before .before .before .before .loop .inv) (c .before .before .before .before .before .loop-test .taken) (fault-read _ (e .0 .0) (e .0 .1 .0) (sym (c .before .before .before .before .next-rule .ensures) ∙ e .1))
+    ∙ walk-fault (e .0 .0) (e .0 .1 .0) (c .before .before .before .before .before .before .before .before .before .loop .inv) (c .before .before .before .before .before .before .before .before .loop-test .taken) (fault-read _ (e .0 .0) (e .0 .1 .0) (sym (c .before .before .before .before .next-rule .ensures) ∙ e .1))
 
 enum-known-read-2 : tie.Need-enum-known-read-2 Inv-loop μ-loop
 enum-known-read-2 c = search needs
@@ -139,7 +139,7 @@ loop-less c = omega (arith, room (c .before .before .before .before))
 
 loop-again : tie.Need-loop-again Inv-loop μ-loop
 loop-again c =
-    walk-on (c .before .before .before .before .before .read2 .given .0 .0) (c .code .result) _ (c .before .before .before .before .before .before .before .before .before .loop .inv) (c .before .before .before .before .before .before .before .before .loop-test .taken) (told (c .before .before .before .before))
+    walk-on (c .before .before .before .before .before .read2 .given .0 .0) (c .code .result) _ (c .before .before .before .before .before .before .before .before .before .before .before .before .loop .inv) (c .before .before .before .before .before .before .before .before .before .before .before .loop-test .taken) (told (c .before .before .before .before))
     (c .before .before .put-codes .ensures) (c .code .ensures)
 
 returns-3 : tie.Need-returns-3 Inv-loop μ-loop
