@@ -24,7 +24,8 @@ use Rattle.moves.proofs.Moves.{target-length}
 use Rattle.moves.proofs.Built.{member-at}
 use Rattle.plans.specs.declared.Side.{Side}
 use Rattle.plans.specs.declared.Plan.{Plan}
-use Rattle.plans.specs.Plan.{Rows, rows, readsAt, sideOf, aloneOf, layerAfter, pairsOf, planFor, planOf}
+use Rattle.moves.specs.Tables.{readsAt}
+use Rattle.plans.specs.Plan.{Rows, rows, sideOf, aloneOf, layerAfter, pairsOf, planFor, planOf}
 use Rattle.plans.specs.Contracts.{Planned}
 use Rattle.plans.proofs.PlanLaws.{sideFrom}
 use Rattle.plans.proofs.PlannedLaws.{cell-target, verified}

@@ -32,7 +32,8 @@ use Rattle.moves.proofs.Moves.{opens-class, closes-class, closes-number, target
 use Rattle.moves.proofs.Built.{ahead-at, number-at, member-at, segment-of, segment-order, segment-inside}
 use Rattle.plans.specs.declared.Side.{Side}
 use Rattle.plans.specs.declared.Plan.{Plan}
-use Rattle.plans.specs.Plan.{Rows, rows, readsAt, sideOf, aloneOf, layerAfter, shiftOf, pairsOf, planFor, planOf, nextOf}
+use Rattle.moves.specs.Tables.{readsAt}
+use Rattle.plans.specs.Plan.{Rows, rows, sideOf, aloneOf, layerAfter, shiftOf, pairsOf, planFor, planOf, nextOf}
 use Rattle.plans.specs.Contracts.{SideFits, Safe, Verified, Lists, Planned}
 use Rattle.plans.proofs.PlanLaws.{alone-le, layer-le, pairs-le, layer-times, product-le, next-left, next-right, next-shift, next-pair}
 use Rattle.plans.proofs.BlockLaws.{alone-opens, alone-later, alone-beside, alone-reads, layer-opens, layer-closes, layer-later, shift-facts, shift-is, any-symbol, a-terminal, terminal-a, pairs-facts, pairs-is, pairs-later, opens-layer}

@@ -7,7 +7,7 @@ ghost use lib.Dec.{ltb};
 ghost use Rattle.grammar.specs.Basics.{choose};
 ghost use Rattle.grammar.specs.Limits.{limits};
 ghost use Rattle.triples.specs.Index.{index, tripleCount};
-ghost use Rattle.plans.specs.Plan.{rows, readsAt, sideOf, aloneOf, layerAfter, shiftOf, pairsOf, planFor, planOf};
+ghost use Rattle.plans.specs.Plan.{rows, sideOf, aloneOf, layerAfter, shiftOf, pairsOf, planFor, planOf};
 ghost use Rattle.plans.specs.Contracts.{inverseOf, SideFits, Fits, Idle};
 use grammar::MAX_STATES;
 use moves::CLASSES;
@@ -49,17 +49,6 @@ pub fn wide(x: u16) -> usize
     x as usize
 }
 
-// Does a state stand before a terminal?
-fn reads_next(ahead: &[u16; MAX_STATES], t: u16, p: usize) -> bool
-    requires { ⌜ p < limits .maxStates ⌝ }
-    ensures { λ r. ⌜ r ≡ readsAt (now (ahead .entry)) t p ⌝ }
-{
-    if ahead[p] < 1 {
-        return false;
-    }
-    ahead[p] <= t
-}
-
 fn side_of<'a>(member: &'a [u16; MAX_STATES], first: &'a [u16; CLASSES], p: usize) -> Side
     requires { ⌜ SideFits (now member) (now first) p ⌝ }
     ensures { λ r. ⌜ r ≡ sideOf (now (member .entry)) (now (first .entry)) p ⌝ }
@@ -86,7 +75,7 @@ fn alone_of(ahead: &[u16; MAX_STATES], t: u16, m: u16, f: usize, s: Side, other:
     if m <= s.kind {
         return s.span;
     }
-    if reads_next(ahead, t, other) {
+    if moves::reads_next(ahead, t, other) {
         return s.span;
     }
     0
@@ -119,7 +108,7 @@ fn shift_of(ahead: &[u16; MAX_STATES], t: u16, f: usize, a: usize, b: usize) -> 
     if f == 0 {
         return 1;
     }
-    if reads_next(ahead, t, a) {
+    if moves::reads_next(ahead, t, a) {
         return 1;
     }
     0

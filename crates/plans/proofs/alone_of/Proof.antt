@@ -7,7 +7,7 @@ use Rattle.plans.proofs.alone_of.Statement.{statement}
 use Rattle.plans.proofs.alone_of.Tie as tie
 use Rattle.plans.proofs.alone_of.Reads as reads
 use Rattle.plans.proofs.alone_of.Lts as lts
-use Rattle.plans.proofs.reads_next.Reads as reads-next-reads
+use Rattle.moves.proofs.reads_next.Reads as reads-next-reads
 
 -- src/lib.rt:125:9
 returns : tie.Need-returns

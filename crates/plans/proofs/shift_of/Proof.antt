@@ -9,7 +9,7 @@ use Rattle.plans.proofs.shift_of.Statement.{statement}
 use Rattle.plans.proofs.shift_of.Tie as tie
 use Rattle.plans.proofs.shift_of.Reads as reads
 use Rattle.plans.proofs.shift_of.Lts as lts
-use Rattle.plans.proofs.reads_next.Reads as reads-next-reads
+use Rattle.moves.proofs.reads_next.Reads as reads-next-reads
 
 -- src/lib.rt:154:8
 mul-if1 : tie.Need-mul-if1

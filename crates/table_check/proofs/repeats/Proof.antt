@@ -1,5 +1,4 @@
 -- repeats meets its contract: the earlier rules are compared one by one.
-use borrow.Author.Needs.{needs}
 use native.Mathlib.Omega.{arith}
 use Prim.Native.Nat.{_-_}
 use mathlib.Core.Path.{sym, _∙_}
