@@ -2,7 +2,7 @@
 use Prim.Native.Nat.{ℕ, _≤_}
 use mathlib.Core.Path.{_≡_, refl, ap, sym, subst, _∙_}
 use mathlib.Core.Bool.{Bool, true, false}
-use mathlib.Core.List.{List, [], _∷_, _++_}
+use mathlib.Core.List.{List, _++_}
 use native.Mathlib.Omega.{arith}
 use lib.ListN.{length, getD, drop}
 use lib.Seq.{drop-append-seam}
@@ -10,9 +10,7 @@ use Rattle.grammar.specs.Basics.{over}
 use Rattle.grammar.specs.Limits.{limits}
 use Rattle.grammar.specs.Grammar.{Grammar, WellFormed}
 use Rattle.grammar.specs.Refusal.{Answer, done}
-use Rattle.automaton.specs.Strings.{Potential, Unambiguous}
 use Rattle.automaton.specs.Items.{states}
-use Rattle.automaton.specs.Position.{position}
 use Rattle.triples.specs.Smallest.{size}
 use Rattle.text.specs.Promise.{afterwards}
 use Rattle.search.specs.Promise.{isPotential}

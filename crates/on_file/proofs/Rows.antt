@@ -1,13 +1,12 @@
 -- Every row of the grammars on file says true: one test, which the checker computes over the whole table, and a lemma from the test
 -- to the claim of a row. Assumes nothing.
-use Prim.Native.Nat.{ℕ, _+_, _≤_, _<_}
+use Prim.Native.Nat.{ℕ}
 use mathlib.Core.Path.{_≡_, refl, ap, subst, sym, _∙_}
 use mathlib.Core.Logic.{_↔_}
 use mathlib.Core.Bool.{Bool, true, false, not, _&&_}
 use mathlib.Core.List.{List, [], _∷_}
 use native.Mathlib.Omega.{arith}
 use lib.Dec.{eqb}
-use lib.ListN.{length}
 use borrow.Author.Tests.{eqb-true, not-true}
 use Rattle.grammar.specs.Basics.{Mem, here, there}
 use Rattle.grammar.specs.Limits.{limits}

@@ -1,6 +1,6 @@
 -- How much the program prints at most: a refusal's number and position are small, and so are Q and the size. Assumes nothing.
-use Prim.Native.Nat.{ℕ, zero, suc, _+_, _*_, _^_, _≤_, _<_}
-use mathlib.Core.Path.{_≡_, refl, ap, sym, subst, _∙_}
+use Prim.Native.Nat.{ℕ, zero, suc, _+_, _*_, _≤_}
+use mathlib.Core.Path.{_≡_, refl, sym, subst}
 use mathlib.Core.Bool.{Bool, true, false, not, _&&_}
 use mathlib.Core.List.{List, [], _∷_, _++_}
 use mathlib.Core.Option.{Option, none, some}
@@ -24,13 +24,13 @@ use Rattle.triple_laws.proofs.Laws.{smallest-distinct, smallest-below}
 use Rattle.text.specs.Pieces.{onto, splitOn}
 use Rattle.text.specs.Names.{isName, all, hasDouble, within}
 use Rattle.text.specs.Keys.{key, valueOf}
-use Rattle.text.specs.Read.{Source, Sides, refuseNone, namesOf, declaration, sidesOf, isKnown, ruleLine, ruleLines, wholeLine, readLines, readText}
+use Rattle.text.specs.Read.{Source, refuseNone, namesOf, declaration, sidesOf, isKnown, ruleLine, ruleLines, wholeLine, readLines, readText}
 use Rattle.text.specs.Rules.{admit, checkText}
 use Rattle.text.proofs.PrintRead.{read-well}
-use Rattle.text.proofs.Admit.{Checked, text-checked}
+use Rattle.text.proofs.Admit.{text-checked}
 use Rattle.text.proofs.RoundTrip.{apart}
 use Rattle.search.specs.Promise.{isPotential}
-use Rattle.report.specs.Report.{programText, programStates, judge, grammarOf, decimal, line, statesIs, verdictIs, reachedIs, refusedIs, atIs, unambiguous, potential, verdictLines, printed, reportOf, reportSize}
+use Rattle.report.specs.Report.{programText, judge, grammarOf, decimal, line, statesIs, verdictIs, reachedIs, refusedIs, atIs, unambiguous, potential, verdictLines, printed, reportOf, reportSize}
 use Rattle.report.proofs.Decimal.{decimal-most}
 
 -- ---- refusals

@@ -1,8 +1,8 @@
 -- The lines are what the definition prints, and the output is what it promises. Assumes nothing.
 use Prim.Native.Nat.{ℕ, _+_, _≤_, _<_}
-use mathlib.Core.Path.{_≡_, refl, ap, ap₂, sym, subst, _∙_}
+use mathlib.Core.Path.{_≡_, refl, ap, ap₂, sym, _∙_}
 use mathlib.Core.Bool.{Bool, true, false}
-use mathlib.Core.List.{List, [], _∷_, _++_}
+use mathlib.Core.List.{List, _++_}
 use native.Mathlib.Omega.{arith}
 use borrow.Author.Tests.{le-leb, lt-leb, leb-true}
 use lib.Dec.{leb}
@@ -11,7 +11,7 @@ use lib.Seq.{take-append-seam}
 use Rattle.grammar.specs.Basics.{over}
 use Rattle.grammar.specs.Limits.{limits}
 use Rattle.grammar.specs.Grammar.{Grammar}
-use Rattle.grammar.specs.Refusal.{Answer, done, refused, refuseUnless}
+use Rattle.grammar.specs.Refusal.{Answer, done, refused}
 use Rattle.grammar.proofs.Answers.{unless-holds, unless-fails, unless-done, done-inj}
 use Rattle.automaton.specs.Items.{states}
 use Rattle.triples.specs.Smallest.{size}

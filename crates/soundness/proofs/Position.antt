@@ -1,14 +1,14 @@
 -- Soundness for the position automaton: it follows its grammar's trees, so an acceptable certificate leaves every sentence one tree.
 -- Assumes nothing.
-use Prim.Native.Nat.{ℕ, suc, zero, _+_, _≤_, _<_}
-use mathlib.Core.Path.{_≡_, refl, subst, sym, ap}
+use Prim.Native.Nat.{ℕ, suc, zero, _+_, _<_}
+use mathlib.Core.Path.{_≡_, refl, subst, sym}
 use mathlib.Core.Logic.{_⊎_, inl, inr}
 use mathlib.Core.List.{List, [], _∷_}
 use lib.ListN.{length, getD, drop}
 use lib.Seq.{drop-cons}
 use native.Mathlib.Omega.{arith}
 use Rattle.grammar.specs.Limits.{Limits, limits}
-use Rattle.grammar.specs.Grammar.{Terminal, start, Grammar, IsRule, rule, WellFormed}
+use Rattle.grammar.specs.Grammar.{Grammar, IsRule, rule, WellFormed}
 use Rattle.grammar.specs.Tree.{AppliesRuleOf, HasTwoTrees}
 use Rattle.grammar.specs.Refusal.{done}
 use Rattle.grammar.specs.TableCheck.{checkTable}

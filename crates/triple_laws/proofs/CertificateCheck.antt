@@ -1,11 +1,11 @@
 -- The certificate check accepts exactly the acceptable certificates of a grammar. Assumes nothing.
 use mathlib.Core.Path.{_≡_, refl, ap, subst, sym, _∙_}
 use mathlib.Core.Bool.{Bool, true, false, not, _&&_}
-use mathlib.Core.List.{List, [], _∷_}
+use mathlib.Core.List.{List}
 use mathlib.Core.Logic.{_↔_}
-use Prim.Native.Nat.{ℕ, zero, suc, _+_, _-_, _*_, _/_, _≤_, _<_}
+use Prim.Native.Nat.{ℕ, _+_, _-_, _*_, _/_, _≤_, _<_}
 use native.Mathlib.Omega.{arith}
-use native.Mathlib.Nat.{zero-mul, zero-add}
+use native.Mathlib.Nat.{zero-mul}
 use lib.Dec.{eqb}
 use lib.ListN.{length}
 use borrow.Author.Tests.{eqb-true, eq-eqb, not-true}
@@ -13,13 +13,13 @@ use Rattle.grammar.specs.Basics.{Mem}
 use Rattle.grammar.specs.Limits.{Limits}
 use Rattle.grammar.specs.Grammar.{Grammar}
 use Rattle.grammar.specs.Refusal.{Answer, done, refuseUnless}
-use Rattle.grammar.proofs.Answers.{no-bool, unless-holds, unless-done}
+use Rattle.grammar.proofs.Answers.{no-bool, unless-done}
 use Rattle.automaton.specs.Items.{states}
 use Rattle.automaton.specs.Position.{position}
 use Rattle.triples.specs.Index.{index, tripleCount, layerOf, leftOf, rightOf}
-use Rattle.triples.specs.Successor.{Successor, Acceptable}
+use Rattle.triples.specs.Successor.{Successor}
 use Rattle.triples.specs.Smallest.{successors}
-use Rattle.triples.specs.Certificate.{byteCount, bit, Holds, Certificate, AcceptableCertificate, lowest, isSet, areSet, lowestSpare, lowestLacking, checkBytes}
+use Rattle.triples.specs.Certificate.{byteCount, bit, Holds, AcceptableCertificate, isSet, areSet, lowestSpare, lowestLacking, checkBytes}
 use Rattle.triples.proofs.Index.{index-below, digits}
 use Rattle.triple_laws.proofs.Lowest.{lowest-is, lowest-none, set-bit, bit-set, clear-bit, bit-clear, are-set, set-all}
 

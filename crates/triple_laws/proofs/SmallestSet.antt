@@ -2,20 +2,19 @@
 -- Assumes nothing.
 use mathlib.Core.Path.{_≡_, refl, ap, subst, sym, _∙_}
 use mathlib.Core.Bool.{Bool, true, false}
-use mathlib.Core.List.{List, [], _∷_}
+use mathlib.Core.List.{List}
 use mathlib.Core.Logic.{_↔_}
-use Prim.Native.Nat.{ℕ, zero, suc, _+_, _*_, _≤_, _<_}
+use Prim.Native.Nat.{ℕ, _*_, _≤_, _<_}
 use native.Mathlib.Omega.{arith}
 use native.Mathlib.Nat.{mul-le-mul}
 use lib.ListN.{length}
 use Rattle.grammar.specs.Basics.{choose, Mem, Distinct}
 use Rattle.grammar.specs.Limits.{Limits}
 use Rattle.grammar.specs.Grammar.{Grammar}
-use Rattle.grammar.proofs.Answers.{no-bool}
 use Rattle.automaton.specs.Items.{states}
 use Rattle.automaton.specs.Position.{position}
 use Rattle.triples.specs.Index.{index, tripleCount, layerOf, leftOf, rightOf}
-use Rattle.triples.specs.Successor.{Successor, Reached, origin, next, Closed, Acceptable}
+use Rattle.triples.specs.Successor.{Successor, Reached, origin, next}
 use Rattle.triples.specs.Smallest.{isElement, successors, smallest, size}
 use Rattle.triples.specs.Certificate.{byteCount, bit, Holds, AcceptableCertificate, SmallestCertificate, certificateOf}
 use Rattle.triples.proofs.Index.{index-below, index-injective, digits}

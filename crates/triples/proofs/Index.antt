@@ -1,6 +1,6 @@
 -- The index of a triple: below 2Q², different for different triples, and what it takes apart to. Assumes nothing.
-use mathlib.Core.Path.{_≡_, refl, ap, ap₂, sym, _∙_}
-use Prim.Native.Nat.{ℕ, zero, suc, _+_, _*_, _/_, _%_, _≤_, _<_}
+use mathlib.Core.Path.{_≡_, ap, sym, _∙_}
+use Prim.Native.Nat.{ℕ, _+_, _*_, _/_, _%_, _<_}
 use native.Mathlib.Omega.{arith}
 use native.Mathlib.Nat.{mul-le-mul-right, suc-mul, mul-add-div-right, mul-add-mod-self-right, div-eq-of-lt, mod-eq-of-lt, add-mul, mul-assoc, div-div-eq-div-mul, div-add-mod', mod-lt, div-lt-iff-lt-mul, mul-le-mul}
 use Rattle.triples.specs.Index.{index, tripleCount, layerOf, leftOf, rightOf}

@@ -15,7 +15,7 @@ use Rattle.triples.specs.declared.Move.{Move}
 use Rattle.triples.specs.declared.Move.the-variants.{Opening, Closing, Symbol, Still}
 use Rattle.triples.specs.Successor.{BeforeTerminal, StepTo, open-left, open-right, shift-both}
 use Rattle.triples.specs.Successor.{part-both, part-left, part-right, close-left, close-right, read-both}
-use Rattle.triples.specs.Successor.{Successor, Reached, origin, next, Closed, Acceptable}
+use Rattle.triples.specs.Successor.{Successor, Closed, Acceptable}
 use Rattle.triples.specs.Index.{index}
 use Rattle.triples.specs.Certificate.{Holds, Certificate, AcceptableCertificate, SmallestCertificate}
 use Rattle.triples.specs.Witness.{LeadsOn, ends, goes, Witness, begins}

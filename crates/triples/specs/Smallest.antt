@@ -1,7 +1,7 @@
 -- The smallest closed set that holds (0,0,0), computed: the list that breadth-first search makes of the indices of what is reached.
 -- Source: document 01, "Triples, certificate, witness" ("the search writes the smallest such set"). Assumes nothing.
 use Prim.Native.Nat.{ℕ, zero, suc}
-use mathlib.Core.Bool.{Bool, true, false, _||_}
+use mathlib.Core.Bool.{Bool, false, _||_}
 use mathlib.Core.List.{List, [], _∷_, _++_, map}
 use lib.Dec.{eqb, leb}
 use lib.ListN.{length, getD}

@@ -1,7 +1,6 @@
 -- put_bytes meets its contract: the index stays within the bytes, and the line keeps its length.
 use mathlib.Core.Path.{_≡_}
-use Prim.Native.Nat.{_+_, _-_, _≤_}
-use native.Mathlib.Omega.{arith}
+use Prim.Native.Nat.{_-_, _≤_}
 use borrow.Author.Needs.{needs}
 use lib.ListN.{length}
 use Rattle.case_lines.proofs.put_bytes.Statement.{statement}

@@ -1,14 +1,10 @@
 -- read_records is safe: each turn writes a record that the bytes have.
 use borrow.Author.Needs.{needs}
-use native.Mathlib.Omega.{arith}
 use Prim.Native.Nat.{_-_, _*_, _≤_}
 use mathlib.Core.Path.{_≡_}
 use lib.ListN.{length}
 use Rattle.test_records.proofs.read_records.Statement.{statement}
 use Rattle.test_records.proofs.read_records.Tie as tie
-use Rattle.test_records.proofs.read_records.Reads as reads
-use Rattle.test_records.proofs.read_records.Lts as lts
-use Rattle.test_records.proofs.record_at.Reads as record-at-reads
 
 abbrev Inv-loop : tie.InvT-loop
 Inv-loop bytes records₀ count i₀ records i = (12 * count ≤ length bytes) × (count ≤ 512) × (length records ≡ 512)

@@ -1,7 +1,6 @@
 -- put_list meets its contract: each number takes at most its digits and a comma.
 use mathlib.Core.Path.{_≡_}
 use Prim.Native.Nat.{_+_, _-_, _≤_}
-use native.Mathlib.Omega.{arith}
 use borrow.Author.Needs.{needs}
 use lib.ListN.{length}
 use Rattle.case_lines.specs.Line.{listSize}

@@ -1,6 +1,5 @@
 -- `report::judging::judge_table` meets its contract: the rows that it lends suffice, so the search answers. Assumes nothing.
 use borrow.Author.Needs.{needs}
-use native.Mathlib.Omega.{arith}
 use mathlib.Core.Path.{_≡_, ap, sym, _∙_}
 use Prim.Native.Nat.{ℕ}
 use lib.ListN.{replicate, length-replicate}

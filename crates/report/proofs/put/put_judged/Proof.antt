@@ -1,6 +1,5 @@
 -- `report::put::put_judged` meets its contract: each answer has its lines. Assumes nothing.
 use borrow.Author.Needs.{needs}
-use native.Mathlib.Omega.{arith}
 use mathlib.Core.Path.{ap, sym, subst}
 use Prim.Native.Nat.{_≤_}
 use lib.ListN.{length}

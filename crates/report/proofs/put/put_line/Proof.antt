@@ -1,10 +1,9 @@
 -- `report::put::put_line` meets its contract: the key, the value, the end. Assumes nothing.
 use borrow.Author.Needs.{needs}
-use native.Mathlib.Omega.{arith}
 use mathlib.Core.Path.{refl}
 use mathlib.Core.List.{List, [], _∷_, _++_}
 use Prim.Native.Nat.{ℕ}
-use Rattle.text_write.proofs.Filling.{Filling, filling-start, filling-room, filling-ran, filling-last, filling-all, wrote-as}
+use Rattle.text_write.proofs.Filling.{Filling, filling-start, filling-room, filling-ran, filling-last, filling-all}
 use Rattle.report.specs.Report.{line}
 use Rattle.report.proofs.put.put_line.Statement.{statement}
 use Rattle.report.proofs.put.put_line.Tie as tie

@@ -2,9 +2,7 @@
 use borrow.Author.Needs.{needs}
 use native.Mathlib.Omega.{arith}
 use mathlib.Core.Path.{refl}
-use mathlib.Core.List.{List, _++_}
-use Prim.Native.Nat.{ℕ}
-use Rattle.text_write.proofs.Filling.{Filling, filling-start, filling-room, filling-ran, filling-last, filling-all, wrote-as}
+use Rattle.text_write.proofs.Filling.{Filling, filling-start, filling-room, filling-ran, filling-last, filling-all}
 use Rattle.report.specs.Report.{decimal, line, statesIs, verdictIs, potential}
 use Rattle.report.specs.Contracts.{potentialLines}
 use Rattle.report.proofs.put.put_potential.Statement.{statement}
