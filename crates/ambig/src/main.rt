@@ -2,7 +2,6 @@
 //
 // One byte more than the program takes is read, so that a longer text is known as such. A failed read is not taken for the end of
 // the text: nothing is then written to standard output, and a line to standard error says so. The same line tells of a failed write.
-ghost use Prim.Native.Nat.{_≤_};
 ghost use lib.ListN.{length};
 ghost use Rattle.ambig.specs.Input.{Within};
 use libc::STDERR_FILENO;

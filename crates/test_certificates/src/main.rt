@@ -6,8 +6,7 @@
 //     accepted
 //     refused=CAUSE at=POSITION
 // A case that is cut, a table or a certificate over 65,536 bytes and a failed write end the program.
-ghost use mathlib.Core.Path.{_≡_};
-ghost use Prim.Native.Nat.{_+_, _≤_};
+ghost use Prim.Native.Nat.{_≤_};
 ghost use lib.ListN.{length};
 ghost use Rattle.case_lines.specs.Line.{refusalSize};
 use libc::STDIN_FILENO;

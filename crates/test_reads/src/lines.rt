@@ -1,5 +1,4 @@
 // The line of a case: what the reader answers, and whether the lent rows are as the answer says.
-ghost use mathlib.Core.Path.{_≡_};
 ghost use Prim.Native.Nat.{_+_, _≤_};
 ghost use lib.ListN.{length};
 ghost use Rattle.case_lines.specs.Line.{listSize};

@@ -6,7 +6,6 @@
 //     refused=CAUSE at=POSITION
 // A move is oI, cI, sX or -. The records are asked for one at a time, twice: to count them, and to write them.
 // A case that is cut, a table over 65,536 bytes and a failed write end the program.
-ghost use mathlib.Core.Path.{_≡_};
 ghost use Prim.Native.Nat.{_+_, _≤_};
 ghost use lib.ListN.{length};
 ghost use Rattle.case_lines.specs.Line.{numberSize};

@@ -4,7 +4,6 @@
 //     passed states=Q offsets=o1,o2 lefts=c1,c2 lengths=k1,k2 codes=c1,c2,c3
 //     refused=CAUSE at=POSITION
 // An empty list leaves nothing after its `=`. A case that is cut, a table over 65,536 bytes and a failed write end the program.
-ghost use mathlib.Core.Path.{_≡_};
 ghost use Prim.Native.Nat.{_+_, _≤_};
 ghost use lib.ListN.{length};
 ghost use Rattle.case_lines.specs.Line.{listSize};

@@ -1,7 +1,7 @@
 // The witness check: a row of indices leads from (0,0,0) to (1,1,1) by successors. Each entry is constant work, on the rows of
 // crate moves: of each state the code ahead of its dot, its rule's number, the class that it moves by, the class that leads to it.
 ghost use mathlib.Core.Path.{_≡_};
-ghost use Prim.Native.Nat.{ℕ, _*_, _≤_, _<_};
+ghost use Prim.Native.Nat.{_*_, _≤_, _<_};
 ghost use Rattle.grammar.specs.Limits.{limits};
 ghost use Rattle.triples.specs.Verdict.{checkVerdict};
 ghost use Rattle.triples.specs.Witness.{checkWitness};

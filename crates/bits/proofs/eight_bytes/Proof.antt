@@ -7,27 +7,21 @@ use Rattle.bits.proofs.eight_bytes.Reads as reads
 use Rattle.bits.proofs.eight_bytes.Lts as lts
 use Rattle.bits.proofs.four_bytes.Reads as four-bytes-reads
 
--- src/lib.rt:52:5
 four-bytes-requires : tie.Need-four-bytes-requires
 four-bytes-requires c κs = search needs
 
--- src/lib.rt:52:59
 add-four-bytes : tie.Need-add-four-bytes
 add-four-bytes c = search needs
 
--- src/lib.rt:52:41
 four-bytes-requires-2 : tie.Need-four-bytes-requires-2
 four-bytes-requires-2 c κs = search needs
 
--- src/lib.rt:52:28
 mul-result : tie.Need-mul-result
 mul-result c = search needs
 
--- src/lib.rt:52:5
 add-result : tie.Need-add-result
 add-result c = search needs
 
--- src/lib.rt:48:1
 returns : tie.Need-returns
 returns c =
     let a = c .before .before .before .args in

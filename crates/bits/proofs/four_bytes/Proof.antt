@@ -7,27 +7,21 @@ use Rattle.bits.proofs.four_bytes.Reads as reads
 use Rattle.bits.proofs.four_bytes.Lts as lts
 use Rattle.bits.proofs.two_bytes.Reads as two-bytes-reads
 
--- src/lib.rt:45:5
 two-bytes-requires : tie.Need-two-bytes-requires
 two-bytes-requires c κs = search needs
 
--- src/lib.rt:45:52
 add-two-bytes : tie.Need-add-two-bytes
 add-two-bytes c = search needs
 
--- src/lib.rt:45:35
 two-bytes-requires-2 : tie.Need-two-bytes-requires-2
 two-bytes-requires-2 c κs = search needs
 
--- src/lib.rt:45:27
 mul-result : tie.Need-mul-result
 mul-result c = search needs
 
--- src/lib.rt:45:5
 add-result : tie.Need-add-result
 add-result c = search needs
 
--- src/lib.rt:41:1
 returns : tie.Need-returns
 returns c =
     let a = c .before .before .before .args in

@@ -7,11 +7,9 @@ use Rattle.bits.proofs.lowest_one.Tie as tie
 use Rattle.bits.proofs.lowest_one.Reads as reads
 use Rattle.bits.proofs.lowest_one.Lts as lts
 
--- src/lib.rt:83:5
 cast-result : tie.Need-cast-result
 cast-result c = omega (arith, trailing-le 64 (c .args .w))
 
--- src/lib.rt:79:1
 returns : tie.Need-returns
 returns c = lowest-one (c .args .w) (c .pre) (omega arith)
 

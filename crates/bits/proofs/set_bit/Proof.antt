@@ -12,27 +12,21 @@ use Rattle.bits.proofs.set_bit.Tie as tie
 use Rattle.bits.proofs.set_bit.Reads as reads
 use Rattle.bits.proofs.set_bit.Lts as lts
 
--- src/lib.rt:20:12
 slice-read-bytes : tie.Need-slice-read-bytes
 slice-read-bytes c = search needs
 
--- src/lib.rt:20:28
 cast-bytes : tie.Need-cast-bytes
 cast-bytes c = search needs
 
--- src/lib.rt:20:20
 shl-bytes : tie.Need-shl-bytes
 shl-bytes c = search needs
 
--- src/lib.rt:20:5
 slice-write-bytes : tie.Need-slice-write-bytes
 slice-write-bytes c = search needs
 
--- src/lib.rt:15:1
 same-length : tie.Need-same-length
 same-length c = search needs
 
--- src/lib.rt:15:1
 returns : tie.Need-returns
 unfolding withBit
 returns c =

@@ -17,35 +17,27 @@ Inv-loop bytes from b₀ b = ClearTo bytes from b
 abbrev μ-loop : tie.MeasureT-loop
 μ-loop bytes from b₀ b = length bytes - b
 
--- src/lib.rt:84:5
 loop-holds : tie.Need-loop-holds Inv-loop μ-loop
 loop-holds c = let e = c .before in clear-start (e .args .bytes .now) (e .args .from) (e .pre)
 
--- src/lib.rt:84:11
 add-loop : tie.Need-add-loop Inv-loop μ-loop
 add-loop c = omega (arith, c .loop .inv .high)
 
--- src/lib.rt:85:12
 eight-bytes-requires : tie.Need-eight-bytes-requires Inv-loop μ-loop
 eight-bytes-requires c κs = search needs
 
--- src/lib.rt:86:13
 returns : tie.Need-returns Inv-loop μ-loop
 returns c = c .before .before .before .loop .inv
 
--- src/lib.rt:88:9
 add-b : tie.Need-add-b Inv-loop μ-loop
 add-b c = search needs
 
--- src/lib.rt:84:5
 loop-less : tie.Need-loop-less Inv-loop μ-loop
 loop-less c = search needs
 
--- src/lib.rt:84:5
 loop-again : tie.Need-loop-again Inv-loop μ-loop
 loop-again c = let o = c .before in let l = o .before .before .loop in let a = o .before .before .before .before .args in clear-eight (a .bytes .now) (a .from) (l .b) (o .eight-bytes .result) (l .inv) (o .before .loop-test .taken) (o .eight-bytes .ensures) (c .if1 .left)
 
--- src/lib.rt:79:1
 returns-2 : tie.Need-returns-2 Inv-loop μ-loop
 returns-2 c = c .before .loop .inv
 

@@ -8,35 +8,27 @@ use Rattle.bits.proofs.two_bytes.Reads as reads
 use Rattle.bits.proofs.two_bytes.Lts as lts
 use Rattle.bits.proofs.wide.Reads as wide-reads
 
--- src/lib.rt:38:10
 shared-slice-read-wide : tie.Need-shared-slice-read-wide
 shared-slice-read-wide c = search needs
 
--- src/lib.rt:38:5
 wide-requires : tie.Need-wide-requires
 wide-requires c κs = search needs
 
--- src/lib.rt:38:39
 add-wide : tie.Need-add-wide
 add-wide c = search needs
 
--- src/lib.rt:38:33
 shared-slice-read-wide-2 : tie.Need-shared-slice-read-wide-2
 shared-slice-read-wide-2 c = search needs
 
--- src/lib.rt:38:28
 wide-requires-2 : tie.Need-wide-requires-2
 wide-requires-2 c κs = search needs
 
--- src/lib.rt:38:22
 mul-result : tie.Need-mul-result
 mul-result c = search needs
 
--- src/lib.rt:38:5
 add-result : tie.Need-add-result
 add-result c = search needs
 
--- src/lib.rt:34:1
 returns : tie.Need-returns
 returns c =
     let a = c .before .before .before .before .before .args in

@@ -10,37 +10,29 @@ use Rattle.bits.proofs.window.Lts as lts
 use Rattle.bits.proofs.eight_bytes.Reads as eight-bytes-reads
 use Rattle.bits.proofs.wide.Reads as wide-reads
 
--- src/lib.rt:61:8
 add-if1 : tie.Need-add-if1
 add-if1 c = search needs
 
--- src/lib.rt:62:16
 eight-bytes-requires : tie.Need-eight-bytes-requires
 eight-bytes-requires c κs = search needs
 
--- src/lib.rt:62:16
 shr-result : tie.Need-shr-result
 shr-result c = search needs
 
--- src/lib.rt:62:9
 returns : tie.Need-returns
 returns c =
     let a = c .before .before .before .args in
     window-eight (a .bytes .now) (length (a .bytes .now)) (a .i) (c .eight-bytes .result) (c .before .if1 .taken) (c .eight-bytes .ensures)
 
--- src/lib.rt:64:10
 shared-slice-read-wide : tie.Need-shared-slice-read-wide
 shared-slice-read-wide c = search needs
 
--- src/lib.rt:64:5
 wide-requires : tie.Need-wide-requires
 wide-requires c κs = search needs
 
--- src/lib.rt:64:5
 shr-result-2 : tie.Need-shr-result-2
 shr-result-2 c = search needs
 
--- src/lib.rt:56:1
 returns-2 : tie.Need-returns-2
 returns-2 c =
     let a = c .before .before .before .before .args in

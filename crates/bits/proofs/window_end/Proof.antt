@@ -6,31 +6,24 @@ use Rattle.bits.proofs.window_end.Tie as tie
 use Rattle.bits.proofs.window_end.Reads as reads
 use Rattle.bits.proofs.window_end.Lts as lts
 
--- src/lib.rt:72:8
 add-if1 : tie.Need-add-if1
 add-if1 c = search needs
 
--- src/lib.rt:73:16
 mul-result : tie.Need-mul-result
 mul-result c = search needs
 
--- src/lib.rt:73:16
 add-result : tie.Need-add-result
 add-result c = search needs
 
--- src/lib.rt:73:9
 returns : tie.Need-returns
 returns c = simp (le-leb _ _ (c .if1 .taken))
 
--- src/lib.rt:75:5
 mul-result-2 : tie.Need-mul-result-2
 mul-result-2 c = search needs
 
--- src/lib.rt:75:5
 add-result-2 : tie.Need-add-result-2
 add-result-2 c = search needs
 
--- src/lib.rt:68:1
 returns-2 : tie.Need-returns-2
 returns-2 c = simp (lt-leb _ _ (c .if1 .left))
 

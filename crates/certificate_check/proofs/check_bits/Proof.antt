@@ -19,79 +19,60 @@ use Rattle.certificate_check.proofs.note_earlier.Reads as note-earlier-
 square-more : (q : ℕ) → 4 ≤ q → q + 2 ≤ q * q
 square-more q h = omega (arith, mul-le-mul {n₁ = 4} {m₁ = q} h (let z : q ≤ q = omega arith in z))
 
--- src/lib.rt:486:18
 mul-square : tie.Need-mul-square
 mul-square c = let a = c .before .args in let v = c .before .pre in let w = square-of (a .q) (v .fits .four) (v .fits .few) in omega (arith, w .1)
 
--- src/lib.rt:487:17
 mul-count : tie.Need-mul-count
 mul-count c = let a = c .before .args in let v = c .before .pre in let w = square-of (a .q) (v .fits .four) (v .fits .few) in omega (arith, w .1)
 
--- src/lib.rt:488:17
 add-size : tie.Need-add-size
 add-size c = let a = c .before .args in let v = c .before .pre in let w = square-of (a .q) (v .fits .four) (v .fits .few) in omega (arith, w .1)
 
--- src/lib.rt:490:9
 returns : tie.Need-returns
 returns c = let a = c .before .before .args in let v = c .before .before .pre in let w = square-of (a .q) (v .fits .four) (v .fits .few) in λ G p. wrong-length G (a .bytes .now) (a .q) (p .size) (c .if1 .taken)
 
--- src/lib.rt:492:42
 mul-lowest-set : tie.Need-mul-lowest-set
 mul-lowest-set c = let a = c .before .before .args in let v = c .before .before .pre in let w = square-of (a .q) (v .fits .four) (v .fits .few) in omega (arith, w .1)
 
--- src/lib.rt:492:9
 lowest-set-requires : tie.Need-lowest-set-requires
 lowest-set-requires c κs = let a = c .before .before .args in let v = c .before .before .pre in let w = square-of (a .q) (v .fits .four) (v .fits .few) in (omega (arith, w .1), omega (arith, c .if1 .left), omega (arith, w .1, c .if1 .left))
 
--- src/lib.rt:493:17
 mul-if2 : tie.Need-mul-if2
 mul-if2 c = let a = c .before .before .before .args in let v = c .before .before .before .pre in let w = square-of (a .q) (v .fits .four) (v .fits .few) in omega (arith, w .1)
 
--- src/lib.rt:494:9
 returns-2 : tie.Need-returns-2
 returns-2 c = let a = c .before .before .before .before .args in let v = c .before .before .before .before .pre in let w = square-of (a .q) (v .fits .four) (v .fits .few) in λ G p. spare-set G (a .bytes .now) (a .q) (p .size) (c .before .before .if1 .left) (c .before .lowest-set .result) (c .before .lowest-set .ensures) (c .if2 .taken)
 
--- src/lib.rt:496:9
 is-set-requires : tie.Need-is-set-requires
 is-set-requires c κs = let a = c .before .before .before .before .args in let v = c .before .before .before .before .pre in let w = square-of (a .q) (v .fits .four) (v .fits .few) in omega (arith, w .0, c .before .before .if1 .left)
 
--- src/lib.rt:497:9
 returns-3 : tie.Need-returns-3
 returns-3 c = let a = c .before .before .before .before .before .before .args in let v = c .before .before .before .before .before .before .pre in let w = square-of (a .q) (v .fits .four) (v .fits .few) in λ G p. start-clear G (a .bytes .now) (a .q) (p .size) (c .before .before .before .before .if1 .left) (sym (c .before .before .before .lowest-set .ensures) ∙ c .before .before .if2 .left) (sym (c .before .is-set .ensures) ∙ not-true (c .before .is-set .result) (c .if3 .taken))
 
--- src/lib.rt:499:15
 add-end : tie.Need-add-end
 add-end c = let a = c .before .before .before .before .before .before .args in let v = c .before .before .before .before .before .before .pre in let w = square-of (a .q) (v .fits .four) (v .fits .few) in omega (arith, w .1, v .fits .few)
 
--- src/lib.rt:499:15
 add-end-2 : tie.Need-add-end-2
 add-end-2 c = let a = c .before .before .before .before .before .before .args in let v = c .before .before .before .before .before .before .pre in let w = square-of (a .q) (v .fits .four) (v .fits .few) in omega (arith, w .1, v .fits .few)
 
--- src/lib.rt:500:8
 is-set-requires-2 : tie.Need-is-set-requires-2
 is-set-requires-2 c κs = let a = c .before .before .before .before .before .before .args in let v = c .before .before .before .before .before .before .pre in let w = square-of (a .q) (v .fits .four) (v .fits .few) in omega (arith, square-more (a .q) (v .fits .four), c .before .before .before .before .if1 .left)
 
--- src/lib.rt:501:9
 returns-4 : tie.Need-returns-4
 returns-4 c = let a = c .before .before .before .before .before .before .before .before .args in let v = c .before .before .before .before .before .before .before .before .pre in let w = square-of (a .q) (v .fits .four) (v .fits .few) in λ G p. end-set G (a .bytes .now) (a .q) (p .size) (c .before .before .before .before .before .before .if1 .left) (sym (c .before .before .before .before .before .lowest-set .ensures) ∙ c .before .before .before .before .if2 .left) (sym (c .before .before .before .is-set .ensures) ∙ not-false (c .before .before .before .is-set .result) (c .before .before .if3 .left)) (sym (c .before .is-set2 .ensures) ∙ c .if4 .taken)
 
--- src/lib.rt:504:29
 slice-aggregate-note-earlier : tie.Need-slice-aggregate-note-earlier
 slice-aggregate-note-earlier c = search needs
 
--- src/lib.rt:504:5
 note-earlier-requires : tie.Need-note-earlier-requires
 note-earlier-requires c κs = let v = c .before .before .before .before .before .before .before .before .before .pre in ((v .fits .few, v .fits .few), λ p h. v .fits .side p h .class)
 
--- src/lib.rt:505:9
 lowest-lacking-requires : tie.Need-lowest-lacking-requires
 lowest-lacking-requires c κs = let a = c .before .before .before .before .before .before .before .before .before .before .before .before .args in let v = c .before .before .before .before .before .before .before .before .before .before .before .before .pre in let w = square-of (a .q) (v .fits .four) (v .fits .few) in (v, (omega (arith, c .before .before .before .before .before .before .before .before .before .before .if1 .left), omega (arith, w .1, c .before .before .before .before .before .before .before .before .before .before .if1 .left)))
 
--- src/lib.rt:518:9
 returns-5 : tie.Need-returns-5
 returns-5 c = let a = c .before .before .before .before .before .before .before .before .before .before .before .before .before .before .args in let v = c .before .before .before .before .before .before .before .before .before .before .before .before .before .before .pre in let w = square-of (a .q) (v .fits .four) (v .fits .few) in λ G p. some-lacks G (a .bytes .now) (a .q) (p .size) (c .before .before .before .before .before .before .before .before .before .before .before .before .if1 .left) (sym (c .before .before .before .before .before .before .before .before .before .before .before .lowest-set .ensures) ∙ c .before .before .before .before .before .before .before .before .before .before .if2 .left) (sym (c .before .before .before .before .before .before .before .before .before .is-set .ensures) ∙ not-false (c .before .before .before .before .before .before .before .before .before .is-set .result) (c .before .before .before .before .before .before .before .before .if3 .left)) (sym (c .before .before .before .before .before .before .before .is-set2 .ensures) ∙ c .before .before .before .before .before .before .if4 .left) (c .before .lowest-lacking .result) (c .before .lowest-lacking .ensures G p) (c .if5 .taken)
 
--- src/lib.rt:472:1
 returns-6 : tie.Need-returns-6
 returns-6 c = let a = c .before .before .before .before .before .before .before .before .before .before .before .before .before .before .args in let v = c .before .before .before .before .before .before .before .before .before .before .before .before .before .before .pre in let w = square-of (a .q) (v .fits .four) (v .fits .few) in λ G p. none-lacks G (a .bytes .now) (a .q) (p .size) (c .before .before .before .before .before .before .before .before .before .before .before .before .if1 .left) (sym (c .before .before .before .before .before .before .before .before .before .before .before .lowest-set .ensures) ∙ c .before .before .before .before .before .before .before .before .before .before .if2 .left) (sym (c .before .before .before .before .before .before .before .before .before .is-set .ensures) ∙ not-false (c .before .before .before .before .before .before .before .before .before .is-set .result) (c .before .before .before .before .before .before .before .before .if3 .left)) (sym (c .before .before .before .before .before .before .before .is-set2 .ensures) ∙ c .before .before .before .before .before .before .if4 .left) (c .before .lowest-lacking .result) (c .before .lowest-lacking .ensures G p) (c .if5 .left)
 

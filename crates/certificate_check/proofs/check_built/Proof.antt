@@ -11,43 +11,33 @@ use Rattle.certificate_check.proofs.check_built.Lts as lts
 use Rattle.certificate_check.proofs.check_bits.Reads as check-bits-reads
 use Rattle.moves.proofs.build.Reads as build-reads
 
--- src/lib.rt:536:9
 slice-aggregate-build : tie.Need-slice-aggregate-build
 slice-aggregate-build c = search needs
 
--- src/lib.rt:537:9
 slice-aggregate-build-2 : tie.Need-slice-aggregate-build-2
 slice-aggregate-build-2 c = search needs
 
--- src/lib.rt:538:9
 slice-aggregate-build-3 : tie.Need-slice-aggregate-build-3
 slice-aggregate-build-3 c = search needs
 
--- src/lib.rt:539:9
 slice-aggregate-build-4 : tie.Need-slice-aggregate-build-4
 slice-aggregate-build-4 c = search needs
 
--- src/lib.rt:540:9
 slice-aggregate-build-5 : tie.Need-slice-aggregate-build-5
 slice-aggregate-build-5 c = search needs
 
--- src/lib.rt:541:9
 slice-aggregate-build-6 : tie.Need-slice-aggregate-build-6
 slice-aggregate-build-6 c = search needs
 
--- src/lib.rt:534:5
 build-requires : tie.Need-build-requires
 build-requires c κs = (c .before .before .before .before .before .before .before .pre, room-of (c .before .before .before .before .before .before .before .args .g) _ (c .before .before .before .before .before .before .before .pre) (search needs) (search needs) (search needs) (search needs) (search needs) (search needs))
 
--- src/lib.rt:544:13
 add-m : tie.Need-add-m
 add-m c = let g = c .before .before .before .before .before .before .before .before .before .before .before .before .before .before .before .args .g in let r = c .before .before .before .before .before .before .before .before .before .before .before .before .before .before .before .pre in omega (arith, few-nonterminals g r)
 
--- src/lib.rt:546:5
 check-bits-requires : tie.Need-check-bits-requires
 check-bits-requires c κs = let g = c .before .before .before .before .before .before .before .before .before .before .before .before .before .before .before .before .before .before .before .before .args .g in let r = c .before .before .before .before .before .before .before .before .before .before .before .before .before .before .before .before .before .before .before .before .pre in verified-of g (r .grammar) (r .wellFormed) (r .same) _ _ (c .before .before .before .before .before .before .before .before .before .before .before .before .build .ensures (r .grammar) (r .same)) (search needs)
 
--- src/lib.rt:524:1
 returns : tie.Need-returns
 returns c = λ G W e. c .check-bits .ensures G (planned-of (c .before .before .before .before .before .before .before .before .before .before .before .before .before .before .before .before .before .before .before .before .before .args .g) G W e _ _ (c .before .before .before .before .before .before .before .before .before .before .before .before .before .build .ensures G e) (search needs))
 

@@ -13,15 +13,12 @@ use Rattle.certificate_check.proofs.check_certificate.Lts as lts
 use Rattle.certificate_check.proofs.check_built.Reads as check-built-reads
 use Rattle.table_check.proofs.check_table.Reads as check-table-reads
 
--- src/lib.rt:553:9
 check-table-requires : tie.Need-check-table-requires
 check-table-requires c κs = search needs
 
--- src/lib.rt:556:31
 enum-known-verdict : tie.Need-enum-known-verdict
 enum-known-verdict c = search needs
 
--- src/lib.rt:557:13
 returns : tie.Need-returns
 unfolding checkCertificate
 returns c =
@@ -30,7 +27,6 @@ returns c =
     let r = refused-table (a .t) (a .n) (a .table .now) (c .before .before .before .check-table .result) (c .before .before .before .check-table .ensures) (v .0 .0) (v .0 .1 .0) (v .1) in
     ap checkVerdict (sym (then-stops _ (λ G. checkBytes limits G (a .bytes .now)) (v .0 .0) (v .0 .1 .0) r))
 
--- src/lib.rt:560:17
 enum-told : tie.Need-enum-told
 enum-told c = search needs
 
@@ -40,11 +36,9 @@ passed c =
     let a = c .before .before .before .before .before .before .args in
     passed-table (a .t) (a .n) (a .table .now) (c .before .before .before .check-table .result) (c .before .before .before .check-table .ensures) (c .before .enum-told .given .1)
 
--- src/lib.rt:561:13
 check-built-requires : tie.Need-check-built-requires
 check-built-requires c κs = let p = passed c in record { grammar = p .grammar; wellFormed = p .wellFormed; same = p .same }
 
--- src/lib.rt:561:13
 returns-2 : tie.Need-returns-2
 unfolding checkCertificate
 returns-2 c =

@@ -11,67 +11,51 @@ use Rattle.certificate_check.proofs.held_with.Lts as lts
 use Rattle.bits.proofs.is_set.Reads as is-set-reads
 use Rattle.plans.proofs.wide.Reads as wide-reads
 
--- src/lib.rt:69:9
 returns : tie.Need-returns
 returns c = let e = c .before .before in let a = e .args in held-self (a .member .now) (a .bytes .now) (a .i) (a .p) (a .step) (e .pre .3)
 
--- src/lib.rt:71:25
 mul-wide : tie.Need-mul-wide
 mul-wide c = search needs
 
--- src/lib.rt:71:25
 element-copy-out-wide : tie.Need-element-copy-out-wide
 element-copy-out-wide c = search needs
 
--- src/lib.rt:71:9
 wide-requires : tie.Need-wide-requires
 wide-requires c κs = search needs
 
--- src/lib.rt:73:9
 returns-2 : tie.Need-returns-2
 returns-2 c = let e = c .before .before .before .before .before in let a = e .args in held-self (a .member .now) (a .bytes .now) (a .i) (a .p) (a .step) (e .pre .3)
 
--- src/lib.rt:75:8
 mul-if3 : tie.Need-mul-if3
 mul-if3 c = search needs
 
--- src/lib.rt:75:8
 element-copy-out-if3 : tie.Need-element-copy-out-if3
 element-copy-out-if3 c = search needs
 
--- src/lib.rt:75:21
 mul-if3-2 : tie.Need-mul-if3-2
 mul-if3-2 c = search needs
 
--- src/lib.rt:75:21
 element-copy-out-if3-2 : tie.Need-element-copy-out-if3-2
 element-copy-out-if3-2 c = search needs
 
--- src/lib.rt:76:9
 returns-3 : tie.Need-returns-3
 returns-3 c = let e = c .before .before .before .before .before .before .before .before in let a = e .args in held-self (a .member .now) (a .bytes .now) (a .i) (a .p) (a .step) (e .pre .3)
 
--- src/lib.rt:78:33
 sub-is-set : tie.Need-sub-is-set
 sub-is-set c = search needs
 
--- src/lib.rt:78:32
 mul-is-set : tie.Need-mul-is-set
 mul-is-set c = let e = c .before .before .before .before .before .before .before .before in let a = e .args in omega (arith, fewer-times (a .p) (c .before .before .before .before .wide .result) (a .step), e .pre .1, e .pre .2)
 
--- src/lib.rt:78:28
 sub-is-set-2 : tie.Need-sub-is-set-2
 sub-is-set-2 c = let e = c .before .before .before .before .before .before .before .before in let a = e .args in omega (arith, fewer-times (a .p) (c .before .before .before .before .wide .result) (a .step), e .pre .1)
 
--- src/lib.rt:78:8
 is-set-requires : tie.Need-is-set-requires
 is-set-requires c κs = search needs
 
--- src/lib.rt:79:9
 returns-4 : tie.Need-returns-4
 returns-4 c = record { most = omega (arith, c .before .before .before .before .before .if2 .left); class = c .before .before .if3 .left; held = sym (c .before .is-set .ensures) ∙ c .if4 .taken }
 
--- src/lib.rt:56:1
 returns-5 : tie.Need-returns-5
 returns-5 c = let e = c .before .before .before .before .before .before .before .before .before .before in let a = e .args in held-self (a .member .now) (a .bytes .now) (a .i) (a .p) (a .step) (e .pre .3)
 

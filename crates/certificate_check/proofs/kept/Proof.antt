@@ -5,11 +5,9 @@ use Rattle.certificate_check.proofs.kept.Tie as tie
 use Rattle.certificate_check.proofs.kept.Reads as reads
 use Rattle.certificate_check.proofs.kept.Lts as lts
 
--- src/lib.rt:268:9
 returns : tie.Need-returns
 returns c = simp (lt-ltb _ _ (c .if1 .taken))
 
--- src/lib.rt:264:1
 returns-2 : tie.Need-returns-2
 returns-2 c = simp (le-ltb _ _ (c .if1 .left))
 

@@ -24,19 +24,15 @@ Inv-loop bytes from to i₀ i = (from ≤ i) × (i ≤ 8 * length bytes) × ((k 
 abbrev μ-loop : tie.MeasureT-loop
 μ-loop bytes from to i₀ i = 8 * length bytes - i
 
--- src/lib.rt:40:5
 loop-holds : tie.Need-loop-holds Inv-loop μ-loop
 loop-holds c = (omega arith, omega (arith, c .before .pre .0, c .before .pre .1), λ k h l u. absurd (omega arith))
 
--- src/lib.rt:41:13
 window-requires : tie.Need-window-requires Inv-loop μ-loop
 window-requires c κs = search needs
 
--- src/lib.rt:43:29
 lowest-one-requires : tie.Need-lowest-one-requires Inv-loop μ-loop
 lowest-one-requires c κs = search needs
 
--- src/lib.rt:43:25
 add-found : tie.Need-add-found Inv-loop μ-loop
 add-found c = search needs
 
@@ -50,7 +46,6 @@ passed c =
     clear-more (a .bytes .now) (a .from) (a .to) (l .i) (l .i + c .lowest-one .result) (l .inv .2)
     (lowest-clear (a .bytes .now) (l .i) (windowEnd (length (a .bytes .now)) (l .i)) (w .result) (c .lowest-one .result) (w .ensures) (c .lowest-one .ensures))
 
--- src/lib.rt:45:17
 returns : tie.Need-returns Inv-loop μ-loop
 returns c =
     let o = c .before in
@@ -60,7 +55,6 @@ returns c =
     set-found (a .bytes .now) (a .from) (a .to) (l .i + o .lowest-one .result) (omega (arith, l .inv .0)) (c .if2 .taken) (passed o)
     (lowest-found (a .bytes .now) (l .i) (windowEnd (length (a .bytes .now)) (l .i)) (w .result) (o .lowest-one .result) (w .ensures) (o .lowest-one .ensures))
 
--- src/lib.rt:47:13
 returns-2 : tie.Need-returns-2 Inv-loop μ-loop
 returns-2 c =
     let o = c .before in
@@ -68,7 +62,6 @@ returns-2 c =
     let l = o .before .before .before .before .loop in
     set-none (a .bytes .now) (a .from) (a .to) (l .i + o .lowest-one .result) (o .before .before .before .before .before .before .pre .0) (c .if2 .left) (passed o)
 
--- src/lib.rt:49:9
 window-end-requires : tie.Need-window-end-requires Inv-loop μ-loop
 window-end-requires c κs = search needs
 
@@ -84,19 +77,15 @@ ends c =
     let whole = window-whole n i h in
     subst (λ (e : ℕ). (i < e) × (8 * (e / 8) ≡ e) × (e / 8 ≤ n) × (i < 8 * n)) (sym (c .window-end .ensures)) (near .0, whole .0, whole .1, h)
 
--- src/lib.rt:49:17
 skip-zeros-requires : tie.Need-skip-zeros-requires Inv-loop μ-loop
 skip-zeros-requires c κs = ends c .2
 
--- src/lib.rt:49:13
 mul-i : tie.Need-mul-i Inv-loop μ-loop
 mul-i c = omega (arith, c .skip-zeros .ensures .high, c .before .before .before .before .before .before .before .pre .2)
 
--- src/lib.rt:40:5
 loop-less : tie.Need-loop-less Inv-loop μ-loop
 loop-less c = let e = ends (c .before) in omega (arith, e, c .skip-zeros .ensures .low)
 
--- src/lib.rt:40:5
 loop-again : tie.Need-loop-again Inv-loop μ-loop
 loop-again c =
     let o = c .before in
@@ -113,7 +102,6 @@ loop-again c =
           (window-clear (a .bytes .now) (l .i) (windowEnd (length (a .bytes .now)) (l .i)) (w .result) (w .ensures) (o .before .if1 .left))) (e .1) (z .ensures)),
     )
 
--- src/lib.rt:35:1
 returns-3 : tie.Need-returns-3 Inv-loop μ-loop
 returns-3 c =
     let a = c .before .before .before .args in

@@ -16,67 +16,51 @@ Inv-loop member q earlier₀ last₀ p₀ earlier last p = (p ≤ q) × (length 
 abbrev μ-loop : tie.MeasureT-loop
 μ-loop member q earlier₀ last₀ p₀ earlier last p = q - p
 
--- src/lib.rt:463:5
 loop-holds : tie.Need-loop-holds Inv-loop μ-loop
 loop-holds c = search needs
 
--- src/lib.rt:464:22
 mul-wide : tie.Need-mul-wide Inv-loop μ-loop
 mul-wide c = search needs
 
--- src/lib.rt:464:22
 element-copy-out-wide : tie.Need-element-copy-out-wide Inv-loop μ-loop
 element-copy-out-wide c = search needs
 
--- src/lib.rt:464:13
 wide-requires : tie.Need-wide-requires Inv-loop μ-loop
 wide-requires c κs = search needs
 
--- src/lib.rt:465:22
 mul-earlier : tie.Need-mul-earlier Inv-loop μ-loop
 mul-earlier c = search needs
 
--- src/lib.rt:465:22
 array-read-earlier : tie.Need-array-read-earlier Inv-loop μ-loop
 array-read-earlier c = let e = c .before .before .before .before .before in omega (arith, c .wide .ensures .0, e .pre .1 (c .before .before .before .loop .p) (c .before .before .loop-test .taken))
 
--- src/lib.rt:465:9
 mul-earlier-2 : tie.Need-mul-earlier-2 Inv-loop μ-loop
 mul-earlier-2 c = search needs
 
--- src/lib.rt:465:9
 slice-write-earlier : tie.Need-slice-write-earlier Inv-loop μ-loop
 slice-write-earlier c = search needs
 
--- src/lib.rt:466:19
 cast-last : tie.Need-cast-last Inv-loop μ-loop
 cast-last c = search needs
 
--- src/lib.rt:466:9
 mul-last : tie.Need-mul-last Inv-loop μ-loop
 mul-last c = search needs
 
--- src/lib.rt:466:9
 array-write-last : tie.Need-array-write-last Inv-loop μ-loop
 array-write-last c = let e = c .before .before .before .before .before in omega (arith, c .wide .ensures .0, e .pre .1 (c .before .before .before .loop .p) (c .before .before .loop-test .taken))
 
--- src/lib.rt:467:9
 add-p : tie.Need-add-p Inv-loop μ-loop
 add-p c = search needs
 
--- src/lib.rt:463:5
 loop-less : tie.Need-loop-less Inv-loop μ-loop
 loop-less c = search needs
 
--- src/lib.rt:463:5
 loop-again : tie.Need-loop-again Inv-loop μ-loop
 loop-again c = search needs
 
--- src/lib.rt:457:1
 same-length : tie.Need-same-length Inv-loop μ-loop
 same-length c = search needs
 
--- src/lib.rt:457:1
 returns : tie.Need-returns Inv-loop μ-loop
 returns c = search needs
 

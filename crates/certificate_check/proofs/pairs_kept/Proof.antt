@@ -8,25 +8,20 @@ use Rattle.certificate_check.proofs.pairs_kept.Reads as reads
 use Rattle.certificate_check.proofs.pairs_kept.Lts as lts
 use Rattle.certificate_check.proofs.parts_before.Reads as parts-before-reads
 
--- src/lib.rt:289:8
 parts-before-requires : tie.Need-parts-before-requires
 parts-before-requires c κs = search needs
 
--- src/lib.rt:290:9
 returns : tie.Need-returns
 unfolding keptPairs
 returns c = simp (sym (c .before .parts-before .ensures) ∙ c .if1 .taken)
 
--- src/lib.rt:292:8
 parts-before-requires-2 : tie.Need-parts-before-requires-2
 parts-before-requires-2 c κs = search needs
 
--- src/lib.rt:293:9
 returns-2 : tie.Need-returns-2
 unfolding keptPairs
 returns-2 c = simp (sym (c .before .before .before .parts-before .ensures) ∙ c .before .before .if1 .left, sym (c .before .parts-before2 .ensures) ∙ c .if2 .taken)
 
--- src/lib.rt:285:1
 returns-3 : tie.Need-returns-3
 unfolding keptPairs
 returns-3 c = simp (sym (c .before .before .before .parts-before .ensures) ∙ c .before .before .if1 .left, sym (c .before .parts-before2 .ensures) ∙ c .if2 .left)

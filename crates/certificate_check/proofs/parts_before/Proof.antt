@@ -6,27 +6,21 @@ use Rattle.certificate_check.proofs.parts_before.Tie as tie
 use Rattle.certificate_check.proofs.parts_before.Reads as reads
 use Rattle.certificate_check.proofs.parts_before.Lts as lts
 
--- src/lib.rt:279:16
 mul-result : tie.Need-mul-result
 mul-result c = search needs
 
--- src/lib.rt:279:16
 element-copy-out-result : tie.Need-element-copy-out-result
 element-copy-out-result c = search needs
 
--- src/lib.rt:279:29
 mul-result-2 : tie.Need-mul-result-2
 mul-result-2 c = search needs
 
--- src/lib.rt:279:29
 element-copy-out-result-2 : tie.Need-element-copy-out-result-2
 element-copy-out-result-2 c = search needs
 
--- src/lib.rt:279:9
 returns : tie.Need-returns
 returns c = simp (lt-ltb _ _ (c .before .before .if1 .taken))
 
--- src/lib.rt:274:1
 returns-2 : tie.Need-returns-2
 returns-2 c = simp (le-ltb _ _ (c .if1 .left))
 

@@ -10,27 +10,21 @@ use Rattle.certificate_check.proofs.shorten.Lts as lts
 use Rattle.certificate_check.proofs.kept.Reads as kept-reads
 use Rattle.certificate_check.proofs.pairs_kept.Reads as pairs-kept-reads
 
--- src/lib.rt:304:9
 kept-requires : tie.Need-kept-requires
 kept-requires c κs = search needs
 
--- src/lib.rt:305:9
 kept-requires-2 : tie.Need-kept-requires-2
 kept-requires-2 c κs = search needs
 
--- src/lib.rt:308:9
 sub-pairs-kept : tie.Need-sub-pairs-kept
 sub-pairs-kept c = search needs
 
--- src/lib.rt:308:9
 sub-pairs-kept-2 : tie.Need-sub-pairs-kept-2
 sub-pairs-kept-2 c = search needs
 
--- src/lib.rt:308:9
 sub-pairs-kept-3 : tie.Need-sub-pairs-kept-3
 sub-pairs-kept-3 c = search needs
 
--- src/lib.rt:306:9
 pairs-kept-requires : tie.Need-pairs-kept-requires
 pairs-kept-requires c κs = search needs
 
@@ -43,19 +37,15 @@ sizes c = let a = c .before .before .before .before .before .before .args in (
   kept-pairs-le (a .number .now) (a .a) (a .b) (a .r) (a .s) (a .plan .total - a .plan .left - a .plan .right - a .plan .shift) (c .pairs-kept .result) (c .pairs-kept .ensures),
 )
 
--- src/lib.rt:318:16
 add-t10 : tie.Need-add-t10
 add-t10 c = let z = sizes c in omega (arith, z .0, z .1, z .2, c .before .before .before .before .before .before .pre .1)
 
--- src/lib.rt:318:16
 add-t12 : tie.Need-add-t12
 add-t12 c = let z = sizes (c .before) in omega (arith, z .0, z .1, z .2, c .before .before .before .before .before .before .before .pre .1)
 
--- src/lib.rt:318:16
 add-t11 : tie.Need-add-t11
 add-t11 c = let z = sizes (c .before) in omega (arith, z .0, z .1, z .2, c .before .before .before .before .before .before .before .pre .1)
 
--- src/lib.rt:299:1
 returns : tie.Need-returns
 returns c =
     let a = c .before .before .before .before .before .before .before .args in

@@ -9,26 +9,21 @@ use Rattle.plans.proofs.alone_of.Reads as reads
 use Rattle.plans.proofs.alone_of.Lts as lts
 use Rattle.moves.proofs.reads_next.Reads as reads-next-reads
 
--- src/lib.rt:125:9
 returns : tie.Need-returns
 unfolding aloneOf
 returns c = simp (ne-eqb _ 0 (c .if1 .taken))
 
--- src/lib.rt:128:9
 returns-2 : tie.Need-returns-2
 unfolding aloneOf
 returns-2 c = simp (eq-eqb _ 0 (c .before .before .if1 .left), le-ltb _ _ (c .if2 .taken))
 
--- src/lib.rt:130:8
 reads-next-requires : tie.Need-reads-next-requires
 reads-next-requires c κs = search needs
 
--- src/lib.rt:131:9
 returns-3 : tie.Need-returns-3
 unfolding aloneOf
 returns-3 c = simp (eq-eqb _ 0 (c .before .before .before .before .if1 .left), lt-ltb _ _ (c .before .before .if2 .left), sym (c .before .reads-next .ensures) ∙ c .if3 .taken)
 
--- src/lib.rt:120:1
 returns-4 : tie.Need-returns-4
 unfolding aloneOf
 returns-4 c = simp (eq-eqb _ 0 (c .before .before .before .before .if1 .left), lt-ltb _ _ (c .before .before .if2 .left), sym (c .before .reads-next .ensures) ∙ c .if3 .left)

@@ -11,45 +11,35 @@ use Rattle.plans.proofs.is_idle.Lts as lts
 use Rattle.plans.proofs.digits_of.Reads as digits-of-reads
 use Rattle.plans.proofs.side_of.Reads as side-of-reads
 
--- src/lib.rt:260:9
 digits-of-requires : tie.Need-digits-of-requires
 digits-of-requires c κs = let s = c .pre .0 in (s .four, s .few, c .pre .1 .0, c .pre .1 .1)
 
--- src/lib.rt:263:9
 side-of-requires : tie.Need-side-of-requires
 side-of-requires c κs = c .before .pre .0 .side (c .digits-of .result .left) (c .digits-of .ensures .1)
 
--- src/lib.rt:264:9
 side-of-requires-2 : tie.Need-side-of-requires-2
 side-of-requires-2 c κs = let e = c .before .before in e .pre .0 .side (c .before .digits-of .result .right) (c .before .digits-of .ensures .2)
 
--- src/lib.rt:265:8
 add-if1 : tie.Need-add-if1
 add-if1 c =
     let y = c .before .before in let x = y .before in let d = x .before .digits-of in let e = x .before .before in let a = e .args in
     omega (arith, span-le (a .member .now) (a .first .now) (d .result .left) (x .side-of .result) (e .pre .0 .side _ (d .ensures .1)) (x .side-of .ensures), span-le (a .member .now) (a .first .now) (d .result .right) (y .side-of2 .result) (e .pre .0 .side _ (d .ensures .2)) (y .side-of2 .ensures))
 
--- src/lib.rt:266:9
 returns : tie.Need-returns
 returns c = λ e. no-bool (sym e)
 
--- src/lib.rt:268:5
 mul-result : tie.Need-mul-result
 mul-result c = search needs
 
--- src/lib.rt:268:5
 element-copy-out-result : tie.Need-element-copy-out-result
 element-copy-out-result c = search needs
 
--- src/lib.rt:268:17
 mul-result-2 : tie.Need-mul-result-2
 mul-result-2 c = search needs
 
--- src/lib.rt:268:17
 element-copy-out-result-2 : tie.Need-element-copy-out-result-2
 element-copy-out-result-2 c = search needs
 
--- src/lib.rt:248:1
 returns-2 : tie.Need-returns-2
 returns-2 c =
     let y = c .before .before .before .before .before in let x = y .before in let d = x .before .digits-of in let e = x .before .before in let a = e .args in

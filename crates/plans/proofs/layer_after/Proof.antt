@@ -6,17 +6,14 @@ use Rattle.plans.proofs.layer_after.Tie as tie
 use Rattle.plans.proofs.layer_after.Reads as reads
 use Rattle.plans.proofs.layer_after.Lts as lts
 
--- src/lib.rt:141:9
 returns : tie.Need-returns
 unfolding layerAfter
 returns c = simp (ne-eqb _ 0 (c .if1 .taken))
 
--- src/lib.rt:144:9
 returns-2 : tie.Need-returns-2
 unfolding layerAfter
 returns-2 c = simp (eq-eqb _ 0 (c .before .before .if1 .left), le-leb _ _ (c .if2 .taken))
 
--- src/lib.rt:137:1
 returns-3 : tie.Need-returns-3
 unfolding layerAfter
 returns-3 c = simp (eq-eqb _ 0 (c .before .before .if1 .left), lt-leb _ _ (c .if2 .left))

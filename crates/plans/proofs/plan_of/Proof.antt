@@ -15,31 +15,24 @@ use Rattle.plans.proofs.pairs_of.Reads as pairs-of-reads
 use Rattle.plans.proofs.shift_of.Reads as shift-of-reads
 use Rattle.plans.proofs.side_of.Reads as side-of-reads
 
--- src/lib.rt:216:18
 mul-square : tie.Need-mul-square
 mul-square c = let a = c .args in let s = c .pre .0 in let z : 0 < a .q = omega (arith, s .four) in let w = square-of (a .q) (s .four) (s .few) in omega (arith, w .1)
 
--- src/lib.rt:217:9
 side-of-requires : tie.Need-side-of-requires
 side-of-requires c κs = let a = c .args in let s = c .pre .0 in let z : 0 < a .q = omega (arith, s .four) in let w = square-of (a .q) (s .four) (s .few) in s .side (a .a) (c .pre .1 .1)
 
--- src/lib.rt:218:9
 side-of-requires-2 : tie.Need-side-of-requires-2
 side-of-requires-2 c κs = let a = c .before .args in let s = c .before .pre .0 in let z : 0 < a .q = omega (arith, s .four) in let w = square-of (a .q) (s .four) (s .few) in s .side (a .b) (c .before .pre .1 .2)
 
--- src/lib.rt:219:9
 alone-of-requires : tie.Need-alone-of-requires
 alone-of-requires c κs = let a = c .before .before .args in let s = c .before .before .pre .0 in let z : 0 < a .q = omega (arith, s .four) in let w = square-of (a .q) (s .four) (s .few) in let hl = c .before .before .pre .1 .1 in let hr = c .before .before .pre .1 .2 in omega (arith, hr, s .few)
 
--- src/lib.rt:220:9
 alone-of-requires-2 : tie.Need-alone-of-requires-2
 alone-of-requires-2 c κs = let a = c .before .before .before .args in let s = c .before .before .before .pre .0 in let z : 0 < a .q = omega (arith, s .four) in let w = square-of (a .q) (s .four) (s .few) in let hl = c .before .before .before .pre .1 .1 in let hr = c .before .before .before .pre .1 .2 in omega (arith, hl, s .few)
 
--- src/lib.rt:221:9
 shift-of-requires : tie.Need-shift-of-requires
 shift-of-requires c κs = let a = c .before .before .before .before .args in let s = c .before .before .before .before .pre .0 in let z : 0 < a .q = omega (arith, s .four) in let w = square-of (a .q) (s .four) (s .few) in let hl = c .before .before .before .before .pre .1 .1 in let hr = c .before .before .before .before .pre .1 .2 in (omega (arith, hl, s .few), omega (arith, hr, s .few))
 
--- src/lib.rt:222:9
 pairs-of-requires : tie.Need-pairs-of-requires
 pairs-of-requires c κs =
     let a = c .before .before .before .before .before .args in let s = c .before .before .before .before .before .pre .0 in let z : 0 < a .q = omega (arith, s .four) in let w = square-of (a .q) (s .four) (s .few) in
@@ -62,55 +55,42 @@ sizes c =
       pairs-small _ _ _ _ _ (c .before .before .before .before .before .side-of .result) (c .before .before .before .before .side-of2 .result) (c .pairs-of .result) (c .pairs-of .ensures) x y,
     )
 
--- src/lib.rt:227:16
 add-t19 : tie.Need-add-t19
 add-t19 c = let n = sizes (c) in omega (arith, n .0, n .1)
 
--- src/lib.rt:227:16
 add-t20 : tie.Need-add-t20
 add-t20 c = let n = sizes (c) in omega (arith, n .0, n .1, n .2)
 
--- src/lib.rt:227:16
 add-t21 : tie.Need-add-t21
 add-t21 c = let n = sizes (c) in omega (arith, n .0, n .1, n .2, n .3)
 
--- src/lib.rt:230:20
 layer-after-requires : tie.Need-layer-after-requires
 layer-after-requires c κs = search needs
 
--- src/lib.rt:230:20
 mul-t23 : tie.Need-mul-t23
 mul-t23 c = let a = c .before .before .before .before .before .before .before .args in let s = c .before .before .before .before .before .before .before .pre .0 in let z : 0 < a .q = omega (arith, s .four) in let w = square-of (a .q) (s .four) (s .few) in omega (arith, layer-small _ _ _ (c .layer-after .result) (a .q * a .q) (c .layer-after .ensures) (w .1))
 
--- src/lib.rt:230:20
 add-t24 : tie.Need-add-t24
 add-t24 c = let a = c .before .before .before .before .before .before .before .args in let s = c .before .before .before .before .before .before .before .pre .0 in let z : 0 < a .q = omega (arith, s .four) in let w = square-of (a .q) (s .four) (s .few) in let hl = c .before .before .before .before .before .before .before .pre .1 .1 in let hr = c .before .before .before .before .before .before .before .pre .1 .2 in omega (arith, hr, s .few, layer-small _ _ _ (c .layer-after .result) (a .q * a .q) (c .layer-after .ensures) (w .1))
 
--- src/lib.rt:231:21
 layer-after-requires-2 : tie.Need-layer-after-requires-2
 layer-after-requires-2 c κs = search needs
 
--- src/lib.rt:231:21
 mul-t26 : tie.Need-mul-t26
 mul-t26 c = let a = c .before .before .before .before .before .before .before .before .args in let s = c .before .before .before .before .before .before .before .before .pre .0 in let z : 0 < a .q = omega (arith, s .four) in let w = square-of (a .q) (s .four) (s .few) in omega (arith, layer-small _ _ _ (c .layer-after2 .result) (a .q * a .q) (c .layer-after2 .ensures) (w .1))
 
--- src/lib.rt:231:53
 mul-t27 : tie.Need-mul-t27
 mul-t27 c = let a = c .before .before .before .before .before .before .before .before .args in let s = c .before .before .before .before .before .before .before .before .pre .0 in let z : 0 < a .q = omega (arith, s .four) in let w = square-of (a .q) (s .four) (s .few) in let hl = c .before .before .before .before .before .before .before .before .pre .1 .1 in let hr = c .before .before .before .before .before .before .before .before .pre .1 .2 in omega (arith, product-le (a .a) (a .q) (omega (arith, hl, s .few)) (s .few))
 
--- src/lib.rt:231:21
 add-t28 : tie.Need-add-t28
 add-t28 c = let a = c .before .before .before .before .before .before .before .before .args in let s = c .before .before .before .before .before .before .before .before .pre .0 in let z : 0 < a .q = omega (arith, s .four) in let w = square-of (a .q) (s .four) (s .few) in let hl = c .before .before .before .before .before .before .before .before .pre .1 .1 in let hr = c .before .before .before .before .before .before .before .before .pre .1 .2 in omega (arith, product-le (a .a) (a .q) (omega (arith, hl, s .few)) (s .few), layer-small _ _ _ (c .layer-after2 .result) (a .q * a .q) (c .layer-after2 .ensures) (w .1))
 
--- src/lib.rt:232:17
 add-t29 : tie.Need-add-t29
 add-t29 c = let a = c .before .before .before .before .before .before .before .before .args in let s = c .before .before .before .before .before .before .before .before .pre .0 in let z : 0 < a .q = omega (arith, s .four) in let w = square-of (a .q) (s .four) (s .few) in omega (arith, w .1, s .few, c .before .before .before .before .before .before .before .before .pre .1 .0)
 
--- src/lib.rt:232:17
 add-t30 : tie.Need-add-t30
 add-t30 c = let a = c .before .before .before .before .before .before .before .before .args in let s = c .before .before .before .before .before .before .before .before .pre .0 in let z : 0 < a .q = omega (arith, s .four) in let w = square-of (a .q) (s .four) (s .few) in omega (arith, w .1, s .few, c .before .before .before .before .before .before .before .before .pre .1 .0)
 
--- src/lib.rt:198:1
 returns : tie.Need-returns
 returns c =
     let a = c .before .before .before .before .before .before .before .before .args in

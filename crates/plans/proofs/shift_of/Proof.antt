@@ -11,54 +11,42 @@ use Rattle.plans.proofs.shift_of.Reads as reads
 use Rattle.plans.proofs.shift_of.Lts as lts
 use Rattle.moves.proofs.reads_next.Reads as reads-next-reads
 
--- src/lib.rt:154:8
 mul-if1 : tie.Need-mul-if1
 mul-if1 c = search needs
 
--- src/lib.rt:154:8
 element-copy-out-if1 : tie.Need-element-copy-out-if1
 element-copy-out-if1 c = search needs
 
--- src/lib.rt:155:9
 returns : tie.Need-returns
 unfolding shiftOf
 returns c = simp (lt-leb 1 _ (c .if1 .taken))
 
--- src/lib.rt:157:8
 mul-if2 : tie.Need-mul-if2
 mul-if2 c = search needs
 
--- src/lib.rt:157:8
 element-copy-out-if2 : tie.Need-element-copy-out-if2
 element-copy-out-if2 c = search needs
 
--- src/lib.rt:157:20
 mul-if2-2 : tie.Need-mul-if2-2
 mul-if2-2 c = search needs
 
--- src/lib.rt:157:20
 element-copy-out-if2-2 : tie.Need-element-copy-out-if2-2
 element-copy-out-if2-2 c = search needs
 
--- src/lib.rt:158:9
 returns-2 : tie.Need-returns-2
 unfolding shiftOf
 returns-2 c = simp (le-leb 1 _ (c .before .before .before .if1 .left), ne-eqb _ _ (c .if2 .taken))
 
--- src/lib.rt:161:9
 returns-3 : tie.Need-returns-3
 unfolding shiftOf
 returns-3 c = simp (le-leb 1 _ (c .before .before .before .before .if1 .left), eq-eqb _ _ (c .before .if2 .left), eq-eqb _ 0 (c .if3 .taken))
 
--- src/lib.rt:163:8
 reads-next-requires : tie.Need-reads-next-requires
 reads-next-requires c κs = search needs
 
--- src/lib.rt:164:9
 returns-4 : tie.Need-returns-4
 returns-4 c = let a = c .before .before .before .before .before .before .before .before .args in shift-reads (a .ahead .now) (a .t) (a .f) (a .a) (a .b) true (c .before .before .before .before .before .before .if1 .left) (c .before .before .before .if2 .left) (c .before .before .if3 .left) (sym (c .before .reads-next .ensures) ∙ c .if4 .taken)
 
--- src/lib.rt:150:1
 returns-5 : tie.Need-returns-5
 returns-5 c = let a = c .before .before .before .before .before .before .before .before .args in shift-reads (a .ahead .now) (a .t) (a .f) (a .a) (a .b) false (c .before .before .before .before .before .before .if1 .left) (c .before .before .before .if2 .left) (c .before .before .if3 .left) (sym (c .before .reads-next .ensures) ∙ c .if4 .left)
 

@@ -11,47 +11,36 @@ use Rattle.plans.proofs.side_of.Reads as reads
 use Rattle.plans.proofs.side_of.Lts as lts
 use Rattle.plans.proofs.wide.Reads as wide-reads
 
--- src/lib.rt:108:16
 mul-kind : tie.Need-mul-kind
 mul-kind c = search needs
 
--- src/lib.rt:108:16
 element-copy-out-kind : tie.Need-element-copy-out-kind
 element-copy-out-kind c = search needs
 
--- src/lib.rt:109:9
 wide-requires : tie.Need-wide-requires
 wide-requires c κs = search needs
 
--- src/lib.rt:110:21
 mul-wide : tie.Need-mul-wide
 mul-wide c = search needs
 
--- src/lib.rt:110:21
 element-copy-out-wide : tie.Need-element-copy-out-wide
 element-copy-out-wide c = search needs
 
--- src/lib.rt:110:9
 wide-requires-2 : tie.Need-wide-requires-2
 wide-requires-2 c κs = search needs
 
--- src/lib.rt:111:26
 add-wide : tie.Need-add-wide
 add-wide c = search needs
 
--- src/lib.rt:111:20
 mul-wide-2 : tie.Need-mul-wide-2
 mul-wide-2 c = search needs
 
--- src/lib.rt:111:20
 element-copy-out-wide-2 : tie.Need-element-copy-out-wide-2
 element-copy-out-wide-2 c = search needs
 
--- src/lib.rt:111:9
 wide-requires-3 : tie.Need-wide-requires-3
 wide-requires-3 c κs = search needs
 
--- src/lib.rt:115:15
 sub-t8 : tie.Need-sub-t8
 sub-t8 c =
     let a = c .before .before .before .before .before .before .args in
@@ -59,7 +48,6 @@ sub-t8 c =
     let y : c .wide3 .result ≡ getD (a .first .now) (getD (a .member .now) (a .p) 0 + 1) 0 = c .wide3 .ensures .0 ∙ ap (λ (n : ℕ). getD (a .first .now) (n + 1) 0) (c .before .before .before .before .wide .ensures .0) in
     omega (arith, x, y, c .before .before .before .before .before .before .pre .order)
 
--- src/lib.rt:104:1
 returns : tie.Need-returns
 returns c =
     let a = c .before .before .before .before .before .before .args in

@@ -55,15 +55,12 @@ enough-at c = record {
   witness = omega (arith, c .if4 .left);
 }
 
--- src/lib.rt:235:9
 check-table-requires : tie.Need-check-table-requires
 check-table-requires c κs = search needs
 
--- src/lib.rt:238:31
 enum-known-verdict : tie.Need-enum-known-verdict
 enum-known-verdict c = search needs
 
--- src/lib.rt:239:13
 returns : tie.Need-returns
 unfolding before
 returns c =
@@ -74,23 +71,18 @@ returns c =
     refused-as e _ _ _ (search-refused (a .t) (a .n) (a .table .now) (before e) (v .0 .0) (v .0 .1 .0)
     (refused-table (a .t) (a .n) (a .table .now) (k .result) (k .ensures) (v .0 .0) (v .0 .1 .0) (v .1)))
 
--- src/lib.rt:242:17
 enum-told : tie.Need-enum-told
 enum-told c = search needs
 
--- src/lib.rt:243:30
 mul-count : tie.Need-mul-count
 mul-count c = omega (arith, few (c .before))
 
--- src/lib.rt:243:25
 mul-count-2 : tie.Need-mul-count-2
 mul-count-2 c = omega (arith, few (c .before))
 
--- src/lib.rt:244:37
 add-if1 : tie.Need-add-if1
 add-if1 c = omega (arith, few (c .before))
 
--- src/lib.rt:245:17
 returns-2 : tie.Need-returns-2
 unfolding before
 returns-2 c =
@@ -101,7 +93,6 @@ returns-2 c =
     refused-as e _ _ _ (search-short (a .t) (a .n) (a .table .now) (before e) (p .grammar) (p .checked)
     (subst (λ (q : ℕ). isEnough q (before e) ≡ false) q (short-certificate _ (before e) (c .if1 .taken))))
 
--- src/lib.rt:248:17
 returns-3 : tie.Need-returns-3
 unfolding before
 returns-3 c =
@@ -112,7 +103,6 @@ returns-3 c =
     refused-as e _ _ _ (search-short (a .t) (a .n) (a .table .now) (before e) (p .grammar) (p .checked)
     (subst (λ (q : ℕ). isEnough q (before e) ≡ false) q (short-queue _ (before e) (c .before .if1 .left) (c .if2 .taken))))
 
--- src/lib.rt:251:17
 returns-4 : tie.Need-returns-4
 unfolding before
 returns-4 c =
@@ -123,7 +113,6 @@ returns-4 c =
     refused-as e _ _ _ (search-short (a .t) (a .n) (a .table .now) (before e) (p .grammar) (p .checked)
     (subst (λ (q : ℕ). isEnough q (before e) ≡ false) q (short-parents _ (before e) (c .before .before .if1 .left) (c .before .if2 .left) (c .if3 .taken))))
 
--- src/lib.rt:254:17
 returns-5 : tie.Need-returns-5
 unfolding before
 returns-5 c =
@@ -134,30 +123,24 @@ returns-5 c =
     refused-as e _ _ _ (search-short (a .t) (a .n) (a .table .now) (before e) (p .grammar) (p .checked)
     (subst (λ (q : ℕ). isEnough q (before e) ≡ false) q (short-witness _ (before e) (c .before .before .before .if1 .left) (c .before .before .if2 .left) (c .before .if3 .left) (c .if4 .taken))))
 
--- src/lib.rt:256:13
 search-built-requires : tie.Need-search-built-requires
 unfolding before
 search-built-requires c κs =
     let p = passed (c .before .before .before .before .before .before .before .before .before) in
     (record { grammar = p .grammar; wellFormed = p .wellFormed; same = p .same }, enough-at (c .before .before .before .before))
 
--- src/lib.rt:256:13
 same-length : tie.Need-same-length
 same-length c = search needs
 
--- src/lib.rt:256:13
 same-length-2 : tie.Need-same-length-2
 same-length-2 c = search needs
 
--- src/lib.rt:256:13
 same-length-3 : tie.Need-same-length-3
 same-length-3 c = search needs
 
--- src/lib.rt:256:13
 same-length-4 : tie.Need-same-length-4
 same-length-4 c = search needs
 
--- src/lib.rt:256:13
 returns-6 : tie.Need-returns-6
 unfolding before
 returns-6 c =

@@ -10,34 +10,27 @@ use Rattle.search.proofs.search_all.Reads as reads
 use Rattle.search.proofs.search_all.Lts as lts
 use Rattle.search.proofs.search_rows.Reads as search-rows-reads
 
--- src/lib.rt:155:9
 slice-aggregate-search-rows : tie.Need-slice-aggregate-search-rows
 slice-aggregate-search-rows c = search needs
 
--- src/lib.rt:142:5
 search-rows-requires : tie.Need-search-rows-requires
 search-rows-requires c κs =
     let e = c .before .before .before .before .before .before .before .before .before in
     let w = mul-le-mul {n₂ = 256} {m₂ = 256} (e .pre .0 .verified .fits .few) (e .pre .0 .verified .fits .few) in
     (e .pre .0, (e .pre .1, zeros 65536 (e .args .q) (few-bytes (2 * (e .args .q * e .args .q)) 16384 (omega (arith, w)))))
 
--- src/lib.rt:121:1
 same-length : tie.Need-same-length
 same-length c = search needs
 
--- src/lib.rt:121:1
 same-length-2 : tie.Need-same-length-2
 same-length-2 c = search needs
 
--- src/lib.rt:121:1
 same-length-3 : tie.Need-same-length-3
 same-length-3 c = search needs
 
--- src/lib.rt:121:1
 same-length-4 : tie.Need-same-length-4
 same-length-4 c = search needs
 
--- src/lib.rt:121:1
 returns : tie.Need-returns
 returns c = search needs
 

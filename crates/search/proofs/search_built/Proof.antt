@@ -14,120 +14,94 @@ use Rattle.search.proofs.search_all.Reads as search-all-reads
 use Rattle.search.proofs.search_few.Reads as search-few-reads
 use Rattle.search.proofs.search_some.Reads as search-some-reads
 
--- src/lib.rt:223:9
 slice-aggregate-build : tie.Need-slice-aggregate-build
 slice-aggregate-build c = search needs
 
--- src/lib.rt:224:9
 slice-aggregate-build-2 : tie.Need-slice-aggregate-build-2
 slice-aggregate-build-2 c = search needs
 
--- src/lib.rt:225:9
 slice-aggregate-build-3 : tie.Need-slice-aggregate-build-3
 slice-aggregate-build-3 c = search needs
 
--- src/lib.rt:226:9
 slice-aggregate-build-4 : tie.Need-slice-aggregate-build-4
 slice-aggregate-build-4 c = search needs
 
--- src/lib.rt:227:9
 slice-aggregate-build-5 : tie.Need-slice-aggregate-build-5
 slice-aggregate-build-5 c = search needs
 
--- src/lib.rt:228:9
 slice-aggregate-build-6 : tie.Need-slice-aggregate-build-6
 slice-aggregate-build-6 c = search needs
 
--- src/lib.rt:221:5
 build-requires : tie.Need-build-requires
 build-requires c κs = let e = c .before .before .before .before .before .before .before .before .before .before in (e .pre .0, room-of (e .args .g) _ (e .pre .0) (search needs) (search needs) (search needs) (search needs) (search needs) (search needs))
 
--- src/lib.rt:231:13
 add-m : tie.Need-add-m
 add-m c = let e = c .before .before .before .before .before .before .before .before .before .before .before .before .before .before .before .before .before .before in omega (arith, few-nonterminals (e .args .g) (e .pre .0))
 
--- src/lib.rt:234:9
 search-few-requires : tie.Need-search-few-requires
 search-few-requires c κs =
     let e = c .before .before .before .before .before .before .before .before .before .before .before .before .before .before .before .before .before .before .before .before .before .before .before .before .before .before .before .before in
     let x = e .pre .0 in
     (laid-of (e .args .g) (x .grammar) (x .wellFormed) (x .same) _ _ (c .before .before .before .before .before .before .before .before .before .before .before .before .before .before .before .before .before .build .ensures (x .grammar) (x .same)) (search needs), (e .pre .1, c .before .before .before .before .before .before .before .before .before .if1 .taken))
 
--- src/lib.rt:234:9
 same-length : tie.Need-same-length
 same-length c = search needs
 
--- src/lib.rt:234:9
 same-length-2 : tie.Need-same-length-2
 same-length-2 c = search needs
 
--- src/lib.rt:234:9
 same-length-3 : tie.Need-same-length-3
 same-length-3 c = search needs
 
--- src/lib.rt:234:9
 same-length-4 : tie.Need-same-length-4
 same-length-4 c = search needs
 
--- src/lib.rt:234:9
 returns : tie.Need-returns
 returns c = λ G W e.
     let a = c .before .before .before .before .before .before .before .before .before .before .before .before .before .before .before .before .before .before .before .before .before .before .before .before .before .before .before .before .before .before .before .before .before .before .before .before .before .args in
     c .before .before .before .before .before .before .before .before .search-few .ensures G W (planned-of (a .g) G W e _ _ (c .before .before .before .before .before .before .before .before .before .before .before .before .before .before .before .before .before .before .before .before .before .before .before .before .before .before .build .ensures G e) (search needs))
 
--- src/lib.rt:250:9
 search-some-requires : tie.Need-search-some-requires
 search-some-requires c κs =
     let e = c .before .before .before .before .before .before .before .before .before .before .before .before .before .before .before .before .before .before .before .before .before .before .before .before .before .before .before .before .before in
     let x = e .pre .0 in
     (laid-of (e .args .g) (x .grammar) (x .wellFormed) (x .same) _ _ (c .before .before .before .before .before .before .before .before .before .before .before .before .before .before .before .before .before .before .build .ensures (x .grammar) (x .same)) (search needs), (e .pre .1, c .before .before .before .before .before .before .before .before .before .if2 .taken))
 
--- src/lib.rt:250:9
 same-length-5 : tie.Need-same-length-5
 same-length-5 c = search needs
 
--- src/lib.rt:250:9
 same-length-6 : tie.Need-same-length-6
 same-length-6 c = search needs
 
--- src/lib.rt:250:9
 same-length-7 : tie.Need-same-length-7
 same-length-7 c = search needs
 
--- src/lib.rt:250:9
 same-length-8 : tie.Need-same-length-8
 same-length-8 c = search needs
 
--- src/lib.rt:250:9
 returns-2 : tie.Need-returns-2
 returns-2 c = λ G W e.
     let a = c .before .before .before .before .before .before .before .before .before .before .before .before .before .before .before .before .before .before .before .before .before .before .before .before .before .before .before .before .before .before .before .before .before .before .before .before .before .before .args in
     c .before .before .before .before .before .before .before .before .search-some .ensures G W (planned-of (a .g) G W e _ _ (c .before .before .before .before .before .before .before .before .before .before .before .before .before .before .before .before .before .before .before .before .before .before .before .before .before .before .before .build .ensures G e) (search needs))
 
--- src/lib.rt:265:5
 search-all-requires : tie.Need-search-all-requires
 search-all-requires c κs =
     let e = c .before .before .before .before .before .before .before .before .before .before .before .before .before .before .before .before .before .before .before .before .before .before .before .before .before .before .before .before .before in
     let x = e .pre .0 in
     (laid-of (e .args .g) (x .grammar) (x .wellFormed) (x .same) _ _ (c .before .before .before .before .before .before .before .before .before .before .before .before .before .before .before .before .before .before .build .ensures (x .grammar) (x .same)) (search needs), e .pre .1)
 
--- src/lib.rt:203:1
 same-length-9 : tie.Need-same-length-9
 same-length-9 c = search needs
 
--- src/lib.rt:203:1
 same-length-10 : tie.Need-same-length-10
 same-length-10 c = search needs
 
--- src/lib.rt:203:1
 same-length-11 : tie.Need-same-length-11
 same-length-11 c = search needs
 
--- src/lib.rt:203:1
 same-length-12 : tie.Need-same-length-12
 same-length-12 c = search needs
 
--- src/lib.rt:203:1
 returns-3 : tie.Need-returns-3
 returns-3 c = λ G W e.
     let a = c .before .before .before .before .before .before .before .before .before .before .before .before .before .before .before .before .before .before .before .before .before .before .before .before .before .before .before .before .before .before .before .before .before .before .before .before .before .before .args in

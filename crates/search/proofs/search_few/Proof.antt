@@ -10,34 +10,27 @@ use Rattle.search.proofs.search_few.Reads as reads
 use Rattle.search.proofs.search_few.Lts as lts
 use Rattle.search.proofs.search_rows.Reads as search-rows-reads
 
--- src/lib.rt:117:9
 slice-aggregate-search-rows : tie.Need-slice-aggregate-search-rows
 slice-aggregate-search-rows c = search needs
 
--- src/lib.rt:104:5
 search-rows-requires : tie.Need-search-rows-requires
 search-rows-requires c κs =
     let e = c .before .before .before .before .before .before .before .before .before in
     let w = mul-le-mul {n₂ = 64} {m₂ = 64} (e .pre .1 .1) (e .pre .1 .1) in
     (e .pre .0, (e .pre .1 .0, zeros 4096 (e .args .q) (few-bytes (2 * (e .args .q * e .args .q)) 1024 (omega (arith, w)))))
 
--- src/lib.rt:82:1
 same-length : tie.Need-same-length
 same-length c = search needs
 
--- src/lib.rt:82:1
 same-length-2 : tie.Need-same-length-2
 same-length-2 c = search needs
 
--- src/lib.rt:82:1
 same-length-3 : tie.Need-same-length-3
 same-length-3 c = search needs
 
--- src/lib.rt:82:1
 same-length-4 : tie.Need-same-length-4
 same-length-4 c = search needs
 
--- src/lib.rt:82:1
 returns : tie.Need-returns
 returns c = search needs
 

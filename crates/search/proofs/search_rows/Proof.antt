@@ -24,11 +24,9 @@ table e = rows (e .args .ahead .now) (e .args .number .now) (e .args .member .no
 small : (e : tie.Start) → (16 ≤ e .args .q * e .args .q) × (e .args .q * e .args .q ≤ 65536)
 small e = square-of (e .args .q) (e .pre .0 .verified .fits .four) (e .pre .0 .verified .fits .few)
 
--- src/lib.rt:61:9
 explore-requires : tie.Need-explore-requires
 explore-requires c κs = search needs
 
--- src/lib.rt:74:9
 answer-requires : tie.Need-answer-requires
 unfolding table
 answer-requires c κs =
@@ -42,43 +40,33 @@ answer-requires c κs =
       ),
     )
 
--- src/lib.rt:75:18
 mul-n : tie.Need-mul-n
 mul-n c = omega (arith, small (c .before .before .before .before .before .before .before .before .before .before .before .before .before .before .before .before .before .before .before .before .before .before .before .before .before) .1)
 
--- src/lib.rt:75:13
 mul-n-2 : tie.Need-mul-n-2
 mul-n-2 c = omega (arith, small (c .before .before .before .before .before .before .before .before .before .before .before .before .before .before .before .before .before .before .before .before .before .before .before .before .before) .1)
 
--- src/lib.rt:76:5
 clear-requires : tie.Need-clear-requires
 clear-requires c κs = search needs
 
--- src/lib.rt:77:5
 clear-requires-2 : tie.Need-clear-requires-2
 clear-requires-2 c κs = search needs
 
--- src/lib.rt:39:1
 same-length : tie.Need-same-length
 same-length c = search needs
 
--- src/lib.rt:39:1
 same-length-2 : tie.Need-same-length-2
 same-length-2 c = search needs
 
--- src/lib.rt:39:1
 same-length-3 : tie.Need-same-length-3
 same-length-3 c = search needs
 
--- src/lib.rt:39:1
 same-length-4 : tie.Need-same-length-4
 same-length-4 c = search needs
 
--- src/lib.rt:39:1
 same-length-5 : tie.Need-same-length-5
 same-length-5 c = search needs
 
--- src/lib.rt:39:1
 returns : tie.Need-returns
 unfolding table
 returns c = λ G W p.

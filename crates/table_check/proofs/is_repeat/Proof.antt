@@ -18,64 +18,51 @@ use Rattle.table_check.proofs.place.Reads as place-reads
 use Rattle.table_check.proofs.same_rule.Reads as same-rule-reads
 use Rattle.table_check.proofs.wide.Reads as wide-reads
 
--- src/lib.rt:175:8
 mul-if1 : tie.Need-mul-if1
 mul-if1 c = search needs
 
--- src/lib.rt:175:8
 element-copy-out-if1 : tie.Need-element-copy-out-if1
 element-copy-out-if1 c = search needs
 
--- src/lib.rt:175:25
 shared-slice-read-code : tie.Need-shared-slice-read-code
 shared-slice-read-code c = search needs
 
--- src/lib.rt:175:20
 code-requires : tie.Need-code-requires
 code-requires c κs = search needs
 
 other-left : (x y : ℕ) (b : Bool) → (x ≡ y → ⊥) → false ≡ eqb x y && b
 other-left x y b n = simp (ne-eqb x y n)
 
--- src/lib.rt:176:9
 returns : tie.Need-returns
 returns c =
     let e = c .before .before .before .before .before in let a = e .args in let xs = a .table .now in let o = getD (a .offsets .now) (a .i) 0 in
     other-left (getD xs o 0) (getD xs (a .at) 0) (sameCodes (take (getD xs (o + 1) 0) (drop (o + 2) xs)) (take (a .k) (drop (a .at + 2) xs)))
     (λ q. c .if1 .taken (e .pre .left ∙ q ∙ sym (c .before .code .ensures)))
 
--- src/lib.rt:178:19
 mul-place : tie.Need-mul-place
 mul-place c = search needs
 
--- src/lib.rt:178:19
 element-copy-out-place : tie.Need-element-copy-out-place
 element-copy-out-place c = search needs
 
--- src/lib.rt:178:9
 place-requires : tie.Need-place-requires
 place-requires c κs = search needs
 
--- src/lib.rt:179:24
 add-wide : tie.Need-add-wide
 add-wide c = search needs
 
--- src/lib.rt:179:18
 shared-slice-read-wide : tie.Need-shared-slice-read-wide
 shared-slice-read-wide c = search needs
 
--- src/lib.rt:179:9
 wide-requires : tie.Need-wide-requires
 wide-requires c κs = search needs
 
--- src/lib.rt:180:5
 same-rule-requires : tie.Need-same-rule-requires
 same-rule-requires c κs =
     let e = c .before .before .before .before .before .before .before .before .before in let a = e .args in
     let r = subst (λ (o : ℕ). o + 2 + getD (a .table .now) (o + 1) 0 ≤ a .at) (sym (c .before .before .place .ensures)) (e .pre .room) in
     (omega (arith, r, c .wide .ensures, e .pre .whole), e .pre .whole)
 
--- src/lib.rt:163:1
 returns-2 : tie.Need-returns-2
 returns-2 c =
     let a = c .before .before .before .before .before .before .before .before .before .before .args in let p = c .before .before .before .place in

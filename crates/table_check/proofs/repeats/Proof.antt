@@ -15,31 +15,24 @@ Inv-loop table offsets lefts count at k i₀ i = Behind table offsets lefts coun
 abbrev μ-loop : tie.MeasureT-loop
 μ-loop table offsets lefts count at k i₀ i = count - i
 
--- src/lib.rt:196:5
 loop-holds : tie.Need-loop-holds Inv-loop μ-loop
 loop-holds c = behind-start (c .before .pre)
 
--- src/lib.rt:197:12
 is-repeat-requires : tie.Need-is-repeat-requires Inv-loop μ-loop
 is-repeat-requires c κs = behind-here (c .before .loop .inv) (c .loop-test .taken)
 
--- src/lib.rt:198:13
 returns : tie.Need-returns Inv-loop μ-loop
 returns c = let r = c .before in behind-found (r .before .before .loop .inv) (r .before .loop-test .taken) (sym (r .is-repeat .ensures) ∙ c .if1 .taken)
 
--- src/lib.rt:200:9
 add-i : tie.Need-add-i Inv-loop μ-loop
 add-i c = omega (arith, c .before .before .loop-test .taken, c .before .before .before .loop .inv .few)
 
--- src/lib.rt:196:5
 loop-less : tie.Need-loop-less Inv-loop μ-loop
 loop-less c = omega (arith, c .before .before .loop-test .taken)
 
--- src/lib.rt:196:5
 loop-again : tie.Need-loop-again Inv-loop μ-loop
 loop-again c = let r = c .before in behind-more (r .before .before .loop .inv) (r .before .loop-test .taken) (sym (r .is-repeat .ensures) ∙ c .if1 .left)
 
--- src/lib.rt:184:1
 returns-2 : tie.Need-returns-2 Inv-loop μ-loop
 returns-2 c = behind-end (c .before .loop .inv) (c .loop-test .left)
 

@@ -24,65 +24,50 @@ inside c =
     let e = c .before .before .before .before .before in let a = e .args in
     subst (λ (u : ℕ). a .flags + (a .base + u * a .stride) < 8 * length (a .marks .now)) (sym (c .wide .ensures .0)) (e .pre .1 (omega (arith, c .before .before .if1 .left)))
 
--- src/take_up.rt:53:16
 add-result : tie.Need-add-result
 add-result c = search needs
 
--- src/take_up.rt:53:9
 returns : tie.Need-returns
 returns c = short (omega (arith, c .if1 .taken))
 
--- src/take_up.rt:55:44
 mul-wide : tie.Need-mul-wide
 mul-wide c = search needs
 
--- src/take_up.rt:55:44
 shared-slice-read-wide : tie.Need-shared-slice-read-wide
 shared-slice-read-wide c = search needs
 
--- src/take_up.rt:55:32
 wide-requires : tie.Need-wide-requires
 wide-requires c κs = search needs
 
--- src/take_up.rt:55:32
 mul-flag : tie.Need-mul-flag
 mul-flag c = omega (arith, small c)
 
--- src/take_up.rt:55:25
 add-flag : tie.Need-add-flag
 add-flag c = omega (arith, small c, c .before .before .before .before .before .pre .0 .2)
 
--- src/take_up.rt:55:16
 add-flag-2 : tie.Need-add-flag-2
 add-flag-2 c = omega (arith, small c, c .before .before .before .before .before .pre .0 .2, c .before .before .before .before .before .pre .0 .4)
 
--- src/take_up.rt:56:8
 is-set-requires : tie.Need-is-set-requires
 is-set-requires c κs = inside (c .before)
 
--- src/take_up.rt:57:9
 same-length : tie.Need-same-length
 same-length c = search needs
 
--- src/take_up.rt:57:9
 returns-2 : tie.Need-returns-2
 returns-2 c =
     let w = c .before .before .before in let a = w .before .before .before .before .before .args in
     shut (ap (λ (u : ℕ). isSet (a .marks .now) (a .flags + (a .base + u * a .stride))) (sym (w .wide .ensures .0)) ∙ sym (c .before .is-set .ensures) ∙ c .if2 .taken)
 
--- src/take_up.rt:59:5
 set-bit-requires : tie.Need-set-bit-requires
 set-bit-requires c κs = inside (c .before .before .before .before)
 
--- src/take_up.rt:60:5
 add-result-2 : tie.Need-add-result-2
 add-result-2 c = search needs
 
--- src/take_up.rt:39:1
 same-length-2 : tie.Need-same-length-2
 same-length-2 c = search needs
 
--- src/take_up.rt:39:1
 returns-3 : tie.Need-returns-3
 returns-3 c =
     let w = c .before .before .before .before .before .before .before in let e = w .before .before .before .before .before in let a = e .args in

@@ -80,23 +80,18 @@ fits c =
 small : (e : tie.Start) → (16 ≤ e .args .q * e .args .q) × (e .args .q * e .args .q ≤ 65536)
 small e = square-of (e .args .q) (e .pre .0 .verified .fits .four) (e .pre .0 .verified .fits .few)
 
--- src/take_up.rt:271:19
 mul-entry : tie.Need-mul-entry
 mul-entry c = search needs
 
--- src/take_up.rt:271:19
 slice-read-entry : tie.Need-slice-read-entry
 slice-read-entry c = search needs
 
--- src/take_up.rt:271:9
 entry-requires : tie.Need-entry-requires
 entry-requires c κs = search needs
 
--- src/take_up.rt:272:8
 is-idle-requires : tie.Need-is-idle-requires
 is-idle-requires c κs = let e = entry-start c in (e .pre .0 .verified .fits, (below c, e .pre .1 .1 .1))
 
--- src/take_up.rt:273:9
 returns : tie.Need-returns
 unfolding table begun
 returns c =
@@ -106,27 +101,21 @@ returns c =
     taken-nothing (table e) (e .args .targets .now) (e .args .t) (e .args .m) (e .args .q) (laid e) (begun e) (going e) (e .args .place) (e .pre .1 .1 .0) (planOf (table e) (e .args .t) (e .args .m) (e .args .q) i) refl
     (ap (λ (i : ℕ). planOf (table e) (e .args .t) (e .args .m) (e .args .q) i .total) (sym (d .entry .ensures)) ∙ c .before .is-idle .ensures (c .if1 .taken) (e .args .number .now) (e .args .t) (e .args .m))
 
--- src/take_up.rt:275:9
 plan-at-requires : tie.Need-plan-at-requires
 plan-at-requires c κs = let d = c .before .before in let e = entry-start d in (e .pre .0 .verified .fits, (below d, e .pre .1 .1 .1))
 
--- src/take_up.rt:276:18
 mul-n : tie.Need-mul-n
 mul-n c = omega (arith, small (plan-start c) .1)
 
--- src/take_up.rt:276:13
 mul-n-2 : tie.Need-mul-n-2
 mul-n-2 c = omega (arith, small (plan-start c) .1)
 
--- src/take_up.rt:277:18
 add-flags : tie.Need-add-flags
 add-flags c = omega (arith, small (plan-start c) .1)
 
--- src/take_up.rt:277:17
 mul-flags : tie.Need-mul-flags
 mul-flags c = omega (arith, small (plan-start c) .1)
 
--- src/take_up.rt:278:9
 open-end-requires : tie.Need-open-end-requires
 open-end-requires c κs =
     let d = c .before .before in
@@ -138,11 +127,9 @@ open-end-requires c κs =
     let room = e .pre .1 .0 .marked .marks-room in
     ((omega (arith, f .safe .left), omega (arith, f .safe .left), omega (arith, f .safe .left-base), omega arith, omega arith), λ l. omega (arith, f .left-low l))
 
--- src/take_up.rt:286:9
 add-open-end : tie.Need-add-open-end
 add-open-end c = let d = plan-place (c .before .before .before .before) in omega (arith, small (plan-start d) .1)
 
--- src/take_up.rt:279:9
 open-end-requires-2 : tie.Need-open-end-requires-2
 open-end-requires-2 c κs =
     let d = plan-place (c .before .before .before .before) in
@@ -155,7 +142,6 @@ open-end-requires-2 c κs =
     let k = c .before .before .before .before .open-end .kept in
     ((omega (arith, f .safe .right), omega (arith, f .safe .right), omega (arith, f .safe .right-base), omega arith, omega arith), λ l. omega (arith, f .right-low l, k))
 
--- src/take_up.rt:288:9
 push-sides-requires : tie.Need-push-sides-requires
 unfolding table begun
 push-sides-requires c κs =
@@ -177,31 +163,24 @@ push-sides-requires c κs =
       ),
     )
 
--- src/take_up.rt:305:17
 sub-pairs : tie.Need-sub-pairs
 sub-pairs c = omega (arith, fits (planning (c .before .before .before .before .before .before .before)) .total)
 
--- src/take_up.rt:305:17
 sub-pairs-2 : tie.Need-sub-pairs-2
 sub-pairs-2 c = omega (arith, fits (planning (c .before .before .before .before .before .before .before .before)) .total)
 
--- src/take_up.rt:305:17
 sub-pairs-3 : tie.Need-sub-pairs-3
 sub-pairs-3 c = omega (arith, fits (planning (c .before .before .before .before .before .before .before .before .before)) .total)
 
--- src/take_up.rt:307:9
 same-length : tie.Need-same-length
 same-length c = omega (arith, sides-place (c .before) .push-sides .kept .0)
 
--- src/take_up.rt:307:9
 same-length-2 : tie.Need-same-length-2
 same-length-2 c = omega (arith, sides-place (c .before) .push-sides .kept .1 .0)
 
--- src/take_up.rt:307:9
 same-length-3 : tie.Need-same-length-3
 same-length-3 c = let p = sides-place (c .before) in omega (arith, p .push-sides .kept .1 .1 .0, left-place (right-place p) .open-end .kept, right-place p .open-end2 .kept)
 
--- src/take_up.rt:307:9
 returns-2 : tie.Need-returns-2
 unfolding table begun
 returns-2 c =
@@ -211,19 +190,15 @@ returns-2 c =
     taken-none (table e) (e .args .targets .now) (e .args .t) (e .args .m) (e .args .q) (laid e) (begun e) (going e) (e .args .place) (e .pre .1 .1 .0) (d .plan-at .result) (planned d) (c .if2 .taken) _
     (half-of (table e) (e .args .targets .now) (e .args .t) (e .args .m) (e .args .q) (laid e) (begun e) (going e) (e .args .place) (e .pre .1 .1 .0) (d .plan-at .result) (planned d) _ _ _ _ _ _ (let z : (2 * (e .args .q * e .args .q) + 7) / 8 * 8 ≡ flagBase (e .args .q) = omega arith in z) refl (left-place (right-place (p)) .open-end .ensures) (right-place (p) .open-end2 .ensures) .1 _ (p .push-sides .ensures))
 
--- src/take_up.rt:309:17
 div-lines : tie.Need-div-lines
 div-lines c = fits (planning (sides-place (c .before .before))) .columns-some (omega (arith, c .before .if2 .left))
 
--- src/take_up.rt:323:17
 mul-take-pairs : tie.Need-mul-take-pairs
 mul-take-pairs c = omega (arith, small (plan-start (planning (sides-place (c .before .before .before .before .before .before)))) .1)
 
--- src/take_up.rt:323:9
 add-take-pairs : tie.Need-add-take-pairs
 add-take-pairs c = omega (arith, small (plan-start (planning (sides-place (c .before .before .before .before .before .before)))) .1)
 
--- src/take_up.rt:310:5
 take-pairs-requires : tie.Need-take-pairs-requires
 unfolding table begun
 take-pairs-requires c κs =
@@ -248,21 +223,17 @@ take-pairs-requires c κs =
       ),
     )
 
--- src/take_up.rt:248:1
 same-length-4 : tie.Need-same-length-4
 same-length-4 c = let r = c .before .before .before .before .before .before in omega (arith, sides-place (r .before .before .before .before .before .before .before) .push-sides .kept .0, r .take-pairs .kept .1 .0)
 
--- src/take_up.rt:248:1
 same-length-5 : tie.Need-same-length-5
 same-length-5 c = let r = c .before .before .before .before .before .before in omega (arith, sides-place (r .before .before .before .before .before .before .before) .push-sides .kept .1 .0, r .take-pairs .kept .1 .1 .0)
 
--- src/take_up.rt:248:1
 same-length-6 : tie.Need-same-length-6
 same-length-6 c =
     let r = c .before .before .before .before .before .before in let p = sides-place (r .before .before .before .before .before .before .before) in
     omega (arith, p .push-sides .kept .1 .1 .0, left-place (right-place p) .open-end .kept, right-place p .open-end2 .kept, r .take-pairs .kept .1 .1 .1 .0)
 
--- src/take_up.rt:248:1
 returns-3 : tie.Need-returns-3
 unfolding table begun
 returns-3 c =
