@@ -18,7 +18,14 @@ pub const SPACE: u8 = 32;
 
 pub const EQUALS: u8 = 61;
 
-// The keys, padded with 0, and their lengths: terminals is 0, nonterminals 1, rule 2.
+// The keys by their numbers.
+pub const TERMINALS: usize = 0;
+
+pub const NONTERMINALS: usize = 1;
+
+pub const RULE: usize = 2;
+
+// The keys, padded with 0, and their lengths.
 const KEYS: [[u8; 12]; 3] = [
     *b"terminals\0\0\0",
     *b"nonterminals",

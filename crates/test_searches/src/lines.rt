@@ -3,8 +3,7 @@ ghost use mathlib.Core.Path.{_≡_};
 ghost use Prim.Native.Nat.{_+_, _*_, _/_, _≤_};
 ghost use lib.ListN.{length};
 ghost use Rattle.test_searches.specs.Line.{lineSize, mostStates, mostEntries};
-
-const MAX_STATES: usize = 256;
+use grammar::MAX_STATES;
 
 // The number of a byte repeated four times.
 pub fn word(fill: u8) -> u32 {

@@ -21,10 +21,8 @@ use grammar::MAX_LENGTH;
 use grammar::NAME_UNKNOWN;
 use grammar::RULE_TOO_LONG;
 use names::LINE_END;
+use names::RULE;
 use names::SPACE;
-
-// The key of a rule by its number.
-const RULE: usize = 2;
 
 // One rule more than a grammar has: the table check refuses it, so the rules after it need not be kept.
 const KEPT_RULES: usize = 101;

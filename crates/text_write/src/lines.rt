@@ -15,7 +15,10 @@ use super::size::symbol;
 use super::size::wide_byte;
 use names::COLON;
 use names::LINE_END;
+use names::NONTERMINALS;
+use names::RULE;
 use names::SPACE;
+use names::TERMINALS;
 
 // A line that declares names under key k.
 fn put_line(
@@ -87,7 +90,7 @@ fn put_rule(
         (now (out .entry)) r (now (out .exit)) ⌝ }
 {
     let s = symbol(t, left);
-    let a = put_key(out, at, 2);
+    let a = put_key(out, at, RULE);
     let b = put_name(out, a, bytes, starts, lengths, s);
     let c = put_byte(out, b, COLON);
     let d = put_codes(out, c, codes, t, bytes, starts, lengths);
@@ -140,7 +143,7 @@ pub fn put_text(
         (now (out .entry)) r (now (out .exit)) ⌝ }
 {
     let m = starts.len();
-    let i = put_line(out, 0, 0, bytes, starts, lengths, 0, t);
-    let j = put_line(out, i, 1, bytes, starts, lengths, t, m);
+    let i = put_line(out, 0, TERMINALS, bytes, starts, lengths, 0, t);
+    let j = put_line(out, i, NONTERMINALS, bytes, starts, lengths, t, m);
     put_rules(out, j, table, t, bytes, starts, lengths)
 }
