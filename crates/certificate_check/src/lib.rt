@@ -317,8 +317,9 @@ fn check_bits<'a>(
     if bytes.len() != size {
         return CheckVerdict::Refused(CERTIFICATE_LENGTH, 0);
     }
-    let spare = lowest_set(bytes, count, 8 * size);
-    if spare != 8 * size {
+    let past = 8 * size;
+    let spare = lowest_set(bytes, count, past);
+    if spare != past {
         return CheckVerdict::Refused(SPARE_BIT, spare);
     }
     if !bits::is_set(bytes, 0) {

@@ -31,14 +31,11 @@ add-size c = let a = c .before .args in let v = c .before .pre in let w = square
 returns : tie.Need-returns
 returns c = let a = c .before .before .args in let v = c .before .before .pre in let w = square-of (a .q) (v .fits .four) (v .fits .few) in λ G p. wrong-length G (a .bytes .now) (a .q) (p .size) (c .if1 .taken)
 
-mul-lowest-set : tie.Need-mul-lowest-set
-mul-lowest-set c = let a = c .before .before .args in let v = c .before .before .pre in let w = square-of (a .q) (v .fits .four) (v .fits .few) in omega (arith, w .1)
+mul-past : tie.Need-mul-past
+mul-past c = let a = c .before .before .args in let v = c .before .before .pre in let w = square-of (a .q) (v .fits .four) (v .fits .few) in omega (arith, w .1)
 
 lowest-set-requires : tie.Need-lowest-set-requires
 lowest-set-requires c κs = let a = c .before .before .args in let v = c .before .before .pre in let w = square-of (a .q) (v .fits .four) (v .fits .few) in (omega (arith, w .1), omega (arith, c .if1 .left), omega (arith, w .1, c .if1 .left))
-
-mul-if2 : tie.Need-mul-if2
-mul-if2 c = let a = c .before .before .before .args in let v = c .before .before .before .pre in let w = square-of (a .q) (v .fits .four) (v .fits .few) in omega (arith, w .1)
 
 returns-2 : tie.Need-returns-2
 returns-2 c = let a = c .before .before .before .before .args in let v = c .before .before .before .before .pre in let w = square-of (a .q) (v .fits .four) (v .fits .few) in λ G p. spare-set G (a .bytes .now) (a .q) (p .size) (c .before .before .if1 .left) (c .before .lowest-set .result) (c .before .lowest-set .ensures) (c .if2 .taken)
@@ -84,9 +81,8 @@ check-bits-spec =
     mul-count
     add-size
     returns
-    mul-lowest-set
+    mul-past
     lowest-set-requires
-    mul-if2
     returns-2
     is-set-requires
     returns-3

@@ -17,7 +17,6 @@ use Rattle.plans.proofs.plan_by_layer.Reads as plan-by-layer-reads
 digits-of-requires : tie.Need-digits-of-requires
 digits-of-requires c κs = let e = c .before in (e .pre .0 .four, e .pre .0 .few, e .pre .1 .0, e .pre .1 .3)
 
--- src/lib.rt:171:9
 plan-by-layer-requires : tie.Need-plan-by-layer-requires
 plan-by-layer-requires c κs = let e = c .before .before in let d = c .digits-of .ensures in (e .pre .0, (d .0, e .pre .1 .0, d .1, d .2))
 

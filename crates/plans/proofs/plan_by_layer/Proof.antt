@@ -11,22 +11,18 @@ use Rattle.plans.proofs.plan_by_layer.Lts as lts
 use Rattle.plans.proofs.plan_high.Reads as plan-high-reads
 use Rattle.plans.proofs.plan_low.Reads as plan-low-reads
 
--- src/lib.rt:293:9
 plan-low-requires : tie.Need-plan-low-requires
 plan-low-requires c κs = search needs
 
--- src/lib.rt:293:9
 returns : tie.Need-returns
 returns c =
     let a = c .before .before .args in
     c .plan-low .ensures
     ∙ ap (λ (f : ℕ). planFor (rows (a .ahead .now) (a .number .now) (a .member .now) (a .first .now)) (a .t) (a .m) (a .q) (a .i) f (a .a) (a .b) (sideOf (a .member .now) (a .first .now) (a .a)) (sideOf (a .member .now) (a .first .now) (a .b))) (sym (c .before .if1 .taken))
 
--- src/lib.rt:295:5
 plan-high-requires : tie.Need-plan-high-requires
 plan-high-requires c κs = search needs
 
--- src/lib.rt:274:1
 returns-2 : tie.Need-returns-2
 returns-2 c =
     let e = c .before .before in let a = e .args in

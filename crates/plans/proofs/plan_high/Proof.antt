@@ -12,19 +12,15 @@ use Rattle.plans.proofs.plan_high.Lts as lts
 use Rattle.plans.proofs.shift_of.Reads as shift-of-reads
 use Rattle.plans.proofs.side_of.Reads as side-of-reads
 
--- src/lib.rt:254:18
 mul-square : tie.Need-mul-square
 mul-square c = let s = c .pre .0 in let w = square-of (c .args .q) (s .four) (s .few) in omega (arith, w .1)
 
--- src/lib.rt:255:9
 side-of-requires : tie.Need-side-of-requires
 side-of-requires c κs = c .pre .0 .side (c .args .a) (c .pre .1 .1)
 
--- src/lib.rt:256:9
 side-of-requires-2 : tie.Need-side-of-requires-2
 side-of-requires-2 c κs = c .before .pre .0 .side (c .before .args .b) (c .before .pre .1 .2)
 
--- src/lib.rt:257:9
 shift-of-requires : tie.Need-shift-of-requires
 shift-of-requires c κs = let e = c .before .before in (omega (arith, e .pre .1 .1, e .pre .0 .few), omega (arith, e .pre .1 .2, e .pre .0 .few))
 
@@ -40,35 +36,27 @@ sizes c =
       product-le (a .a) (a .q) (omega (arith, e .pre .1 .1, s .few)) (s .few),
     )
 
--- src/lib.rt:262:16
 add-t13 : tie.Need-add-t13
 add-t13 c = let h = c .before .before in let n = sizes h in let e = h .before .before .before in omega (arith, n .0, n .1, n .2, n .3, n .4, e .pre .1, e .pre .0 .few)
 
--- src/lib.rt:262:16
 add-t14 : tie.Need-add-t14
 add-t14 c = let h = c .before .before in let n = sizes h in let e = h .before .before .before in omega (arith, n .0, n .1, n .2, n .3, n .4, e .pre .1, e .pre .0 .few)
 
--- src/lib.rt:265:20
 add-t15 : tie.Need-add-t15
 add-t15 c = let h = c .before .before in let n = sizes h in let e = h .before .before .before in omega (arith, n .0, n .1, n .2, n .3, n .4, e .pre .1, e .pre .0 .few)
 
--- src/lib.rt:266:30
 mul-t16 : tie.Need-mul-t16
 mul-t16 c = let h = c .before .before in let n = sizes h in let e = h .before .before .before in omega (arith, n .0, n .1, n .2, n .3, n .4, e .pre .1, e .pre .0 .few)
 
--- src/lib.rt:266:21
 add-t17 : tie.Need-add-t17
 add-t17 c = let h = c .before .before in let n = sizes h in let e = h .before .before .before in omega (arith, n .0, n .1, n .2, n .3, n .4, e .pre .1, e .pre .0 .few)
 
--- src/lib.rt:267:17
 add-t18 : tie.Need-add-t18
 add-t18 c = let h = c .before .before in let n = sizes h in let e = h .before .before .before in omega (arith, n .0, n .1, n .2, n .3, n .4, e .pre .1, e .pre .0 .few)
 
--- src/lib.rt:267:17
 add-t19 : tie.Need-add-t19
 add-t19 c = let h = c .before .before in let n = sizes h in let e = h .before .before .before in omega (arith, n .0, n .1, n .2, n .3, n .4, e .pre .1, e .pre .0 .few)
 
--- src/lib.rt:239:1
 returns : tie.Need-returns
 returns c =
     let h = c .before .before in let a = h .before .before .before .args in
