@@ -8,8 +8,8 @@ use Rattle.grammar.specs.Grammar.{Grammar}
 use Rattle.grammar.specs.Record.{recordOf, codes}
 use Rattle.grammar.specs.Refusal.{Answer, done, refused}
 use Rattle.grammar.specs.TableCheck.{checkTable, tableChecked}
+use Rattle.grammar.proofs.Columns.{sizes}
 use Rattle.grammar.proofs.WellFormed.{takes-only, room}
-use Rattle.table_check.proofs.RecordLaws.{sizes}
 use Rattle.test_tables.specs.Line.{Few}
 
 few-answer : (t n : ℕ) (table : List ℕ) (o : Answer Grammar) → checkTable limits t n table ≡ o → Few (tableChecked o .grammar)
