@@ -1,7 +1,7 @@
 -- check_built meets its contract: the built rows are those of the grammar that the record stands for.
 use borrow.Author.Needs.{needs}
 use native.Mathlib.Omega.{arith}
-use Prim.Native.Nat.{_-_, _/_}
+use Prim.Native.Nat.{_-_}
 use Rattle.moves.proofs.Built.{few-nonterminals, room-of}
 use Rattle.plans.proofs.PlannedLaws.{verified-of, planned-of}
 use Rattle.certificate_check.proofs.check_built.Statement.{statement}

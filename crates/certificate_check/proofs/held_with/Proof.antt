@@ -1,8 +1,8 @@
 -- held_with meets its contract: the state itself always fits, the one that the row names where the tests pass.
 use borrow.Author.Needs.{needs}
 use native.Mathlib.Omega.{arith}
-use mathlib.Core.Path.{_≡_, sym, _∙_}
-use Prim.Native.Nat.{_-_, _*_, _≤_}
+use mathlib.Core.Path.{sym, _∙_}
+use Prim.Native.Nat.{_-_}
 use Rattle.certificate_check.proofs.RestLaws.{held-self, fewer-times}
 use Rattle.certificate_check.proofs.held_with.Statement.{statement}
 use Rattle.certificate_check.proofs.held_with.Tie as tie

@@ -1,7 +1,7 @@
 -- next_of meets its contract: each return is the block that the count falls into.
 use borrow.Author.Needs.{needs}
 use native.Mathlib.Omega.{arith}
-use Prim.Native.Nat.{_+_, _-_, _/_}
+use Prim.Native.Nat.{_+_, _-_}
 use Rattle.plans.specs.declared.Plan.{Plan}
 use Rattle.plans.specs.Plan.{planned}
 use Rattle.plans.proofs.PlanLaws.{next-left, next-right, next-shift, next-pair, cell-times, pair-fits}

@@ -1,5 +1,4 @@
 -- rest_of meets its contract: what is left out, a held index with an earlier member of a class has too.
-use borrow.Author.Needs.{needs}
 use native.Mathlib.Omega.{arith}
 use Prim.Native.Nat.{_+_, _≤_}
 use Rattle.plans.specs.Plan.{rows}

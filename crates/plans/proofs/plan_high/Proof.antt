@@ -1,5 +1,4 @@
 -- plan_high meets its contract: in layer 1 nothing is left out, and there are no pairs.
-use borrow.Author.Needs.{needs}
 use native.Mathlib.Omega.{arith}
 use Prim.Native.Nat.{_*_, _≤_}
 use Rattle.grammar.specs.Limits.{limits}

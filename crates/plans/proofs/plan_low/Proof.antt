@@ -1,8 +1,7 @@
 -- plan_low meets its contract: each part is what a call promises.
 use borrow.Author.Needs.{needs}
 use native.Mathlib.Omega.{arith}
-use Prim.Native.Nat.{_-_, _*_, _/_, _%_, _≤_, _<_}
-use native.Mathlib.Nat.{mod-lt}
+use Prim.Native.Nat.{_-_, _*_, _≤_, _<_}
 use Rattle.grammar.specs.Limits.{limits}
 use Rattle.plans.specs.Plan.{rows}
 use Rattle.plans.proofs.PlanLaws.{square-of, product-le, plan-joined, span-le, alone-small, shift-small, pairs-small, layer-small}
