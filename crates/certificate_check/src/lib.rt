@@ -168,7 +168,7 @@ fn rest_of<'a>(
     let d = plans::digits_of(i, q, inverse);
     let a = d.left;
     let b = d.right;
-    let plan = plans::plan_by_layer(ahead, number, member, first, t, m, q, i, d.layer, a, b);
+    let plan = plans::plan_of(ahead, number, member, first, t, m, q, i, d.layer, a, b);
     if plan.total < WORTH {
         return plan;
     }

@@ -1,8 +1,7 @@
 // The successors of a triple, counted off the rows of crate moves: a block of left moves, one of right moves, a shift, and the
 // pairs of two closings. specs/Plan.antt says which is the k-th.
 ghost use mathlib.Core.Path.{_≡_};
-ghost use mathlib.Core.List.{List};
-ghost use Prim.Native.Nat.{ℕ, _+_, _-_, _*_, _/_, _%_, _≤_, _<_};
+ghost use Prim.Native.Nat.{_+_, _-_, _*_, _/_, _%_, _≤_, _<_};
 ghost use mathlib.Core.Bool.{true};
 ghost use lib.Dec.{ltb};
 ghost use Rattle.grammar.specs.Basics.{choose};
@@ -182,106 +181,6 @@ pub fn plan_of<'a>(
         columns: y.span,
         square: square,
     }
-}
-
-// The same where the layer is 0.
-fn plan_low<'a>(
-    ahead: &'a [u16; MAX_STATES],
-    number: &'a [u16; MAX_STATES],
-    member: &'a [u16; MAX_STATES],
-    first: &'a [u16; CLASSES],
-    t: u16,
-    m: u16,
-    q: usize,
-    i: usize,
-    a: usize,
-    b: usize,
-) -> Plan
-    requires { ⌜ Fits (now member) (now first) q ⌝ }
-    requires { ⌜ (i < tripleCount q) × (a < q) × (b < q) ⌝ }
-    ensures { λ r. ⌜ r ≡ planFor (rows (now (ahead .entry)) (now (number .entry)) (now (member .entry)) (now (first .entry))) t m q i 0 a b
-        (sideOf (now (member .entry)) (now (first .entry)) a) (sideOf (now (member .entry)) (now (first .entry)) b) ⌝ }
-{
-    let square = q * q;
-    let x = side_of(member, first, a);
-    let y = side_of(member, first, b);
-    let left = alone_of(ahead, t, m, 0, x, b);
-    let right = alone_of(ahead, t, m, 0, y, a);
-    let shift = shift_of(ahead, t, 0, a, b);
-    let pairs = pairs_of(number, m, 0, a, b, x, y);
-    Plan {
-        left: left,
-        right: right,
-        shift: shift,
-        total: left + right + shift + pairs,
-        left_from: x.from,
-        right_from: y.from,
-        left_base: layer_after(m, 0, x) * square + b,
-        right_base: layer_after(m, 0, y) * square + a * q,
-        beside: i + q + 1,
-        columns: y.span,
-        square: square,
-    }
-}
-
-// The same where the layer is 1: both sides make all their moves alone.
-fn plan_high<'a>(
-    ahead: &'a [u16; MAX_STATES],
-    member: &'a [u16; MAX_STATES],
-    first: &'a [u16; CLASSES],
-    t: u16,
-    q: usize,
-    i: usize,
-    a: usize,
-    b: usize,
-) -> Plan
-    requires { ⌜ Fits (now member) (now first) q ⌝ }
-    requires { ⌜ (i < tripleCount q) × (a < q) × (b < q) ⌝ }
-    ensures { λ r. ⌜ ((number : List ℕ) (m : ℕ) → r ≡ planFor (rows (now (ahead .entry)) number (now (member .entry)) (now (first .entry))) t m q i 1 a b
-        (sideOf (now (member .entry)) (now (first .entry)) a) (sideOf (now (member .entry)) (now (first .entry)) b)) ⌝ }
-{
-    let square = q * q;
-    let x = side_of(member, first, a);
-    let y = side_of(member, first, b);
-    let shift = shift_of(ahead, t, 1, a, b);
-    Plan {
-        left: x.span,
-        right: y.span,
-        shift: shift,
-        total: x.span + y.span + shift,
-        left_from: x.from,
-        right_from: y.from,
-        left_base: square + b,
-        right_base: square + a * q,
-        beside: i + q + 1,
-        columns: y.span,
-        square: square,
-    }
-}
-
-// The same made by layers: with the layer known there is less to be tested.
-pub fn plan_by_layer<'a>(
-    ahead: &'a [u16; MAX_STATES],
-    number: &'a [u16; MAX_STATES],
-    member: &'a [u16; MAX_STATES],
-    first: &'a [u16; CLASSES],
-    t: u16,
-    m: u16,
-    q: usize,
-    i: usize,
-    f: usize,
-    a: usize,
-    b: usize,
-) -> Plan
-    requires { ⌜ Fits (now member) (now first) q ⌝ }
-    requires { ⌜ (f ≤ 1) × (i < tripleCount q) × (a < q) × (b < q) ⌝ }
-    ensures { λ r. ⌜ r ≡ planFor (rows (now (ahead .entry)) (now (number .entry)) (now (member .entry)) (now (first .entry))) t m q i f a b
-        (sideOf (now (member .entry)) (now (first .entry)) a) (sideOf (now (member .entry)) (now (first .entry)) b) ⌝ }
-{
-    if f == 0 {
-        return plan_low(ahead, number, member, first, t, m, q, i, a, b);
-    }
-    plan_high(ahead, member, first, t, q, i, a, b)
 }
 
 // 2³² / q + 1, by which an index is divided.

@@ -11,25 +11,25 @@ use Rattle.certificate_check.proofs.rest_of.Lts as lts
 use Rattle.certificate_check.proofs.held_with.Reads as held-with-reads
 use Rattle.certificate_check.proofs.shorten.Reads as shorten-reads
 use Rattle.plans.proofs.digits_of.Reads as digits-of-reads
-use Rattle.plans.proofs.plan_by_layer.Reads as plan-by-layer-reads
+use Rattle.plans.proofs.plan_of.Reads as plan-of-reads
 
 digits-of-requires : tie.Need-digits-of-requires
 digits-of-requires c κs = let e = c .before in (e .pre .0 .four, e .pre .0 .few, e .pre .1 .0, e .pre .1 .3)
 
-plan-by-layer-requires : tie.Need-plan-by-layer-requires
-plan-by-layer-requires c κs = let e = c .before .before in let d = c .digits-of .ensures in (e .pre .0, (d .0, e .pre .1 .0, d .1, d .2))
+plan-of-requires : tie.Need-plan-of-requires
+plan-of-requires c κs = let e = c .before .before in let d = c .digits-of .ensures in (e .pre .0, (e .pre .1 .0, d .1, d .2))
 
 -- the sizes of its blocks
-sizes : (c : tie.After-plan-by-layer) → let P = c .plan-by-layer .result in (P .left + P .right + P .shift ≤ P .total) × (P .total ≤ 131072)
+sizes : (c : tie.After-plan-of) → let P = c .plan-of .result in (P .left + P .right + P .shift ≤ P .total) × (P .total ≤ 131072)
 sizes c =
     let l = c .before in let e = l .before .before in let a = e .args in let r = l .digits-of .result in let d = l .digits-of .ensures in
-    plan-sizes (rows (a .ahead .now) (a .number .now) (a .member .now) (a .first .now)) (a .t) (a .m) (a .q) (a .i) (r .layer) (r .left) (r .right) (c .plan-by-layer .result) (e .pre .0) (d .1) (d .2) (c .plan-by-layer .ensures)
+    plan-sizes (rows (a .ahead .now) (a .number .now) (a .member .now) (a .first .now)) (a .t) (a .m) (a .q) (a .i) (r .layer) (r .left) (r .right) (c .plan-of .result) (e .pre .0) (d .1) (d .2) (c .plan-of .ensures)
 
 returns : tie.Need-returns
 returns c =
     let p = c .before .before in let l = p .before in let a = l .before .before .args in let r = l .digits-of .result in let d = l .digits-of .ensures in
     rest-whole (rows (a .ahead .now) (a .number .now) (a .member .now) (a .first .now)) (a .t) (a .m) (a .q) (a .bytes .now) (a .i) (r .layer) (r .left) (r .right)
-    (p .plan-by-layer .result) (d .1) (d .2) (d .3) (p .plan-by-layer .ensures)
+    (p .plan-of .result) (d .1) (d .2) (d .3) (p .plan-of .ensures)
 
 sub-by-left : tie.Need-sub-by-left
 sub-by-left c = let w = sizes (c .before .before .before) in omega (arith, w .0)
@@ -62,7 +62,7 @@ returns-2 : tie.Need-returns-2
 returns-2 c =
     let p = c .before .before .before .before .before .before .before .before .before in let l = p .before in let a = l .before .before .args in let r = l .digits-of .result in let d = l .digits-of .ensures in
     rest-at (rows (a .ahead .now) (a .number .now) (a .member .now) (a .first .now)) (a .t) (a .m) (a .q) (a .bytes .now) (a .i) (r .layer) (r .left) (r .right)
-    (p .plan-by-layer .result) (d .1) (d .2) (d .3) (p .plan-by-layer .ensures) (c .before .before .held-with .result) (c .before .held-with2 .result) (c .shorten .result)
+    (p .plan-of .result) (d .1) (d .2) (d .3) (p .plan-of .ensures) (c .before .before .held-with .result) (c .before .held-with2 .result) (c .shorten .result)
     (c .before .before .held-with .ensures) (c .before .held-with2 .ensures) (c .shorten .ensures)
 
 pub rest-of-spec : {M : Type 1} → statement M
@@ -70,7 +70,7 @@ rest-of-spec =
     tie.close
     (tie.spec
     digits-of-requires
-    plan-by-layer-requires
+    plan-of-requires
     returns
     sub-by-left
     sub-by-left-2
