@@ -1,18 +1,19 @@
 -- A bit that is set: that bit, the others, the length and the range of the bytes. Assumes nothing.
 use mathlib.Core.Path.{_≡_, refl, ap, sym, subst, _∙_}
-use mathlib.Core.Logic.{⊎-elim, _⊎_, inl, inr}
+use mathlib.Core.Logic.{⊎-elim, _⊎_}
 use mathlib.Core.Bool.{Bool, true, false}
 use mathlib.Core.List.{List}
-use Prim.Native.Nat.{ℕ, zero, suc, _+_, _-_, _*_, _/_, _%_, _^_, _≤_, _<_}
+use Prim.Native.Nat.{ℕ, zero, suc, _+_, _-_, _*_, _/_, _%_, _^_, _<_}
 use native.Mathlib.Omega.{arith}
-use native.Mathlib.Nat.{one-mul, div-eq-of-lt, zero-div}
+use native.Mathlib.Nat.{one-mul, div-eq-of-lt}
 use native.Mathlib.Decide.{ℕ-discrete}
-use borrow.Author.Tests.{ltb-true, ltb-false, eqb-true, eqb-false}
-use lib.Dec.{ltb, eqb}
+use borrow.Author.Tests.{eqb-true, eqb-false}
+use lib.Dec.{eqb}
 use lib.Bits.{bitOr, or-shr, or-mod, or-zero-r, or-lt, shifted-even}
-use lib.ListN.{length, getD, set, length-set, replicate}
+use lib.ListN.{length, getD, set, length-set}
 use lib.Pow.{pow-lt, pow-add, shl-shr, shl-exact}
 use lib.Seq.{getD-set-same, getD-set-other}
+use Rattle.grammar.proofs.Lists.{lt-or-le}
 use Rattle.triples.specs.Certificate.{bit, isSet}
 use Rattle.bits.specs.Bits.{withBit}
 
@@ -52,13 +53,6 @@ bit-same xs i h =
     ∙ or-bit x (2 ^ (i % 8)) (i % 8)
     ∙ ap (bitOr (x / 2 ^ (i % 8) % 2)) (pow-bit-same (i % 8))
     ∙ or-one (x / 2 ^ (i % 8) % 2) (omega arith)
-
-cases-at : (a b : ℕ) (t : Bool) → ltb a b ≡ t → (a < b) ⊎ (b ≤ a)
-cases-at a b true e = inl (ltb-true a b e)
-cases-at a b false e = inr (ltb-false a b e)
-
-lt-or-le : (a b : ℕ) → (a < b) ⊎ (b ≤ a)
-lt-or-le a b = cases-at a b (ltb a b) refl
 
 -- another bit of the same byte
 same-byte : (x c d : ℕ) → (c ≡ d → ⊥) → bitOr x (2 ^ c) / 2 ^ d % 2 ≡ x / 2 ^ d % 2
@@ -111,12 +105,3 @@ set-small bytes i h small b = elim (ℕ-discrete b (i / 8)) [
   where
     x : ℕ
     x = bitOr (getD bytes (i / 8) 0) (2 ^ (i % 8))
-
--- no bit of zeros is set
-zero-at : (n k : ℕ) → _≡_ {A = ℕ} (getD (replicate n 0) k 0) 0
-zero-at zero k = refl
-zero-at (suc n) zero = refl
-zero-at (suc n) (suc k) = zero-at n k
-
-pub none-set : (n i : ℕ) → isSet (replicate n 0) i ≡ false
-none-set n i = ap (λ (x : ℕ). eqb (x / 2 ^ (i % 8) % 2) 1) (zero-at n (i / 8)) ∙ ap (λ (x : ℕ). eqb (x % 2) 1) (zero-div (2 ^ (i % 8)))

@@ -1,6 +1,5 @@
 -- The rows that crate moves builds lead to triples only, and blocks with the same first index are the same. Assumes nothing.
 use mathlib.Core.Path.{_≡_, refl, ap, ap₂, sym, subst, _∙_}
-use mathlib.Core.Logic.{_↔_}
 use mathlib.Core.Bool.{Bool, true, false, not, _&&_}
 use mathlib.Core.List.{List}
 use Prim.Native.Nat.{ℕ, zero, suc, _+_, _-_, _*_, _≤_, _<_}
@@ -15,8 +14,7 @@ use Rattle.grammar.specs.Record.{recordOf}
 use Rattle.grammar.specs.declared.CheckedGrammar.{CheckedGrammar}
 use Rattle.automaton.specs.Items.{states}
 use Rattle.automaton.proofs.Items.{states-four}
-use Rattle.triples.specs.Index.{index, tripleCount, layerOf, leftOf, rightOf}
-use Rattle.triples.specs.Smallest.{successors}
+use Rattle.triples.specs.Index.{index, layerOf, leftOf, rightOf}
 use Rattle.triples.proofs.Index.{digits, index-injective}
 use Rattle.moves.specs.Tables.{targetRow, memberClass, targetClass, targets, Tables, Built}
 use Rattle.moves.proofs.Places.{places-exactly}
@@ -26,10 +24,9 @@ use Rattle.plans.specs.declared.Side.{Side}
 use Rattle.plans.specs.declared.Plan.{Plan}
 use Rattle.moves.specs.Tables.{readsAt}
 use Rattle.plans.specs.Plan.{Rows, rows, sideOf, aloneOf, layerAfter, pairsOf, planFor, planOf}
-use Rattle.plans.specs.Contracts.{Planned}
 use Rattle.plans.proofs.PlanLaws.{sideFrom}
-use Rattle.plans.proofs.PlannedLaws.{cell-target, verified}
-use Rattle.explore.specs.State.{leftFirst, rightFirst, pairFirst, pairs, NextOf, Laid}
+use Rattle.plans.proofs.PlannedLaws.{cell-target, verified, swapped}
+use Rattle.explore.specs.State.{leftFirst, rightFirst, pairFirst, pairs, Laid}
 
 -- a number that may be 0 by a test, and is not
 whole : (b : Bool) (x : ℕ) → 0 < choose b 0 x → choose b 0 x ≡ x
@@ -59,9 +56,6 @@ factors (suc a) zero h = absurd (omega (arith, mul-zero (suc a)))
 factors (suc a) (suc b) h = (omega arith, omega arith)
 
 -- sums in another order
-swapped : (x y z : ℕ) → x + y + z ≡ x + z + y
-swapped x y z = omega arith
-
 -- the last of four numbers
 last-of : (a b c d : ℕ) → a + b + c + d - a - b - c ≡ d
 last-of a b c d = omega arith
@@ -200,11 +194,3 @@ unfolding recordOf
 laid-of g G W e old new X long =
     subst (λ (g : CheckedGrammar). Laid (rows (new .ahead) (new .number) (new .member) (new .first)) (new .targets) (g .terminals) (g .nonterminals + 1) (g .states))
     (sym e) (laid G W old new X long)
-
--- what follows an index by its plan is what the successors list
-pub next-exactly : (G : Grammar) (R : Rows) (targets : List ℕ) (t m Q : ℕ) → Planned G R targets t m Q → (i : ℕ) → i < tripleCount Q
-    → (j : ℕ) → NextOf R targets t m Q i j ↔ Mem j (successors limits G i)
-next-exactly G R targets t m Q P i h j = (
-  λ n. subst (λ (x : ℕ). Mem x (successors limits G i)) (n .2) (P .lists i h .each (n .0) (n .1)),
-  λ a. P .lists i h .all j a,
-)

@@ -6,7 +6,7 @@ use mathlib.Core.List.{List}
 use Prim.Native.Nat.{ℕ, zero, suc, _+_, _-_, _*_, _/_, _%_, _≤_, _<_}
 use native.Mathlib.Omega.{arith}
 use native.Mathlib.Decide.{decLt}
-use native.Mathlib.Nat.{suc-mul, mod-lt, div-lt-iff-lt-mul, mul-add-div-right, mul-add-mod-self-right, div-eq-of-lt, mod-eq-of-lt, mul-le-mul}
+use native.Mathlib.Nat.{suc-mul, mod-lt, div-lt-iff-lt-mul, mul-add-div-right, mul-add-mod-self-right, div-eq-of-lt, mod-eq-of-lt}
 use lib.Dec.{leb}
 use lib.ListN.{length, getD, take, drop, length-drop}
 use lib.Seq.{length-take-le, getD-take, getD-drop}
@@ -23,7 +23,7 @@ use Rattle.triples.specs.Successor.{BeforeTerminal, StepTo, Successor, open-lef
 use Rattle.triples.specs.Smallest.{successors}
 use Rattle.triples.specs.declared.Move.{Move}
 use Rattle.triples.specs.declared.Move.the-variants.{Opening, Closing, Symbol, Still}
-use Rattle.triples.proofs.Index.{Digits, digits}
+use Rattle.triples.proofs.Index.{pair-lt, Digits, digits}
 use Rattle.triple_laws.proofs.Members.{mem-place, place-mem}
 use Rattle.triple_laws.proofs.Moves.{shift-ahead, terminal-ahead}
 use Rattle.triple_laws.proofs.Records.{successors-exact, successors-below}
@@ -44,13 +44,10 @@ positive a zero k h = absurd (omega arith)
 positive a (suc b) k h = omega arith
 
 -- sums in another order
-swapped : (x y z : ℕ) → x + y + z ≡ x + z + y
+pub swapped : (x y z : ℕ) → x + y + z ≡ x + z + y
 swapped x y z = omega arith
 
 -- a pair of numbers as one, and back
-pub pair-below : (a b x y : ℕ) → x < a → y < b → x * b + y < a * b
-pair-below a b x y h k = omega (arith, mul-le-mul {n₁ = suc x} {m₁ = b} {n₂ = a} {m₂ = b} h (let z : b ≤ b = omega arith in z), suc-mul x b)
-
 pub quotient : (x b y : ℕ) → y < b → (x * b + y) / b ≡ x
 quotient x b y h = mul-add-div-right (omega arith) x y ∙ ap (λ (z : ℕ). x + z) (div-eq-of-lt h) ∙ omega arith
 
@@ -311,7 +308,7 @@ module _ (G : Grammar) (W : WellFormed limits G) (old new : Tables) (X : Built G
       let k = c .0 * s + d .0 in
       let K = x + y + z + k in
       let o : K - x - y - z ≡ k = omega arith in
-      let l = pair-below (side p .span) s (c .0) (d .0) (c .1) (d .1) in
+      let l = pair-lt (side p .span) s (c .0) (d .0) (c .1) (d .1) in
       let w = pairs-is (new .number) m p q (side p) (side q) kp kq n in
       let eu : (K - x - y - z) / s ≡ c .0 = ap (λ (j : ℕ). j / s) o ∙ quotient (c .0) s (d .0) (d .1) in
       let ev : (K - x - y - z) % s ≡ d .0 = ap (λ (j : ℕ). j % s) o ∙ remainder (c .0) s (d .0) (d .1) in
