@@ -10,9 +10,9 @@ use Rattle.search.proofs.search_built.Tie as tie
 use Rattle.search.proofs.search_built.Reads as reads
 use Rattle.search.proofs.search_built.Lts as lts
 use Rattle.moves.proofs.build.Reads as build-reads
-use Rattle.search.proofs.search_all.Reads as search-all-reads
-use Rattle.search.proofs.search_few.Reads as search-few-reads
-use Rattle.search.proofs.search_some.Reads as search-some-reads
+use Rattle.search.proofs.marks.search_all.Reads as search-all-reads
+use Rattle.search.proofs.marks.search_few.Reads as search-few-reads
+use Rattle.search.proofs.marks.search_some.Reads as search-some-reads
 
 slice-aggregate-build : tie.Need-slice-aggregate-build
 slice-aggregate-build c = search needs
