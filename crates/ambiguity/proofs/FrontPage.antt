@@ -14,6 +14,7 @@ use Rattle.grammar.proofs.Answers.{then-goes, then-stops}
 use Rattle.grammar.proofs.WellFormed.{takes-only, room}
 use Rattle.automaton.specs.Items.{states}
 use Rattle.automaton.specs.Position.{position}
+use Rattle.automaton.specs.PositionMoves.{movesOf}
 use Rattle.triples.specs.Successor.{Reached, origin, next}
 use Rattle.triples.specs.Certificate.{AcceptableCertificate, checkBytes, checkCertificate}
 use Rattle.triples.specs.Witness.{LeadsOn, ends, goes, Witness, begins, entryOf, checkRow, checkWitness, checkWitnessRecords}
@@ -21,14 +22,14 @@ use Rattle.triples.specs.Verdict.{checkVerdict}
 use Rattle.triples.specs.declared.CheckVerdict.{CheckVerdict}
 use Rattle.triples.specs.declared.CheckVerdict.the-variants as check
 use Rattle.triples.proofs.Reached.{end-not-reached}
-use Rattle.triple_laws.proofs.Laws.{accepts-exactly, witness-exactly}
+use Rattle.triple_laws.proofs.Laws.{witness-exactly, certificates-of, witnesses-of}
 use Rattle.parting.proofs.Position.{potential-reached}
 use Rattle.soundness.proofs.Position.{one-tree}
 use Rattle.witness_records.specs.Records.{triples}
 use Rattle.witness_records.specs.declared.TripleRecord.{TripleRecord}
 use Rattle.witness_records.proofs.Ranges.{entries-are, records-alike, records-inside}
 use Rattle.table_check.proofs.Callers.{passed-table, refused-table}
-use Rattle.ambiguity.proofs.Searches.{checked, search-theorems}
+use Rattle.ambiguity.proofs.Searches.{checked, regular, lists, search-theorems}
 use Rattle.ambiguity.proofs.Reports.{report-theorems}
 use Rattle.ambiguity.proofs.Steps.{step-theorems}
 use Rattle.ambiguity.proofs.Texts.{text-theorems}
@@ -44,12 +45,12 @@ accepted-done (refused c p) = (
 )
 
 -- what leads on from a reached triple reaches (1,1,1)
-leads-reached : (G : Grammar) {f p q : ℕ} {row : List ℕ} → Reached (position limits G) f p q → LeadsOn limits G f p q row
+leads-reached : (G : Grammar) {f p q : ℕ} {row : List ℕ} → Reached (position limits G) f p q → LeadsOn (position limits G) f p q row
     → Reached (position limits G) 1 1 1
 leads-reached G r ends = r
 leads-reached G r (goes s e l) = leads-reached G (next r s) l
 
-witness-reached : (G : Grammar) {row : List ℕ} → Witness limits G row → Reached (position limits G) 1 1 1
+witness-reached : (G : Grammar) {row : List ℕ} → Witness (position limits G) row → Reached (position limits G) 1 1 1
 witness-reached G (begins e l) = leads-reached G origin l
 
 module _ (t n : ℕ) (table : List ℕ) where
@@ -76,17 +77,17 @@ module _ (t n : ℕ) (table : List ℕ) where
   }
 
   module _ (row : List ℕ) (v : CheckVerdict) (h : WitnessAnswer t n table row v) where
-    accepts-witness : (G : Grammar) → Stores t n table G → (v ≡ check.Accepted) ↔ Witness limits G row
+    accepts-witness : (G : Grammar) → Stores t n table G → (v ≡ check.Accepted) ↔ Witness (position limits G) row
     unfolding checkWitness
     accepts-witness G s =
-        let a = then-accepted (λ G. checkRow limits G row) v h G s in
-        let b = witness-exactly limits G (s .wellFormed) (omega arith) row in
+        let a = then-accepted (λ G. checkRow (movesOf limits G) row) v h G s in
+        let b = witnesses-of (position limits G) (movesOf limits G) (regular G (s .wellFormed)) (lists G (s .wellFormed)) row in
         (λ x. b .0 (a .0 x), λ x. a .1 (b .1 x))
 
     witness-theorems : WitnessTheorems t n table row v
     unfolding checkWitness
     witness-theorems = record {
-      refused = table-first (λ G. checkRow limits G row) v h;
+      refused = table-first (λ G. checkRow (movesOf limits G) row) v h;
       accepted = accepts-witness;
       potential = λ G s x. potential-reached limits G (s .wellFormed) (omega arith) .1 (witness-reached G (accepts-witness G s .0 x));
     }
@@ -95,28 +96,31 @@ module _ (t n : ℕ) (table : List ℕ) where
     record-theorems : RecordTheorems t n table entries v
     unfolding checkWitnessRecords
     record-theorems = record {
-      refused = table-first (λ G. checkRow limits G (map (entryOf (states G)) (triples entries))) v h;
+      refused = table-first (λ G. checkRow (movesOf limits G) (map (entryOf (states G)) (triples entries))) v h;
       alike = λ G s r w k. h ∙ ap checkVerdict (records-alike t n table G entries (checked t n table G s) r) ∙ sym k;
-      accepted = λ G s. let row = map (entryOf (states G)) (triples entries) in
-          let a = then-accepted (λ G. checkRow limits G (map (entryOf (states G)) (triples entries))) v h G s in
-          let b = witness-exactly limits G (s .wellFormed) (omega arith) row in (
-            λ x. let w = b .0 (a .0 x) in let r = records-inside G entries w in (r, subst (Witness limits G) (entries-are (states G) entries r) w),
-            λ (r, w). a .1 (b .1 (subst (Witness limits G) (sym (entries-are (states G) entries r)) w)),
+      accepted = λ G s. let M = movesOf limits G in
+          let R = regular G (s .wellFormed) in
+          let row = map (entryOf (states G)) (triples entries) in
+          let a = then-accepted (λ G. checkRow (movesOf limits G) (map (entryOf (states G)) (triples entries))) v h G s in
+          let b = witnesses-of (position limits G) M R (lists G (s .wellFormed)) row in (
+            λ x. let r = records-inside M R entries (witness-exactly M R row .0 (a .0 x)) in
+                (r, subst (Witness (position limits G)) (entries-are (states G) entries r) (b .0 (a .0 x))),
+            λ (r, w). a .1 (b .1 (subst (Witness (position limits G)) (sym (entries-are (states G) entries r)) w)),
           );
     }
 
   module _ (bytes : List ℕ) (v : CheckVerdict) (h : CertificateAnswer t n table bytes v) where
-    accepts-certificate : (G : Grammar) → Stores t n table G → (v ≡ check.Accepted) ↔ AcceptableCertificate limits G bytes
+    accepts-certificate : (G : Grammar) → Stores t n table G → (v ≡ check.Accepted) ↔ AcceptableCertificate (position limits G) bytes
     unfolding checkCertificate
     accepts-certificate G s =
-        let a = then-accepted (λ G. checkBytes limits G bytes) v h G s in
-        let b = accepts-exactly limits G (s .wellFormed) (omega arith) bytes in
+        let a = then-accepted (λ G. checkBytes (movesOf limits G) bytes) v h G s in
+        let b = certificates-of (position limits G) (movesOf limits G) (regular G (s .wellFormed)) (lists G (s .wellFormed)) bytes in
         (λ x. b .0 (a .0 x), λ x. a .1 (b .1 x))
 
     certificate-theorems : CertificateTheorems t n table bytes v
     unfolding checkCertificate
     certificate-theorems = record {
-      refused = table-first (λ G. checkBytes limits G bytes) v h;
+      refused = table-first (λ G. checkBytes (movesOf limits G) bytes) v h;
       accepted = accepts-certificate;
       one-tree = λ G s x. one-tree limits G (s .wellFormed) (omega arith) _ (accepts-certificate G s .0 x .acceptable);
       unambiguous = λ G s x p. end-not-reached (position limits G) (accepts-certificate G s .0 x .acceptable)

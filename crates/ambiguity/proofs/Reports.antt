@@ -11,6 +11,7 @@ use Rattle.grammar.specs.Limits.{limits}
 use Rattle.grammar.specs.Grammar.{Grammar, WellFormed}
 use Rattle.grammar.specs.Refusal.{Answer, done}
 use Rattle.automaton.specs.Items.{states}
+use Rattle.automaton.specs.PositionMoves.{movesOf}
 use Rattle.triples.specs.Smallest.{size}
 use Rattle.text.specs.Promise.{afterwards}
 use Rattle.search.specs.Promise.{isPotential}
@@ -31,10 +32,10 @@ not-both x y e =
     absurd (let o : ⊥ = omega (arith, z) in o)
 
 module _ (G : Grammar) (W : WellFormed limits G) where
-  lines-of : (b : Bool) → isPotential limits G ≡ b → ReportLines G (line statesIs (decimal (states G)) ++ verdictLines b (size limits G))
+  lines-of : (b : Bool) → isPotential (movesOf limits G) ≡ b → ReportLines G (line statesIs (decimal (states G)) ++ verdictLines b (size (movesOf limits G)))
   lines-of true e = let p = parting G W e in record { potential = (λ q. p, λ q. refl); otherwise = λ u. absurd (u p) }
   lines-of false e = record {
-    potential = (λ q. not-both (line statesIs (decimal (states G))) (line reachedIs (decimal (size limits G))) q, λ p. absurd (not-parting G W e p));
+    potential = (λ q. not-both (line statesIs (decimal (states G))) (line reachedIs (decimal (size (movesOf limits G)))) q, λ p. absurd (not-parting G W e p));
     otherwise = λ u. refl;
   }
 
@@ -48,7 +49,7 @@ module _ (text out : List ℕ) (r : Reported) (out′ : List ℕ) (h : Reports t
   unfolding reportOf
   lines G e =
       let w = judged-text text G e .wellFormed in
-      (w, subst (ReportLines G) (sym (ap printed e)) (lines-of G w (isPotential limits G) refl))
+      (w, subst (ReportLines G) (sym (ap printed e)) (lines-of G w (isPotential (movesOf limits G)) refl))
 
   pub report-theorems : ReportTheorems text out r out′
   report-theorems = record { written = written; lines = lines }

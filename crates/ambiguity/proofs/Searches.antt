@@ -18,6 +18,8 @@ use Rattle.automaton.specs.Strings.{Potential, Unambiguous}
 use Rattle.automaton.specs.Items.{states}
 use Rattle.automaton.specs.Position.{position}
 use Rattle.automaton.proofs.Items.{states-four}
+use Rattle.automaton.specs.Moves.{Moves, Regular, Lists}
+use Rattle.automaton.specs.PositionMoves.{movesOf}
 use Rattle.triples.specs.Index.{index, tripleCount, layerOf, leftOf, rightOf}
 use Rattle.triples.specs.Successor.{Reached}
 use Rattle.triples.specs.Smallest.{isElement, smallest, size}
@@ -31,7 +33,8 @@ use Rattle.triples.proofs.Reached.{reached-held}
 use Rattle.triple_laws.proofs.Explore.{is-element, not-element}
 use Rattle.triple_laws.proofs.CertificateCheck.{bits-fit}
 use Rattle.triple_laws.proofs.CertificateOf.{bytes-length, certificate-bit}
-use Rattle.triple_laws.proofs.Laws.{accepts-exactly, reached-exactly, smallest-distinct, size-cardinal, smallest-below, smallest-certificate, acceptable-lacks}
+use Rattle.triple_laws.proofs.Laws.{smallest-distinct, size-cardinal, smallest-below, certificates-of, reached-of, end-of, smallest-of, lacks-of}
+use Rattle.triple_laws.proofs.Position.{position-listed, position-regular}
 use Rattle.parting.proofs.Position.{potential-reached}
 use Rattle.soundness.proofs.Position.{one-tree}
 use Rattle.table_check.proofs.Callers.{refused-table}
@@ -62,100 +65,108 @@ pub checked : (t n : ℕ) (table : List ℕ) (G : Grammar) → Stores t n table 
 checked t n table G s = passes-exactly limits room t n table G .1 (s .wellFormed, s .terminals, s .nonterminals, s .stored)
 
 module _ (G : Grammar) (W : WellFormed limits G) where
-  -- two strings part if the verdict is potential
-  pub parting : isPotential limits G ≡ true → Potential (position limits G)
-  parting e =
-      let four = states-four limits G in
-      potential-reached limits G W (omega arith) .1 (reached-exactly limits G W (omega arith) 1 1 1 (omega arith) (omega arith) (omega arith) .1
-      (is-element (index (states G) 1 1 1) (smallest limits G) .0 e))
+  abbrev M : Moves
+  M = movesOf limits G
 
-  lacks : isPotential limits G ≡ false → Mem (index (states G) 1 1 1) (smallest limits G) → ⊥
-  lacks e = not-element (index (states G) 1 1 1) (smallest limits G) .0 e
+  -- these are the moves of the position automaton, and regular
+  pub regular : Regular M
+  regular = position-regular limits G W (omega arith)
+
+  pub lists : Lists (position limits G) M
+  lists = position-listed limits G W (omega arith)
+
+  -- two strings part if the verdict is potential
+  pub parting : isPotential M ≡ true → Potential (position limits G)
+  parting e =
+      potential-reached limits G W (omega arith) .1
+      (end-of (position limits G) M regular lists .1 (is-element (index (states G) 1 1 1) (smallest M) .0 e))
+
+  lacks : isPotential M ≡ false → Mem (index (states G) 1 1 1) (smallest M) → ⊥
+  lacks e = not-element (index (states G) 1 1 1) (smallest M) .0 e
 
   -- and none if it is not
-  pub not-parting : isPotential limits G ≡ false → Unambiguous (position limits G)
-  not-parting e p =
-      let four = states-four limits G in
-      lacks e (reached-exactly limits G W (omega arith) 1 1 1 (omega arith) (omega arith) (omega arith) .0 (potential-reached limits G W (omega arith) .0 p))
+  pub not-parting : isPotential M ≡ false → Unambiguous (position limits G)
+  not-parting e p = lacks e (end-of (position limits G) M regular lists .0 (potential-reached limits G W (omega arith) .0 p))
 
   -- the certificate of the smallest set
   bytes : List ℕ
-  bytes = certificateOf (states G) (smallest limits G)
+  bytes = certificateOf (states G) (smallest M)
 
   -- it holds exactly what is reached
-  held-listed : (f p q : ℕ) → Holds (states G) bytes f p q → Mem (index (states G) f p q) (smallest limits G)
+  held-listed : (f p q : ℕ) → Holds (states G) bytes f p q → Mem (index (states G) f p q) (smallest M)
   unfolding bytes
   held-listed f p q h =
-      go (isElement (index (states G) f p q) (smallest limits G)) refl
-      (sym (certificate-bit (states G) (smallest limits G) (index (states G) f p q)
+      go (isElement (index (states G) f p q) (smallest M)) refl
+      (sym (certificate-bit (states G) (smallest M) (index (states G) f p q)
       (omega (arith, index-below (states G) f p q (h .layer) (h .left) (h .right), bits-fit (tripleCount (states G))))) ∙ h .set)
     where
-      go : (b : Bool) → isElement (index (states G) f p q) (smallest limits G) ≡ b → _≡_ {A = ℕ} (choose b 1 0) 1
-          → Mem (index (states G) f p q) (smallest limits G)
-      go true e z = is-element (index (states G) f p q) (smallest limits G) .0 e
+      go : (b : Bool) → isElement (index (states G) f p q) (smallest M) ≡ b → _≡_ {A = ℕ} (choose b 1 0) 1
+          → Mem (index (states G) f p q) (smallest M)
+      go true e z = is-element (index (states G) f p q) (smallest M) .0 e
       go false e z = absurd (let o : ⊥ = omega arith in o)
 
-  held-reached : SmallestCertificate limits G bytes → (f p q : ℕ) → Holds (states G) bytes f p q ↔ Reached (position limits G) f p q
+  held-reached : SmallestCertificate (position limits G) bytes → (f p q : ℕ) → Holds (states G) bytes f p q ↔ Reached (position limits G) f p q
   held-reached c f p q = (
-    λ h. reached-exactly limits G W (omega arith) f p q (h .layer) (h .left) (h .right) .1 (held-listed f p q h),
+    λ h. reached-of (position limits G) M regular lists (h .layer) (h .left) (h .right) .1 (held-listed f p q h),
     λ r. reached-held (position limits G) (c .acceptable .acceptable .closed) r,
   )
 
   -- and its indices are those of the smallest set
-  held-indices : SmallestCertificate limits G bytes → (i : ℕ)
-      → ((f p q : ℕ) × (i ≡ index (states G) f p q) × Holds (states G) bytes f p q) ↔ Mem i (smallest limits G)
+  held-indices : SmallestCertificate (position limits G) bytes → (i : ℕ)
+      → ((f p q : ℕ) × (i ≡ index (states G) f p q) × Holds (states G) bytes f p q) ↔ Mem i (smallest M)
   held-indices c i = (to, from)
     where
-      to : ((f p q : ℕ) × (i ≡ index (states G) f p q) × Holds (states G) bytes f p q) → Mem i (smallest limits G)
-      to (f, p, q, e, h) = subst (λ (i : ℕ). Mem i (smallest limits G)) (sym e) (held-listed f p q h)
+      to : ((f p q : ℕ) × (i ≡ index (states G) f p q) × Holds (states G) bytes f p q) → Mem i (smallest M)
+      to (f, p, q, e, h) = subst (λ (i : ℕ). Mem i (smallest M)) (sym e) (held-listed f p q h)
 
-      from : Mem i (smallest limits G) → (f p q : ℕ) × (i ≡ index (states G) f p q) × Holds (states G) bytes f p q
+      from : Mem i (smallest M) → (f p q : ℕ) × (i ≡ index (states G) f p q) × Holds (states G) bytes f p q
       from m =
           let Q = states G in
-          let d = digits Q i (omega (arith, states-four limits G)) (smallest-below limits G W (omega arith) i m) in
-          let r = reached-exactly limits G W (omega arith) (layerOf Q i) (leftOf Q i) (rightOf Q i) (d .layer) (d .left) (d .right) .1
-          (subst (λ (i : ℕ). Mem i (smallest limits G)) (sym (d .whole)) m) in
+          let d = digits Q i (omega (arith, states-four limits G)) (smallest-below M regular i m) in
+          let r = reached-of (position limits G) M regular lists (d .layer) (d .left) (d .right) .1
+          (subst (λ (i : ℕ). Mem i (smallest M)) (sym (d .whole)) m) in
           (layerOf Q i, leftOf Q i, rightOf Q i, sym (d .whole), held-reached c (layerOf Q i) (leftOf Q i) (rightOf Q i) .1 r)
 
   -- it lists what they hold, and every list that does is as long
-  held-list : SmallestCertificate limits G bytes → ListsHeld (states G) bytes (smallest limits G)
-  held-list c = record { distinct = smallest-distinct limits G W (omega arith); indices = λ i. (held-indices c i .1, held-indices c i .0) }
+  held-list : SmallestCertificate (position limits G) bytes → ListsHeld (states G) bytes (smallest M)
+  held-list c = record { distinct = smallest-distinct M regular; indices = λ i. (held-indices c i .1, held-indices c i .0) }
 
-  held-number : SmallestCertificate limits G bytes → (l : List ℕ) → ListsHeld (states G) bytes l → length l ≡ size limits G
+  held-number : SmallestCertificate (position limits G) bytes → (l : List ℕ) → ListsHeld (states G) bytes l → length l ≡ size M
   held-number c l d =
-      size-cardinal limits G W (omega arith) l (d .distinct) (λ i. (λ m. held-indices c i .0 (d .indices i .0 m), λ m. d .indices i .1 (held-indices c i .1 m)))
+      size-cardinal M regular l (d .distinct) (λ i. (λ m. held-indices c i .0 (d .indices i .0 m), λ m. d .indices i .1 (held-indices c i .1 m)))
 
 module _ (t n : ℕ) (table : List ℕ) where
   module _ (G : Grammar) (s : Stores t n table G) where
     -- unambiguous with the certificate of the smallest set
-    certifies : (r : SearchVerdict) → isPotential limits G ≡ false → r ≡ search.Unambiguous (size limits G) → Certifies t n table G r (bytes G (s .wellFormed))
+    certifies : (r : SearchVerdict) → isPotential (movesOf limits G) ≡ false → r ≡ search.Unambiguous (size (movesOf limits G))
+        → Certifies t n table G r (bytes G (s .wellFormed))
     unfolding bytes checkCertificate
     certifies r e c =
         let W = s .wellFormed in
-        let small : SmallestCertificate limits G (bytes G W) = smallest-certificate limits G W (omega arith) (lacks G W e) in
+        let small : SmallestCertificate (position limits G) (bytes G W) = smallest-of (position limits G) (movesOf limits G) (regular G W) (lists G W) (lacks G W e) in
         record {
           verdict = c;
           smallest = small;
-          accepted = λ v h. h ∙ ap checkVerdict (then-goes (checkTable limits t n table) (λ G′. checkBytes limits G′ (bytes G W)) G (checked t n table G s)
-              ∙ accepts-exactly limits G W (omega arith) (bytes G W) .1 (small .acceptable));
+          accepted = λ v h. h ∙ ap checkVerdict (then-goes (checkTable limits t n table) (λ G′. checkBytes (movesOf limits G′) (bytes G W)) G (checked t n table G s)
+              ∙ certificates-of (position limits G) (movesOf limits G) (regular G W) (lists G W) (bytes G W) .1 (small .acceptable));
           reached = held-reached G W small;
           least-closed = λ C k f p q h. reached-held (position limits G) k (held-reached G W small f p q .0 h);
-          listed = (smallest limits G, held-list G W small);
+          listed = (smallest (movesOf limits G), held-list G W small);
           number = λ l d. c ∙ ap search.Unambiguous (sym (held-number G W small l d));
         }
 
     module _ (before : Lent) (r : SearchVerdict) (after : Lent) where
       -- it stands in the front of what was lent
-      certified : isPotential limits G ≡ false → promise.Certified G before r after
+      certified : isPotential (movesOf limits G) ≡ false → promise.Certified (movesOf limits G) before r after
           → Certifies t n table G r (take (byteCount (states G)) (after .certificate))
       unfolding bytes
       certified e c =
           subst (Certifies t n table G r)
           (sym (ap (take (byteCount (states G))) (c .certificate)
-          ∙ front-of (bytes G (s .wellFormed)) (before .certificate) (byteCount (states G)) (bytes-length (smallest limits G) 0 (byteCount (states G)))))
+          ∙ front-of (bytes G (s .wellFormed)) (before .certificate) (byteCount (states G)) (bytes-length (smallest (movesOf limits G)) 0 (byteCount (states G)))))
           (certifies r e (c .verdict))
 
-      verdict-theorems : (b : Bool) → isPotential limits G ≡ b → Told b G before r after
+      verdict-theorems : (b : Bool) → isPotential (movesOf limits G) ≡ b → Told b (movesOf limits G) before r after
           → VerdictTheorems t n table G r (take (byteCount (states G)) (after .certificate))
       verdict-theorems true e w =
           let p = parting G (s .wellFormed) e in
@@ -164,13 +175,14 @@ module _ (t n : ℕ) (table : List ℕ) where
             potential = (λ q. p, λ q. k);
             otherwise = λ u. absurd (u p);
             one-of-two = inl k;
-            certificates = λ l a. absurd (acceptable-lacks limits G (s .wellFormed) (omega arith) l a (is-element (index (states G) 1 1 1) (smallest limits G) .0 e));
+            certificates = λ l a. absurd (lacks-of (position limits G) (movesOf limits G) (regular G (s .wellFormed)) (lists G (s .wellFormed)) l a
+                (is-element (index (states G) 1 1 1) (smallest (movesOf limits G)) .0 e));
             one-tree = λ n q. no-two n (length (w .row)) (sym q ∙ w .verdict);
           }
       verdict-theorems false e c =
           let k = certified e c in
           record {
-            potential = (λ (n, q). no-two (size limits G) n (sym (c .verdict) ∙ q), λ q. absurd (not-parting G (s .wellFormed) e q));
+            potential = (λ (n, q). no-two (size (movesOf limits G)) n (sym (c .verdict) ∙ q), λ q. absurd (not-parting G (s .wellFormed) e q));
             otherwise = λ u. k;
             one-of-two = inr k;
             certificates = λ l a. k;
@@ -191,20 +203,20 @@ module _ (t n : ℕ) (table : List ℕ) where
         → (k : ℕ) → r ≡ search.Potential k → (v : CheckVerdict) → WitnessAnswer t n table (take k (after .witness)) v → v ≡ check.Accepted
     unfolding searchable checkWitness
     witness-accepted (refused cause at) e a k q v w = no-refusal cause at k (sym (a .0) ∙ q)
-    witness-accepted (done G) e a k q v w = go (isPotential limits G) a
+    witness-accepted (done G) e a k q v w = go (isPotential (movesOf limits G)) a
       where
         passed : checkTable limits t n table ≡ done G
         passed =
             let x = then-done (checkTable limits t n table) go-on G e in
             x .1 ∙ unless-done bufferTooShort 0 (isEnough (states (x .0)) before) (done (x .0)) G (x .2) .1
 
-        go : (b : Bool) → Told b G before r after → v ≡ check.Accepted
+        go : (b : Bool) → Told b (movesOf limits G) before r after → v ≡ check.Accepted
         go true y =
             let z : length (y .row) ≡ k = same-number (length (y .row)) k (sym (y .verdict) ∙ q) in
             let l : take k (after .witness) ≡ y .row = ap (take k) (y .witness) ∙ front-of (y .row) (before .witness) k z in
-            w ∙ ap checkVerdict (then-goes (checkTable limits t n table) (λ G. checkRow limits G (take k (after .witness))) G passed
-            ∙ ap (checkRow limits G) l ∙ y .accepted)
-        go false y = no-two (size limits G) k (sym (y .verdict) ∙ q)
+            w ∙ ap checkVerdict (then-goes (checkTable limits t n table) (λ G. checkRow (movesOf limits G) (take k (after .witness))) G passed
+            ∙ ap (checkRow (movesOf limits G)) l ∙ y .accepted)
+        go false y = no-two (size (movesOf limits G)) k (sym (y .verdict) ∙ q)
 
     pub search-theorems : SearchTheorems t n table before r after
     unfolding searchable
@@ -213,7 +225,7 @@ module _ (t n : ℕ) (table : List ℕ) where
           (then-stops (checkTable limits t n table) go-on cause at (refused-table t n table c e cause at d));
       short = λ G s e. answers-as (refused bufferTooShort 0)
           (then-goes (checkTable limits t n table) go-on G (checked t n table G s) ∙ unless-fails bufferTooShort 0 (isEnough (states G) before) (done G) e);
-      enough = λ G s e. verdict-theorems G s before r after (isPotential limits G) refl (answers-as (done G)
+      enough = λ G s e. verdict-theorems G s before r after (isPotential (movesOf limits G)) refl (answers-as (done G)
           (then-goes (checkTable limits t n table) go-on G (checked t n table G s) ∙ unless-holds bufferTooShort 0 (isEnough (states G) before) (done G) e));
       witness = witness-accepted (searchable limits t n table before) refl h;
     }

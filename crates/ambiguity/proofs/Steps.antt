@@ -3,36 +3,41 @@ use Prim.Native.Nat.{ℕ, zero, suc, _+_, _≤_, _<_}
 use mathlib.Core.Path.{_≡_, refl, ap, sym, subst, _∙_}
 use mathlib.Core.Bool.{Bool, true, false, _&&_}
 use mathlib.Core.List.{List, [], _∷_}
-use mathlib.Core.Logic.{_⊎_, inl, inr}
+use mathlib.Core.Logic.{_⊎_, inl, inr, _↔_}
 use mathlib.Core.Option.{Option, none, some}
 use native.Mathlib.Omega.{arith}
 use native.Mathlib.Nat.{mul-le-mul}
 use lib.Dec.{eqb, ltb}
 use lib.ListN.{length}
 use borrow.Author.Tests.{ltb-true, ltb-false, eq-eqb}
-use Rattle.grammar.specs.Basics.{choose, Mem, here, there, Distinct, more}
+use Rattle.grammar.specs.Basics.{choose, Mem, here, there, Distinct, more, when}
 use Rattle.grammar.specs.Limits.{limits}
 use Rattle.grammar.specs.Grammar.{Grammar, WellFormed}
 use Rattle.grammar.specs.Refusal.{done}
 use Rattle.grammar.specs.TableCheck.{checkTable}
 use Rattle.grammar.proofs.Answers.{then-goes, then-stops}
 use Rattle.automaton.specs.Items.{states}
+use Rattle.automaton.specs.Moves.{Moves, Regular}
+use Rattle.automaton.specs.Position.{position}
+use Rattle.automaton.specs.PositionMoves.{movesOf}
 use Rattle.triples.specs.Index.{index, tripleCount}
-use Rattle.triples.specs.Records.{when, nextIndex, key, choices, ordered, records}
+use Rattle.triples.specs.Records.{nextIndex, key, choices, ordered, records}
 use Rattle.triples.specs.declared.Step.{Step}
 use Rattle.triples.proofs.Index.{index-below}
+use Rattle.triples.specs.Successor.{StepTo}
 use Rattle.triple_laws.proofs.Pairs.{Rising, pairs-none, pairs-more, pairs-join}
 use Rattle.triple_laws.proofs.Records.{steps-in-range, records-exact}
 use Rattle.triple_laws.proofs.RecordDoubles.{records-distinct}
 use Rattle.triple_laws.proofs.Single.{records-rise}
 use Rattle.triple_laws.proofs.Placed.{side, place, records-placed, side-small}
+use Rattle.triple_laws.proofs.Numbered.{step-same}
 use Rattle.steps.specs.Steps.{nth, nthRecord, nthStep, recordAnswer, stepAnswer}
 use Rattle.steps.specs.declared.StepAnswer.{StepAnswer}
 use Rattle.steps.specs.declared.StepAnswer.the-variants as step
 use Rattle.table_check.proofs.Callers.{refused-table}
 use Rattle.ambiguity.specs.Entries.{Usize, Stores, StepAnswers}
 use Rattle.ambiguity.specs.FrontPage.{StepTheorems}
-use Rattle.ambiguity.proofs.Searches.{checked}
+use Rattle.ambiguity.proofs.Searches.{checked, regular, lists}
 
 -- what stands at a place of a list is in it, and what is in it stands at a place below its length
 nth-in : (l : List Step) (k : ℕ) (x : Step) → nth l k ≡ some x → Mem x l
@@ -103,107 +108,120 @@ choose-below : (b : Bool) (n : ℕ) → choose b 0 (suc n) ≤ suc n
 choose-below true n = omega arith
 choose-below false n = omega arith
 
-module _ (G : Grammar) where
+module _ (M : Moves) where
   -- a triple is in range or not
-  within : (f p q : ℕ) → ((f < 2) × (p < states G) × (q < states G)) ⊎ (¬ ((f < 2) × (p < states G) × (q < states G)))
-  within f p q = go (ltb f 2) (ltb p (states G)) (ltb q (states G)) refl refl refl
+  within : (f p q : ℕ) → ((f < 2) × (p < M .states) × (q < M .states)) ⊎ (¬ ((f < 2) × (p < M .states) × (q < M .states)))
+  within f p q = go (ltb f 2) (ltb p (M .states)) (ltb q (M .states)) refl refl refl
     where
-      go : (a b c : Bool) → ltb f 2 ≡ a → ltb p (states G) ≡ b → ltb q (states G) ≡ c
-          → ((f < 2) × (p < states G) × (q < states G)) ⊎ (¬ ((f < 2) × (p < states G) × (q < states G)))
-      go true true true x y z = inl (ltb-true f 2 x, ltb-true p (states G) y, ltb-true q (states G) z)
+      go : (a b c : Bool) → ltb f 2 ≡ a → ltb p (M .states) ≡ b → ltb q (M .states) ≡ c
+          → ((f < 2) × (p < M .states) × (q < M .states)) ⊎ (¬ ((f < 2) × (p < M .states) × (q < M .states)))
+      go true true true x y z = inl (ltb-true f 2 x, ltb-true p (M .states) y, ltb-true q (M .states) z)
       go false b c x y z = inr (λ h. omega (arith, ltb-false f 2 x, h .0))
-      go true false c x y z = inr (λ h. omega (arith, ltb-false p (states G) y, h .1))
-      go true true false x y z = inr (λ h. omega (arith, ltb-false q (states G) z, h .2))
+      go true false c x y z = inr (λ h. omega (arith, ltb-false p (M .states) y, h .1))
+      go true true false x y z = inr (λ h. omega (arith, ltb-false q (M .states) z, h .2))
 
   -- out of range there are no records
-  no-layer : (i f p q : ℕ) → ¬ (f < 2) → ordered limits G i (choices limits G f p q) ≡ []
+  no-layer : (i f p q : ℕ) → ¬ (f < 2) → ordered M i (choices M f p q) ≡ []
   unfolding choices ordered
   no-layer i zero p q h = absurd (h (omega arith))
   no-layer i (suc zero) p q h = absurd (h (omega arith))
   no-layer i (suc (suc f)) p q h = refl
 
-  none-outside : (f p q : ℕ) → ¬ ((f < 2) × (p < states G) × (q < states G)) → records limits G f p q ≡ []
+  none-outside : (f p q : ℕ) → ¬ ((f < 2) × (p < M .states) × (q < M .states)) → records M f p q ≡ []
   unfolding records
-  none-outside f p q out = go (ltb p (states G)) (ltb q (states G)) refl refl
+  none-outside f p q out = go (ltb p (M .states)) (ltb q (M .states)) refl refl
     where
-      go : (b c : Bool) → ltb p (states G) ≡ b → ltb q (states G) ≡ c
-          → when (b && c) (ordered limits G (index (states G) f p q) (choices limits G f p q)) ≡ []
+      go : (b c : Bool) → ltb p (M .states) ≡ b → ltb q (M .states) ≡ c
+          → when (b && c) (ordered M (index (M .states) f p q) (choices M f p q)) ≡ []
       go false c x y = refl
       go true false x y = refl
-      go true true x y = no-layer (index (states G) f p q) f p q (λ h. out (h, ltb-true p (states G) x, ltb-true q (states G) y))
+      go true true x y = no-layer (index (M .states) f p q) f p q (λ h. out (h, ltb-true p (M .states) x, ltb-true q (M .states) y))
 
-  module _ (W : WellFormed limits G) where
+  module _ (R : Regular M) where
     -- in range there are at most 2Q² + 2
-    few-records : (f p q : ℕ) → f < 2 → p < states G → q < states G → length (records limits G f p q) ≤ tripleCount (states G) + 2
+    few-records : (f p q : ℕ) → f < 2 → p < M .states → q < M .states → length (records M f p q) ≤ tripleCount (M .states) + 2
     unfolding rank
     few-records f p q hf hp hq =
-        let z = few l rises 0 (tripleCount (states G) + 2) (omega arith) (λ s m. omega arith)
-        (λ s m. rank-below (key limits G i s) (side s) (tripleCount (states G)) (side-small (s .«on_left»)) (key-below s m)) in
+        let z = few l rises 0 (tripleCount (M .states) + 2) (omega arith) (λ s m. omega arith)
+        (λ s m. rank-below (key M i s) (side s) (tripleCount (M .states)) (side-small (s .«on_left»)) (key-below s m)) in
         omega (arith, z)
       where
         i : ℕ
-        i = index (states G) f p q
+        i = index (M .states) f p q
 
         l : List Step
-        l = records limits G f p q
+        l = records M f p q
 
-        back : (s : Step) → nextIndex limits G s ≡ i → key limits G i s ≡ 0
-        back s e = ap (λ (b : Bool). choose {A = ℕ} b 0 (suc (nextIndex limits G s))) (eq-eqb (nextIndex limits G s) i e)
+        back : (s : Step) → nextIndex M s ≡ i → key M i s ≡ 0
+        back s e = ap (λ (b : Bool). choose {A = ℕ} b 0 (suc (nextIndex M s))) (eq-eqb (nextIndex M s) i e)
 
-        rises : Rising (λ s. rank (key limits G i s) (side s)) l
-        rises = pairs-join l (records-rise limits G W (omega arith) f p q hf hp hq) (records-placed limits G W (omega arith) f p q hf hp hq)
-            (records-distinct limits G f p q) (λ s t m n h k d. go s t h k)
+        rises : Rising (λ s. rank (key M i s) (side s)) l
+        rises = pairs-join l (records-rise M R f p q hf hp hq) (records-placed M R f p q hf hp hq)
+            (records-distinct M R f p q) (λ s t m n h k d. go s t h k)
           where
-            go : (s t : Step) → (key limits G i s < key limits G i t) ⊎ ((nextIndex limits G s ≡ i) × (nextIndex limits G t ≡ i))
-                → place limits G i s < place limits G i t → rank (key limits G i s) (side s) < rank (key limits G i t) (side t)
-            go s t (inl h) k = rank-rises (key limits G i s) (key limits G i t) (side s) (side t) (side-small (s .«on_left»)) h
+            go : (s t : Step) → (key M i s < key M i t) ⊎ ((nextIndex M s ≡ i) × (nextIndex M t ≡ i))
+                → place M i s < place M i t → rank (key M i s) (side s) < rank (key M i t) (side t)
+            go s t (inl h) k = rank-rises (key M i s) (key M i t) (side s) (side t) (side-small (s .«on_left»)) h
             go s t (inr (x, y)) k =
                 omega (arith, k, back s x, back t y, ap (λ (a : ℕ). rank a (side s)) (back s x), ap (λ (a : ℕ). rank a (side t)) (back t y))
 
-        key-below : (s : Step) → Mem s l → key limits G i s ≤ tripleCount (states G)
+        key-below : (s : Step) → Mem s l → key M i s ≤ tripleCount (M .states)
         key-below s m =
-            let a = records-exact limits G W (omega arith) f p q hf hp hq s .0 m in
-            let u = steps-in-range limits G hf hp hq (s .«on_left», s .«on_right», a) in
-            let b = index-below (states G) (s .layer) (s .left) (s .right) (u .0) (u .1) (u .2) in
-            omega (arith, b, choose-below (eqb (nextIndex limits G s) i) (nextIndex limits G s))
+            let a = records-exact M R f p q hf hp hq s .0 m in
+            let u = steps-in-range M R hf hp hq (s .«on_left», s .«on_right», a) in
+            let b = index-below (M .states) (s .layer) (s .left) (s .right) (u .0) (u .1) (u .2) in
+            omega (arith, b, choose-below (eqb (nextIndex M s) i) (nextIndex M s))
 
     -- so for every triple
-    at-most : (f p q : ℕ) → length (records limits G f p q) ≤ tripleCount (states G) + 2
+    at-most : (f p q : ℕ) → length (records M f p q) ≤ tripleCount (M .states) + 2
     at-most f p q = elim (within f p q) [
       | inl h ↦ few-records f p q (h .0) (h .1) (h .2)
       | inr h ↦ omega (arith, ap (length {A = Step}) (none-outside f p q h))
     ]
 
     -- and their places are those of a usize
-    place-usize : (f p q k : ℕ) → k < length (records limits G f p q) → Usize k
-    place-usize f p q k h =
-        let m = mul-le-mul {n₁ = states G} {m₁ = states G} {n₂ = 256} {m₂ = 256} (W .size) (W .size) in
+    place-usize : M .states ≤ limits .maxStates → (f p q k : ℕ) → k < length (records M f p q) → Usize k
+    place-usize small f p q k h =
+        let m = mul-le-mul {n₁ = M .states} {m₁ = M .states} {n₂ = 256} {m₂ = 256} small small in
         omega (arith, m, at-most f p q)
 
+-- the records of a triple in range are the steps of the position automaton
+records-steps : (G : Grammar) → WellFormed limits G → (f p q : ℕ) → f < 2 → p < states G → q < states G → (s : Step)
+    → Mem s (records (movesOf limits G) f p q)
+    ↔ StepTo (position limits G) f p q (s .layer) (s .left) (s .right) (s .«on_left») (s .«on_right»)
+records-steps G W f p q hf hp hq s =
+    let r = records-exact (movesOf limits G) (regular G W) f p q hf hp hq s in
+    let z = step-same (position limits G) (movesOf limits G) (regular G W) (lists G W) {f = f} {g = s .layer} {p = p} {q = q} {p′ = s .left}
+    {q′ = s .right} {l = s .«on_left»} {r = s .«on_right»} hp hq in
+    (λ m. z .1 (r .0 m), λ t. r .1 (z .0 t))
+
 module _ (t n : ℕ) (table : List ℕ) (f p q : ℕ) (ask : ℕ → StepAnswer) (h : StepAnswers t n table f p q ask) where
-  record-at : (G : Grammar) → Stores t n table G → (k : ℕ) → Usize k → ask k ≡ recordAnswer (nthRecord limits G f p q k)
+  record-at : (G : Grammar) → Stores t n table G → (k : ℕ) → Usize k → ask k ≡ recordAnswer (nthRecord (movesOf limits G) f p q k)
   unfolding nthStep
-  record-at G s k u = h k u ∙ ap stepAnswer (then-goes (checkTable limits t n table) (λ G. done (nthRecord limits G f p q k)) G (checked t n table G s))
+  record-at G s k u = h k u ∙ ap stepAnswer (then-goes (checkTable limits t n table) (λ G. done (nthRecord (movesOf limits G) f p q k)) G (checked t n table G s))
+
+  usize-at : (G : Grammar) → Stores t n table G → (k : ℕ) → k < length (records (movesOf limits G) f p q) → Usize k
+  usize-at G s k i = place-usize (movesOf limits G) (regular G (s .wellFormed)) (s .wellFormed .size) f p q k i
 
   pub step-theorems : StepTheorems t n table f p q ask
   unfolding nthStep
   step-theorems = record {
     refused = λ r cause at e d k u. h k u
-        ∙ ap stepAnswer (then-stops (checkTable limits t n table) (λ G. done (nthRecord limits G f p q k)) cause at (refused-table t n table r e cause at d));
-    outside = λ G s out k u. let l = records limits G f p q in
-        record-at G s k u ∙ ap recordAnswer (nth-past l k (omega (arith, ap (length {A = Step}) (none-outside G f p q out))));
-    exact = λ G s hf hp hq x. let r = records-exact limits G (s .wellFormed) (omega arith) f p q hf hp hq x in (
-      λ (k, u, e). r .0 (nth-in (records limits G f p q) k x (answer-some _ x (sym (record-at G s k u) ∙ e))),
-      λ y. let m = in-nth (records limits G f p q) x (r .1 y) in
-          let u = place-usize G (s .wellFormed) f p q (m .0) (m .1) in
+        ∙ ap stepAnswer (then-stops (checkTable limits t n table) (λ G. done (nthRecord (movesOf limits G) f p q k)) cause at (refused-table t n table r e cause at d));
+    outside = λ G s out k u. let l = records (movesOf limits G) f p q in
+        record-at G s k u ∙ ap recordAnswer (nth-past l k (omega (arith, ap (length {A = Step}) (none-outside (movesOf limits G) f p q out))));
+    exact = λ G s hf hp hq x. let r = records-steps G (s .wellFormed) f p q hf hp hq x in (
+      λ (k, u, e). r .0 (nth-in (records (movesOf limits G) f p q) k x (answer-some _ x (sym (record-at G s k u) ∙ e))),
+      λ y. let m = in-nth (records (movesOf limits G) f p q) x (r .1 y) in
+          let u = usize-at G s (m .0) (m .1) in
           (m .0, u, record-at G s (m .0) u ∙ ap recordAnswer (m .2)),
     );
-    once = λ G s k l x u v e w. nth-once (records limits G f p q) (records-distinct limits G f p q) k l x
+    once = λ G s k l x u v e w. nth-once (records (movesOf limits G) f p q) (records-distinct (movesOf limits G) (regular G (s .wellFormed)) f p q) k l x
         (answer-some _ x (sym (record-at G s k u) ∙ e)) (answer-some _ x (sym (record-at G s l v) ∙ w));
-    count = λ G s. let l = records limits G f p q in (
+    count = λ G s. let l = records (movesOf limits G) f p q in (
       length l,
-      at-most G (s .wellFormed) f p q,
-      λ k j. let x = nth-below l k j in (x .0, record-at G s k (place-usize G (s .wellFormed) f p q k j) ∙ ap recordAnswer (x .1)),
+      at-most (movesOf limits G) (regular G (s .wellFormed)) f p q,
+      λ k j. let x = nth-below l k j in (x .0, record-at G s k (usize-at G s k j) ∙ ap recordAnswer (x .1)),
       λ k j u. record-at G s k u ∙ ap recordAnswer (nth-past l k j),
     );
   }

@@ -64,7 +64,7 @@ module _ (t n : ℕ) (table : List ℕ) where
     -- the faults of the table come first, as the table check gives them
     pub refused : (r : TableChecked) (cause at : ℕ) → TableAnswer t n table r → r .verdict ≡ Refused cause at → v ≡ check.Refused cause at
     -- accepted exactly if the row is a witness of the grammar
-    pub accepted : (G : Grammar) → Stores t n table G → (v ≡ check.Accepted) ↔ Witness limits G row
+    pub accepted : (G : Grammar) → Stores t n table G → (v ≡ check.Accepted) ↔ Witness (position limits G) row
     -- demand 2: an accepted row shows that two strings part
     pub potential : (G : Grammar) → Stores t n table G → v ≡ check.Accepted → Potential (position limits G)
 
@@ -75,12 +75,13 @@ module _ (t n : ℕ) (table : List ℕ) where
         → (w : CheckVerdict) → WitnessAnswer t n table (map (indexOf (states G)) entries) w → v ≡ w
     -- accepted exactly if all are in range and their indices are a witness
     pub accepted : (G : Grammar) → Stores t n table G
-        → (v ≡ check.Accepted) ↔ (((e : TripleRecord) → Mem e entries → InRange (states G) e) × Witness limits G (map (indexOf (states G)) entries))
+        → (v ≡ check.Accepted)
+        ↔ (((e : TripleRecord) → Mem e entries → InRange (states G) e) × Witness (position limits G) (map (indexOf (states G)) entries))
 
   pub record CertificateTheorems (bytes : List ℕ) (v : CheckVerdict) : Type 0 where
     pub refused : (r : TableChecked) (cause at : ℕ) → TableAnswer t n table r → r .verdict ≡ Refused cause at → v ≡ check.Refused cause at
     -- demand 3: accepted exactly if the bytes are an acceptable certificate of the grammar
-    pub accepted : (G : Grammar) → Stores t n table G → (v ≡ check.Accepted) ↔ AcceptableCertificate limits G bytes
+    pub accepted : (G : Grammar) → Stores t n table G → (v ≡ check.Accepted) ↔ AcceptableCertificate (position limits G) bytes
     -- and if it accepts them, no sentence of that grammar has two derivation trees
     pub one-tree : (G : Grammar) → Stores t n table G → v ≡ check.Accepted → (sentence : List ℕ) → ¬ HasTwoTrees limits G sentence
     -- demand 2: nor do two strings part

@@ -11,6 +11,7 @@ use Rattle.grammar.specs.Refusal.{done}
 use Rattle.automaton.specs.Strings.{Potential, Unambiguous}
 use Rattle.automaton.specs.Items.{states}
 use Rattle.automaton.specs.Position.{position}
+use Rattle.automaton.specs.PositionMoves.{movesOf}
 use Rattle.triples.specs.Smallest.{size}
 use Rattle.report.specs.Report as report
 use Rattle.report.specs.declared.Reported.{Reported}
@@ -23,7 +24,7 @@ pub record ReportLines (G : Grammar) (lines : List ℕ) : Type 0 where
       ↔ Potential (position limits G)
   -- and otherwise unambiguous, with the size of the smallest closed set
   pub otherwise : Unambiguous (position limits G) → lines ≡ report.line report.statesIs (report.decimal (states G))
-      ++ (report.line report.verdictIs report.unambiguous ++ report.line report.reachedIs (report.decimal (size limits G)))
+      ++ (report.line report.verdictIs report.unambiguous ++ report.line report.reachedIs (report.decimal (size (movesOf limits G))))
 
 pub record ReportTheorems (text out : List ℕ) (r : Reported) (out′ : List ℕ) : Type 0 where
   -- so long an output is never too short: its front is what the program prints, the rest is unchanged

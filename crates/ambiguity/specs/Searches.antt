@@ -16,6 +16,7 @@ use Rattle.grammar.specs.declared.TableVerdict.the-variants.{Refused}
 use Rattle.automaton.specs.Strings.{Potential, Unambiguous}
 use Rattle.automaton.specs.Items.{states}
 use Rattle.automaton.specs.Position.{position}
+use Rattle.automaton.specs.PositionMoves.{movesOf}
 use Rattle.triples.specs.Index.{index}
 use Rattle.triples.specs.Successor.{Reached, Closed}
 use Rattle.triples.specs.Smallest.{size}
@@ -35,8 +36,8 @@ pub record ListsHeld (Q : ℕ) (bytes l : List ℕ) : Type 0 where
 module _ (t n : ℕ) (table : List ℕ) where
   -- unambiguous: the bytes are an acceptable certificate, contained in every other, and the certificate check accepts them
   pub record Certifies (G : Grammar) (r : SearchVerdict) (bytes : List ℕ) : Type 1 where
-    pub verdict : r ≡ search.Unambiguous (size limits G)
-    pub smallest : SmallestCertificate limits G bytes
+    pub verdict : r ≡ search.Unambiguous (size (movesOf limits G))
+    pub smallest : SmallestCertificate (position limits G) bytes
     pub accepted : (v : CheckVerdict) → CertificateAnswer t n table bytes v → v ≡ check.Accepted
     -- they are the smallest closed set: they hold exactly what is reached from (0,0,0)
     pub reached : (f p q : ℕ) → Holds (states G) bytes f p q ↔ Reached (position limits G) f p q
@@ -52,7 +53,7 @@ module _ (t n : ℕ) (table : List ℕ) where
     pub otherwise : Unambiguous (position limits G) → Certifies G r written
     pub one-of-two : ((k : ℕ) × (r ≡ search.Potential k)) ⊎ Certifies G r written
     -- demand 3: where some bytes are an acceptable certificate it answers unambiguous, and writes one contained in every other
-    pub certificates : (bytes : List ℕ) → AcceptableCertificate limits G bytes → Certifies G r written
+    pub certificates : (bytes : List ℕ) → AcceptableCertificate (position limits G) bytes → Certifies G r written
     -- where it answers unambiguous no sentence has two derivation trees
     pub one-tree : (k : ℕ) → r ≡ search.Unambiguous k → (sentence : List ℕ) → ¬ HasTwoTrees limits G sentence
 

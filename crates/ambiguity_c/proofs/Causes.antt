@@ -14,6 +14,8 @@ use Rattle.grammar.specs.Refusal.{Answer, done, refused}
 use Rattle.grammar.specs.TableCheck.{tableChecked}
 use Rattle.grammar.specs.declared.TableVerdict.the-variants.{Passed}
 use Rattle.grammar.proofs.Answers.{and-both}
+use Rattle.automaton.specs.Moves.{Moves}
+use Rattle.automaton.specs.PositionMoves.{movesOf}
 use Rattle.triples.specs.Verdict.{checkVerdict}
 use Rattle.triples.specs.declared.CheckVerdict.{CheckVerdict}
 use Rattle.triples.specs.declared.CheckVerdict.the-variants.{Accepted}
@@ -56,16 +58,16 @@ check-tells (refused c p) (cause h) = tells-refused c h
 verdict-tells : (o : Answer Unit) (v : CheckVerdict) → Caused o → v ≡ checkVerdict o → Tells (checkReply v .cause) (v ≡ Accepted)
 verdict-tells o v h a = subst (λ v. Tells (checkReply v .cause) (v ≡ Accepted)) (sym a) (check-tells o h)
 
-told-tells : (b : Bool) (G : Grammar) (before : Lent) (v : SearchVerdict) (after : Lent) → Told b G before v after
+told-tells : (b : Bool) (M : Moves) (before : Lent) (v : SearchVerdict) (after : Lent) → Told b M before v after
     → Tells (searchReply v .cause) (IsVerdict v)
-told-tells true G before v after a =
+told-tells true M before v after a =
     subst (λ v. Tells (searchReply v .cause) (IsVerdict v)) (sym (a .verdict)) (tells-done (inr (refl, refl)))
-told-tells false G before v after a =
+told-tells false M before v after a =
     subst (λ v. Tells (searchReply v .cause) (IsVerdict v)) (sym (a .verdict)) (tells-done (inl (refl, refl)))
 
 search-tells : (o : Answer Grammar) (before : Lent) (v : SearchVerdict) (after : Lent) → Caused o → Answers o before v after
     → Tells (searchReply v .cause) (IsVerdict v)
-search-tells (done G) before v after h a = told-tells (isPotential limits G) G before v after a
+search-tells (done G) before v after h a = told-tells (isPotential (movesOf limits G)) (movesOf limits G) before v after a
 search-tells (refused c p) before v after (cause h) a =
     subst (λ v. Tells (searchReply v .cause) (IsVerdict v)) (sym (a .0)) (tells-refused c h)
 

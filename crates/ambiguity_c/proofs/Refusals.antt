@@ -8,10 +8,12 @@ use lib.Dec.{leb}
 use lib.ListN.{length}
 use Rattle.grammar.specs.Basics.{choose}
 use Rattle.grammar.specs.Limits.{Limits}
-use Rattle.grammar.specs.Grammar.{Rule, Grammar}
+use Rattle.grammar.specs.Grammar.{Rule}
 use Rattle.grammar.specs.Table.{ruleAt}
 use Rattle.grammar.specs.Refusal.{Answer, done, refused, refuseUnless, andThen, outOfRange, truncated, leftUndeclared, ruleTooLong, codeUndeclared, ruleRepeated, tooManyRules, tooManyStates, certificateLength, spareBit, startMissing, endPresent, successorMissing, bufferTooShort, witnessWrong, malformed, nameUnknown, nameRepeated}
 use Rattle.grammar.specs.TableCheck.{readRule, nextRule, checkFrom, checkTable}
+use Rattle.automaton.specs.Moves.{Moves}
+use Rattle.automaton.specs.PositionMoves.{movesOf}
 use Rattle.triples.specs.Certificate.{checkBytes, checkCertificate}
 use Rattle.triples.specs.Witness.{checkOn, checkRow, checkWitness}
 use Rattle.search.specs.Promise.{Lent, searchable}
@@ -80,9 +82,9 @@ pub nth-step : (L : Limits) (t n : ℕ) (table : List ℕ) (f p q k : ℕ) → C
 unfolding nthStep
 nth-step L t n table f p q k = next _ _ (check-table L t n table) (λ G. result)
 
-check-bytes : (L : Limits) (G : Grammar) (bytes : List ℕ) → Caused (checkBytes L G bytes)
+check-bytes : (M : Moves) (bytes : List ℕ) → Caused (checkBytes M bytes)
 unfolding checkBytes
-check-bytes L G bytes =
+check-bytes M bytes =
     unless certificateLength _ _ _ refl
     (unless spareBit _ _ _ refl
     (unless startMissing _ _ _ refl
@@ -91,21 +93,21 @@ check-bytes L G bytes =
 
 pub check-certificate : (L : Limits) (t n : ℕ) (table bytes : List ℕ) → Caused (checkCertificate L t n table bytes)
 unfolding checkCertificate
-check-certificate L t n table bytes = next _ _ (check-table L t n table) (λ G. check-bytes L G bytes)
+check-certificate L t n table bytes = next _ _ (check-table L t n table) (λ G. check-bytes (movesOf L G) bytes)
 
-check-on : (L : Limits) (G : Grammar) (i place : ℕ) (row : List ℕ) → Caused (checkOn L G i place row)
+check-on : (M : Moves) (i place : ℕ) (row : List ℕ) → Caused (checkOn M i place row)
 unfolding checkOn
-check-on L G i place [] = unless witnessWrong _ _ _ refl result
-check-on L G i place (j ∷ is) = unless witnessWrong _ _ _ refl (check-on L G j (suc place) is)
+check-on M i place [] = unless witnessWrong _ _ _ refl result
+check-on M i place (j ∷ is) = unless witnessWrong _ _ _ refl (check-on M j (suc place) is)
 
-check-row : (L : Limits) (G : Grammar) (row : List ℕ) → Caused (checkRow L G row)
+check-row : (M : Moves) (row : List ℕ) → Caused (checkRow M row)
 unfolding checkRow
-check-row L G [] = cause refl
-check-row L G (i ∷ is) = unless witnessWrong _ _ _ refl (check-on L G i 1 is)
+check-row M [] = cause refl
+check-row M (i ∷ is) = unless witnessWrong _ _ _ refl (check-on M i 1 is)
 
 pub check-witness : (L : Limits) (t n : ℕ) (table row : List ℕ) → Caused (checkWitness L t n table row)
 unfolding checkWitness
-check-witness L t n table row = next _ _ (check-table L t n table) (λ G. check-row L G row)
+check-witness L t n table row = next _ _ (check-table L t n table) (λ G. check-row (movesOf L G) row)
 
 pub search-asked : (L : Limits) (t n : ℕ) (table : List ℕ) (l : Lent) → Caused (searchable L t n table l)
 unfolding searchable

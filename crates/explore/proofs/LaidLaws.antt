@@ -7,22 +7,22 @@ use native.Mathlib.Omega.{arith}
 use native.Mathlib.Nat.{add-zero, mul-zero, zero-mul}
 use lib.Dec.{eqb, ltb}
 use lib.ListN.{length, getD}
-use Rattle.grammar.specs.Basics.{choose, Mem}
+use mathlib.Core.Logic.{inl, inr}
+use Rattle.grammar.specs.Basics.{choose}
 use Rattle.grammar.specs.Limits.{limits}
 use Rattle.grammar.specs.Grammar.{Grammar, WellFormed}
 use Rattle.grammar.specs.Record.{recordOf}
 use Rattle.grammar.specs.declared.CheckedGrammar.{CheckedGrammar}
-use Rattle.automaton.specs.Items.{states}
-use Rattle.automaton.proofs.Items.{states-four}
+use Rattle.automaton.specs.Moves.{Moves, Regular}
+use Rattle.automaton.specs.PositionMoves.{movesOf}
 use Rattle.triples.specs.Index.{index, layerOf, leftOf, rightOf}
 use Rattle.triples.proofs.Index.{digits, index-injective}
-use Rattle.moves.specs.Tables.{targetRow, memberClass, targetClass, targets, Tables, Built}
-use Rattle.moves.proofs.Places.{places-exactly}
-use Rattle.moves.proofs.Moves.{target-length}
-use Rattle.moves.proofs.Built.{member-at}
+use Rattle.triple_laws.proofs.Position.{position-regular}
+use Rattle.moves.specs.Tables.{Tables, Built, readsAt}
+use Rattle.moves.specs.Shows.{Alone, Shows}
+use Rattle.moves.proofs.Shows.{built-shows}
 use Rattle.plans.specs.declared.Side.{Side}
 use Rattle.plans.specs.declared.Plan.{Plan}
-use Rattle.moves.specs.Tables.{readsAt}
 use Rattle.plans.specs.Plan.{Rows, rows, sideOf, aloneOf, layerAfter, pairsOf, planFor, planOf}
 use Rattle.plans.proofs.PlanLaws.{sideFrom}
 use Rattle.plans.proofs.PlannedLaws.{cell-target, verified, swapped}
@@ -60,18 +60,12 @@ factors (suc a) (suc b) h = (omega arith, omega arith)
 last-of : (a b c d : ℕ) → a + b + c + d - a - b - c ≡ d
 last-of a b c d = omega arith
 
-module _ (G : Grammar) (W : WellFormed limits G) (old new : Tables) (X : Built G old new) (long : limits .maxStates ≤ length (new .targets)) where
+module _ (M : Moves) (S : Regular M) (t m : ℕ) (new : Tables) (X : Shows M t m new) (long : limits .maxStates ≤ length (new .targets)) where
   abbrev Q : ℕ
-  Q = states G
+  Q = M .states
 
   abbrev R : Rows
   R = rows (new .ahead) (new .number) (new .member) (new .first)
-
-  abbrev t : ℕ
-  t = G .terminals
-
-  abbrev m : ℕ
-  m = G .nonterminals + 1
 
   abbrev ts : List ℕ
   ts = new .targets
@@ -84,18 +78,21 @@ module _ (G : Grammar) (W : WellFormed limits G) (old new : Tables) (X : Built G
   head p = getD ts (side p .from) 0
 
   -- it is a state, and the class of p leads to it
-  head-facts : (p : ℕ) → p < Q → 0 < side p .span → (head p < Q) × (targetClass limits G (head p) ≡ getD (new .member) p 0)
+  head-facts : (p : ℕ) → p < Q → 0 < side p .span → (head p < Q) × (getD (new .target) (head p) 0 ≡ getD (new .member) p 0)
   head-facts p h l =
-      let a : Mem (head p) (targets limits G p) =
-      subst (λ (k : ℕ). Mem (getD ts k 0) (targets limits G p)) (add-zero (side p .from)) (cell-target G W old new X long p 0 h l) in
-      let b = places-exactly (targetRow limits G) (memberClass limits G p) (head p) .0 a in
-      (omega (arith, b .0, target-length limits G), b .1 ∙ sym (member-at G old new X p h))
+      let a : Alone M p (head p) = subst (λ (k : ℕ). Alone M p (getD ts k 0)) (add-zero (side p .from)) (cell-target M S t m new X long p 0 h l) in
+      let b = below a in
+      (b, sym (X .leads p (head p) h b .1 a))
+    where
+      below : {p u : ℕ} → Alone M p u → u < M .states
+      below {p} {u} (inl o) = S .opens-below (o .0) p u (o .1)
+      below {p} {u} (inr o) = S .closes-below (o .0) p u (o .1)
 
   -- states with the same first target have the same side
   same-side : (p q : ℕ) → p < Q → q < Q → 0 < side p .span → 0 < side q .span → head p ≡ head q → side p ≡ side q
   same-side p q hp hq lp lq e =
       ap (λ (c : ℕ). sideFrom c (getD (new .first) c 0) (getD (new .first) (c + 1) 0 - getD (new .first) c 0))
-      (sym (head-facts p hp lp .1) ∙ ap (λ (u : ℕ). targetClass limits G u) e ∙ head-facts q hq lq .1)
+      (sym (head-facts p hp lp .1) ∙ ap (λ (u : ℕ). getD (new .target) u 0) e ∙ head-facts q hq lq .1)
 
   abbrev plan : ℕ → ℕ → ℕ → ℕ → Plan
   plan i f p q = planFor R t m Q i f p q (side p) (side q)
@@ -164,13 +161,13 @@ module _ (G : Grammar) (W : WellFormed limits G) (old new : Tables) (X : Built G
 
   -- there are states
   some : 0 < Q
-  some = omega (arith, states-four limits G)
+  some = omega (arith, S .four)
 
-  -- the rows of a grammar are laid out
+  -- rows that show an automaton are laid out
   pub laid : Laid R ts t m Q
   unfolding planOf
   laid = record {
-    verified = verified G W old new X long;
+    verified = verified M S t m new X long;
     long = long;
     left-apart = λ i j h k.
         let x = digits Q i some h in
@@ -193,4 +190,4 @@ pub laid-of : (g : CheckedGrammar) (G : Grammar) (W : WellFormed limits G) (e : 
 unfolding recordOf
 laid-of g G W e old new X long =
     subst (λ (g : CheckedGrammar). Laid (rows (new .ahead) (new .number) (new .member) (new .first)) (new .targets) (g .terminals) (g .nonterminals + 1) (g .states))
-    (sym e) (laid G W old new X long)
+    (sym e) (laid (movesOf limits G) (position-regular limits G W (omega arith)) (G .terminals) (G .nonterminals + 1) new (built-shows G W old new X) long)

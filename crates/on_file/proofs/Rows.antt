@@ -8,7 +8,7 @@ use mathlib.Core.List.{List, [], _∷_}
 use native.Mathlib.Omega.{arith}
 use lib.Dec.{eqb}
 use borrow.Author.Tests.{eqb-true, not-true}
-use Rattle.grammar.specs.Basics.{Mem, here, there}
+use Rattle.grammar.specs.Basics.{Mem, here, there, each}
 use Rattle.grammar.specs.Limits.{limits}
 use Rattle.grammar.specs.Grammar.{Grammar, stateCount, WellFormed}
 use Rattle.grammar.specs.Table.{encode, decodeUpTo, decode}
@@ -24,13 +24,15 @@ use Rattle.grammar.proofs.Palindromes.{palindromes, palindromes-one}
 use Rattle.automaton.specs.Items.{states}
 use Rattle.automaton.specs.Position.{position}
 use Rattle.automaton.specs.Strings.{Potential, Unambiguous}
-use Rattle.automaton.proofs.Items.{states-four}
+use Rattle.automaton.specs.Moves.{Regular, Lists}
+use Rattle.automaton.specs.PositionMoves.{movesOf, aheads, rulesOf, completed, past, aheadRow, openings, closings}
 use Rattle.triples.specs.Index.{index}
-use Rattle.triples.specs.Records.{each, aheads, rulesOf, completed, past, aheadRow, openings, closings, leftAlone, rightAlone, bothShift, bothClose, choices, insert, ordered, records}
+use Rattle.triples.specs.Records.{leftAlone, rightAlone, bothShift, bothClose, choices, insert, ordered, records}
 use Rattle.triples.specs.Smallest.{isElement, push, pushAll, explore, successors, smallest, size}
 use Rattle.triples.specs.Certificate.{SmallestCertificate, bitsFrom, bytesFrom, certificateOf}
 use Rattle.triple_laws.proofs.Explore.{is-element, not-element}
-use Rattle.triple_laws.proofs.Laws.{reached-exactly, smallest-certificate}
+use Rattle.triple_laws.proofs.Laws.{end-of, smallest-of}
+use Rattle.triple_laws.proofs.Position.{position-listed, position-regular}
 use Rattle.parting.proofs.Position.{potential-reached}
 use Rattle.on_file.specs.Rows.{Claim, unambiguous, certified, potential, potentialOnly, Row, Claimed, Says, rows}
 
@@ -44,12 +46,12 @@ grammar r = grammarOf (r .terminals) (r .nonterminals) (decode (r .table))
 
 -- the claim's test: whether (1,1,1) is in the smallest set, its size, its certificate
 claimTest : Grammar → List ℕ → Claim → Bool
-claimTest G table (unambiguous n) = not (isElement (index (states G) 1 1 1) (smallest limits G)) && eqb (size limits G) n
+claimTest G table (unambiguous n) = not (isElement (index (states G) 1 1 1) (smallest (movesOf limits G))) && eqb (size (movesOf limits G)) n
 claimTest G table (certified n bytes) =
-    not (isElement (index (states G) 1 1 1) (smallest limits G)) && (eqb (size limits G) n && sameCodes (certificateOf (states G) (smallest limits G)) bytes)
-claimTest G table potential = isElement (index (states G) 1 1 1) (smallest limits G)
+    not (isElement (index (states G) 1 1 1) (smallest (movesOf limits G))) && (eqb (size (movesOf limits G)) n && sameCodes (certificateOf (states G) (smallest (movesOf limits G))) bytes)
+claimTest G table potential = isElement (index (states G) 1 1 1) (smallest (movesOf limits G))
 claimTest G table potentialOnly =
-    isElement (index (states G) 1 1 1) (smallest limits G)
+    isElement (index (states G) 1 1 1) (smallest (movesOf limits G))
     && (eqb (G .terminals) 1 && (eqb (G .nonterminals) 1 && sameCodes table (encode (palindromes .rules))))
 
 rowTest : Row → Bool
@@ -75,35 +77,40 @@ passed t n table e = go (checkTable limits t n table) refl e
 
 -- the verdict, from the smallest set
 module _ (G : Grammar) (W : WellFormed limits G) where
-  potential-listed : Potential (position limits G) ↔ Mem (index (states G) 1 1 1) (smallest limits G)
+  R : Regular (movesOf limits G)
+  R = position-regular limits G W (omega arith)
+
+  N : Lists (position limits G) (movesOf limits G)
+  N = position-listed limits G W (omega arith)
+
+  potential-listed : Potential (position limits G) ↔ Mem (index (states G) 1 1 1) (smallest (movesOf limits G))
   potential-listed =
-      let four = states-four limits G in
-      let r = reached-exactly limits G W (omega arith) 1 1 1 (omega arith) (omega arith) (omega arith) in
+      let r = end-of (position limits G) (movesOf limits G) R N in
       let p = potential-reached limits G W (omega arith) in
       (λ s. r .0 (p .0 s), λ m. p .1 (r .1 m))
 
-  not-listed : not (isElement (index (states G) 1 1 1) (smallest limits G)) ≡ true → Mem (index (states G) 1 1 1) (smallest limits G) → ⊥
-  not-listed e = not-element (index (states G) 1 1 1) (smallest limits G) .0 (not-true (isElement (index (states G) 1 1 1) (smallest limits G)) e)
+  not-listed : not (isElement (index (states G) 1 1 1) (smallest (movesOf limits G))) ≡ true → Mem (index (states G) 1 1 1) (smallest (movesOf limits G)) → ⊥
+  not-listed e = not-element (index (states G) 1 1 1) (smallest (movesOf limits G)) .0 (not-true (isElement (index (states G) 1 1 1) (smallest (movesOf limits G))) e)
 
-  lone : not (isElement (index (states G) 1 1 1) (smallest limits G)) ≡ true → Unambiguous (position limits G)
+  lone : not (isElement (index (states G) 1 1 1) (smallest (movesOf limits G))) ≡ true → Unambiguous (position limits G)
   lone e s = not-listed e (potential-listed .0 s)
 
-  parted : isElement (index (states G) 1 1 1) (smallest limits G) ≡ true → Potential (position limits G)
-  parted e = potential-listed .1 (is-element (index (states G) 1 1 1) (smallest limits G) .0 e)
+  parted : isElement (index (states G) 1 1 1) (smallest (movesOf limits G)) ≡ true → Potential (position limits G)
+  parted e = potential-listed .1 (is-element (index (states G) 1 1 1) (smallest (movesOf limits G)) .0 e)
 
   claimed : (table : List ℕ) (c : Claim) → G .rules ≡ decode table → claimTest G table c ≡ true → Claimed G c
   unfolding claimTest Claimed
   claimed table (unambiguous n) d e =
-      let a = and-both (not (isElement (index (states G) 1 1 1) (smallest limits G))) (eqb (size limits G) n) e in
-      (lone (a .0), eqb-true (size limits G) n (a .1))
+      let a = and-both (not (isElement (index (states G) 1 1 1) (smallest (movesOf limits G)))) (eqb (size (movesOf limits G)) n) e in
+      (lone (a .0), eqb-true (size (movesOf limits G)) n (a .1))
   claimed table (certified n bytes) d e =
-      let a = and-both (not (isElement (index (states G) 1 1 1) (smallest limits G))) _ e in
-      let b = and-both (eqb (size limits G) n) (sameCodes (certificateOf (states G) (smallest limits G)) bytes) (a .1) in
-      let s = smallest-certificate limits G W (omega arith) (not-listed (a .0)) in
-      (lone (a .0), eqb-true (size limits G) n (b .0), subst (SmallestCertificate limits G) (same-codes (certificateOf (states G) (smallest limits G)) bytes .0 (b .1)) s)
+      let a = and-both (not (isElement (index (states G) 1 1 1) (smallest (movesOf limits G)))) _ e in
+      let b = and-both (eqb (size (movesOf limits G)) n) (sameCodes (certificateOf (states G) (smallest (movesOf limits G))) bytes) (a .1) in
+      let s = smallest-of (position limits G) (movesOf limits G) R N (not-listed (a .0)) in
+      (lone (a .0), eqb-true (size (movesOf limits G)) n (b .0), subst (SmallestCertificate (position limits G)) (same-codes (certificateOf (states G) (smallest (movesOf limits G))) bytes .0 (b .1)) s)
   claimed table potential d e = parted e
   claimed table potentialOnly d e =
-      let a = and-both (isElement (index (states G) 1 1 1) (smallest limits G)) _ e in
+      let a = and-both (isElement (index (states G) 1 1 1) (smallest (movesOf limits G))) _ e in
       let b = and-both (eqb (G .terminals) 1) _ (a .1) in
       let c = and-both (eqb (G .nonterminals) 1) (sameCodes table (encode (palindromes .rules))) (b .1) in
       let x : G .rules ≡ palindromes .rules = d ∙ ap decode (same-codes table (encode (palindromes .rules)) .0 (c .1)) ∙ decode-encode (palindromes .rules) in

@@ -12,6 +12,7 @@ use Rattle.grammar.specs.Tree.{HasTwoTrees}
 use Rattle.automaton.specs.Items.{states}
 use Rattle.automaton.specs.Position.{position}
 use Rattle.automaton.specs.Strings.{Potential, Unambiguous}
+use Rattle.automaton.specs.PositionMoves.{movesOf}
 use Rattle.triples.specs.Smallest.{size}
 use Rattle.triples.specs.Certificate.{SmallestCertificate}
 
@@ -35,8 +36,8 @@ pub record Row : Type 0 where
 
 -- the claim is true of the grammar
 unfoldable pub Claimed : Grammar → Claim → Type 0
-Claimed G (unambiguous n) = Unambiguous (position limits G) × (size limits G ≡ n)
-Claimed G (certified n bytes) = Unambiguous (position limits G) × (size limits G ≡ n) × SmallestCertificate limits G bytes
+Claimed G (unambiguous n) = Unambiguous (position limits G) × (size (movesOf limits G) ≡ n)
+Claimed G (certified n bytes) = Unambiguous (position limits G) × (size (movesOf limits G) ≡ n) × SmallestCertificate (position limits G) bytes
 Claimed G potential = Potential (position limits G)
 Claimed G potentialOnly = Potential (position limits G) × ((w : List ℕ) → ¬ HasTwoTrees limits G w)
 

@@ -12,12 +12,11 @@ use lib.ListN.{length, getD, take, drop, length-drop}
 use lib.Seq.{length-take-le, getD-take, getD-drop}
 use Rattle.grammar.specs.Basics.{Mem}
 use Rattle.grammar.specs.Limits.{limits}
-use Rattle.grammar.specs.Grammar.{Grammar, WellFormed}
+use Rattle.grammar.specs.Grammar.{Terminal, Grammar, WellFormed}
 use Rattle.grammar.specs.Record.{recordOf}
 use Rattle.grammar.specs.declared.CheckedGrammar.{CheckedGrammar}
-use Rattle.automaton.specs.Items.{states}
-use Rattle.automaton.specs.Position.{Opens, Closes, Shifts, position}
-use Rattle.automaton.proofs.Items.{states-four}
+use Rattle.automaton.specs.Moves.{Moves, terminalAhead, listed, Regular}
+use Rattle.automaton.specs.PositionMoves.{movesOf}
 use Rattle.triples.specs.Index.{index, tripleCount, layerOf, leftOf, rightOf}
 use Rattle.triples.specs.Successor.{BeforeTerminal, StepTo, Successor, open-left, open-right, shift-both, part-both, part-left, part-right, close-left, close-right, read-both}
 use Rattle.triples.specs.Smallest.{successors}
@@ -25,14 +24,14 @@ use Rattle.triples.specs.declared.Move.{Move}
 use Rattle.triples.specs.declared.Move.the-variants.{Opening, Closing, Symbol, Still}
 use Rattle.triples.proofs.Index.{pair-lt, Digits, digits}
 use Rattle.triple_laws.proofs.Members.{mem-place, place-mem}
-use Rattle.triple_laws.proofs.Moves.{shift-ahead, terminal-ahead}
 use Rattle.triple_laws.proofs.Records.{successors-exact, successors-below}
-use Rattle.moves.specs.Tables.{segment, targets, Tables, Built}
-use Rattle.moves.proofs.Moves.{opens-class, closes-class, closes-number, targets-exactly, member-most}
-use Rattle.moves.proofs.Built.{ahead-at, number-at, member-at, segment-of, segment-order, segment-inside}
+use Rattle.triple_laws.proofs.Choices.{terminal-ahead}
+use Rattle.triple_laws.proofs.Position.{position-regular}
+use Rattle.moves.specs.Tables.{segment, Tables, Built, readsAt}
+use Rattle.moves.specs.Shows.{Opened, Closed, Alone, Shows}
+use Rattle.moves.proofs.Shows.{built-shows}
 use Rattle.plans.specs.declared.Side.{Side}
 use Rattle.plans.specs.declared.Plan.{Plan}
-use Rattle.moves.specs.Tables.{readsAt}
 use Rattle.plans.specs.Plan.{Rows, rows, sideOf, aloneOf, layerAfter, shiftOf, pairsOf, planFor, planOf, nextOf}
 use Rattle.plans.specs.Contracts.{SideFits, Safe, Verified, Lists, Planned}
 use Rattle.plans.proofs.PlanLaws.{alone-le, layer-le, pairs-le, layer-times, product-le, next-left, next-right, next-shift, next-pair}
@@ -54,21 +53,12 @@ quotient x b y h = mul-add-div-right (omega arith) x y ∙ ap (λ (z : ℕ). x +
 pub remainder : (x b y : ℕ) → y < b → (x * b + y) % b ≡ y
 remainder x b y h = mul-add-mod-self-right x b y ∙ mod-eq-of-lt h
 
-module _ (G : Grammar) (W : WellFormed limits G) (old new : Tables) (X : Built G old new) (long : limits .maxStates ≤ length (new .targets)) where
-  apart : limits .maxTerminals < limits .nonterminalBase
-  apart = omega arith
-
+module _ (M : Moves) (R : Regular M) (t m : ℕ) (new : Tables) (X : Shows M t m new) (long : limits .maxStates ≤ length (new .targets)) where
   abbrev Q : ℕ
-  Q = states G
+  Q = M .states
 
-  abbrev R : Rows
-  R = rows (new .ahead) (new .number) (new .member) (new .first)
-
-  abbrev t : ℕ
-  t = G .terminals
-
-  abbrev m : ℕ
-  m = G .nonterminals + 1
+  abbrev N : Rows
+  N = rows (new .ahead) (new .number) (new .member) (new .first)
 
   abbrev ts : List ℕ
   ts = new .targets
@@ -78,19 +68,20 @@ module _ (G : Grammar) (W : WellFormed limits G) (old new : Tables) (X : Built G
 
   pub fits-at : (p : ℕ) → p < Q → SideFits (new .member) (new .first) p
   fits-at p h = record {
-    state = omega (arith, W .size);
-    class = omega (arith, member-at G old new X p h, member-most limits G W apart p h, W .nonterminals .1);
-    order = segment-order G old new X p h W;
-    inside = omega (arith, segment-inside G old new X p h W, W .size);
+    state = omega (arith, X .few);
+    class = omega (arith, X .class p h, X .kinds);
+    order = X .order p h;
+    inside = omega (arith, X .inside p h, X .few);
   }
 
   -- the targets of a state stand in its segment
   abbrev part : ℕ → List ℕ
   part p = take (side p .span) (drop (side p .from) ts)
 
-  part-is : (p : ℕ) → p < Q → part p ≡ targets limits G p
+  -- its states are those to which p moves alone
+  part-moves : (p u : ℕ) → p < Q → Mem u (part p) ↔ Alone M p u
   unfolding segment
-  part-is p h = segment-of G old new X p h W
+  part-moves p u h = X .targets p u h
 
   part-length : (p : ℕ) → p < Q → length (part p) ≡ side p .span
   part-length p h =
@@ -103,42 +94,46 @@ module _ (G : Grammar) (W : WellFormed limits G) (old new : Tables) (X : Built G
   abbrev cell : ℕ → ℕ → ℕ
   cell p k = getD ts (side p .from + k) 0
 
-  pub cell-target : (p k : ℕ) → p < Q → k < side p .span → Mem (cell p k) (targets limits G p)
+  pub cell-target : (p k : ℕ) → p < Q → k < side p .span → Alone M p (cell p k)
   cell-target p k h l =
-      subst (Mem (cell p k)) (part-is p h)
-      (subst (λ (u : ℕ). Mem u (part p)) (part-at p k l) (place-mem (part p) k 0 (omega (arith, part-length p h))))
+      part-moves p (cell p k) h .0 (subst (λ (u : ℕ). Mem u (part p)) (part-at p k l) (place-mem (part p) k 0 (omega (arith, part-length p h))))
 
-  target-cell : (p u : ℕ) → p < Q → Mem u (targets limits G p) → (k : ℕ) × (k < side p .span) × (cell p k ≡ u)
+  target-cell : (p u : ℕ) → p < Q → Alone M p u → (k : ℕ) × (k < side p .span) × (cell p k ≡ u)
   target-cell p u h a =
-      let r = mem-place 0 (subst (Mem u) (sym (part-is p h)) a) in
+      let r = mem-place 0 (part-moves p u h .1 a) in
       let l : r .0 < side p .span = omega (arith, r .1, part-length p h) in
       (r .0, l, sym (part-at p (r .0) l) ∙ r .2)
 
   -- opening classes are not below m, closing classes are
-  opens-kind : {i p u : ℕ} → p < Q → Opens limits G i p u → m ≤ side p .kind
-  opens-kind {p = p} h o = omega (arith, opens-class limits G W apart o .0, member-at G old new X p h)
+  opens-kind : {i p u : ℕ} → p < Q → Opened M i p u → m ≤ side p .kind
+  opens-kind {i} {p} {u} h o = X .opens-class i p u h o
 
-  closes-kind : {i p u : ℕ} → p < Q → Closes limits G i p u → side p .kind < m
-  closes-kind {p = p} h o = omega (arith, closes-class limits G W apart o, member-at G old new X p h)
+  closes-kind : {i p u : ℕ} → p < Q → Closed M i p u → side p .kind < m
+  closes-kind {i} {p} {u} h o = X .closes-class i p u h o
 
-  reads-before : (p : ℕ) → p < Q → readsAt (new .ahead) t p ≡ true → BeforeTerminal (position limits G) p
-  reads-before p h e = terminal-ahead limits G p .0 (sym (ap (λ (x : ℕ). leb 1 x && leb x t) (ahead-at G old new X p h)) ∙ e)
+  reads-is : (p : ℕ) → p < Q → readsAt (new .ahead) t p ≡ terminalAhead M p
+  reads-is p h = ap (λ (x : ℕ). leb 1 x && leb x t) (X .ahead p h) ∙ ap (λ (t : ℕ). leb 1 (M .ahead p) && leb (M .ahead p) t) (X .terminals)
 
-  before-reads : (p : ℕ) → p < Q → BeforeTerminal (position limits G) p → readsAt (new .ahead) t p ≡ true
-  before-reads p h b = ap (λ (x : ℕ). leb 1 x && leb x t) (ahead-at G old new X p h) ∙ terminal-ahead limits G p .1 b
+  reads-before : (p : ℕ) → p < Q → readsAt (new .ahead) t p ≡ true → BeforeTerminal (listed M) p
+  reads-before p h e = terminal-ahead M p .0 (sym (reads-is p h) ∙ e)
 
-  shift-at : (x p u : ℕ) → p < Q → Shifts limits G x p u ↔ ((getD (new .ahead) p 0 ≡ x) × (1 ≤ x) × (u ≡ suc p))
+  before-reads : (p : ℕ) → p < Q → BeforeTerminal (listed M) p → readsAt (new .ahead) t p ≡ true
+  before-reads p h b = reads-is p h ∙ terminal-ahead M p .1 b
+
+  shift-at : (x p u : ℕ) → p < Q → ((M .ahead p ≡ x) × (1 ≤ x) × (u ≡ M .after p)) ↔ ((getD (new .ahead) p 0 ≡ x) × (1 ≤ x) × (u ≡ suc p))
   shift-at x p u h =
-      let e = ahead-at G old new X p h in
-      let s = shift-ahead limits G W apart x p u in
-      (λ a. let r = s .0 a in (e ∙ r .0, r .1, r .2), λ r. s .1 (sym e ∙ r .0, r .1, r .2))
+      let e = X .ahead p h in (
+        λ r. (e ∙ r .0, r .1, r .2 ∙ X .next p h (omega (arith, r .0, r .1))),
+        λ r.
+            let a : M .ahead p ≡ x = sym e ∙ r .0 in (a, r .1, r .2 ∙ sym (X .next p h (omega (arith, a, r .1)))),
+      )
 
-  number-of : {i p u : ℕ} → p < Q → Closes limits G i p u → getD (new .number) p 0 ≡ i
-  number-of {p = p} h o = number-at G old new X p h ∙ closes-number limits G W apart o
+  number-of : {i p u : ℕ} → p < Q → Closed M i p u → getD (new .number) p 0 ≡ i
+  number-of {i} {p} {u} h o = X .closes-number i p u h o
 
   -- j is the index of a successor
   abbrev Reaches : ℕ → ℕ → ℕ → ℕ → Type 0
-  Reaches f p q j = (g u v : ℕ) × (j ≡ index Q g u v) × Successor (position limits G) f p q g u v
+  Reaches f p q j = (g u v : ℕ) × (j ≡ index Q g u v) × Successor (listed M) f p q g u v
 
   -- ---- each entry of a plan is a successor
 
@@ -147,7 +142,7 @@ module _ (G : Grammar) (W : WellFormed limits G) (old new : Tables) (X : Built G
   left-each zero p q k hf hp hq l =
       let u = cell p k in
       let a = cell-target p k hp (omega (arith, alone-le (new .ahead) t m 0 (side p) q)) in
-      elim (targets-exactly limits G W apart p u hp .0 a) [
+      elim a [
         | inl o ↦ (
           0,
           u,
@@ -167,7 +162,7 @@ module _ (G : Grammar) (W : WellFormed limits G) (old new : Tables) (X : Built G
       let u = cell p k in
       let a = cell-target p k hp (omega (arith, alone-le (new .ahead) t m 1 (side p) q)) in
       let e = ap (λ (n : ℕ). n * (Q * Q) + q + u * Q) (layer-later (new .ahead) t m (side p) q) ∙ swapped (1 * (Q * Q)) q (u * Q) in
-      elim (targets-exactly limits G W apart p u hp .0 a) [
+      elim a [
         | inl o ↦ (1, u, q, e, (Opening (o .0), Still, open-left (o .1)))
         | inr o ↦ (1, u, q, e, (Closing (o .0), Still, close-left (o .1)))
       ]
@@ -178,7 +173,7 @@ module _ (G : Grammar) (W : WellFormed limits G) (old new : Tables) (X : Built G
   right-each zero p q k hf hp hq l =
       let u = cell q k in
       let a = cell-target q k hq (omega (arith, alone-le (new .ahead) t m 0 (side q) p)) in
-      elim (targets-exactly limits G W apart q u hq .0 a) [
+      elim a [
         | inl o ↦ (
           0,
           p,
@@ -198,7 +193,7 @@ module _ (G : Grammar) (W : WellFormed limits G) (old new : Tables) (X : Built G
       let u = cell q k in
       let a = cell-target q k hq (omega (arith, alone-le (new .ahead) t m 1 (side q) p)) in
       let e = ap (λ (n : ℕ). n * (Q * Q) + p * Q + u) (layer-later (new .ahead) t m (side q) p) in
-      elim (targets-exactly limits G W apart q u hq .0 a) [
+      elim a [
         | inl o ↦ (1, p, u, e, (Still, Opening (o .0), open-right (o .1)))
         | inr o ↦ (1, p, u, e, (Still, Closing (o .0), close-right (o .1)))
       ]
@@ -217,11 +212,11 @@ module _ (G : Grammar) (W : WellFormed limits G) (old new : Tables) (X : Built G
       let s = shift-facts (new .ahead) t 1 p q l in
       let b = reads-before p hp (a-terminal (readsAt (new .ahead) t p) (s .2)) in
       let y = shift-at (b .0) p (b .2 .0) hp .0 (b .2 .1) in
-      (1, suc p, suc q, beside-is i 1 p q e, (Symbol x, Symbol x, read-both (subst (position limits G .Terminal) (sym (y .0)) (b .1)) (shift-at x p (suc p) hp .1 (refl, s .0, refl)) (shift-at x q (suc q) hq .1 (sym (s .1), s .0, refl))))
+      (1, suc p, suc q, beside-is i 1 p q e, (Symbol x, Symbol x, read-both (subst (Terminal (M .terminals)) (sym (y .0)) (b .1)) (shift-at x p (suc p) hp .1 (refl, s .0, refl)) (shift-at x q (suc q) hq .1 (sym (s .1), s .0, refl))))
   shift-each i (suc (suc f)) p q e hf hp hq l = absurd (omega arith)
 
-  closing-cell : (p k : ℕ) → p < Q → k < side p .span → side p .kind < m → (i : ℕ) × Closes limits G i p (cell p k)
-  closing-cell p k h l c = elim (targets-exactly limits G W apart p (cell p k) h .0 (cell-target p k h l)) [
+  closing-cell : (p k : ℕ) → p < Q → k < side p .span → side p .kind < m → (i : ℕ) × Closed M i p (cell p k)
+  closing-cell p k h l c = elim (cell-target p k h l) [
     | inl o ↦ absurd (let z : ⊥ = omega (arith, opens-kind h (o .1)) in z)
     | inr o ↦ o
   ]
@@ -243,7 +238,7 @@ module _ (G : Grammar) (W : WellFormed limits G) (old new : Tables) (X : Built G
   pair-each (suc (suc f)) p q k hf hp hq l = absurd (omega arith)
 
   abbrev plan : ℕ → ℕ → ℕ → ℕ → Plan
-  plan i f p q = planFor R t m Q i f p q (side p) (side q)
+  plan i f p q = planFor N t m Q i f p q (side p) (side q)
 
   each-reaches : (i f p q k : ℕ) → i ≡ index Q f p q → f < 2 → p < Q → q < Q → k < plan i f p q .total → Reaches f p q (nextOf (plan i f p q) ts Q k)
   each-reaches i f p q k e hf hp hq h = elim (decLt k (P .left)) [
@@ -269,7 +264,7 @@ module _ (G : Grammar) (W : WellFormed limits G) (old new : Tables) (X : Built G
   Listed P j = (k : ℕ) × (k < P .total) × (nextOf P ts Q k ≡ j)
 
   left-listed : (i f p q u g : ℕ) → p < Q → aloneOf (new .ahead) t m f (side p) q ≡ side p .span → layerAfter m f (side p) ≡ g
-      → Mem u (targets limits G p) → Listed (plan i f p q) (index Q g u q)
+      → Alone M p u → Listed (plan i f p q) (index Q g u q)
   left-listed i f p q u g hp a b x =
       let c = target-cell p u hp x in
       let l : c .0 < aloneOf (new .ahead) t m f (side p) q = omega (arith, a, c .1) in (
@@ -279,7 +274,7 @@ module _ (G : Grammar) (W : WellFormed limits G) (old new : Tables) (X : Built G
       )
 
   right-listed : (i f p q u g : ℕ) → q < Q → aloneOf (new .ahead) t m f (side q) p ≡ side q .span → layerAfter m f (side q) ≡ g
-      → Mem u (targets limits G q) → Listed (plan i f p q) (index Q g p u)
+      → Alone M q u → Listed (plan i f p q) (index Q g p u)
   right-listed i f p q u g hq a b x =
       let c = target-cell q u hq x in
       let x = aloneOf (new .ahead) t m f (side p) q in
@@ -297,7 +292,7 @@ module _ (G : Grammar) (W : WellFormed limits G) (old new : Tables) (X : Built G
       (x + y, omega (arith, s), sym (next-shift (plan i f p q) ts Q (x + y) (omega arith) (omega arith) (omega (arith, s))) ∙ beside-is i f p q e)
 
   pair-listed : (i p q u v : ℕ) → p < Q → q < Q → side p .kind < m → side q .kind < m → (getD (new .number) p 0 ≡ getD (new .number) q 0 → ⊥)
-      → Mem u (targets limits G p) → Mem v (targets limits G q) → Listed (plan i 0 p q) (index Q 1 u v)
+      → Alone M p u → Alone M q v → Listed (plan i 0 p q) (index Q 1 u v)
   pair-listed i p q u v hp hq kp kq n a b =
       let c = target-cell p u hp a in
       let d = target-cell q v hq b in
@@ -318,14 +313,14 @@ module _ (G : Grammar) (W : WellFormed limits G) (old new : Tables) (X : Built G
         sym (next-pair (plan i 0 p q) ts Q K u v (omega arith) (omega arith) (omega arith) (sym (ap (cell p) eu ∙ c .2)) (sym (ap (cell q) ev ∙ d .2))) ∙ f,
       )
 
-  moves-to : {i p u : ℕ} → p < Q → Opens limits G i p u → Mem u (targets limits G p)
-  moves-to {i} {p} {u} hp o = targets-exactly limits G W apart p u hp .1 (inl (i, o))
+  moves-to : {i p u : ℕ} → p < Q → Opened M i p u → Alone M p u
+  moves-to {i} {p} {u} hp o = inl (i, o)
 
-  closes-to : {i p u : ℕ} → p < Q → Closes limits G i p u → Mem u (targets limits G p)
-  closes-to {i} {p} {u} hp o = targets-exactly limits G W apart p u hp .1 (inr (i, o))
+  closes-to : {i p u : ℕ} → p < Q → Closed M i p u → Alone M p u
+  closes-to {i} {p} {u} hp o = inr (i, o)
 
   all-listed : (i : ℕ) {f p q g u v : ℕ} {l r : Move} → i ≡ index Q f p q → f < 2 → p < Q → q < Q
-      → StepTo (position limits G) f p q g u v l r → Listed (plan i f p q) (index Q g u v)
+      → StepTo (listed M) f p q g u v l r → Listed (plan i f p q) (index Q g u v)
   all-listed i {f} {p} {q} {u = u} e hf hp hq (open-left o) =
       left-listed i f p q u f hp (alone-opens (new .ahead) t m (side p) q f (opens-kind hp o)) (opens-layer (new .ahead) t m (side p) q f hf (opens-kind hp o)) (moves-to hp o)
   all-listed i {f} {p} {q} {v = v} e hf hp hq (open-right o) =
@@ -353,16 +348,16 @@ module _ (G : Grammar) (W : WellFormed limits G) (old new : Tables) (X : Built G
       (terminal-a (readsAt (new .ahead) t p) (before-reads p hp (x, k, (u, a))))))
 
   some : 0 < Q
-  some = omega (arith, states-four limits G)
+  some = omega (arith, R .four)
 
-  pub lists : (i : ℕ) → i < tripleCount Q → Lists (planOf R t m Q i) ts Q (successors limits G i)
+  pub lists : (i : ℕ) → i < tripleCount Q → Lists (planOf N t m Q i) ts Q (successors M i)
   unfolding planOf
   lists i h = record {
-    each = λ k l. subst (λ (j : ℕ). Mem (nextOf (plan i f p q) ts Q k) (successors limits G j)) (d .whole)
-        (successors-exact limits G W apart f p q (d .layer) (d .left) (d .right) (nextOf (plan i f p q) ts Q k) .1
+    each = λ k l. subst (λ (j : ℕ). Mem (nextOf (plan i f p q) ts Q k) (successors M j)) (d .whole)
+        (successors-exact M R f p q (d .layer) (d .left) (d .right) (nextOf (plan i f p q) ts Q k) .1
         (each-reaches i f p q k (sym (d .whole)) (d .layer) (d .left) (d .right) l));
     all = λ j a.
-        let x = successors-exact limits G W apart f p q (d .layer) (d .left) (d .right) j .0 (subst (λ (i : ℕ). Mem j (successors limits G i)) (sym (d .whole)) a) in
+        let x = successors-exact M R f p q (d .layer) (d .left) (d .right) j .0 (subst (λ (i : ℕ). Mem j (successors M i)) (sym (d .whole)) a) in
         let r = all-listed i (sym (d .whole)) (d .layer) (d .left) (d .right) (x .4 .2) in
         (r .0, r .1, r .2 ∙ sym (x .3));
   }
@@ -383,7 +378,7 @@ module _ (G : Grammar) (W : WellFormed limits G) (old new : Tables) (X : Built G
   plan-safe i f p q hp hq =
       let x = fits-at p hp in
       let y = fits-at q hq in
-      let few : Q ≤ limits .maxStates = W .size in
+      let few : Q ≤ limits .maxStates = X .few in
       let w = product-le Q Q few few in
       record {
         few = few;
@@ -399,15 +394,15 @@ module _ (G : Grammar) (W : WellFormed limits G) (old new : Tables) (X : Built G
             (z, omega (arith, e, x .order, x .inside), omega (arith, y .order, y .inside));
       }
 
-  pub safe-at : (i : ℕ) → i < tripleCount Q → Safe (planOf R t m Q i) Q
+  pub safe-at : (i : ℕ) → i < tripleCount Q → Safe (planOf N t m Q i) Q
   unfolding planOf
   safe-at i h = let d = digits Q i some h in plan-safe i (layerOf Q i) (leftOf Q i) (rightOf Q i) (d .left) (d .right)
 
-  pub verified : Verified R ts t m Q
+  pub verified : Verified N ts t m Q
   verified = record {
-    fits = record { four = states-four limits G; few = W .size; side = fits-at };
+    fits = record { four = R .four; few = X .few; side = fits-at };
     safe = safe-at;
-    inside = λ i k h l. successors-below limits G W apart i (nextOf (planOf R t m Q i) ts Q k) h (lists i h .each k l);
+    inside = λ i k h l. successors-below M R i (nextOf (planOf N t m Q i) ts Q k) h (lists i h .each k l);
   }
 
 -- the same for the record of the grammar
@@ -417,10 +412,13 @@ module _ (g : CheckedGrammar) (G : Grammar) (W : WellFormed limits G) (e : g ≡
   unfolding recordOf
   verified-of =
       subst (λ (g : CheckedGrammar). Verified (rows (new .ahead) (new .number) (new .member) (new .first)) (new .targets) (g .terminals) (g .nonterminals + 1) (g .states))
-      (sym e) (verified G W old new X long)
+      (sym e) (verified (movesOf limits G) (position-regular limits G W (omega arith)) (G .terminals) (G .nonterminals + 1) new (built-shows G W old new X) long)
 
-  pub planned-of : Planned G (rows (new .ahead) (new .number) (new .member) (new .first)) (new .targets) (g .terminals) (g .nonterminals + 1) (g .states)
+  pub planned-of : Planned (movesOf limits G) (rows (new .ahead) (new .number) (new .member) (new .first)) (new .targets) (g .terminals) (g .nonterminals + 1) (g .states)
   unfolding recordOf
   planned-of =
-      subst (λ (g : CheckedGrammar). Planned G (rows (new .ahead) (new .number) (new .member) (new .first)) (new .targets) (g .terminals) (g .nonterminals + 1) (g .states))
-      (sym e) (record { size = refl; lists = lists G W old new X long })
+      subst (λ (g : CheckedGrammar). Planned (movesOf limits G) (rows (new .ahead) (new .number) (new .member) (new .first)) (new .targets) (g .terminals) (g .nonterminals + 1) (g .states))
+      (sym e) (record {
+        size = refl;
+        lists = lists (movesOf limits G) (position-regular limits G W (omega arith)) (G .terminals) (G .nonterminals + 1) new (built-shows G W old new X) long;
+      })

@@ -9,7 +9,9 @@ use lib.ListN.{replicate}
 use Rattle.grammar.specs.Grammar.{Grammar, stateCount}
 use Rattle.grammar.specs.Refusal.{Answer, done, refused, refuseUnless, andThen}
 use Rattle.grammar.specs.TableCheck.{sameCodes, isAmong}
-use Rattle.triples.specs.Records.{each, aheads, rulesOf, completed, past, aheadRow, openings, closings, leftAlone, rightAlone, bothShift, bothClose, choices, insert, ordered, records}
+use Rattle.grammar.specs.Basics.{each}
+use Rattle.automaton.specs.PositionMoves.{aheads, rulesOf, completed, past, aheadRow, openings, closings}
+use Rattle.triples.specs.Records.{leftAlone, rightAlone, bothShift, bothClose, choices, insert, ordered, records}
 use Rattle.triples.specs.Smallest.{isElement, push, pushAll, explore, successors, smallest}
 use Rattle.text.specs.Pieces.{splitOn}
 use Rattle.text.specs.Names.{isNameByte, all, any, isName, folded, sameName, hasDouble, place}

@@ -17,6 +17,7 @@ use Rattle.grammar.specs.Refusal.{Answer, done, refused, refuseUnless, andThen}
 use Rattle.grammar.proofs.Answers.{then-done, unless-done, done-inj}
 use Rattle.grammar.proofs.WellFormed.{takes-only, room}
 use Rattle.automaton.specs.Items.{states}
+use Rattle.automaton.specs.PositionMoves.{movesOf}
 use Rattle.triples.specs.Index.{tripleCount}
 use Rattle.triples.specs.Smallest.{smallest, size}
 use Rattle.triple_laws.proofs.Members.{distinct-below}
@@ -29,6 +30,7 @@ use Rattle.text.specs.Rules.{admit, checkText}
 use Rattle.text.proofs.PrintRead.{read-well}
 use Rattle.text.proofs.Admit.{text-checked}
 use Rattle.text.proofs.RoundTrip.{apart}
+use Rattle.triple_laws.proofs.Position.{position-regular}
 use Rattle.search.specs.Promise.{isPotential}
 use Rattle.report.specs.Report.{programText, judge, grammarOf, decimal, line, statesIs, verdictIs, reachedIs, refusedIs, atIs, unambiguous, potential, verdictLines, printed, reportOf, reportSize}
 use Rattle.report.proofs.Decimal.{decimal-most}
@@ -173,32 +175,35 @@ judged-text text G e =
     }
 
 -- the size is at most 2Q²
-size-most : (G : Grammar) → WellFormed limits G → size limits G ≤ tripleCount (states G)
+size-most : (G : Grammar) → WellFormed limits G → size (movesOf limits G) ≤ tripleCount (states G)
 size-most G w =
-    distinct-below (tripleCount (states G)) (smallest limits G) (smallest-distinct limits G w (omega arith)) (smallest-below limits G w (omega arith))
+    let M = movesOf limits G in
+    let R = position-regular limits G w (omega arith) in
+    distinct-below (tripleCount (states G)) (smallest M) (smallest-distinct M R) (smallest-below M R)
 
 -- ---- what is printed
 
 line-size : (k v : List ℕ) → length (line k v) ≡ length k + length v + 1
 line-size k v = omega (arith, length-append k (v ++ (10 ∷ [])), length-append v (10 ∷ []))
 
-printed-most : (o : Answer Grammar) → Small 5000 o → ((G : Grammar) → o ≡ done G → (states G ≤ 48) × (size limits G ≤ 4608)) → length (printed o) ≤ reportSize
-printed-most (done G) s f = go (isPotential limits G)
+printed-most : (o : Answer Grammar) → Small 5000 o → ((G : Grammar) → o ≡ done G → (states G ≤ 48) × (size (movesOf limits G) ≤ 4608))
+    → length (printed o) ≤ reportSize
+printed-most (done G) s f = go (isPotential (movesOf limits G))
   where
     first : length (line statesIs (decimal (states G))) ≤ 10
     first = let d = f G refl .0 in omega (arith, line-size statesIs (decimal (states G)), decimal-most 1 (states G) (omega (arith, d)))
 
-    go : (b : Bool) → length (line statesIs (decimal (states G)) ++ verdictLines b (size limits G)) ≤ 64
+    go : (b : Bool) → length (line statesIs (decimal (states G)) ++ verdictLines b (size (movesOf limits G))) ≤ 64
     go true = omega (arith, first, length-append (line statesIs (decimal (states G))) (line verdictIs potential))
     go false =
         let d = f G refl .1 in
         omega (
           arith,
           first,
-          length-append (line statesIs (decimal (states G))) (line verdictIs unambiguous ++ line reachedIs (decimal (size limits G))),
-          length-append (line verdictIs unambiguous) (line reachedIs (decimal (size limits G))),
-          line-size reachedIs (decimal (size limits G)),
-          decimal-most 3 (size limits G) (omega (arith, d)),
+          length-append (line statesIs (decimal (states G))) (line verdictIs unambiguous ++ line reachedIs (decimal (size (movesOf limits G)))),
+          length-append (line verdictIs unambiguous) (line reachedIs (decimal (size (movesOf limits G)))),
+          line-size reachedIs (decimal (size (movesOf limits G))),
+          decimal-most 3 (size (movesOf limits G)) (omega (arith, d)),
         )
 printed-most (refused cause at) s f =
     omega (

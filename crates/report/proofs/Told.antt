@@ -18,6 +18,8 @@ use Rattle.grammar.specs.TableCheck.{checkTable}
 use Rattle.grammar.proofs.Answers.{unless-holds, unless-fails, then-goes, then-stops}
 use Rattle.grammar.proofs.WellFormed.{takes-only, room}
 use Rattle.automaton.specs.Items.{states}
+use Rattle.automaton.specs.Moves.{Moves}
+use Rattle.automaton.specs.PositionMoves.{movesOf}
 use Rattle.triples.specs.Smallest.{size}
 use Rattle.text.specs.Read.{Source, symbolNames}
 use Rattle.text.specs.Rules.{checkText, readInto}
@@ -44,10 +46,10 @@ judgedFrom q (search.Unambiguous reached) = Unambiguous q reached
 judgedFrom q (search.Potential entries) = Potential q
 judgedFrom q (search.Refused cause at) = Refused cause at
 
-told-verdict : (b : Bool) (G : Grammar) (before : Lent) (v : SearchVerdict) (after : Lent) (q : ℕ) → Told b G before v after
-    → judgedFrom q v ≡ verdictOf b q (size limits G)
-told-verdict true G before v after q w = ap (judgedFrom q) (w .verdict)
-told-verdict false G before v after q w = ap (judgedFrom q) (w .verdict)
+told-verdict : (b : Bool) (M : Moves) (before : Lent) (v : SearchVerdict) (after : Lent) (q : ℕ) → Told b M before v after
+    → judgedFrom q v ≡ verdictOf b q (size M)
+told-verdict true M before v after q w = ap (judgedFrom q) (w .verdict)
+told-verdict false M before v after q w = ap (judgedFrom q) (w .verdict)
 
 -- the rows that the program lends suffice
 pub record Rows (before : Lent) : Type 0 where
@@ -69,9 +71,10 @@ searched t n table q s before v after l h =
       witness = omega (arith, m, l .witness);
     }) in
     let a : searchable limits t n table before ≡ done G = search-enough t n table before G (s .passes) e in
-    let w : Told (isPotential limits G) G before v after = subst (λ (o : Answer Grammar). Answers o before v after) a h in
-    told-verdict (isPotential limits G) G before v after q w
-    ∙ ap (λ (q : ℕ). verdictOf (isPotential limits G) q (size limits G)) (sym (s .counted))
+    let M = movesOf limits G in
+    let w : Told (isPotential M) M before v after = subst (λ (o : Answer Grammar). Answers o before v after) a h in
+    told-verdict (isPotential M) M before v after q w
+    ∙ ap (λ (q : ℕ). verdictOf (isPotential M) q (size M)) (sym (s .counted))
     ∙ sym (ap judgedOf (s .passes))
 
 -- ---- the reader

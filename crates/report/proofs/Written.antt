@@ -14,6 +14,7 @@ use Rattle.grammar.specs.Grammar.{Grammar}
 use Rattle.grammar.specs.Refusal.{Answer, done, refused}
 use Rattle.grammar.proofs.Answers.{unless-holds, unless-fails, unless-done, done-inj}
 use Rattle.automaton.specs.Items.{states}
+use Rattle.automaton.specs.PositionMoves.{movesOf}
 use Rattle.triples.specs.Smallest.{size}
 use Rattle.text.specs.Promise.{afterwards}
 use Rattle.text_write.specs.Contracts.{Wrote}
@@ -26,9 +27,9 @@ use Rattle.report.specs.declared.Reported.the-variants.{Written, Refused
 
 -- the lines of a judgement
 lines-printed : (o : Answer Grammar) → linesOf (judgedOf o) ≡ printed o
-lines-printed (done G) = go (isPotential limits G)
+lines-printed (done G) = go (isPotential (movesOf limits G))
   where
-    go : (b : Bool) → linesOf (verdictOf b (states G) (size limits G)) ≡ line statesIs (decimal (states G)) ++ verdictLines b (size limits G)
+    go : (b : Bool) → linesOf (verdictOf b (states G) (size (movesOf limits G))) ≡ line statesIs (decimal (states G)) ++ verdictLines b (size (movesOf limits G))
     go true = refl
     go false = refl
 lines-printed (refused cause at) = refl

@@ -8,6 +8,7 @@ use Rattle.grammar.specs.Grammar.{Grammar}
 use Rattle.grammar.specs.Refusal.{Answer, done, refused}
 use Rattle.grammar.specs.TableCheck.{checkTable}
 use Rattle.automaton.specs.Items.{states}
+use Rattle.automaton.specs.PositionMoves.{movesOf}
 use Rattle.triples.specs.Smallest.{size}
 use Rattle.search.specs.Promise.{isPotential}
 use Rattle.report.specs.Report.{programStates, decimal, line, statesIs, verdictIs, reachedIs, refusedIs, atIs, unambiguous, potential}
@@ -20,7 +21,7 @@ verdictOf true q reached = Potential q
 verdictOf false q reached = Unambiguous q reached
 
 abbrev pub judgedOf : Answer Grammar → Judged
-judgedOf (done G) = verdictOf (isPotential limits G) (states G) (size limits G)
+judgedOf (done G) = verdictOf (isPotential (movesOf limits G)) (states G) (size (movesOf limits G))
 judgedOf (refused cause at) = Refused cause at
 
 -- the lines of each answer

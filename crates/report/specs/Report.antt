@@ -11,6 +11,7 @@ use Rattle.grammar.specs.Limits.{limits}
 use Rattle.grammar.specs.Grammar.{Grammar, stateCount}
 use Rattle.grammar.specs.Refusal.{Answer, done, refused, refuseUnless, andThen, bufferTooShort}
 use Rattle.automaton.specs.Items.{states}
+use Rattle.automaton.specs.PositionMoves.{movesOf}
 use Rattle.triples.specs.Smallest.{size}
 use Rattle.text.specs.Read.{Source}
 use Rattle.text.specs.Rules.{checkText}
@@ -86,7 +87,7 @@ verdictLines false reached = line verdictIs unambiguous ++ line reachedIs (decim
 
 -- Q, verdict, size; or a refusal's number and position
 abbrev pub printed : Answer Grammar → List ℕ
-printed (done G) = line statesIs (decimal (states G)) ++ verdictLines (isPotential limits G) (size limits G)
+printed (done G) = line statesIs (decimal (states G)) ++ verdictLines (isPotential (movesOf limits G)) (size (movesOf limits G))
 printed (refused cause at) = line refusedIs (decimal cause) ++ line atIs (decimal at)
 
 unfoldable pub reportOf : List ℕ → List ℕ

@@ -11,12 +11,9 @@ use lib.ListN.{length, getD, take, drop, replicate, length-replicate}
 use lib.Seq.{length-take-le, getD-take, drop-cons}
 use borrow.Author.Tests.{eq-eqb}
 use Rattle.grammar.specs.Basics.{choose, Mem, over}
-use Rattle.grammar.specs.Limits.{limits}
-use Rattle.grammar.specs.Grammar.{Grammar, WellFormed}
 use Rattle.grammar.specs.Refusal.{done}
 use Rattle.grammar.proofs.Answers.{no-bool, unless-holds}
-use Rattle.automaton.specs.Items.{states}
-use Rattle.automaton.proofs.Items.{states-four}
+use Rattle.automaton.specs.Moves.{Moves, Regular}
 use Rattle.triples.specs.Index.{index, tripleCount}
 use Rattle.triples.specs.Smallest.{isElement, successors, smallest, size}
 use Rattle.triples.specs.Certificate.{byteCount, bit, isSet, bitsFrom, bytesFrom, certificateOf}
@@ -72,7 +69,7 @@ bytes-are held marks (suc m) b h small e =
         let r : (8 * b + k) % 8 ≡ k = omega arith in
         ap (λ (z : ℕ). getD marks z 0 / 2 ^ ((8 * b + k) % 8) % 2) q ∙ ap (λ (z : ℕ). getD marks b 0 / 2 ^ z % 2) r
 
-module _ (G : Grammar) (W : WellFormed limits G) (R : Rows) (targets : List ℕ) (t m Q : ℕ) (p : Planned G R targets t m Q)
+module _ (M : Moves) (W : Regular M) (R : Rows) (targets : List ℕ) (t m Q : ℕ) (p : Planned M R targets t m Q)
     (queue parents : List ℕ) (s : State) (x : Explored R targets t m Q queue parents s) where
   marked : Marked Q s
   marked = x .going .marked
@@ -86,32 +83,32 @@ module _ (G : Grammar) (W : WellFormed limits G) (R : Rows) (targets : List ℕ)
       subst (λ (i : ℕ). Mem i (used s)) (getD-take (s .count) (s .queue) k 0 h)
       (place-mem (used s) k 0 (omega (arith, count-used)))
 
-  some : 0 < tripleCount (states G)
-  some = let h = mul-le-mul {n₁ = 4} {m₁ = 4} (states-four limits G) (states-four limits G) in omega (arith, h)
+  some : 0 < tripleCount (M .states)
+  some = let h = mul-le-mul {n₁ = 4} {m₁ = 4} (W .four) (W .four) in omega (arith, h)
 
-  inside : (i j : ℕ) → i < tripleCount (states G) → Mem j (successors limits G i) → j < tripleCount (states G)
-  inside = successors-below limits G W (omega arith)
+  inside : (i j : ℕ) → i < tripleCount (M .states) → Mem j (successors M i) → j < tripleCount (M .states)
+  inside = successors-below M W
 
   -- what follows an index is a successor
-  next-listed : (i j : ℕ) → i < tripleCount Q → NextOf R targets t m Q i j → Mem j (successors limits G i)
-  next-listed i j h (k, l, e) = subst (λ (j : ℕ). Mem j (successors limits G i)) e (p .lists i h .each k l)
+  next-listed : (i j : ℕ) → i < tripleCount Q → NextOf R targets t m Q i j → Mem j (successors M i)
+  next-listed i j h (k, l, e) = subst (λ (j : ℕ). Mem j (successors M i)) e (p .lists i h .each k l)
 
   queue-below : (k : ℕ) → k < s .count → getD (s .queue) k 0 < tripleCount Q
   queue-below k h = marked .below (getD (s .queue) k 0) (used-at k h)
 
   -- by the places: 0 is the first index, each further one follows an earlier one
-  found-at : (n k : ℕ) → k < n → k < s .count → Mem (getD (s .queue) k 0) (smallest limits G)
+  found-at : (n k : ℕ) → k < n → k < s .count → Mem (getD (s .queue) k 0) (smallest M)
   unfolding smallest
   found-at zero k h l = absurd (let o : ⊥ = omega arith in o)
   found-at (suc n) k h l = go (ℕ-discrete k 0) (found-at n)
     where
-      go : Dec (k ≡ 0) → ((k : ℕ) → k < n → k < s .count → Mem (getD (s .queue) k 0) (smallest limits G)) → Mem (getD (s .queue) k 0) (smallest limits G)
+      go : Dec (k ≡ 0) → ((k : ℕ) → k < n → k < s .count → Mem (getD (s .queue) k 0) (smallest M)) → Mem (getD (s .queue) k 0) (smallest M)
       go (yes e) again =
-          subst (λ (i : ℕ). Mem i (smallest limits G)) (sym (ap (λ (k : ℕ). getD (s .queue) k 0) e ∙ x .going .first))
-          (explore-start (successors limits G) (tripleCount (states G)) some inside)
+          subst (λ (i : ℕ). Mem i (smallest M)) (sym (ap (λ (k : ℕ). getD (s .queue) k 0) e ∙ x .going .first))
+          (explore-start (successors M) (tripleCount (M .states)) some inside)
       go (no z) again =
           let f = x .going .found k (positive k z) l in
-          explore-closed (successors limits G) (tripleCount (states G)) some inside (getD (s .queue) (f .from) 0) (getD (s .queue) k 0)
+          explore-closed (successors M) (tripleCount (M .states)) some inside (getD (s .queue) (f .from) 0) (getD (s .queue) k 0)
           (again (f .from) (omega (arith, f .earlier)) (omega (arith, f .earlier)))
           (next-listed (getD (s .queue) (f .from) 0) (getD (s .queue) k 0) (queue-below (f .from) (omega (arith, f .earlier))) (f .next))
         where
@@ -120,13 +117,13 @@ module _ (G : Grammar) (W : WellFormed limits G) (R : Rows) (targets : List ℕ)
           positive (suc k) z = omega arith
 
   -- the queue has 0 and every successor of what it has
-  used-least : (i : ℕ) → Mem i (smallest limits G) → Mem i (used s)
+  used-least : (i : ℕ) → Mem i (smallest M) → Mem i (used s)
   unfolding smallest
   used-least =
-      explore-least (successors limits G) (tripleCount (states G)) some inside (λ i. Mem i (used s))
+      explore-least (successors M) (tripleCount (M .states)) some inside (λ i. Mem i (used s))
       (subst (λ (i : ℕ). Mem i (used s)) (x .going .first) (used-at 0 (x .going .some))) closed
     where
-      closed : (i j : ℕ) → Mem i (used s) → Mem j (successors limits G i) → Mem j (used s)
+      closed : (i j : ℕ) → Mem i (used s) → Mem j (successors M i) → Mem j (used s)
       closed i j h n =
           let a = mem-place 0 h in
           let l : a .0 < s .count = omega (arith, a .1, count-used) in
@@ -139,76 +136,76 @@ module _ (G : Grammar) (W : WellFormed limits G) (R : Rows) (targets : List ℕ)
           (x .closed (a .0) j l (subst (λ (i : ℕ). NextOf R targets t m Q i j) e o))
 
   -- the queue has exactly the smallest closed set
-  pub found-smallest : (i : ℕ) → Mem i (used s) ↔ Mem i (smallest limits G)
+  pub found-smallest : (i : ℕ) → Mem i (used s) ↔ Mem i (smallest M)
   found-smallest i = (found, used-least i)
     where
-      found : Mem i (used s) → Mem i (smallest limits G)
+      found : Mem i (used s) → Mem i (smallest M)
       found h =
           let a = mem-place 0 h in
           let l : a .0 < s .count = omega (arith, a .1, count-used) in
-          subst (λ (i : ℕ). Mem i (smallest limits G)) (sym (getD-take (s .count) (s .queue) (a .0) 0 l) ∙ a .2) (found-at (suc (a .0)) (a .0) (omega arith) l)
+          subst (λ (i : ℕ). Mem i (smallest M)) (sym (getD-take (s .count) (s .queue) (a .0) 0 l) ∙ a .2) (found-at (suc (a .0)) (a .0) (omega arith) l)
 
   -- and as many as it has
-  pub size-found : s .count ≡ size limits G
-  size-found = sym count-used ∙ size-cardinal limits G W (omega arith) (used s) (marked .distinct) found-smallest
+  pub size-found : s .count ≡ size M
+  size-found = sym count-used ∙ size-cardinal M W (used s) (marked .distinct) found-smallest
 
   -- a mark below the flags tells whether the smallest closed set has its index
-  mark-is : (i : ℕ) → i < flagBase Q → isSet (s .marks) i ≡ isElement i (smallest limits G)
+  mark-is : (i : ℕ) → i < flagBase Q → isSet (s .marks) i ≡ isElement i (smallest M)
   mark-is i h = go (isSet (s .marks) i) refl
     where
-      go : (b : Bool) → isSet (s .marks) i ≡ b → isSet (s .marks) i ≡ isElement i (smallest limits G)
-      go true e = e ∙ sym (is-element i (smallest limits G) .1 (found-smallest i .0 (marked .seen-only i h e)))
+      go : (b : Bool) → isSet (s .marks) i ≡ b → isSet (s .marks) i ≡ isElement i (smallest M)
+      go true e = e ∙ sym (is-element i (smallest M) .1 (found-smallest i .0 (marked .seen-only i h e)))
       go false e =
-          e ∙ sym (not-element i (smallest limits G) .1 (λ n. no-bool (sym (marked .seen i (found-smallest i .1 n)) ∙ e)))
+          e ∙ sym (not-element i (smallest M) .1 (λ n. no-bool (sym (marked .seen i (found-smallest i .1 n)) ∙ e)))
 
   -- (1,1,1) is marked exactly if the verdict is potential
-  pub potential-is : isSet (s .marks) (index Q 1 1 1) ≡ isPotential limits G
+  pub potential-is : isSet (s .marks) (index Q 1 1 1) ≡ isPotential M
   potential-is =
-      let four : 4 ≤ Q = omega (arith, p .size, states-four limits G) in
+      let four : 4 ≤ Q = omega (arith, p .size, W .four) in
       let h = index-below Q 1 1 1 (omega arith) (omega arith) (omega arith) in
       mark-is (index Q 1 1 1) (omega (arith, h, bits-fit (tripleCount Q)))
-      ∙ ap (λ (q : ℕ). isElement (index q 1 1 1) (smallest limits G)) (p .size)
+      ∙ ap (λ (q : ℕ). isElement (index q 1 1 1) (smallest M)) (p .size)
 
-  mark-bit : (i : ℕ) → i < flagBase Q → bit (s .marks) i ≡ choose (isElement i (smallest limits G)) 1 0
-  mark-bit i h = go (isElement i (smallest limits G)) (mark-is i h)
+  mark-bit : (i : ℕ) → i < flagBase Q → bit (s .marks) i ≡ choose (isElement i (smallest M)) 1 0
+  mark-bit i h = go (isElement i (smallest M)) (mark-is i h)
     where
       go : (b : Bool) → isSet (s .marks) i ≡ b → bit (s .marks) i ≡ choose b 1 0
       go true e = set-bit (s .marks) i e
       go false e = clear-bit (s .marks) i e
 
   -- the marks below the flags are the certificate
-  pub certificate-is : take (byteCount Q) (s .marks) ≡ certificateOf Q (smallest limits G)
+  pub certificate-is : take (byteCount Q) (s .marks) ≡ certificateOf Q (smallest M)
   certificate-is =
-      bytes-are (smallest limits G) (s .marks) (byteCount Q) 0 (omega (arith, marked .marks-room)) (marked .small)
+      bytes-are (smallest M) (s .marks) (byteCount Q) 0 (omega (arith, marked .marks-room)) (marked .small)
       (λ i l. mark-bit i (omega arith))
 
   ahead-accepted : {j : ℕ} {is : List ℕ} (place n : ℕ) → getD (s .queue) place 0 ≡ index Q 1 1 1
-      → Ahead (s .queue) (s .parents) (s .count) place j is → checkOn limits G (getD (s .queue) j 0) n is ≡ done tt
+      → Ahead (s .queue) (s .parents) (s .count) place j is → checkOn M (getD (s .queue) j 0) n is ≡ done tt
   unfolding checkOn
   ahead-accepted place n e here =
-      unless-holds 15 n _ (done tt) (eq-eqb (getD (s .queue) place 0) (index (states G) 1 1 1) (e ∙ ap (λ (q : ℕ). index q 1 1 1) (p .size)))
+      unless-holds 15 n _ (done tt) (eq-eqb (getD (s .queue) place 0) (index (M .states) 1 1 1) (e ∙ ap (λ (q : ℕ). index q 1 1 1) (p .size)))
   ahead-accepted place n e (back {j} {k} {is} h l q a) =
       let f = x .going .found k h l in
       let i : getD (s .queue) (f .from) 0 ≡ getD (s .queue) j 0 = ap (λ (k : ℕ). getD (s .queue) k 0) (sym (q ∙ f .link)) in
-      let o : Mem (getD (s .queue) k 0) (successors limits G (getD (s .queue) j 0))
-      = subst (λ (i : ℕ). Mem (getD (s .queue) k 0) (successors limits G i)) i
+      let o : Mem (getD (s .queue) k 0) (successors M (getD (s .queue) j 0))
+      = subst (λ (i : ℕ). Mem (getD (s .queue) k 0) (successors M i)) i
       (next-listed (getD (s .queue) (f .from) 0) (getD (s .queue) k 0) (queue-below (f .from) (omega (arith, f .earlier))) (f .next)) in
-      unless-holds 15 n _ (checkOn limits G (getD (s .queue) k 0) (suc n) is)
-      (is-element (getD (s .queue) k 0) (successors limits G (getD (s .queue) j 0)) .1 o)
+      unless-holds 15 n _ (checkOn M (getD (s .queue) k 0) (suc n) is)
+      (is-element (getD (s .queue) k 0) (successors M (getD (s .queue) j 0)) .1 o)
       ∙ ahead-accepted place (suc n) e a
 
   -- the way to (1,1,1) is a row that the witness check accepts
   pub row-accepted : (place : ℕ) (rest : List ℕ) → Ahead (s .queue) (s .parents) (s .count) place 0 rest
-      → getD (s .queue) place 0 ≡ index Q 1 1 1 → checkRow limits G (getD (s .queue) 0 0 ∷ rest) ≡ done tt
+      → getD (s .queue) place 0 ≡ index Q 1 1 1 → checkRow M (getD (s .queue) 0 0 ∷ rest) ≡ done tt
   unfolding checkRow
   row-accepted place rest a e =
-      unless-holds 15 0 _ (checkOn limits G (getD (s .queue) 0 0) 1 rest)
-      (eq-eqb (getD (s .queue) 0 0) (index (states G) 0 0 0) (x .going .first ∙ sym (index-zero (states G))))
+      unless-holds 15 0 _ (checkOn M (getD (s .queue) 0 0) 1 rest)
+      (eq-eqb (getD (s .queue) 0 0) (index (M .states) 0 0 0) (x .going .first ∙ sym (index-zero (M .states))))
       ∙ ahead-accepted place 1 e a
 
   -- a work row that is cleared, if it is as it was past its first 2Q² entries
   row-cleared : (old row : List ℕ) → drop (tripleCount Q) row ≡ drop (tripleCount Q) old
-      → over (replicate (tripleCount Q) 0) row ≡ cleared (states G) old
+      → over (replicate (tripleCount Q) 0) row ≡ cleared (M .states) old
   unfolding over
   row-cleared old row e =
       ap (λ (l : List ℕ). replicate (tripleCount Q) 0 ++ l)
@@ -219,17 +216,17 @@ module _ (G : Grammar) (W : WellFormed limits G) (R : Rows) (targets : List ℕ)
     -- what is lent, before and after
     abbrev told-of : SearchVerdict → List ℕ → List ℕ → Bool → Type 0
     told-of r certificate′ witness′ b =
-        Told b G (lent certificate queue parents witness) r
+        Told b M (lent certificate queue parents witness) r
         (lent certificate′ (over (replicate (tripleCount Q) 0) (s .queue)) (over (replicate (tripleCount Q) 0) (s .parents)) witness′)
 
     -- the answer by the marks is the verdict's
     pub told : (r : SearchVerdict) (certificate′ witness′ : List ℕ) → Answered s Q certificate witness r certificate′ witness′
-        → Told (isPotential limits G) G (lent certificate queue parents witness) r
+        → Told (isPotential M) M (lent certificate queue parents witness) r
         (lent certificate′ (over (replicate (tripleCount Q) 0) (s .queue)) (over (replicate (tripleCount Q) 0) (s .parents)) witness′)
     told (Unambiguous n) certificate′ witness′ (e, c, b, w) =
         subst (told-of (Unambiguous n) certificate′ witness′) (sym e ∙ potential-is) (record {
           verdict = ap Unambiguous (c ∙ size-found);
-          certificate = b ∙ ap (λ (l : List ℕ). over l certificate) (certificate-is ∙ ap (λ (q : ℕ). certificateOf q (smallest limits G)) (p .size));
+          certificate = b ∙ ap (λ (l : List ℕ). over l certificate) (certificate-is ∙ ap (λ (q : ℕ). certificateOf q (smallest M)) (p .size));
           queue = row-cleared queue (s .queue) (x .queue-rest);
           parents = row-cleared parents (s .parents) (x .parents-rest);
           witness = w;

@@ -13,6 +13,8 @@ use Rattle.grammar.specs.Grammar.{Grammar}
 use Rattle.grammar.specs.Refusal.{Answer, done, refused, refuseUnless, andThen, bufferTooShort}
 use Rattle.grammar.specs.TableCheck.{checkTable}
 use Rattle.automaton.specs.Items.{states}
+use Rattle.automaton.specs.Moves.{Moves}
+use Rattle.automaton.specs.PositionMoves.{movesOf}
 use Rattle.triples.specs.Index.{index, tripleCount}
 use Rattle.triples.specs.Smallest.{isElement, smallest, size}
 use Rattle.triples.specs.Certificate.{byteCount, certificateOf}
@@ -21,8 +23,8 @@ use Rattle.search.specs.declared.SearchVerdict.{SearchVerdict}
 use Rattle.search.specs.declared.SearchVerdict.the-variants.{Unambiguous, Potential, Refused}
 
 -- the verdict, computed: potential if the smallest closed set holds (1,1,1), else unambiguous
-abbrev pub isPotential : Limits → Grammar → Bool
-isPotential L G = isElement (index (states G) 1 1 1) (smallest L G)
+abbrev pub isPotential : Moves → Bool
+isPotential M = isElement (index (M .states) 1 1 1) (smallest M)
 
 -- what the search finds: unambiguous with the size, or potential with the witness's number of entries
 pub data Found : Type 0 where
@@ -60,32 +62,32 @@ abbrev pub cleared : ℕ → List ℕ → List ℕ
 cleared Q row = over (replicate (tripleCount Q) 0) row
 
 -- unambiguous: with the size; the certificate is that of the smallest closed set, the witness row is untouched
-pub record Certified (G : Grammar) (before : Lent) (r : SearchVerdict) (after : Lent) : Type 0 where
-  pub verdict : r ≡ searchVerdict (done (unambiguous (size limits G)))
-  pub certificate : after .certificate ≡ over (certificateOf (states G) (smallest limits G)) (before .certificate)
-  pub queue : after .queue ≡ cleared (states G) (before .queue)
-  pub parents : after .parents ≡ cleared (states G) (before .parents)
+pub record Certified (M : Moves) (before : Lent) (r : SearchVerdict) (after : Lent) : Type 0 where
+  pub verdict : r ≡ searchVerdict (done (unambiguous (size M)))
+  pub certificate : after .certificate ≡ over (certificateOf (M .states) (smallest M)) (before .certificate)
+  pub queue : after .queue ≡ cleared (M .states) (before .queue)
+  pub parents : after .parents ≡ cleared (M .states) (before .parents)
   pub witness : after .witness ≡ before .witness
 
 -- potential: which row is the program's choice; the witness check accepts it, it has 2Q² entries at most, and their number is
 -- returned; the certificate and the witness row past its end are untouched
-pub record Witnessed (G : Grammar) (before : Lent) (r : SearchVerdict) (after : Lent) : Type 0 where
+pub record Witnessed (M : Moves) (before : Lent) (r : SearchVerdict) (after : Lent) : Type 0 where
   pub row : List ℕ
-  pub accepted : checkRow limits G row ≡ done tt
-  pub few : length row ≤ tripleCount (states G)
+  pub accepted : checkRow M row ≡ done tt
+  pub few : length row ≤ tripleCount (M .states)
   pub verdict : r ≡ searchVerdict (done (potential (length row)))
   pub certificate : after .certificate ≡ before .certificate
-  pub queue : after .queue ≡ cleared (states G) (before .queue)
-  pub parents : after .parents ≡ cleared (states G) (before .parents)
+  pub queue : after .queue ≡ cleared (M .states) (before .queue)
+  pub parents : after .parents ≡ cleared (M .states) (before .parents)
   pub witness : after .witness ≡ over row (before .witness)
 
-abbrev pub Told : Bool → Grammar → Lent → SearchVerdict → Lent → Type 0
+abbrev pub Told : Bool → Moves → Lent → SearchVerdict → Lent → Type 0
 Told true = Witnessed
 Told false = Certified
 
 -- a refusal changes nothing
 abbrev pub Answers : Answer Grammar → Lent → SearchVerdict → Lent → Type 0
-Answers (done G) before r after = Told (isPotential limits G) G before r after
+Answers (done G) before r after = Told (isPotential (movesOf limits G)) (movesOf limits G) before r after
 Answers (refused cause at) before r after = (r ≡ searchVerdict (refused cause at)) × (after ≡ before)
 
 -- the promise

@@ -7,10 +7,9 @@ use mathlib.Core.Logic.{inl, inr}
 use native.Mathlib.Omega.{arith}
 use lib.Dec.{leb}
 use borrow.Author.Tests.{leb-true, le-leb}
-use Rattle.grammar.specs.Basics.{Mem, here}
+use Rattle.grammar.specs.Basics.{Mem, here, when}
 use Rattle.grammar.specs.Limits.{limits}
 use Rattle.grammar.proofs.Lists.{lt-or-le}
-use Rattle.triples.specs.Records.{when}
 use Rattle.triples.specs.declared.Step.{Step}
 use Rattle.triple_laws.proofs.Members.{no-element, only-one, mem-either, mem-left, mem-right, under-test, of-map}
 use Rattle.triple_laws.proofs.Pairs.{Rising}

@@ -7,9 +7,8 @@ use mathlib.Core.Logic.{_⊎_, inl, inr, _↔_}
 use native.Mathlib.Omega.{arith}
 use lib.Dec.{leb, ltb}
 use borrow.Author.Tests.{leb-true, le-leb, ltb-true, lt-ltb}
-use Rattle.grammar.specs.Basics.{Mem, here, there}
+use Rattle.grammar.specs.Basics.{Mem, here, there, when}
 use Rattle.grammar.proofs.Answers.{no-bool, and-both, both-and}
-use Rattle.triples.specs.Records.{when}
 use Rattle.triple_laws.proofs.Members.{no-element, first-or, element-as}
 use Rattle.moves.specs.Tables.{Ascends}
 use Rattle.steps.specs.Plan.{inside, between}

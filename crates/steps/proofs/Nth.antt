@@ -9,11 +9,11 @@ use native.Mathlib.Nat.{suc-mul, mod-lt, div-add-mod'}
 use lib.Dec.{leb}
 use lib.ListN.{length, getD, drop, drop-of-length-le}
 use borrow.Author.Tests.{le-leb, eq-eqb, ne-eqb}
-use Rattle.grammar.specs.Basics.{choose, Mem, here, there}
+use Rattle.grammar.specs.Basics.{choose, Mem, here, there, when, each}
 use Rattle.grammar.specs.Limits.{limits}
 use Rattle.grammar.proofs.Answers.{no-bool}
 use Rattle.grammar.proofs.Lists.{drop-next}
-use Rattle.triples.specs.Records.{when, each, step}
+use Rattle.triples.specs.Records.{step}
 use Rattle.triples.specs.declared.Move.the-variants.{Closing}
 use Rattle.triples.specs.declared.Step.{Step}
 use Rattle.triple_laws.proofs.Members.{mem-place}

@@ -10,9 +10,11 @@ use Rattle.grammar.specs.Grammar.{stateCount}
 use Rattle.grammar.specs.Table.{decodeUpTo}
 use Rattle.grammar.specs.Refusal.{Answer, done, refused, refuseUnless, andThen}
 use Rattle.grammar.specs.TableCheck.{sameCodes, isAmong, declaredFront, readRule, nextRule, checkFrom, checkTable}
+use Rattle.grammar.specs.Basics.{each}
+use Rattle.automaton.specs.PositionMoves.{aheads, rulesOf, completed, past, aheadRow, openings, closings}
 use Rattle.triples.specs.declared.Move.the-variants.{Opening, Closing, Symbol, Still}
 use Rattle.triples.specs.declared.Step.{Step}
-use Rattle.triples.specs.Records.{each, aheads, rulesOf, completed, past, step, aheadRow, openings, closings}
+use Rattle.triples.specs.Records.{step}
 use Rattle.triples.specs.Records.{leftAlone, rightAlone, bothShift, bothClose, choices, insert, ordered, records}
 use Rattle.steps.specs.Steps.{nth, nthStep}
 

@@ -5,8 +5,7 @@ use mathlib.Core.Bool.{Bool, true, false}
 use mathlib.Core.List.{List, [], _∷_, _++_, map}
 use mathlib.Core.Logic.{inl, inr}
 use native.Mathlib.Omega.{arith}
-use Rattle.grammar.specs.Basics.{Mem}
-use Rattle.triples.specs.Records.{when, each}
+use Rattle.grammar.specs.Basics.{Mem, when, each}
 use Rattle.triple_laws.proofs.Members.{no-element, only-one, mem-either, of-map}
 use Rattle.triple_laws.proofs.Pairs.{Rising, pairs-none, pairs-more, pairs-append}
 use Rattle.moves.specs.Tables.{Ascends}

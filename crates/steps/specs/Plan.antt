@@ -5,9 +5,9 @@ use mathlib.Core.Bool.{Bool, true, false, _&&_}
 use mathlib.Core.List.{List, [], _∷_, _++_, map}
 use lib.Dec.{eqb, leb, ltb}
 use lib.ListN.{length, getD}
-use Rattle.grammar.specs.Basics.{choose}
+use Rattle.grammar.specs.Basics.{choose, when, each}
 use Rattle.grammar.specs.Limits.{limits}
-use Rattle.triples.specs.Records.{when, each, step}
+use Rattle.triples.specs.Records.{step}
 use Rattle.triples.specs.declared.Move.{Move}
 use Rattle.triples.specs.declared.Move.the-variants.{Opening, Closing, Symbol, Still}
 use Rattle.triples.specs.declared.Step.{Step}

@@ -16,4 +16,6 @@ pub mod CertificateCheck
 pub mod WitnessCheck
 pub mod CertificateOf
 pub mod SmallestSet
+pub mod Numbered
+pub mod Position
 pub mod Laws

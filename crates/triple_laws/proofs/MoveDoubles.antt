@@ -6,11 +6,11 @@ use mathlib.Core.List.{List, [], _∷_}
 use native.Mathlib.Omega.{arith}
 use lib.Dec.{eqb}
 use lib.ListN.{length}
-use Rattle.grammar.specs.Basics.{Mem, Distinct, none}
+use Rattle.grammar.specs.Basics.{Mem, Distinct, none, when, each}
 use Rattle.grammar.specs.Limits.{Limits}
 use Rattle.grammar.specs.Grammar.{Rule, Grammar, rule}
 use Rattle.automaton.specs.Items.{base}
-use Rattle.triples.specs.Records.{when, each, rulesOf, completed, past, aheadRow, ahead, openings, closings}
+use Rattle.automaton.specs.PositionMoves.{rulesOf, completed, past, aheadRow, ahead, openings, closings}
 use Rattle.triple_laws.proofs.Members.{only-one, under-test, of-each, of-map}
 use Rattle.triple_laws.proofs.Members.{distinct-one, distinct-append, distinct-when, distinct-each, distinct-map}
 use Rattle.triple_laws.proofs.Rows.{Run, run-rules, base-next, length-as, rules-out, ends-out, past-out, pasts}

@@ -3,25 +3,20 @@
 -- Assumes nothing.
 use Prim.Native.Nat.{ℕ, zero, suc, _+_, _≤_, _<_}
 use mathlib.Core.Path.{_≡_, refl, sym, ap, subst, _∙_}
-use mathlib.Core.Bool.{true}
 use mathlib.Core.List.{[], _∷_}
 use mathlib.Core.Logic.{inl, inr, _↔_}
 use native.Mathlib.Omega.{arith}
 use lib.Dec.{eqb}
 use lib.ListN.{length, getD}
 use borrow.Author.Tests.{eqb-true, eq-eqb}
-use Rattle.grammar.specs.Basics.{Mem}
+use Rattle.grammar.specs.Basics.{Mem, when, each}
 use Rattle.grammar.specs.Limits.{Limits}
-use Rattle.grammar.specs.Grammar.{Terminal, Grammar, IsRule, rule, WellFormed}
+use Rattle.grammar.specs.Grammar.{Grammar, IsRule, rule, WellFormed}
 use Rattle.grammar.proofs.Derives.{rule-listed}
-use Rattle.grammar.proofs.Plain.{is-terminal}
 use Rattle.automaton.specs.Items.{lengthOf, base, Before}
 use Rattle.automaton.specs.Position.{Opens, opens-start, opens-rule, Closes, closes-start, closes-rule, Shifts, shifts}
-use Rattle.automaton.specs.Position.{position}
 use Rattle.automaton.proofs.Items.{base-low}
-use Rattle.triples.specs.Successor.{BeforeTerminal}
-use Rattle.triples.specs.Records.{when, each, aheads, rulesOf, completed, past, aheadRow, ahead, terminalAhead, openings}
-use Rattle.triples.specs.Records.{closings}
+use Rattle.automaton.specs.PositionMoves.{aheads, rulesOf, completed, past, aheadRow, ahead, openings, closings}
 use Rattle.triple_laws.proofs.Members.{only-one, one-only, place-mem, mem-left, mem-right, mem-either, under-test, of-each}
 use Rattle.triple_laws.proofs.Members.{of-map}
 use Rattle.triple_laws.proofs.Rows.{run-rules, run-zero, item-ahead, ahead-item, rules-out, rules-in, ends-out, ends-in}
@@ -53,19 +48,6 @@ module _ (L : Limits) (G : Grammar) where
   -- the code ahead of a state is x exactly where the state stands before x
   pub ahead-before : (x p : ℕ) → 1 ≤ x → (ahead L G p ≡ x) ↔ Before L G x p
   ahead-before x p h = (ahead-to x p h, before-to x p)
-
-  -- a terminal is ahead of a state exactly where the state stands before a terminal
-  pub terminal-ahead : (p : ℕ) → (terminalAhead L G p ≡ true) ↔ BeforeTerminal (position L G) p
-  terminal-ahead p = (to, from)
-    where
-      to : terminalAhead L G p ≡ true → BeforeTerminal (position L G) p
-      to e =
-          let t = is-terminal (G .terminals) (ahead L G p) .0 e in
-          (ahead L G p, t, (suc p, shifts (ahead-to (ahead L G p) p (t .0) refl) refl))
-
-      from : BeforeTerminal (position L G) p → terminalAhead L G p ≡ true
-      from (a, t, (q, shifts b e)) =
-          is-terminal (G .terminals) (ahead L G p) .1 (subst (Terminal (G .terminals)) (sym (before-to a p b)) t)
 
 module _ (L : Limits) (G : Grammar) (W : WellFormed L G) (apart : L .maxTerminals < L .nonterminalBase) where
   -- a rule's left code is not 0

@@ -7,19 +7,15 @@ use mathlib.Core.List.{List, [], _∷_, _++_}
 use mathlib.Core.Logic.{_⊎_, inl, inr}
 use native.Mathlib.Omega.{arith}
 use lib.Dec.{eqb, leb, ltb}
-use Rattle.grammar.specs.Basics.{Mem, Distinct, none}
-use Rattle.grammar.specs.Limits.{Limits}
-use Rattle.grammar.specs.Grammar.{Grammar}
-use Rattle.automaton.specs.Items.{states}
+use Rattle.grammar.specs.Basics.{Mem, Distinct, none, when, each}
+use Rattle.automaton.specs.Moves.{Moves, terminalAhead, Regular}
 use Rattle.triples.specs.Index.{index}
-use Rattle.triples.specs.Records.{when, each, step, ahead, terminalAhead, openings, closings}
-use Rattle.triples.specs.Records.{leftAlone, rightAlone, bothShift, bothClose, choices, ordered, records}
+use Rattle.triples.specs.Records.{step, leftAlone, rightAlone, bothShift, bothClose, choices, ordered, records}
 use Rattle.triples.specs.declared.Move.{Move}
 use Rattle.triples.specs.declared.Move.the-variants.{Opening, Closing, Symbol, Still}
 use Rattle.triples.specs.declared.Step.{Step}
 use Rattle.triple_laws.proofs.Members.{only-one, mem-either, under-test, of-each}
 use Rattle.triple_laws.proofs.Members.{distinct-one, distinct-append, distinct-when, distinct-each, distinct-map}
-use Rattle.triple_laws.proofs.MoveDoubles.{openings-distinct, closings-distinct}
 use Rattle.triple_laws.proofs.Pairs.{Ascending, pairs-none, pairs-append, pairs-all}
 use Rattle.triple_laws.proofs.Order.{ordered-distinct}
 use Rattle.triple_laws.proofs.Choices.{closesBoth, left-alone, right-alone, opensLeft, opensRight, closesLeft, closesRight}
@@ -71,9 +67,9 @@ begins rank m d e = record {
   below = λ s h. let x = e s h in omega arith;
 }
 
-module _ (L : Limits) (G : Grammar) where
+module _ (M : Moves) (R : Regular M) where
   left-distinct : (f q : ℕ) (kind : ℕ → Move) (moves : List (ℕ × ℕ)) → ((i j : ℕ) → kind i ≡ kind j → i ≡ j) → Distinct moves
-      → Distinct (leftAlone L G f q kind moves)
+      → Distinct (leftAlone f q kind moves)
   unfolding leftAlone
   left-distinct f q kind moves n d =
       distinct-map moves (λ m. step f (m .1) q (kind (m .0)) Still) d
@@ -83,7 +79,7 @@ module _ (L : Limits) (G : Grammar) where
       λ i. (x i, y i))
 
   right-distinct : (f p : ℕ) (kind : ℕ → Move) (moves : List (ℕ × ℕ)) → ((i j : ℕ) → kind i ≡ kind j → i ≡ j) → Distinct moves
-      → Distinct (rightAlone L G f p kind moves)
+      → Distinct (rightAlone f p kind moves)
   unfolding rightAlone
   right-distinct f p kind moves n d =
       distinct-map moves (λ m. step f p (m .1) Still (kind (m .0))) d
@@ -98,27 +94,27 @@ module _ (L : Limits) (G : Grammar) where
   closing-same : (i j : ℕ) → Closing i ≡ Closing j → i ≡ j
   closing-same i j e = cc
 
-  shift-distinct : (f p q : ℕ) → Distinct (bothShift L G f p q)
+  shift-distinct : (f p q : ℕ) → Distinct (bothShift M f p q)
   unfolding bothShift
   shift-distinct f p q =
-      let s = step f (suc p) (suc q) (Symbol (ahead L G p)) (Symbol (ahead L G p)) in
-      distinct-when (leb 1 (ahead L G p) && eqb (ahead L G p) (ahead L G q)) (s ∷ []) (distinct-one s)
+      let s = step f (M .after p) (M .after q) (Symbol (M .ahead p)) (Symbol (M .ahead p)) in
+      distinct-when (leb 1 (M .ahead p) && eqb (M .ahead p) (M .ahead q)) (s ∷ []) (distinct-one s)
 
   both-is : (m n : ℕ × ℕ) (s : Step) → Mem s (closesBoth m n) → s ≡ step 1 (m .1) (n .1) (Closing (m .0)) (Closing (n .0))
   both-is m n s h =
       let t = step 1 (m .1) (n .1) (Closing (m .0)) (Closing (n .0)) in
       only-one (under-test (not (eqb (m .0) (n .0))) (t ∷ []) .0 h .1)
 
-  close-distinct : (p q : ℕ) → Distinct (bothClose L G p q)
+  close-distinct : (p q : ℕ) → Distinct (bothClose M p q)
   unfolding bothClose
   close-distinct p q =
-      distinct-each (closings L G p) (λ m. each (closings L G q) (closesBoth m)) (closings-distinct L G p)
-      (λ m h. distinct-each (closings L G q) (closesBoth m) (closings-distinct L G q)
+      distinct-each (M .closings p) (λ m. each (M .closings q) (closesBoth m)) (R .closes-once p)
+      (λ m h. distinct-each (M .closings q) (closesBoth m) (R .closes-once q)
       (λ n k. distinct-when (not (eqb (m .0) (n .0))) (made m n ∷ []) (distinct-one (made m n)))
       (λ n o s h k u v. same-right m m n o s (both-is m n s u) (both-is m o s v)))
       (λ m n s h k u v.
-      let a = of-each (closings L G q) (closesBoth m) .0 u in
-      let b = of-each (closings L G q) (closesBoth n) .0 v in
+      let a = of-each (M .closings q) (closesBoth m) .0 u in
+      let b = of-each (M .closings q) (closesBoth n) .0 v in
       same-left m n (a .0) (b .0) s (both-is m (a .0) s (a .2)) (both-is n (b .0) s (b .2)))
     where
       made : ℕ × ℕ → ℕ × ℕ → Step
@@ -138,119 +134,119 @@ module _ (L : Limits) (G : Grammar) where
           let y = ap (λ (s : Step). s .right) e in
           λ i. (x i, y i)
 
-  opens-left : (f p q : ℕ) → Distinct (opensLeft L G f p q)
-  opens-left f p q = left-distinct f q (λ i. Opening i) (openings L G p) opening-same (openings-distinct L G p)
+  opens-left : (f p q : ℕ) → Distinct (opensLeft M f p q)
+  opens-left f p q = left-distinct f q (λ i. Opening i) (M .openings p) opening-same (R .opens-once p)
 
-  opens-right : (f p q : ℕ) → Distinct (opensRight L G f p q)
-  opens-right f p q = right-distinct f p (λ i. Opening i) (openings L G q) opening-same (openings-distinct L G q)
+  opens-right : (f p q : ℕ) → Distinct (opensRight M f p q)
+  opens-right f p q = right-distinct f p (λ i. Opening i) (M .openings q) opening-same (R .opens-once q)
 
-  closes-left : (p q : ℕ) → Distinct (closesLeft L G p q)
-  closes-left p q = left-distinct 1 q (λ i. Closing i) (closings L G p) closing-same (closings-distinct L G p)
+  closes-left : (p q : ℕ) → Distinct (closesLeft M p q)
+  closes-left p q = left-distinct 1 q (λ i. Closing i) (M .closings p) closing-same (R .closes-once p)
 
-  closes-right : (p q : ℕ) → Distinct (closesRight L G p q)
-  closes-right p q = right-distinct 1 p (λ i. Closing i) (closings L G q) closing-same (closings-distinct L G q)
+  closes-right : (p q : ℕ) → Distinct (closesRight M p q)
+  closes-right p q = right-distinct 1 p (λ i. Closing i) (M .closings q) closing-same (R .closes-once q)
 
   left-rank : {s : Step} (rank : Step → ℕ) (f q k : ℕ) (kind : ℕ → Move) (moves : List (ℕ × ℕ))
-      → ((i p : ℕ) → rank (step f p q (kind i) Still) ≡ k) → Mem s (leftAlone L G f q kind moves) → rank s ≡ k
-  left-rank rank f q k kind moves e h = let o = left-alone L G f q kind moves .0 h in ap rank (o .2) ∙ e (o .0 .0) (o .0 .1)
+      → ((i p : ℕ) → rank (step f p q (kind i) Still) ≡ k) → Mem s (leftAlone f q kind moves) → rank s ≡ k
+  left-rank rank f q k kind moves e h = let o = left-alone M f q kind moves .0 h in ap rank (o .2) ∙ e (o .0 .0) (o .0 .1)
 
   right-rank : {s : Step} (rank : Step → ℕ) (f p k : ℕ) (kind : ℕ → Move) (moves : List (ℕ × ℕ))
-      → ((i q : ℕ) → rank (step f p q Still (kind i)) ≡ k) → Mem s (rightAlone L G f p kind moves) → rank s ≡ k
-  right-rank rank f p k kind moves e h = let o = right-alone L G f p kind moves .0 h in ap rank (o .2) ∙ e (o .0 .0) (o .0 .1)
+      → ((i q : ℕ) → rank (step f p q Still (kind i)) ≡ k) → Mem s (rightAlone f p kind moves) → rank s ≡ k
+  right-rank rank f p k kind moves e h = let o = right-alone M f p kind moves .0 h in ap rank (o .2) ∙ e (o .0 .0) (o .0 .1)
 
-  shift-rank : {s : Step} (rank : Step → ℕ) (f p q k : ℕ) → ((x : ℕ) → rank (step f (suc p) (suc q) (Symbol x) (Symbol x)) ≡ k)
-      → Mem s (bothShift L G f p q) → rank s ≡ k
+  shift-rank : {s : Step} (rank : Step → ℕ) (f p q k : ℕ) → ((x : ℕ) → rank (step f (M .after p) (M .after q) (Symbol x) (Symbol x)) ≡ k)
+      → Mem s (bothShift M f p q) → rank s ≡ k
   unfolding bothShift
   shift-rank rank f p q k e h =
-      let x = ahead L G p in
-      let t = step f (suc p) (suc q) (Symbol x) (Symbol x) in
-      ap rank (only-one (under-test (leb 1 x && eqb x (ahead L G q)) (t ∷ []) .0 h .1)) ∙ e x
+      let x = M .ahead p in
+      let t = step f (M .after p) (M .after q) (Symbol x) (Symbol x) in
+      ap rank (only-one (under-test (leb 1 x && eqb x (M .ahead q)) (t ∷ []) .0 h .1)) ∙ e x
 
-  close-rank : {s : Step} (p q : ℕ) → Mem s (bothClose L G p q) → rankZero s ≡ 3
+  close-rank : {s : Step} (p q : ℕ) → Mem s (bothClose M p q) → rankZero s ≡ 3
   unfolding bothClose
   close-rank {s} p q h =
-      let a = of-each (closings L G p) (λ m. each (closings L G q) (closesBoth m)) .0 h in
-      let b = of-each (closings L G q) (closesBoth (a .0)) .0 (a .2) in
+      let a = of-each (M .closings p) (λ m. each (M .closings q) (closesBoth m)) .0 h in
+      let b = of-each (M .closings q) (closesBoth (a .0)) .0 (a .2) in
       ap rankZero (both-is (a .0) (b .0) s (b .2))
 
-  zero-front : (p q : ℕ) → Front rankZero 6 (choices L G 0 p q)
+  zero-front : (p q : ℕ) → Front rankZero 6 (choices M 0 p q)
   unfolding choices
   zero-front p q =
-      further rankZero 5 (a ++ b ++ c ++ d ++ e) (when (terminalAhead L G p) (closesRight L G p q))
+      further rankZero 5 (a ++ b ++ c ++ d ++ e) (when (terminalAhead M p) (closesRight M p q))
       (further rankZero 4 (a ++ b ++ c ++ d) e
       (further rankZero 3 (a ++ b ++ c) d
       (further rankZero 2 (a ++ b) c
       (further rankZero 1 a b
-      (begins rankZero a (opens-left 0 p q) (λ s h. left-rank rankZero 0 q 0 (λ i. Opening i) (openings L G p) (λ i p. refl) h))
-      (opens-right 0 p q) (λ s h. right-rank rankZero 0 p 1 (λ i. Opening i) (openings L G q) (λ i q. refl) h))
+      (begins rankZero a (opens-left 0 p q) (λ s h. left-rank rankZero 0 q 0 (λ i. Opening i) (M .openings p) (λ i p. refl) h))
+      (opens-right 0 p q) (λ s h. right-rank rankZero 0 p 1 (λ i. Opening i) (M .openings q) (λ i q. refl) h))
       (shift-distinct 0 p q) (λ s h. shift-rank rankZero 0 p q 2 (λ x. refl) h))
       (close-distinct p q) (λ s h. close-rank p q h))
-      (distinct-when (terminalAhead L G q) (closesLeft L G p q) (closes-left p q))
-      (λ s h. left-rank rankZero 1 q 4 (λ i. Closing i) (closings L G p) (λ i p. refl)
-      (under-test (terminalAhead L G q) (closesLeft L G p q) .0 h .1)))
-      (distinct-when (terminalAhead L G p) (closesRight L G p q) (closes-right p q))
-      (λ s h. right-rank rankZero 1 p 5 (λ i. Closing i) (closings L G q) (λ i q. refl)
-      (under-test (terminalAhead L G p) (closesRight L G p q) .0 h .1))
+      (distinct-when (terminalAhead M q) (closesLeft M p q) (closes-left p q))
+      (λ s h. left-rank rankZero 1 q 4 (λ i. Closing i) (M .closings p) (λ i p. refl)
+      (under-test (terminalAhead M q) (closesLeft M p q) .0 h .1)))
+      (distinct-when (terminalAhead M p) (closesRight M p q) (closes-right p q))
+      (λ s h. right-rank rankZero 1 p 5 (λ i. Closing i) (M .closings q) (λ i q. refl)
+      (under-test (terminalAhead M p) (closesRight M p q) .0 h .1))
     where
       a : List Step
-      a = opensLeft L G 0 p q
+      a = opensLeft M 0 p q
 
       b : List Step
-      b = opensRight L G 0 p q
+      b = opensRight M 0 p q
 
       c : List Step
-      c = bothShift L G 0 p q
+      c = bothShift M 0 p q
 
       d : List Step
-      d = bothClose L G p q
+      d = bothClose M p q
 
       e : List Step
-      e = when (terminalAhead L G q) (closesLeft L G p q)
+      e = when (terminalAhead M q) (closesLeft M p q)
 
-  one-front : (p q : ℕ) → Front rankOne 5 (choices L G 1 p q)
+  one-front : (p q : ℕ) → Front rankOne 5 (choices M 1 p q)
   unfolding choices
   one-front p q =
-      further rankOne 4 (a ++ b ++ c ++ d) (when (terminalAhead L G p) (bothShift L G 1 p q))
+      further rankOne 4 (a ++ b ++ c ++ d) (when (terminalAhead M p) (bothShift M 1 p q))
       (further rankOne 3 (a ++ b ++ c) d
       (further rankOne 2 (a ++ b) c
       (further rankOne 1 a b
-      (begins rankOne a (opens-left 1 p q) (λ s h. left-rank rankOne 1 q 0 (λ i. Opening i) (openings L G p) (λ i p. refl) h))
-      (closes-left p q) (λ s h. left-rank rankOne 1 q 1 (λ i. Closing i) (closings L G p) (λ i p. refl) h))
-      (opens-right 1 p q) (λ s h. right-rank rankOne 1 p 2 (λ i. Opening i) (openings L G q) (λ i q. refl) h))
-      (closes-right p q) (λ s h. right-rank rankOne 1 p 3 (λ i. Closing i) (closings L G q) (λ i q. refl) h))
-      (distinct-when (terminalAhead L G p) (bothShift L G 1 p q) (shift-distinct 1 p q))
-      (λ s h. shift-rank rankOne 1 p q 4 (λ x. refl) (under-test (terminalAhead L G p) (bothShift L G 1 p q) .0 h .1))
+      (begins rankOne a (opens-left 1 p q) (λ s h. left-rank rankOne 1 q 0 (λ i. Opening i) (M .openings p) (λ i p. refl) h))
+      (closes-left p q) (λ s h. left-rank rankOne 1 q 1 (λ i. Closing i) (M .closings p) (λ i p. refl) h))
+      (opens-right 1 p q) (λ s h. right-rank rankOne 1 p 2 (λ i. Opening i) (M .openings q) (λ i q. refl) h))
+      (closes-right p q) (λ s h. right-rank rankOne 1 p 3 (λ i. Closing i) (M .closings q) (λ i q. refl) h))
+      (distinct-when (terminalAhead M p) (bothShift M 1 p q) (shift-distinct 1 p q))
+      (λ s h. shift-rank rankOne 1 p q 4 (λ x. refl) (under-test (terminalAhead M p) (bothShift M 1 p q) .0 h .1))
     where
       a : List Step
-      a = opensLeft L G 1 p q
+      a = opensLeft M 1 p q
 
       b : List Step
-      b = closesLeft L G p q
+      b = closesLeft M p q
 
       c : List Step
-      c = opensRight L G 1 p q
+      c = opensRight M 1 p q
 
       d : List Step
-      d = closesRight L G p q
+      d = closesRight M p q
 
   -- no choice of moves is listed twice
-  pub choices-distinct : (f p q : ℕ) → Distinct (choices L G f p q)
+  pub choices-distinct : (f p q : ℕ) → Distinct (choices M f p q)
   unfolding choices
   choices-distinct zero p q = zero-front p q .distinct
   choices-distinct (suc zero) p q = one-front p q .distinct
   choices-distinct (suc (suc f)) p q = none
 
   -- the choices stand in the order of their parts
-  pub choices-ascend : (f p q : ℕ) → Ascending (rankOf f) (choices L G f p q)
+  pub choices-ascend : (f p q : ℕ) → Ascending (rankOf f) (choices M f p q)
   unfolding choices
   choices-ascend zero p q = zero-front p q .ascending
   choices-ascend (suc zero) p q = one-front p q .ascending
   choices-ascend (suc (suc f)) p q = pairs-none
 
   -- no step record of a triple is listed twice
-  pub records-distinct : (f p q : ℕ) → Distinct (records L G f p q)
+  pub records-distinct : (f p q : ℕ) → Distinct (records M f p q)
   unfolding records
   records-distinct f p q =
-      let i = index (states G) f p q in
-      distinct-when (ltb p (states G) && ltb q (states G)) (ordered L G i (choices L G f p q))
-      (ordered-distinct L G i (choices L G f p q) (choices-distinct f p q))
+      let i = index (M .states) f p q in
+      distinct-when (ltb p (M .states) && ltb q (M .states)) (ordered M i (choices M f p q))
+      (ordered-distinct M i (choices M f p q) (choices-distinct f p q))

@@ -10,12 +10,12 @@ use native.Mathlib.Decide.{ℕ-discrete, decLt}
 use lib.Dec.{eqb}
 use lib.ListN.{length, getD, List·getD-append}
 use borrow.Author.Tests.{eqb-true, eq-eqb}
-use Rattle.grammar.specs.Basics.{Mem}
+use Rattle.grammar.specs.Basics.{Mem, when}
 use Rattle.grammar.specs.Limits.{Limits}
 use Rattle.grammar.specs.Grammar.{Rule, Grammar, rule}
 use Rattle.automaton.specs.Items.{lengthOf, base}
 use Rattle.automaton.proofs.Items.{base-apart}
-use Rattle.triples.specs.Records.{when, aheads, rulesOf, completed, past}
+use Rattle.automaton.specs.PositionMoves.{aheads, rulesOf, completed, past}
 use Rattle.triple_laws.proofs.Members.{no-element, only-one, one-only, mem-left, mem-right, mem-either, under-test}
 
 -- the element past the one in the middle

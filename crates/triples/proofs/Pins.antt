@@ -12,11 +12,13 @@ use Rattle.grammar.specs.Grammar.{Grammar, stateCount}
 use Rattle.grammar.specs.Table.{decodeUpTo, decode}
 use Rattle.grammar.specs.Refusal.{Answer, done, refused, refuseUnless, andThen}
 use Rattle.grammar.specs.TableCheck.{sameCodes, isAmong, declaredFront, readRule, nextRule, checkFrom, checkTable}
+use Rattle.grammar.specs.Basics.{each}
 use Rattle.automaton.specs.Items.{states}
+use Rattle.automaton.specs.PositionMoves.{movesOf, aheads, rulesOf, completed, past, aheadRow, openings, closings}
 use Rattle.triples.specs.declared.Move.the-variants.{Opening, Closing, Symbol, Still}
 use Rattle.triples.specs.declared.Step.{Step}
 use Rattle.triples.specs.Index.{index, tripleCount, layerOf, leftOf, rightOf}
-use Rattle.triples.specs.Records.{each, aheads, rulesOf, completed, past, step, aheadRow, openings, closings}
+use Rattle.triples.specs.Records.{step}
 use Rattle.triples.specs.Records.{leftAlone, rightAlone, bothShift, bothClose, choices, insert, ordered, records}
 use Rattle.triples.specs.Smallest.{isElement, push, pushAll, explore, successors, smallest}
 use Rattle.triples.specs.Certificate.{byteCount, bit, bitsFrom, bytesFrom, certificateOf}
@@ -46,11 +48,11 @@ closed s p = closings limits (grammar s) p
 
 steps : Tables → ℕ → ℕ → ℕ → List Step
 unfolding opened closed stateCount leftAlone rightAlone bothShift bothClose choices insert ordered records
-steps s f p q = records limits (grammar s) f p q
+steps s f p q = records (movesOf limits (grammar s)) f p q
 
 reached : Tables → List ℕ
 unfolding steps isElement push pushAll explore successors smallest
-reached s = smallest limits (grammar s)
+reached s = smallest (movesOf limits (grammar s))
 
 -- Q, the size, and whether (1,1,1) is reached
 figures : Tables → ℕ × ℕ × Bool

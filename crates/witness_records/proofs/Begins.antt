@@ -10,6 +10,7 @@ use Rattle.grammar.specs.TableCheck.{checkTable}
 use Rattle.grammar.specs.declared.CheckedGrammar.{CheckedGrammar}
 use Rattle.grammar.specs.declared.TableVerdict.the-variants.{Refused}
 use Rattle.grammar.proofs.Answers.{no-answer, done-inj}
+use Rattle.automaton.specs.PositionMoves.{movesOf}
 use Rattle.table_check.proofs.Callers.{PassedTable}
 use Rattle.witness_records.specs.declared.Board.{Board}
 use Rattle.witness_records.specs.Contracts.{ReadyFor, Laid, Begun}
@@ -29,5 +30,5 @@ pub begun-passed : (t n : ℕ) (table : List ℕ) (w : Board) (g : CheckedGramma
 begun-passed t n table w g p l = record {
   sized = l .sized;
   stops = λ c q e. no-answer (sym e ∙ p .checked);
-  goes = λ G e. (l .verdict, subst (λ (G : Grammar). ReadyFor G w) (done-inj (sym (p .checked) ∙ e)) (l .ready (p .grammar) (p .wellFormed) (p .same)));
+  goes = λ G e. (l .verdict, subst (λ (G : Grammar). ReadyFor (movesOf limits G) w) (done-inj (sym (p .checked) ∙ e)) (l .ready (p .grammar) (p .wellFormed) (p .same)));
 }

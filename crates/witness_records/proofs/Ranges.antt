@@ -13,7 +13,8 @@ use Rattle.grammar.specs.Refusal.{done}
 use Rattle.grammar.specs.TableCheck.{checkTable}
 use Rattle.grammar.proofs.Answers.{then-goes}
 use Rattle.automaton.specs.Items.{states}
-use Rattle.automaton.proofs.Items.{states-four}
+use Rattle.automaton.specs.Moves.{Moves, listed, Regular}
+use Rattle.automaton.specs.PositionMoves.{movesOf}
 use Rattle.triples.specs.Index.{tripleCount}
 use Rattle.triples.specs.Witness.{LeadsOn, goes, Witness, begins, entryOf, checkRow, checkWitness, checkWitnessRecords}
 use Rattle.triples.proofs.Index.{index-below}
@@ -34,9 +35,9 @@ pub records-alike : (t n : ℕ) (table : List ℕ) (G : Grammar) (es : List Trip
     → ((e : TripleRecord) → Mem e es → InRange (states G) e) → checkWitnessRecords limits t n table (triples es) ≡ checkWitness limits t n table (map (indexOf (states G)) es)
 unfolding checkWitnessRecords checkWitness
 records-alike t n table G es c h =
-    then-goes (checkTable limits t n table) (λ G. checkRow limits G (map (entryOf (states G)) (triples es))) G c
-    ∙ ap (checkRow limits G) (entries-are (states G) es h)
-    ∙ sym (then-goes (checkTable limits t n table) (λ G₁. checkRow limits G₁ (map (indexOf (states G)) es)) G c)
+    then-goes (checkTable limits t n table) (λ G. checkRow (movesOf limits G) (map (entryOf (states G)) (triples es))) G c
+    ∙ ap (checkRow (movesOf limits G)) (entries-are (states G) es h)
+    ∙ sym (then-goes (checkTable limits t n table) (λ G₁. checkRow (movesOf limits G₁) (map (indexOf (states G)) es)) G c)
 
 -- an entry below 2Q² is that of a record in range
 pub entry-inside : (Q : ℕ) (e : TripleRecord) → entryOf Q (triple e) < tripleCount Q → InRange Q e
@@ -58,21 +59,21 @@ entry-inside Q e h = layered (ltb (e .layer) 2) refl
     layered false b = absurd (none (entry-layer Q (e .layer) (e .left) (e .right) (ltb-false (e .layer) 2 b)))
 
 -- a witness has only entries below 2Q²
-leads-inside : (G : Grammar) {f p q : ℕ} {is : List ℕ} → f < 2 → p < states G → q < states G → LeadsOn limits G f p q is
-    → (j : ℕ) → Mem j is → j < tripleCount (states G)
-leads-inside G hf hp hq (goes {g = g} {p′ = p′} {q′ = q′} s e l) j here =
-    let b = steps-in-range limits G hf hp hq s in subst (λ j. j < tripleCount (states G)) (sym e) (index-below (states G) g p′ q′ (b .0) (b .1) (b .2))
-leads-inside G hf hp hq (goes s e l) j (there m) = let b = steps-in-range limits G hf hp hq s in leads-inside G (b .0) (b .1) (b .2) l j m
+leads-inside : (M : Moves) (S : Regular M) {f p q : ℕ} {is : List ℕ} → f < 2 → p < M .states → q < M .states → LeadsOn (listed M) f p q is
+    → (j : ℕ) → Mem j is → j < tripleCount (M .states)
+leads-inside M S hf hp hq (goes {g = g} {p′ = p′} {q′ = q′} s e l) j here =
+    let b = steps-in-range M S hf hp hq s in subst (λ j. j < tripleCount (M .states)) (sym e) (index-below (M .states) g p′ q′ (b .0) (b .1) (b .2))
+leads-inside M S hf hp hq (goes s e l) j (there m) = let b = steps-in-range M S hf hp hq s in leads-inside M S (b .0) (b .1) (b .2) l j m
 
-pub witness-inside : (G : Grammar) {is : List ℕ} → Witness limits G is → (j : ℕ) → Mem j is → j < tripleCount (states G)
-witness-inside G (begins e l) j here =
-    let four = states-four limits G in subst (λ j. j < tripleCount (states G)) (sym e) (index-below (states G) 0 0 0 (omega arith) (omega arith) (omega arith))
-witness-inside G (begins e l) j (there m) = let four = states-four limits G in leads-inside G (omega arith) (omega arith) (omega arith) l j m
+pub witness-inside : (M : Moves) (S : Regular M) {is : List ℕ} → Witness (listed M) is → (j : ℕ) → Mem j is → j < tripleCount (M .states)
+witness-inside M S (begins e l) j here =
+    let four = S .four in subst (λ j. j < tripleCount (M .states)) (sym e) (index-below (M .states) 0 0 0 (omega arith) (omega arith) (omega arith))
+witness-inside M S (begins e l) j (there m) = let four = S .four in leads-inside M S (omega arith) (omega arith) (omega arith) l j m
 
 -- so the records of a witness are in range
 mem-entry : (Q : ℕ) (es : List TripleRecord) (e : TripleRecord) → Mem e es → Mem (entryOf Q (triple e)) (map (entryOf Q) (triples es))
 mem-entry Q (x ∷ es) e here = here
 mem-entry Q (x ∷ es) e (there m) = there (mem-entry Q es e m)
 
-pub records-inside : (G : Grammar) (es : List TripleRecord) → Witness limits G (map (entryOf (states G)) (triples es)) → (e : TripleRecord) → Mem e es → InRange (states G) e
-records-inside G es w e m = entry-inside (states G) e (witness-inside G w (entryOf (states G) (triple e)) (mem-entry (states G) es e m))
+pub records-inside : (M : Moves) (S : Regular M) (es : List TripleRecord) → Witness (listed M) (map (entryOf (M .states)) (triples es)) → (e : TripleRecord) → Mem e es → InRange (M .states) e
+records-inside M S es w e m = entry-inside (M .states) e (witness-inside M S w (entryOf (M .states) (triple e)) (mem-entry (M .states) es e m))

@@ -18,6 +18,8 @@ use Rattle.grammar.specs.TableCheck.{checkTable}
 use Rattle.grammar.specs.declared.TableVerdict.{TableVerdict}
 use Rattle.grammar.proofs.Answers.{unless-holds, unless-fails, then-goes, then-stops}
 use Rattle.automaton.specs.Items.{states}
+use Rattle.automaton.specs.Moves.{Moves}
+use Rattle.automaton.specs.PositionMoves.{movesOf}
 use Rattle.triples.specs.Index.{index, tripleCount}
 use Rattle.triples.specs.Smallest.{isElement, successors}
 use Rattle.triples.specs.Verdict.{checkVerdict}
@@ -96,16 +98,16 @@ unfolding refuseUnless
 at-end true place = refl
 at-end false place = refl
 
-module _ (G : Grammar) (w : Board) (s : Sized w) (R : ReadyFor G w) where
+module _ (M : Moves) (w : Board) (s : Sized w) (R : ReadyFor M w) where
   many : 32 ≤ tripleCount (w .states)
   many = let h : 16 ≤ w .states * w .states = mul-le-mul {n₁ = 4} {m₁ = 4} (s .least) (s .least) in omega arith
 
-  ends : (at place : ℕ) → at < tripleCount (w .states) → endOf (w .states) at place ≡ checkVerdict (checkOn limits G at place [])
+  ends : (at place : ℕ) → at < tripleCount (w .states) → endOf (w .states) at place ≡ checkVerdict (checkOn M at place [])
   unfolding endOf checkOn
   ends at place l =
-      let e : w .states * w .states + w .states + 1 ≡ index (states G) 1 1 1 = sym (index-end (w .states)) ∙ ap (λ Q. index Q 1 1 1) (R .size) in
+      let e : w .states * w .states + w .states + 1 ≡ index (M .states) 1 1 1 = sym (index-end (w .states)) ∙ ap (λ Q. index Q 1 1 1) (R .size) in
       simp (lt-leb (tripleCount (w .states)) at l)
-      (ap (λ i. choose (eqb at i) Accepted (Refused 15 place)) e ∙ at-end (eqb at (index (states G) 1 1 1)) place)
+      (ap (λ i. choose (eqb at i) Accepted (Refused 15 place)) e ∙ at-end (eqb at (index (M .states) 1 1 1)) place)
 
   -- a wrong entry ends the walk with its place
   stops : (e : TripleRecord) (es : List TripleRecord) (at place n : ℕ)
@@ -116,26 +118,26 @@ module _ (G : Grammar) (w : Board) (s : Sized w) (R : ReadyFor G w) where
       ap (λ at. endOf (w .states) (walkFrom w at (place + 1) es) n) (sym a)
       ∙ ap (λ at. endOf (w .states) at n) (stuck w es (tripleCount (w .states) + place) (place + 1) l) ∙ wrong (w .states) place n
 
-  no : (at place : ℕ) (j : ℕ) (is : List ℕ) → isElement j (successors limits G at) ≡ false → Refused 15 place ≡ checkVerdict (checkOn limits G at place (j ∷ is))
+  no : (at place : ℕ) (j : ℕ) (is : List ℕ) → isElement j (successors M at) ≡ false → Refused 15 place ≡ checkVerdict (checkOn M at place (j ∷ is))
   unfolding checkOn
-  no at place j is e = ap checkVerdict (sym (unless-fails 15 place (isElement j (successors limits G at)) (checkOn limits G j (suc place) is) e))
+  no at place j is e = ap checkVerdict (sym (unless-fails 15 place (isElement j (successors M at)) (checkOn M j (suc place) is) e))
 
-  yes : (at place : ℕ) (j : ℕ) (is : List ℕ) → isElement j (successors limits G at) ≡ true
-      → checkVerdict (checkOn limits G j (place + 1) is) ≡ checkVerdict (checkOn limits G at place (j ∷ is))
+  yes : (at place : ℕ) (j : ℕ) (is : List ℕ) → isElement j (successors M at) ≡ true
+      → checkVerdict (checkOn M j (place + 1) is) ≡ checkVerdict (checkOn M at place (j ∷ is))
   unfolding checkOn
   yes at place j is e =
-      ap (λ k. checkVerdict (checkOn limits G j k is)) (add-one place)
-      ∙ ap checkVerdict (sym (unless-holds 15 place (isElement j (successors limits G at)) (checkOn limits G j (suc place) is) e))
+      ap (λ k. checkVerdict (checkOn M j k is)) (add-one place)
+      ∙ ap checkVerdict (sym (unless-holds 15 place (isElement j (successors M at)) (checkOn M j (suc place) is) e))
 
-  element : (at j : ℕ) → at < tripleCount (w .states) → j < tripleCount (w .states) → follows w at j ≡ isElement j (successors limits G at)
-  element at j = step-element G (w .ahead) (w .number) (w .member) (w .target) (w .terminals) (w .opening) (w .states) R at j
+  element : (at j : ℕ) → at < tripleCount (w .states) → j < tripleCount (w .states) → follows w at j ≡ isElement j (successors M at)
+  element at j = step-element M (w .ahead) (w .number) (w .member) (w .target) (w .terminals) (w .opening) (w .states) R at j
 
-  outside : (at j : ℕ) → at < tripleCount (w .states) → tripleCount (w .states) ≤ j → isElement j (successors limits G at) ≡ false
-  outside at j = beyond G (w .ahead) (w .number) (w .member) (w .target) (w .terminals) (w .opening) (w .states) R at j
+  outside : (at j : ℕ) → at < tripleCount (w .states) → tripleCount (w .states) ≤ j → isElement j (successors M at) ≡ false
+  outside at j = beyond M (w .ahead) (w .number) (w .member) (w .target) (w .terminals) (w .opening) (w .states) R at j
 
   -- from an entry in range on
   on : (es : List TripleRecord) (at place n : ℕ) → at < tripleCount (w .states) → 1 ≤ place → n ≡ place + length es
-      → endOf (w .states) (walkFrom w at place es) n ≡ checkVerdict (checkOn limits G at place (map (entryOf (w .states)) (triples es)))
+      → endOf (w .states) (walkFrom w at place es) n ≡ checkVerdict (checkOn M at place (map (entryOf (w .states)) (triples es)))
   unfolding walkFrom
   on [] at place n l p e = let z : n ≡ place = omega arith in ap (endOf (w .states) at) z ∙ ends at place l
   on (e ∷ es) at place n l p q =
@@ -152,8 +154,8 @@ module _ (G : Grammar) (w : Board) (s : Sized w) (R : ReadyFor G w) where
       later z = omega arith
 
       turn : (b : Bool) → leb (tripleCount (w .states)) j ≡ b → (c : Bool) → follows w at j ≡ c
-          → ((at : ℕ) → at < tripleCount (w .states) → 1 ≤ place + 1 → n ≡ place + 1 + length es → endOf (w .states) (walkFrom w at (place + 1) es) n ≡ checkVerdict (checkOn limits G at (place + 1) is))
-          → endOf (w .states) (walkFrom w at place (e ∷ es)) n ≡ checkVerdict (checkOn limits G at place (j ∷ is))
+          → ((at : ℕ) → at < tripleCount (w .states) → 1 ≤ place + 1 → n ≡ place + 1 + length es → endOf (w .states) (walkFrom w at (place + 1) es) n ≡ checkVerdict (checkOn M at (place + 1) is))
+          → endOf (w .states) (walkFrom w at place (e ∷ es)) n ≡ checkVerdict (checkOn M at place (j ∷ is))
       turn true b c f go =
           let h = leb-true (tripleCount (w .states)) j b in stops e es at place n (after-beyond w at place j l h) ∙ no at place j is (outside at j l h)
       turn false b true f go =
@@ -165,19 +167,19 @@ module _ (G : Grammar) (w : Board) (s : Sized w) (R : ReadyFor G w) where
           stops e es at place n (after-wrong w at place j l h later f) ∙ no at place j is (sym (element at j l h) ∙ f)
 
   -- the first entry, then the rest
-  first-no : (j : ℕ) (is : List ℕ) → (j ≡ 0 → ⊥) → Refused 15 0 ≡ checkVerdict (checkRow limits G (j ∷ is))
+  first-no : (j : ℕ) (is : List ℕ) → (j ≡ 0 → ⊥) → Refused 15 0 ≡ checkVerdict (checkRow M (j ∷ is))
   unfolding checkRow
   first-no j is f =
-      ap checkVerdict (sym (unless-fails 15 0 (eqb j (index (states G) 0 0 0)) (checkOn limits G j 1 is) (ap (eqb j) (index-zero (states G)) ∙ ne-eqb j 0 f)))
+      ap checkVerdict (sym (unless-fails 15 0 (eqb j (index (M .states) 0 0 0)) (checkOn M j 1 is) (ap (eqb j) (index-zero (M .states)) ∙ ne-eqb j 0 f)))
 
-  first-yes : (j : ℕ) (is : List ℕ) → j ≡ 0 → checkVerdict (checkOn limits G 0 1 is) ≡ checkVerdict (checkRow limits G (j ∷ is))
+  first-yes : (j : ℕ) (is : List ℕ) → j ≡ 0 → checkVerdict (checkOn M 0 1 is) ≡ checkVerdict (checkRow M (j ∷ is))
   unfolding checkRow
   first-yes j is f =
-      ap (λ i. checkVerdict (checkOn limits G i 1 is)) (sym f)
-      ∙ ap checkVerdict (sym (unless-holds 15 0 (eqb j (index (states G) 0 0 0)) (checkOn limits G j 1 is) (ap (eqb j) (index-zero (states G)) ∙ eq-eqb j 0 f)))
+      ap (λ i. checkVerdict (checkOn M i 1 is)) (sym f)
+      ∙ ap checkVerdict (sym (unless-holds 15 0 (eqb j (index (M .states) 0 0 0)) (checkOn M j 1 is) (ap (eqb j) (index-zero (M .states)) ∙ eq-eqb j 0 f)))
 
   -- the walk over a list answers as the definition does on the records' entries
-  whole : (es : List TripleRecord) → endOf (w .states) (walkFrom w 0 0 es) (length es) ≡ checkVerdict (checkRow limits G (map (entryOf (w .states)) (triples es)))
+  whole : (es : List TripleRecord) → endOf (w .states) (walkFrom w 0 0 es) (length es) ≡ checkVerdict (checkRow M (map (entryOf (w .states)) (triples es)))
   unfolding walkFrom endOf checkRow
   whole [] =
       let z : 0 < tripleCount (w .states) = omega (arith, many) in
@@ -195,7 +197,7 @@ module _ (G : Grammar) (w : Board) (s : Sized w) (R : ReadyFor G w) where
       zero-in = omega (arith, many)
 
       turn : (b : Bool) → leb (tripleCount (w .states)) j ≡ b → (c : Bool) → eqb j 0 ≡ c
-          → endOf (w .states) (walkFrom w 0 0 (e ∷ es)) (length (e ∷ es)) ≡ checkVerdict (checkRow limits G (j ∷ is))
+          → endOf (w .states) (walkFrom w 0 0 (e ∷ es)) (length (e ∷ es)) ≡ checkVerdict (checkRow M (j ∷ is))
       turn true b c f =
           let h = leb-true (tripleCount (w .states)) j b in
           let n : ¬ (j ≡ 0) = λ z. omega (arith, many) in stops e es 0 0 (length (e ∷ es)) (after-beyond w 0 0 j zero-in h) ∙ first-no j is n
@@ -218,13 +220,13 @@ unfolding checkWitnessRecords
 records-answer t n table w es b = go (checkTable limits t n table) refl
   where
     then : Grammar → Answer Unit
-    then G = checkRow limits G (map (entryOf (states G)) (triples es))
+    then G = checkRow (movesOf limits G) (map (entryOf (states G)) (triples es))
 
     go : (o : Answer Grammar) → checkTable limits t n table ≡ o → ending w (walkFrom w 0 0 es) (length es) ≡ checkVerdict (andThen (checkTable limits t n table) then)
     go (done G) e =
         let g = b .goes G e in
-        ap (λ (v : TableVerdict). told v (endOf (w .states) (walkFrom w 0 0 es) (length es))) (g .0) ∙ whole G w (b .sized) (g .1) es
-        ∙ ap (λ Q. checkVerdict (checkRow limits G (map (entryOf Q) (triples es)))) (g .1 .size)
+        ap (λ (v : TableVerdict). told v (endOf (w .states) (walkFrom w 0 0 es) (length es))) (g .0) ∙ whole (movesOf limits G) w (b .sized) (g .1) es
+        ∙ ap (λ Q. checkVerdict (checkRow (movesOf limits G) (map (entryOf Q) (triples es)))) (g .1 .size)
         ∙ ap checkVerdict (sym (then-goes (checkTable limits t n table) then G e))
     go (refused c p) e =
         ap (λ (v : TableVerdict). told v (endOf (w .states) (walkFrom w 0 0 es) (length es))) (b .stops c p e)

@@ -9,6 +9,8 @@ use Rattle.grammar.specs.Refusal.{done, refused}
 use Rattle.grammar.specs.TableCheck.{checkTable}
 use Rattle.grammar.specs.declared.CheckedGrammar.{CheckedGrammar}
 use Rattle.grammar.specs.declared.TableVerdict.the-variants.{Passed, Refused}
+use Rattle.automaton.specs.Moves.{Moves}
+use Rattle.automaton.specs.PositionMoves.{movesOf}
 use Rattle.witness_check.specs.Contracts.{Ready}
 use Rattle.witness_records.specs.declared.Board.{Board}
 
@@ -18,17 +20,17 @@ pub record Sized (w : Board) : Type 0 where
   pub most : w .states ≤ limits .maxStates
 
 -- the rows are a grammar's
-abbrev pub ReadyFor : Grammar → Board → Type 0
-ReadyFor G w = Ready G (w .ahead) (w .number) (w .member) (w .target) (w .terminals) (w .opening) (w .states)
+abbrev pub ReadyFor : Moves → Board → Type 0
+ReadyFor M w = Ready M (w .ahead) (w .number) (w .member) (w .target) (w .terminals) (w .opening) (w .states)
 
 -- the rows of a checked grammar
 pub record Laid (g : CheckedGrammar) (w : Board) : Type 0 where
   pub sized : Sized w
   pub verdict : w .verdict ≡ Passed
-  pub ready : (G : Grammar) → WellFormed limits G → g ≡ recordOf G → ReadyFor G w
+  pub ready : (G : Grammar) → WellFormed limits G → g ≡ recordOf G → ReadyFor (movesOf limits G) w
 
 -- the table's refusal, or the rows of its grammar
 pub record Begun (t n : ℕ) (table : List ℕ) (w : Board) : Type 0 where
   pub sized : Sized w
   pub stops : (cause at : ℕ) → checkTable limits t n table ≡ refused cause at → w .verdict ≡ Refused cause at
-  pub goes : (G : Grammar) → checkTable limits t n table ≡ done G → (w .verdict ≡ Passed) × ReadyFor G w
+  pub goes : (G : Grammar) → checkTable limits t n table ≡ done G → (w .verdict ≡ Passed) × ReadyFor (movesOf limits G) w

@@ -1,7 +1,6 @@
 -- check_built meets its contract: the built rows are those of the grammar that the record stands for.
 use borrow.Author.Needs.{needs}
 use native.Mathlib.Omega.{arith}
-use Prim.Native.Nat.{_-_}
 use Rattle.moves.proofs.Built.{few-nonterminals, room-of}
 use Rattle.plans.proofs.PlannedLaws.{verified-of, planned-of}
 use Rattle.certificate_check.proofs.check_built.Statement.{statement}
@@ -39,7 +38,7 @@ check-bits-requires : tie.Need-check-bits-requires
 check-bits-requires c κs = let g = c .before .before .before .before .before .before .before .before .before .before .before .before .before .before .before .before .before .before .before .before .args .g in let r = c .before .before .before .before .before .before .before .before .before .before .before .before .before .before .before .before .before .before .before .before .pre in verified-of g (r .grammar) (r .wellFormed) (r .same) _ _ (c .before .before .before .before .before .before .before .before .before .before .before .before .build .ensures (r .grammar) (r .same)) (search needs)
 
 returns : tie.Need-returns
-returns c = λ G W e. c .check-bits .ensures G (planned-of (c .before .before .before .before .before .before .before .before .before .before .before .before .before .before .before .before .before .before .before .before .before .args .g) G W e _ _ (c .before .before .before .before .before .before .before .before .before .before .before .before .before .build .ensures G e) (search needs))
+returns c = λ G W e. c .check-bits .ensures _ (planned-of (c .before .before .before .before .before .before .before .before .before .before .before .before .before .before .before .before .before .before .before .before .before .args .g) G W e _ _ (c .before .before .before .before .before .before .before .before .before .before .before .before .before .build .ensures G e) (search needs))
 
 pub check-built-spec : {M : Type 1} → statement M
 check-built-spec =

@@ -3,6 +3,7 @@ use borrow.Author.Needs.{needs}
 use mathlib.Core.Path.{ap, sym, _∙_}
 use Rattle.grammar.specs.Limits.{limits}
 use Rattle.grammar.proofs.Answers.{then-goes, then-stops}
+use Rattle.automaton.specs.PositionMoves.{movesOf}
 use Rattle.triples.specs.Certificate.{checkBytes, checkCertificate}
 use Rattle.triples.specs.Verdict.{checkVerdict}
 use Rattle.table_check.proofs.Callers.{PassedTable, passed-table, refused-table}
@@ -25,7 +26,7 @@ returns c =
     let a = c .before .before .before .before .before .before .args in
     let v = c .before .verdict .given in
     let r = refused-table (a .t) (a .n) (a .table .now) (c .before .before .before .check-table .result) (c .before .before .before .check-table .ensures) (v .0 .0) (v .0 .1 .0) (v .1) in
-    ap checkVerdict (sym (then-stops _ (λ G. checkBytes limits G (a .bytes .now)) (v .0 .0) (v .0 .1 .0) r))
+    ap checkVerdict (sym (then-stops _ (λ G. checkBytes (movesOf limits G) (a .bytes .now)) (v .0 .0) (v .0 .1 .0) r))
 
 enum-told : tie.Need-enum-told
 enum-told c = search needs
@@ -45,7 +46,7 @@ returns-2 c =
     let a = c .before .before .before .before .before .before .before .args in
     let p = passed (c .before) in
     c .check-built .ensures (p .grammar) (p .wellFormed) (p .same)
-    ∙ ap checkVerdict (sym (then-goes _ (λ G. checkBytes limits G (a .bytes .now)) (p .grammar) (p .checked)))
+    ∙ ap checkVerdict (sym (then-goes _ (λ G. checkBytes (movesOf limits G) (a .bytes .now)) (p .grammar) (p .checked)))
 
 pub check-certificate-spec : {M : Type 1} → statement M
 check-certificate-spec =

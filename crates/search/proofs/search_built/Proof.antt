@@ -1,7 +1,8 @@
 -- search_built meets its contract: the built rows are those of the grammar that the record stands for.
 use borrow.Author.Needs.{needs}
 use native.Mathlib.Omega.{arith}
-use Prim.Native.Nat.{_-_}
+use Rattle.grammar.specs.Limits.{limits}
+use Rattle.triple_laws.proofs.Position.{position-regular}
 use Rattle.moves.proofs.Built.{few-nonterminals, room-of}
 use Rattle.plans.proofs.PlannedLaws.{planned-of}
 use Rattle.explore.proofs.LaidLaws.{laid-of}
@@ -59,7 +60,7 @@ same-length-4 c = search needs
 returns : tie.Need-returns
 returns c = λ G W e.
     let a = c .before .before .before .before .before .before .before .before .before .before .before .before .before .before .before .before .before .before .before .before .before .before .before .before .before .before .before .before .before .before .before .before .before .before .before .before .before .args in
-    c .before .before .before .before .before .before .before .before .search-few .ensures G W (planned-of (a .g) G W e _ _ (c .before .before .before .before .before .before .before .before .before .before .before .before .before .before .before .before .before .before .before .before .before .before .before .before .before .before .build .ensures G e) (search needs))
+    c .before .before .before .before .before .before .before .before .search-few .ensures _ (position-regular limits G W (omega arith)) (planned-of (a .g) G W e _ _ (c .before .before .before .before .before .before .before .before .before .before .before .before .before .before .before .before .before .before .before .before .before .before .before .before .before .before .build .ensures G e) (search needs))
 
 search-some-requires : tie.Need-search-some-requires
 search-some-requires c κs =
@@ -82,7 +83,7 @@ same-length-8 c = search needs
 returns-2 : tie.Need-returns-2
 returns-2 c = λ G W e.
     let a = c .before .before .before .before .before .before .before .before .before .before .before .before .before .before .before .before .before .before .before .before .before .before .before .before .before .before .before .before .before .before .before .before .before .before .before .before .before .before .args in
-    c .before .before .before .before .before .before .before .before .search-some .ensures G W (planned-of (a .g) G W e _ _ (c .before .before .before .before .before .before .before .before .before .before .before .before .before .before .before .before .before .before .before .before .before .before .before .before .before .before .before .build .ensures G e) (search needs))
+    c .before .before .before .before .before .before .before .before .search-some .ensures _ (position-regular limits G W (omega arith)) (planned-of (a .g) G W e _ _ (c .before .before .before .before .before .before .before .before .before .before .before .before .before .before .before .before .before .before .before .before .before .before .before .before .before .before .before .build .ensures G e) (search needs))
 
 search-all-requires : tie.Need-search-all-requires
 search-all-requires c κs =
@@ -105,7 +106,7 @@ same-length-12 c = search needs
 returns-3 : tie.Need-returns-3
 returns-3 c = λ G W e.
     let a = c .before .before .before .before .before .before .before .before .before .before .before .before .before .before .before .before .before .before .before .before .before .before .before .before .before .before .before .before .before .before .before .before .before .before .before .before .before .before .args in
-    c .before .before .before .before .before .before .before .before .search-all .ensures G W (planned-of (a .g) G W e _ _ (c .before .before .before .before .before .before .before .before .before .before .before .before .before .before .before .before .before .before .before .before .before .before .before .before .before .before .before .build .ensures G e) (search needs))
+    c .before .before .before .before .before .before .before .before .search-all .ensures _ (position-regular limits G W (omega arith)) (planned-of (a .g) G W e _ _ (c .before .before .before .before .before .before .before .before .before .before .before .before .before .before .before .before .before .before .before .before .before .before .before .before .before .before .before .build .ensures G e) (search needs))
 
 pub search-built-spec : {M : Type 1} → statement M
 search-built-spec =

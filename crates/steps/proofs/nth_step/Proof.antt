@@ -6,6 +6,7 @@ use Rattle.grammar.specs.Grammar.{Grammar}
 use Rattle.grammar.specs.Refusal.{done}
 use Rattle.steps.specs.Steps.{nthRecord, nthStep, stepAnswer}
 use Rattle.grammar.proofs.Answers.{then-goes, then-stops}
+use Rattle.automaton.specs.PositionMoves.{movesOf}
 use Rattle.table_check.proofs.Callers.{PassedTable, passed-table, refused-table}
 use Rattle.steps.proofs.nth_step.Statement.{statement}
 use Rattle.steps.proofs.nth_step.Tie as tie
@@ -22,7 +23,7 @@ returns c =
     let a = c .before .before .before .before .before .args in
     let v = c .before .verdict .given in
     let r = refused-table (a .t) (a .n) (a .table .now) (c .before .before .before .check-table .result) (c .before .before .before .check-table .ensures) (v .0 .0) (v .0 .1 .0) (v .1) in
-    ap stepAnswer (sym (then-stops _ (λ (G : Grammar). done (nthRecord limits G (a .layer) (a .left) (a .right) (a .nth))) (v .0 .0) (v .0 .1 .0) r))
+    ap stepAnswer (sym (then-stops _ (λ (G : Grammar). done (nthRecord (movesOf limits G) (a .layer) (a .left) (a .right) (a .nth))) (v .0 .0) (v .0 .1 .0) r))
 
 enum-told : tie.Need-enum-told
 enum-told c = search needs
@@ -42,7 +43,7 @@ returns-2 c =
     let a = c .before .before .before .before .before .before .args in
     let p = passed (c .before) in
     c .nth-of .ensures (p .grammar) (p .wellFormed) (p .same)
-    ∙ ap stepAnswer (sym (then-goes _ (λ (G : Grammar). done (nthRecord limits G (a .layer) (a .left) (a .right) (a .nth))) (p .grammar) (p .checked)))
+    ∙ ap stepAnswer (sym (then-goes _ (λ (G : Grammar). done (nthRecord (movesOf limits G) (a .layer) (a .left) (a .right) (a .nth))) (p .grammar) (p .checked)))
 
 pub nth-step-spec : {M : Type 1} → statement M
 nth-step-spec =

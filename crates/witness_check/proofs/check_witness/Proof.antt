@@ -5,6 +5,7 @@ use Rattle.grammar.specs.Limits.{limits}
 use Rattle.triples.specs.Verdict.{checkVerdict}
 use Rattle.triples.specs.Witness.{checkRow, checkWitness}
 use Rattle.grammar.proofs.Answers.{then-goes, then-stops}
+use Rattle.automaton.specs.PositionMoves.{movesOf}
 use Rattle.table_check.proofs.Callers.{PassedTable, passed-table, refused-table}
 use Rattle.witness_check.proofs.check_witness.Statement.{statement}
 use Rattle.witness_check.proofs.check_witness.Tie as tie
@@ -21,7 +22,7 @@ returns c =
     let a = c .before .before .before .before .before .before .args in
     let v = c .before .verdict .given in
     let r = refused-table (a .t) (a .n) (a .table .now) (c .before .before .before .check-table .result) (c .before .before .before .check-table .ensures) (v .0 .0) (v .0 .1 .0) (v .1) in
-    ap checkVerdict (sym (then-stops _ (λ G. checkRow limits G (a .row .now)) (v .0 .0) (v .0 .1 .0) r))
+    ap checkVerdict (sym (then-stops _ (λ G. checkRow (movesOf limits G) (a .row .now)) (v .0 .0) (v .0 .1 .0) r))
 
 enum-told : tie.Need-enum-told
 enum-told c = search needs
@@ -41,7 +42,7 @@ returns-2 c =
     let a = c .before .before .before .before .before .before .before .args in
     let p = passed (c .before) in
     c .check-row .ensures (p .grammar) (p .wellFormed) (p .same)
-    ∙ ap checkVerdict (sym (then-goes _ (λ G. checkRow limits G (a .row .now)) (p .grammar) (p .checked)))
+    ∙ ap checkVerdict (sym (then-goes _ (λ G. checkRow (movesOf limits G) (a .row .now)) (p .grammar) (p .checked)))
 
 pub check-witness-spec : {M : Type 1} → statement M
 check-witness-spec =

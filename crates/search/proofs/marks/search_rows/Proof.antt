@@ -1,10 +1,9 @@
 -- search_rows meets its contract: what is explored is the smallest closed set, the answer is by its marks, and the rows are cleared.
 use borrow.Author.Needs.{needs}
 use native.Mathlib.Omega.{arith}
-use Prim.Native.Nat.{ℕ, _-_, _*_, _≤_}
+use Prim.Native.Nat.{ℕ, _*_, _≤_}
 use mathlib.Core.Path.{sym, subst₂}
 use mathlib.Core.List.{List}
-use Rattle.grammar.specs.Limits.{limits}
 use Rattle.plans.specs.Plan.{Rows, rows}
 use Rattle.plans.proofs.PlanLaws.{square-of}
 use Rattle.search.specs.Promise.{lent, Told, isPotential}
@@ -74,7 +73,7 @@ returns c = λ G W p.
     let a = e .args in
     let x = c .before .before .before .before .before .before .before .before .before .before .before .before .before .before .before .before .before .before .before .before .before .before .before .before .explore .ensures in
     let r = c .before .before .before .before .before .before .before .before .before .before .before .before .answer in
-    subst₂ (λ (q₂ p₂ : List ℕ). Told (isPotential limits G) G (lent (a .certificate .now) (a .queue .now) (a .parents .now) (a .witness .now)) (r .result) (lent (r .last .1 .1 .1 .1 .1 .0) q₂ p₂ (r .last .1 .1 .1 .1 .1 .1 .0)))
+    subst₂ (λ (q₂ p₂ : List ℕ). Told (isPotential G) G (lent (a .certificate .now) (a .queue .now) (a .parents .now) (a .witness .now)) (r .result) (lent (r .last .1 .1 .1 .1 .1 .0) q₂ p₂ (r .last .1 .1 .1 .1 .1 .1 .0)))
     (sym (c .before .before .before .before .before .before .clear .ensures)) (sym (c .before .before .clear2 .ensures))
     (told G W (table e) (a .targets .now) (a .t) (a .m) (a .q) p (a .queue .now) (a .parents .now) _ x (a .certificate .now) (a .witness .now) (r .result) _ _ (r .ensures))
 

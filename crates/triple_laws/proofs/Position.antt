@@ -1,0 +1,54 @@
+-- The lists of the position automaton are its moves, and regular.
+-- Assumes nothing.
+use Prim.Native.Nat.{ℕ, _<_}
+use mathlib.Core.Path.{refl}
+use native.Mathlib.Omega.{arith}
+use Rattle.grammar.specs.Limits.{Limits}
+use Rattle.grammar.specs.Grammar.{Terminal, Grammar, rule, WellFormed}
+use Rattle.grammar.proofs.Derives.{rule-listed}
+use Rattle.automaton.specs.Moves.{Regular, Lists}
+use Rattle.automaton.specs.Position.{Opens, opens-start, opens-rule, position}
+use Rattle.automaton.specs.PositionMoves.{ahead, movesOf}
+use Rattle.automaton.proofs.Items.{states-four, before-below, opens-below, closes-below}
+use Rattle.triple_laws.proofs.Moves.{ahead-before, opening-listed, closing-listed, shift-ahead}
+use Rattle.triple_laws.proofs.MoveDoubles.{openings-distinct, closings-distinct}
+use Rattle.triple_laws.proofs.Classes.{one-symbol, before-low, before-no-close, one-closing, one-opening, opens-no-close}
+
+module _ (L : Limits) (G : Grammar) (W : WellFormed L G) (apart : L .maxTerminals < L .nonterminalBase) where
+  -- the lists are the moves
+  pub position-listed : Lists (position L G) (movesOf L G)
+  position-listed = record {
+    states = refl;
+    terminal = λ x. (λ t. t, λ t. t);
+    first = refl;
+    last = refl;
+    every = λ p h. (p, refl);
+    one = λ s t h e. e;
+    opens = λ i s t. let o = opening-listed L G W apart i s t in (o .1, o .0);
+    closes = λ i s t. let o = closing-listed L G W apart i s t in (o .1, o .0);
+    shifts = shift-ahead L G W apart;
+  }
+
+  -- a state before a terminal does not open
+  terminal-no-open : {i p q : ℕ} → Terminal (G .terminals) (ahead L G p) → Opens L G i p q → ⊥
+  terminal-no-open {p = p} t (opens-start e f g) = omega (arith, before-low L G (ahead-before L G (ahead L G p) p (t .0) .0 refl))
+  terminal-no-open {i} {p} t (opens-rule r b e) =
+      let z = one-symbol L G (ahead-before L G (ahead L G p) p (t .0) .0 refl) b in
+      omega (arith, t .1, apart, W .terminals, W .lefts (rule L G i) (rule-listed L G i r) .0)
+
+  -- and regular
+  pub position-regular : Regular (movesOf L G)
+  position-regular = record {
+    four = states-four L G;
+    opens-below = λ i p q m. opens-below L G (opening-listed L G W apart i p q .0 m) .1;
+    closes-below = λ i p q m. closes-below L G (closing-listed L G W apart i p q .0 m) .1;
+    shifts-below = λ p h. before-below L G (ahead-before L G (ahead L G p) p h .0 refl);
+    later = λ p h. omega arith;
+    opens-once = openings-distinct L G;
+    closes-once = closings-distinct L G;
+    one-opening = λ i j p q m n. one-opening L G (opening-listed L G W apart i p q .0 m) (opening-listed L G W apart j p q .0 n);
+    one-closing = λ i j p q r m n. one-closing L G (closing-listed L G W apart i p q .0 m) (closing-listed L G W apart j p r .0 n);
+    terminal-no-open = λ i p q t m. terminal-no-open t (opening-listed L G W apart i p q .0 m);
+    ahead-no-close = λ i p q h m. before-no-close L G (ahead-before L G (ahead L G p) p h .0 refl) (closing-listed L G W apart i p q .0 m);
+    opens-no-close = λ i j p q r m n. opens-no-close L G (opening-listed L G W apart i p q .0 m) (closing-listed L G W apart j p r .0 n);
+  }
