@@ -10,17 +10,11 @@ use lib.ListN.{length, getD}
 use mathlib.Core.Logic.{inl, inr}
 use Rattle.grammar.specs.Basics.{choose}
 use Rattle.grammar.specs.Limits.{limits}
-use Rattle.grammar.specs.Grammar.{Grammar, WellFormed}
-use Rattle.grammar.specs.Record.{recordOf}
-use Rattle.grammar.specs.declared.CheckedGrammar.{CheckedGrammar}
 use Rattle.automaton.specs.Moves.{Moves, Regular}
-use Rattle.automaton.specs.PositionMoves.{movesOf}
 use Rattle.triples.specs.Index.{index, layerOf, leftOf, rightOf}
 use Rattle.triples.proofs.Index.{digits, index-injective}
-use Rattle.triple_laws.proofs.Position.{position-regular}
-use Rattle.moves.specs.Tables.{Tables, Built, readsAt}
+use Rattle.moves.specs.Tables.{Tables, readsAt}
 use Rattle.moves.specs.Shows.{Alone, Shows}
-use Rattle.moves.proofs.Shows.{built-shows}
 use Rattle.plans.specs.declared.Side.{Side}
 use Rattle.plans.specs.declared.Plan.{Plan}
 use Rattle.plans.specs.Plan.{Rows, rows, sideOf, aloneOf, layerAfter, pairsOf, planFor, planOf}
@@ -183,11 +177,9 @@ module _ (M : Moves) (S : Regular M) (t m : ℕ) (new : Tables) (X : Shows M t m
         pair-same i (layerOf Q i) (leftOf Q i) (rightOf Q i) j (layerOf Q j) (leftOf Q j) (rightOf Q j) (x .left) (x .right) (y .left) (y .right);
   }
 
--- the same for the record of the grammar
-pub laid-of : (g : CheckedGrammar) (G : Grammar) (W : WellFormed limits G) (e : g ≡ recordOf G) (old new : Tables) (X : Built G old new)
+-- the same with the number of states by itself
+pub laid-of : (M : Moves) (S : Regular M) (t m Q : ℕ) → Q ≡ M .states → (new : Tables) (X : Shows M t m new)
     (long : limits .maxStates ≤ length (new .targets))
-    → Laid (rows (new .ahead) (new .number) (new .member) (new .first)) (new .targets) (g .terminals) (g .nonterminals + 1) (g .states)
-unfolding recordOf
-laid-of g G W e old new X long =
-    subst (λ (g : CheckedGrammar). Laid (rows (new .ahead) (new .number) (new .member) (new .first)) (new .targets) (g .terminals) (g .nonterminals + 1) (g .states))
-    (sym e) (laid (movesOf limits G) (position-regular limits G W (omega arith)) (G .terminals) (G .nonterminals + 1) new (built-shows G W old new X) long)
+    → Laid (rows (new .ahead) (new .number) (new .member) (new .first)) (new .targets) t m Q
+laid-of M S t m Q e new X long =
+    subst (λ (Q : ℕ). Laid (rows (new .ahead) (new .number) (new .member) (new .first)) (new .targets) t m Q) (sym e) (laid M S t m new X long)

@@ -12,11 +12,8 @@ use lib.ListN.{length, getD, take, drop, length-drop}
 use lib.Seq.{length-take-le, getD-take, getD-drop}
 use Rattle.grammar.specs.Basics.{Mem}
 use Rattle.grammar.specs.Limits.{limits}
-use Rattle.grammar.specs.Grammar.{Terminal, Grammar, WellFormed}
-use Rattle.grammar.specs.Record.{recordOf}
-use Rattle.grammar.specs.declared.CheckedGrammar.{CheckedGrammar}
+use Rattle.grammar.specs.Grammar.{Terminal}
 use Rattle.automaton.specs.Moves.{Moves, terminalAhead, listed, Regular}
-use Rattle.automaton.specs.PositionMoves.{movesOf}
 use Rattle.triples.specs.Index.{index, tripleCount, layerOf, leftOf, rightOf}
 use Rattle.triples.specs.Successor.{BeforeTerminal, StepTo, Successor, open-left, open-right, shift-both, part-both, part-left, part-right, close-left, close-right, read-both}
 use Rattle.triples.specs.Smallest.{successors}
@@ -26,10 +23,8 @@ use Rattle.triples.proofs.Index.{pair-lt, Digits, digits}
 use Rattle.triple_laws.proofs.Members.{mem-place, place-mem}
 use Rattle.triple_laws.proofs.Records.{successors-exact, successors-below}
 use Rattle.triple_laws.proofs.Choices.{terminal-ahead}
-use Rattle.triple_laws.proofs.Position.{position-regular}
-use Rattle.moves.specs.Tables.{segment, Tables, Built, readsAt}
+use Rattle.moves.specs.Tables.{segment, Tables, readsAt}
 use Rattle.moves.specs.Shows.{Opened, Closed, Alone, Shows}
-use Rattle.moves.proofs.Shows.{built-shows}
 use Rattle.plans.specs.declared.Side.{Side}
 use Rattle.plans.specs.declared.Plan.{Plan}
 use Rattle.plans.specs.Plan.{Rows, rows, sideOf, aloneOf, layerAfter, shiftOf, pairsOf, planFor, planOf, nextOf}
@@ -405,20 +400,15 @@ module _ (M : Moves) (R : Regular M) (t m : ℕ) (new : Tables) (X : Shows M t m
     inside = λ i k h l. successors-below M R i (nextOf (planOf N t m Q i) ts Q k) h (lists i h .each k l);
   }
 
--- the same for the record of the grammar
-module _ (g : CheckedGrammar) (G : Grammar) (W : WellFormed limits G) (e : g ≡ recordOf G) (old new : Tables) (X : Built G old new)
+-- the same with the number of states by itself
+module _ (M : Moves) (R : Regular M) (t m Q : ℕ) (size : Q ≡ M .states) (new : Tables) (X : Shows M t m new)
     (long : limits .maxStates ≤ length (new .targets)) where
-  pub verified-of : Verified (rows (new .ahead) (new .number) (new .member) (new .first)) (new .targets) (g .terminals) (g .nonterminals + 1) (g .states)
-  unfolding recordOf
+  pub verified-of : Verified (rows (new .ahead) (new .number) (new .member) (new .first)) (new .targets) t m Q
   verified-of =
-      subst (λ (g : CheckedGrammar). Verified (rows (new .ahead) (new .number) (new .member) (new .first)) (new .targets) (g .terminals) (g .nonterminals + 1) (g .states))
-      (sym e) (verified (movesOf limits G) (position-regular limits G W (omega arith)) (G .terminals) (G .nonterminals + 1) new (built-shows G W old new X) long)
+      subst (λ (Q : ℕ). Verified (rows (new .ahead) (new .number) (new .member) (new .first)) (new .targets) t m Q) (sym size)
+      (verified M R t m new X long)
 
-  pub planned-of : Planned (movesOf limits G) (rows (new .ahead) (new .number) (new .member) (new .first)) (new .targets) (g .terminals) (g .nonterminals + 1) (g .states)
-  unfolding recordOf
+  pub planned-of : Planned M (rows (new .ahead) (new .number) (new .member) (new .first)) (new .targets) t m Q
   planned-of =
-      subst (λ (g : CheckedGrammar). Planned (movesOf limits G) (rows (new .ahead) (new .number) (new .member) (new .first)) (new .targets) (g .terminals) (g .nonterminals + 1) (g .states))
-      (sym e) (record {
-        size = refl;
-        lists = lists (movesOf limits G) (position-regular limits G W (omega arith)) (G .terminals) (G .nonterminals + 1) new (built-shows G W old new X) long;
-      })
+      subst (λ (Q : ℕ). Planned M (rows (new .ahead) (new .number) (new .member) (new .first)) (new .targets) t m Q) (sym size)
+      (record { size = refl; lists = lists M R t m new X long })

@@ -1,6 +1,6 @@
--- The rows that crate moves builds say what the step test reads off them. Assumes nothing.
-use Prim.Native.Nat.{ℕ, _+_, _≤_, _<_}
-use mathlib.Core.Path.{_≡_, ap, sym, subst₂, _∙_}
+-- Rows that show an automaton say what the step test reads off them. Assumes nothing.
+use Prim.Native.Nat.{ℕ, _<_}
+use mathlib.Core.Path.{_≡_, ap, sym, _∙_}
 use mathlib.Core.Logic.{_↔_, _⊎_, inl, inr}
 use mathlib.Core.Bool.{true, _&&_}
 use native.Mathlib.Omega.{arith}
@@ -8,20 +8,11 @@ use native.Mathlib.Numerals.{add-one}
 use lib.Dec.{leb, ltb}
 use lib.ListN.{getD}
 use borrow.Author.Tests.{eqb-true, eq-eqb, leb-true, le-leb, ltb-true, lt-ltb}
-use Rattle.grammar.specs.Limits.{limits}
-use Rattle.grammar.specs.Grammar.{Grammar, WellFormed}
-use Rattle.grammar.specs.Record.{recordOf}
-use Rattle.grammar.specs.declared.CheckedGrammar.{CheckedGrammar}
 use Rattle.grammar.proofs.Answers.{and-both, both-and}
-use Rattle.automaton.proofs.Items.{states-four}
-use Rattle.automaton.specs.Moves.{Moves, terminalAhead}
-use Rattle.automaton.specs.PositionMoves.{movesOf}
+use Rattle.automaton.specs.Moves.{Moves, terminalAhead, Regular}
 use Rattle.triple_laws.proofs.Choices.{terminal-ahead}
-use Rattle.triple_laws.proofs.Position.{position-regular}
-use Rattle.moves.specs.Tables.{Tables, Built, IsRecord, readsAt}
-use Rattle.moves.proofs.Columns.{read}
+use Rattle.moves.specs.Tables.{Tables, readsAt}
 use Rattle.moves.specs.Shows.{Opened, Closed, Shows}
-use Rattle.moves.proofs.Shows.{built-shows}
 use Rattle.witness_check.specs.StepTest.{leadsTo, opensTo, closesTo}
 use Rattle.witness_check.specs.Contracts.{RowsSay, Ready}
 
@@ -85,16 +76,7 @@ module _ (M : Moves) (t m : ℕ) (new : Tables) (X : Shows M t m new) where
     terminal = λ p hp. let s = terminal-ahead M p in (λ h. s .0 (sym (reads-is p hp) ∙ h), λ b. reads-is p hp ∙ s .1 b);
   }
 
--- the rows built for a record, with the record's numbers
-pub ready-of : (g : CheckedGrammar) (G : Grammar) → WellFormed limits G → g ≡ recordOf G → (old new : Tables) → Built G old new
-    → Ready (movesOf limits G) (new .ahead) (new .number) (new .member) (new .target) (g .terminals) (g .nonterminals + 1) (g .states)
-ready-of g G W e old new X = record {
-  regular = position-regular limits G W (omega arith);
-  size = read g G e .total;
-  rows = subst₂ (λ (t n : ℕ). RowsSay (movesOf limits G) (new .ahead) (new .number) (new .member) (new .target) t (n + 1))
-      (sym (read g G e .terminals)) (sym (read g G e .nonterminals)) (rows-say (movesOf limits G) (G .terminals) (G .nonterminals + 1) new (built-shows G W old new X));
-}
-
--- a well-formed grammar has at least 4 states
-pub four : (g : CheckedGrammar) → IsRecord g → 4 ≤ g .states
-four g r = omega (arith, states-four limits (r .grammar), read g (r .grammar) (r .same) .total)
+-- so they are ready for the walk
+pub ready-of : (M : Moves) → Regular M → (t m Q : ℕ) → Q ≡ M .states → (new : Tables) → Shows M t m new
+    → Ready M (new .ahead) (new .number) (new .member) (new .target) t m Q
+ready-of M R t m Q e new X = record { regular = R; size = e; rows = rows-say M t m new X }

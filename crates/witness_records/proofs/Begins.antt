@@ -1,34 +1,43 @@
 -- What the table check's verdict leaves for the walk. Assumes nothing.
 use Prim.Native.Nat.{ℕ}
-use mathlib.Core.Path.{_≡_, ap, sym, subst, _∙_}
+use mathlib.Core.Path.{_≡_, refl, ap, sym, subst, _∙_}
 use mathlib.Core.List.{List}
-use native.Mathlib.Omega.{arith}
 use Rattle.grammar.specs.Limits.{limits}
 use Rattle.grammar.specs.Grammar.{Grammar}
-use Rattle.grammar.specs.Refusal.{Answer, refused}
+use Rattle.grammar.specs.Refusal.{Answer, done, refused}
 use Rattle.grammar.specs.TableCheck.{checkTable}
-use Rattle.grammar.specs.declared.CheckedGrammar.{CheckedGrammar}
-use Rattle.grammar.specs.declared.TableVerdict.the-variants.{Refused}
+use Rattle.grammar.specs.declared.TableVerdict.{TableVerdict}
+use Rattle.grammar.specs.declared.TableVerdict.the-variants.{Passed, Refused}
 use Rattle.grammar.proofs.Answers.{no-answer, done-inj}
 use Rattle.automaton.specs.PositionMoves.{movesOf}
-use Rattle.table_check.proofs.Callers.{PassedTable}
-use Rattle.witness_records.specs.declared.Board.{Board}
-use Rattle.witness_records.specs.Contracts.{ReadyFor, Laid, Begun}
+use Rattle.moves.specs.Tables.{Tables}
+use Rattle.prepared.specs.declared.Prepared.{Prepared}
+use Rattle.prepared.specs.Prepared.{Prepares}
+use Rattle.witness_check.specs.Contracts.{Ready}
+use Rattle.witness_check.proofs.ReadyLaws.{ready-of}
 
 same-cause : {A : Type 0} (c p d q : ℕ) → _≡_ {A = Answer A} (refused c p) (refused d q) → Refused c p ≡ Refused d q
 same-cause c p d q e = let x : c ≡ d = cc in let y : p ≡ q = cc in ap (λ c. Refused c p) x ∙ ap (λ p. Refused d p) y
 
-pub begun-refused : (t n : ℕ) (table : List ℕ) (w : Board) (c p : ℕ) → checkTable limits t n table ≡ refused c p → w .verdict ≡ Refused c p
-    → w .states ≡ 4 → Begun t n table w
-begun-refused t n table w c p r v f = record {
-  sized = record { least = omega arith; most = omega arith };
-  stops = λ d q e. v ∙ same-cause c p d q (sym r ∙ e);
-  goes = λ G e. no-answer (sym r ∙ e);
-}
+module _ (t n : ℕ) (table : List ℕ) (w : Prepared) (rows : Tables) (P : Prepares t n table w rows) where
+  -- a table that is refused has its refusal for a verdict
+  pub stops-as : (c p : ℕ) → checkTable limits t n table ≡ refused c p → w .verdict ≡ Refused c p
+  stops-as c p e = go (w .verdict) refl
+    where
+      go : (v : TableVerdict) → w .verdict ≡ v → w .verdict ≡ Refused c p
+      go Passed h = no-answer (sym e ∙ P .passed-as h .1)
+      go (Refused d q) h = h ∙ same-cause d q c p (sym (P .refused-as d q h) ∙ e)
 
-pub begun-passed : (t n : ℕ) (table : List ℕ) (w : Board) (g : CheckedGrammar) → PassedTable t n table g → Laid g w → Begun t n table w
-begun-passed t n table w g p l = record {
-  sized = l .sized;
-  stops = λ c q e. no-answer (sym e ∙ p .checked);
-  goes = λ G e. (l .verdict, subst (λ (G : Grammar). ReadyFor (movesOf limits G) w) (done-inj (sym (p .checked) ∙ e)) (l .ready (p .grammar) (p .wellFormed) (p .same)));
-}
+  -- one that passes has the rows of its grammar
+  abbrev ReadyRows : Grammar → Type 0
+  ReadyRows G = Ready (movesOf limits G) (rows .ahead) (rows .number) (rows .member) (rows .target) (w .terminals) (w .kinds) (w .states)
+
+  pub goes-as : (G : Grammar) → checkTable limits t n table ≡ done G → (w .verdict ≡ Passed) × ReadyRows G
+  goes-as G e = go (w .verdict) refl
+    where
+      go : (v : TableVerdict) → w .verdict ≡ v → (w .verdict ≡ Passed) × ReadyRows G
+      go Passed h =
+          let p = P .passed-as h in
+          let r = p .2 in
+          (h, subst ReadyRows (done-inj (sym (p .1) ∙ e)) (ready-of (movesOf limits (p .0)) (r .regular) (w .terminals) (w .kinds) (w .states) (r .size) rows (r .shows)))
+      go (Refused d q) h = no-answer (sym (P .refused-as d q h) ∙ e)

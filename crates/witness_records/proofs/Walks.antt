@@ -26,13 +26,14 @@ use Rattle.triples.specs.Verdict.{checkVerdict}
 use Rattle.triples.specs.Witness.{entryOf, checkOn, checkRow, checkWitnessRecords}
 use Rattle.triples.specs.declared.CheckVerdict.the-variants.{Accepted, Refused}
 use Rattle.triple_laws.proofs.CertificateCheck.{index-zero}
+use Rattle.prepared.specs.Prepared.{Sized}
 use Rattle.witness_check.specs.Contracts.{stepAt}
 use Rattle.witness_check.proofs.WalkLaws.{index-end, step-element, beyond}
 use Rattle.witness_records.specs.declared.TripleRecord.{TripleRecord}
 use Rattle.witness_records.specs.declared.Board.{Board}
 use Rattle.witness_records.specs.Records.{triple, triples}
 use Rattle.witness_records.specs.Walk.{none, after, walkFrom, endOf, told, ending}
-use Rattle.witness_records.specs.Contracts.{Sized, ReadyFor, Begun}
+use Rattle.witness_records.specs.Contracts.{ReadyFor, Begun}
 
 -- the test of a step on a board's rows
 abbrev pub follows : Board → ℕ → ℕ → Bool
@@ -98,7 +99,7 @@ unfolding refuseUnless
 at-end true place = refl
 at-end false place = refl
 
-module _ (M : Moves) (w : Board) (s : Sized w) (R : ReadyFor M w) where
+module _ (M : Moves) (w : Board) (s : Sized (w .states)) (R : ReadyFor M w) where
   many : 32 ≤ tripleCount (w .states)
   many = let h : 16 ≤ w .states * w .states = mul-le-mul {n₁ = 4} {m₁ = 4} (s .least) (s .least) in omega arith
 

@@ -1,21 +1,28 @@
--- check_certificate meets its contract: the table check answers first; its record stands for the grammar of the definition.
+-- check_certificate meets its contract: the table's refusal stays the answer; the rows are those of the definition's grammar.
 use borrow.Author.Needs.{needs}
+use native.Mathlib.Omega.{arith}
 use mathlib.Core.Path.{ap, sym, _∙_}
 use Rattle.grammar.specs.Limits.{limits}
 use Rattle.grammar.proofs.Answers.{then-goes, then-stops}
 use Rattle.automaton.specs.PositionMoves.{movesOf}
 use Rattle.triples.specs.Certificate.{checkBytes, checkCertificate}
 use Rattle.triples.specs.Verdict.{checkVerdict}
-use Rattle.table_check.proofs.Callers.{PassedTable, passed-table, refused-table}
+use Rattle.plans.proofs.PlannedLaws.{verified-of, planned-of}
 use Rattle.certificate_check.proofs.check_certificate.Statement.{statement}
 use Rattle.certificate_check.proofs.check_certificate.Tie as tie
-use Rattle.certificate_check.proofs.check_certificate.Reads as reads
-use Rattle.certificate_check.proofs.check_certificate.Lts as lts
-use Rattle.certificate_check.proofs.check_built.Reads as check-built-reads
-use Rattle.table_check.proofs.check_table.Reads as check-table-reads
 
-check-table-requires : tie.Need-check-table-requires
-check-table-requires c κs = search needs
+-- from the prepared rows back to the function's entry, and from their being lent on to where they were prepared
+abbrev start : tie.After-prepare → tie.Start
+start c = c .before .before .before .before .before .before .before .before .before
+
+abbrev passedAt : tie.After-targets2 → tie.After-enum-told
+passedAt c = c .before .before .before .before .before
+
+abbrev rowsAt : tie.After-enum-told → tie.After-prepare
+rowsAt c = c .before .before
+
+prepare-requires : tie.Need-prepare-requires
+prepare-requires c κs = search needs
 
 enum-known-verdict : tie.Need-enum-known-verdict
 enum-known-verdict c = search needs
@@ -23,38 +30,30 @@ enum-known-verdict c = search needs
 returns : tie.Need-returns
 unfolding checkCertificate
 returns c =
-    let a = c .before .before .before .before .before .before .args in
+    let w = c .before .before .before in
     let v = c .before .verdict .given in
-    let r = refused-table (a .t) (a .n) (a .table .now) (c .before .before .before .check-table .result) (c .before .before .before .check-table .ensures) (v .0 .0) (v .0 .1 .0) (v .1) in
-    ap checkVerdict (sym (then-stops _ (λ G. checkBytes (movesOf limits G) (a .bytes .now)) (v .0 .0) (v .0 .1 .0) r))
+    ap checkVerdict (sym (then-stops _ (λ G. checkBytes (movesOf limits G) (start w .args .bytes .now)) (v .0 .0) (v .0 .1 .0)
+    (w .prepare .ensures .refused-as (v .0 .0) (v .0 .1 .0) (v .1))))
 
 enum-told : tie.Need-enum-told
 enum-told c = search needs
 
--- the table passes with the grammar of the record
-passed : (c : tie.After-g) → let a = c .before .before .before .before .before .before .args in PassedTable (a .t) (a .n) (a .table .now) (c .before .before .before .check-table .result .grammar)
-passed c =
-    let a = c .before .before .before .before .before .before .args in
-    passed-table (a .t) (a .n) (a .table .now) (c .before .before .before .check-table .result) (c .before .before .before .check-table .ensures) (c .before .enum-told .given .1)
-
-check-built-requires : tie.Need-check-built-requires
-check-built-requires c κs = let p = passed c in record { grammar = p .grammar; wellFormed = p .wellFormed; same = p .same }
+check-bits-requires : tie.Need-check-bits-requires
+check-bits-requires c κs =
+    let p = rowsAt (passedAt c) .prepare .ensures .passed-as (passedAt c .enum-told .given .1) in
+    let r = p .2 in
+    verified-of (movesOf limits (p .0)) (r .regular) _ _ _ (r .size) _ (r .shows) (omega (arith, r .long))
 
 returns-2 : tie.Need-returns-2
 unfolding checkCertificate
 returns-2 c =
-    let a = c .before .before .before .before .before .before .before .args in
-    let p = passed (c .before) in
-    c .check-built .ensures (p .grammar) (p .wellFormed) (p .same)
-    ∙ ap checkVerdict (sym (then-goes _ (λ G. checkBytes (movesOf limits G) (a .bytes .now)) (p .grammar) (p .checked)))
+    let w = rowsAt (passedAt (c .before)) in
+    let p = w .prepare .ensures .passed-as (passedAt (c .before) .enum-told .given .1) in
+    let r = p .2 in
+    c .check-bits .ensures _ (planned-of (movesOf limits (p .0)) (r .regular) _ _ _ (r .size) _ (r .shows) (omega (arith, r .long)))
+    ∙ ap checkVerdict (sym (then-goes _ (λ G. checkBytes (movesOf limits G) (start w .args .bytes .now)) (p .0) (p .1)))
 
 pub check-certificate-spec : {M : Type 1} → statement M
 check-certificate-spec =
     tie.close
-    (tie.spec
-    check-table-requires
-    enum-known-verdict
-    returns
-    enum-told
-    check-built-requires
-    returns-2)
+    (tie.spec prepare-requires enum-known-verdict returns enum-told check-bits-requires returns-2)

@@ -1,18 +1,37 @@
--- nth_step meets its contract: the table check answers first; its record stands for the grammar of the definition.
+-- nth_step meets its contract: the table's refusal stays the answer; the rows are those of the definition's grammar.
 use borrow.Author.Needs.{needs}
+use native.Mathlib.Omega.{arith}
+use Prim.Native.Nat.{ℕ, _<_}
 use mathlib.Core.Path.{ap, sym, _∙_}
+use mathlib.Core.Option.{Option}
 use Rattle.grammar.specs.Limits.{limits}
 use Rattle.grammar.specs.Grammar.{Grammar}
-use Rattle.grammar.specs.Refusal.{done}
-use Rattle.steps.specs.Steps.{nthRecord, nthStep, stepAnswer}
+use Rattle.grammar.specs.Refusal.{Answer, done}
 use Rattle.grammar.proofs.Answers.{then-goes, then-stops}
+use Rattle.automaton.specs.Items.{states}
 use Rattle.automaton.specs.PositionMoves.{movesOf}
-use Rattle.table_check.proofs.Callers.{PassedTable, passed-table, refused-table}
+use Rattle.triples.specs.declared.Step.{Step}
+use Rattle.steps.specs.Steps.{nthRecord, nthStep, recordAnswer, stepAnswer}
+use Rattle.steps.proofs.Answers.{laid-in, shown-nth, beyond-left, beyond-right}
 use Rattle.steps.proofs.nth_step.Statement.{statement}
 use Rattle.steps.proofs.nth_step.Tie as tie
 
-check-table-requires : tie.Need-check-table-requires
-check-table-requires c κs = search needs
+-- from the prepared rows back to the function's entry; from a table that passed to its rows, and from their being lent on to there
+abbrev start : tie.After-prepare → tie.Start
+start c = c .before .before .before .before .before .before .before .before
+
+abbrev rowsAt : tie.After-enum-told → tie.After-prepare
+rowsAt c = c .before .before
+
+abbrev lentAt : tie.After-targets2 → tie.Else2
+lentAt c = c .before .before .before .before .before
+
+-- what follows the table check
+abbrev then : ℕ → ℕ → ℕ → ℕ → Grammar → Answer (Option Step)
+then f p q k G = done (nthRecord (movesOf limits G) f p q k)
+
+prepare-requires : tie.Need-prepare-requires
+prepare-requires c κs = search needs
 
 enum-known-verdict : tie.Need-enum-known-verdict
 enum-known-verdict c = search needs
@@ -20,32 +39,78 @@ enum-known-verdict c = search needs
 returns : tie.Need-returns
 unfolding nthStep
 returns c =
-    let a = c .before .before .before .before .before .args in
+    let w = c .before .before .before in
+    let a = start w .args in
     let v = c .before .verdict .given in
-    let r = refused-table (a .t) (a .n) (a .table .now) (c .before .before .before .check-table .result) (c .before .before .before .check-table .ensures) (v .0 .0) (v .0 .1 .0) (v .1) in
-    ap stepAnswer (sym (then-stops _ (λ (G : Grammar). done (nthRecord (movesOf limits G) (a .layer) (a .left) (a .right) (a .nth))) (v .0 .0) (v .0 .1 .0) r))
+    ap stepAnswer (sym (then-stops _ (then (a .layer) (a .left) (a .right) (a .nth)) (v .0 .0) (v .0 .1 .0)
+    (w .prepare .ensures .refused-as (v .0 .0) (v .0 .1 .0) (v .1))))
 
 enum-told : tie.Need-enum-told
 enum-told c = search needs
 
--- the table passes with the grammar of the record
-passed : (c : tie.After-g) → let a = c .before .before .before .before .before .args in PassedTable (a .t) (a .n) (a .table .now) (c .before .before .before .check-table .result .grammar)
-passed c =
-    let a = c .before .before .before .before .before .args in
-    passed-table (a .t) (a .n) (a .table .now) (c .before .before .before .check-table .result) (c .before .before .before .check-table .ensures) (c .before .enum-told .given .1)
-
-nth-of-requires : tie.Need-nth-of-requires
-nth-of-requires c κs = let p = passed c in record { grammar = p .grammar; wellFormed = p .wellFormed; same = p .same }
-
 returns-2 : tie.Need-returns-2
 unfolding nthStep
 returns-2 c =
-    let a = c .before .before .before .before .before .before .args in
-    let p = passed (c .before) in
-    c .nth-of .ensures (p .grammar) (p .wellFormed) (p .same)
-    ∙ ap stepAnswer (sym (then-goes _ (λ (G : Grammar). done (nthRecord (movesOf limits G) (a .layer) (a .left) (a .right) (a .nth))) (p .grammar) (p .checked)))
+    let w = rowsAt (c .before) in
+    let a = start w .args in
+    let p = w .prepare .ensures .passed-as (c .before .enum-told .given .1) in
+    beyond-left (movesOf limits (p .0)) (a .layer) (a .left) (a .right) (a .nth) (omega (arith, p .2 .size, c .if1 .taken))
+    ∙ ap stepAnswer (sym (then-goes _ (then (a .layer) (a .left) (a .right) (a .nth)) (p .0) (p .1)))
+
+returns-3 : tie.Need-returns-3
+unfolding nthStep
+returns-3 c =
+    let w = rowsAt (c .before .before) in
+    let a = start w .args in
+    let p = w .prepare .ensures .passed-as (c .before .before .enum-told .given .1) in
+    beyond-right (movesOf limits (p .0)) (a .layer) (a .left) (a .right) (a .nth) (omega (arith, p .2 .size, c .if2 .taken))
+    ∙ ap stepAnswer (sym (then-goes _ (then (a .layer) (a .left) (a .right) (a .nth)) (p .0) (p .1)))
+
+slice-aggregate-nth-rows : tie.Need-slice-aggregate-nth-rows
+slice-aggregate-nth-rows c =
+    let e = lentAt c in
+    sym (rowsAt (e .before .before) .prepare .ensures .passed-as (e .before .before .enum-told .given .1) .2 .long)
+
+nth-rows-requires : tie.Need-nth-rows-requires
+nth-rows-requires c κs =
+    let e = lentAt c in
+    let w = rowsAt (e .before .before) in
+    let a = start w .args in
+    let p = w .prepare .ensures .passed-as (e .before .before .enum-told .given .1) in
+    let r = p .2 in
+    let hp : a .left < states (p .0) = omega (arith, r .size, e .before .if1 .left) in
+    let hq : a .right < states (p .0) = omega (arith, r .size, e .if2 .left) in (
+      (omega (arith, hp, r .shows .few), omega (arith, hq, r .shows .few)),
+      (
+        laid-in (movesOf limits (p .0)) _ _ _ (r .shows) (omega (arith, r .long)) (a .left) hp,
+        laid-in (movesOf limits (p .0)) _ _ _ (r .shows) (omega (arith, r .long)) (a .right) hq,
+      ),
+    )
+
+returns-4 : tie.Need-returns-4
+unfolding nthStep
+returns-4 c =
+    let e = lentAt (c .before) in
+    let w = rowsAt (e .before .before) in
+    let a = start w .args in
+    let p = w .prepare .ensures .passed-as (e .before .before .enum-told .given .1) in
+    let r = p .2 in
+    let hp : a .left < states (p .0) = omega (arith, r .size, e .before .if1 .left) in
+    let hq : a .right < states (p .0) = omega (arith, r .size, e .if2 .left) in
+    c .nth-rows .ensures
+    ∙ ap recordAnswer (shown-nth (movesOf limits (p .0)) (r .regular) _ _ _ (r .shows) (a .layer) (a .left) (a .right) (a .nth) hp hq)
+    ∙ ap stepAnswer (sym (then-goes _ (then (a .layer) (a .left) (a .right) (a .nth)) (p .0) (p .1)))
 
 pub nth-step-spec : {M : Type 1} → statement M
 nth-step-spec =
     tie.close
-    (tie.spec check-table-requires enum-known-verdict returns enum-told nth-of-requires returns-2)
+    (tie.spec
+    prepare-requires
+    enum-known-verdict
+    returns
+    enum-told
+    returns-2
+    returns-3
+    slice-aggregate-nth-rows
+    nth-rows-requires
+    returns-4)

@@ -1,17 +1,27 @@
--- check_witness meets its contract: the table check answers first; its record stands for the grammar of the definition.
+-- check_witness meets its contract: the table's refusal stays the answer; the rows are those of the definition's grammar.
 use borrow.Author.Needs.{needs}
 use mathlib.Core.Path.{ap, sym, _∙_}
 use Rattle.grammar.specs.Limits.{limits}
-use Rattle.triples.specs.Verdict.{checkVerdict}
-use Rattle.triples.specs.Witness.{checkRow, checkWitness}
 use Rattle.grammar.proofs.Answers.{then-goes, then-stops}
 use Rattle.automaton.specs.PositionMoves.{movesOf}
-use Rattle.table_check.proofs.Callers.{PassedTable, passed-table, refused-table}
+use Rattle.triples.specs.Verdict.{checkVerdict}
+use Rattle.triples.specs.Witness.{checkRow, checkWitness}
+use Rattle.witness_check.proofs.ReadyLaws.{ready-of}
 use Rattle.witness_check.proofs.check_witness.Statement.{statement}
 use Rattle.witness_check.proofs.check_witness.Tie as tie
 
-check-table-requires : tie.Need-check-table-requires
-check-table-requires c κs = search needs
+-- from the prepared rows back to the function's entry, and from their being lent on to where they were prepared
+abbrev start : tie.After-prepare → tie.Start
+start c = c .before .before .before .before .before .before .before .before .before
+
+abbrev passedAt : tie.After-target2 → tie.After-enum-told
+passedAt c = c .before .before .before .before
+
+abbrev rowsAt : tie.After-enum-told → tie.After-prepare
+rowsAt c = c .before .before
+
+prepare-requires : tie.Need-prepare-requires
+prepare-requires c κs = search needs
 
 enum-known-verdict : tie.Need-enum-known-verdict
 enum-known-verdict c = search needs
@@ -19,38 +29,27 @@ enum-known-verdict c = search needs
 returns : tie.Need-returns
 unfolding checkWitness
 returns c =
-    let a = c .before .before .before .before .before .before .args in
+    let w = c .before .before .before in
     let v = c .before .verdict .given in
-    let r = refused-table (a .t) (a .n) (a .table .now) (c .before .before .before .check-table .result) (c .before .before .before .check-table .ensures) (v .0 .0) (v .0 .1 .0) (v .1) in
-    ap checkVerdict (sym (then-stops _ (λ G. checkRow (movesOf limits G) (a .row .now)) (v .0 .0) (v .0 .1 .0) r))
+    ap checkVerdict (sym (then-stops _ (λ G. checkRow (movesOf limits G) (start w .args .row .now)) (v .0 .0) (v .0 .1 .0)
+    (w .prepare .ensures .refused-as (v .0 .0) (v .0 .1 .0) (v .1))))
 
 enum-told : tie.Need-enum-told
 enum-told c = search needs
 
--- the table passes with the grammar of the record
-passed : (c : tie.After-g) → let a = c .before .before .before .before .before .before .args in PassedTable (a .t) (a .n) (a .table .now) (c .before .before .before .check-table .result .grammar)
-passed c =
-    let a = c .before .before .before .before .before .before .args in
-    passed-table (a .t) (a .n) (a .table .now) (c .before .before .before .check-table .result) (c .before .before .before .check-table .ensures) (c .before .enum-told .given .1)
-
-check-row-requires : tie.Need-check-row-requires
-check-row-requires c κs = let p = passed c in record { grammar = p .grammar; wellFormed = p .wellFormed; same = p .same }
+walk-requires : tie.Need-walk-requires
+walk-requires c κs = let s = rowsAt (passedAt c) .prepare .ensures .sized in (s .least, s .most)
 
 returns-2 : tie.Need-returns-2
 unfolding checkWitness
 returns-2 c =
-    let a = c .before .before .before .before .before .before .before .args in
-    let p = passed (c .before) in
-    c .check-row .ensures (p .grammar) (p .wellFormed) (p .same)
-    ∙ ap checkVerdict (sym (then-goes _ (λ G. checkRow (movesOf limits G) (a .row .now)) (p .grammar) (p .checked)))
+    let w = rowsAt (passedAt (c .before)) in
+    let p = w .prepare .ensures .passed-as (passedAt (c .before) .enum-told .given .1) in
+    let r = p .2 in
+    c .walk .ensures _ (ready-of (movesOf limits (p .0)) (r .regular) _ _ _ (r .size) _ (r .shows))
+    ∙ ap checkVerdict (sym (then-goes _ (λ G. checkRow (movesOf limits G) (start w .args .row .now)) (p .0) (p .1)))
 
 pub check-witness-spec : {M : Type 1} → statement M
 check-witness-spec =
     tie.close
-    (tie.spec
-    check-table-requires
-    enum-known-verdict
-    returns
-    enum-told
-    check-row-requires
-    returns-2)
+    (tie.spec prepare-requires enum-known-verdict returns enum-told walk-requires returns-2)
