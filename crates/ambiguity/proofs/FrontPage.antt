@@ -7,7 +7,7 @@ use native.Mathlib.Omega.{arith}
 use Rattle.grammar.specs.Limits.{limits}
 use Rattle.grammar.specs.Grammar.{Grammar}
 use Rattle.grammar.specs.Refusal.{Answer, done, refused, andThen}
-use Rattle.grammar.specs.TableCheck.{checkTable, tableChecked}
+use Rattle.grammar.specs.TableCheck.{checkTable, tableChecked, TableAnswer}
 use Rattle.grammar.specs.declared.TableChecked.{TableChecked}
 use Rattle.grammar.specs.declared.TableVerdict.the-variants.{Refused}
 use Rattle.grammar.proofs.Answers.{then-goes, then-stops}
@@ -18,14 +18,14 @@ use Rattle.automaton.specs.PositionMoves.{movesOf}
 use Rattle.triples.specs.Successor.{Reached, origin, next}
 use Rattle.triples.specs.Certificate.{AcceptableCertificate, checkBytes, checkCertificate}
 use Rattle.triples.specs.Witness.{LeadsOn, ends, goes, Witness, begins, entryOf, checkRow, checkWitness, checkWitnessRecords}
-use Rattle.triples.specs.Verdict.{checkVerdict}
+use Rattle.triples.specs.Verdict.{checkVerdict, WitnessAnswer, CertificateAnswer}
 use Rattle.triples.specs.declared.CheckVerdict.{CheckVerdict}
 use Rattle.triples.specs.declared.CheckVerdict.the-variants as check
 use Rattle.triples.proofs.Reached.{end-not-reached}
 use Rattle.triple_laws.proofs.Laws.{witness-exactly, certificates-of, witnesses-of}
 use Rattle.parting.proofs.Position.{potential-reached}
 use Rattle.soundness.proofs.Position.{one-tree}
-use Rattle.witness_records.specs.Records.{triples}
+use Rattle.witness_records.specs.Records.{triples, RecordsAnswer}
 use Rattle.witness_records.specs.declared.TripleRecord.{TripleRecord}
 use Rattle.witness_records.proofs.Ranges.{entries-are, records-alike, records-inside}
 use Rattle.table_check.proofs.Callers.{passed-table, refused-table}
@@ -33,7 +33,7 @@ use Rattle.ambiguity.proofs.Searches.{checked, regular, lists, search-t
 use Rattle.ambiguity.proofs.Reports.{report-theorems}
 use Rattle.ambiguity.proofs.Steps.{step-theorems}
 use Rattle.ambiguity.proofs.Texts.{text-theorems}
-use Rattle.ambiguity.specs.Entries.{Stores, TableAnswer, WitnessAnswer, RecordsAnswer, CertificateAnswer}
+use Rattle.ambiguity.specs.Entries.{Stores}
 use Rattle.ambiguity.specs.FrontPage.{TableTheorems, WitnessTheorems, RecordTheorems, CertificateTheorems, FrontPage}
 
 -- a verdict is accepted exactly if the answer is done

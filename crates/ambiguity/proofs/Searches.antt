@@ -25,7 +25,7 @@ use Rattle.triples.specs.Successor.{Reached}
 use Rattle.triples.specs.Smallest.{isElement, smallest, size}
 use Rattle.triples.specs.Certificate.{byteCount, Holds, SmallestCertificate, certificateOf, checkBytes, checkCertificate}
 use Rattle.triples.specs.Witness.{checkRow, checkWitness}
-use Rattle.triples.specs.Verdict.{checkVerdict}
+use Rattle.triples.specs.Verdict.{checkVerdict, WitnessAnswer}
 use Rattle.triples.specs.declared.CheckVerdict.{CheckVerdict}
 use Rattle.triples.specs.declared.CheckVerdict.the-variants as check
 use Rattle.triples.proofs.Index.{index-below, digits}
@@ -42,7 +42,7 @@ use Rattle.search.specs.Promise as promise
 use Rattle.search.specs.Promise.{Lent, isPotential, isEnough, searchable, Told, Answers, Searches}
 use Rattle.search.specs.declared.SearchVerdict.{SearchVerdict}
 use Rattle.search.specs.declared.SearchVerdict.the-variants as search
-use Rattle.ambiguity.specs.Entries.{Stores, WitnessAnswer}
+use Rattle.ambiguity.specs.Entries.{Stores}
 use Rattle.ambiguity.specs.Searches.{ListsHeld, Certifies, VerdictTheorems, SearchTheorems}
 
 -- what is written over the front of a row

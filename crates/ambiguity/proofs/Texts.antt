@@ -8,7 +8,7 @@ use lib.Seq.{take-at}
 use Rattle.grammar.specs.Limits.{limits}
 use Rattle.grammar.specs.Table.{encode}
 use Rattle.grammar.specs.Refusal.{Answer, done, refused, andThen}
-use Rattle.grammar.specs.TableCheck.{checkTable, tableChecked}
+use Rattle.grammar.specs.TableCheck.{checkTable, tableChecked, TableAnswer}
 use Rattle.grammar.proofs.Steps.{grammarOf}
 use Rattle.grammar.specs.declared.TableChecked.{TableChecked}
 use Rattle.grammar.specs.declared.TableVerdict.the-variants.{Passed, Refused}
@@ -29,7 +29,6 @@ use Rattle.text.proofs.Admit.{read-admit, admit-refuses, Checked, text-checked}
 use Rattle.text.proofs.Gather.{gather-front, gather-read}
 use Rattle.text.proofs.RoundTrip.{apart, reads-into, into-checked, limits-short}
 use Rattle.text.proofs.Promises.{written-as, read-write, write-read, read-as, after-done}
-use Rattle.ambiguity.specs.Entries.{TableAnswer}
 use Rattle.ambiguity.specs.Texts.{TextTheorems}
 
 short : (t n : ℕ) (table bytes starts lengths out : List ℕ) (m : ℕ) (out′ : List ℕ)

@@ -15,6 +15,7 @@ use Rattle.grammar.specs.Tree.{HasTwoTrees}
 use Rattle.grammar.specs.Record.{recordOf}
 use Rattle.grammar.specs.declared.TableChecked.{TableChecked}
 use Rattle.grammar.specs.declared.TableVerdict.the-variants.{Passed, Refused}
+use Rattle.grammar.specs.TableCheck.{TableAnswer}
 use Rattle.automaton.specs.Strings.{Potential, Unambiguous}
 use Rattle.automaton.specs.Items.{states}
 use Rattle.automaton.specs.Position.{position}
@@ -25,7 +26,8 @@ use Rattle.triples.specs.Witness.{Witness}
 use Rattle.triples.specs.declared.CheckVerdict.{CheckVerdict}
 use Rattle.triples.specs.declared.CheckVerdict.the-variants as check
 use Rattle.triples.specs.declared.Step.{Step}
-use Rattle.witness_records.specs.Records.{InRange, indexOf}
+use Rattle.triples.specs.Verdict.{WitnessAnswer, CertificateAnswer}
+use Rattle.witness_records.specs.Records.{InRange, indexOf, RecordsAnswer}
 use Rattle.witness_records.specs.declared.TripleRecord.{TripleRecord}
 use Rattle.steps.specs.declared.StepAnswer.{StepAnswer}
 use Rattle.steps.specs.declared.StepAnswer.the-variants as step
@@ -33,7 +35,7 @@ use Rattle.search.specs.Promise.{Lent, Searches}
 use Rattle.search.specs.declared.SearchVerdict.{SearchVerdict}
 use Rattle.report.specs.Report.{Reports}
 use Rattle.report.specs.declared.Reported.{Reported}
-use Rattle.ambiguity.specs.Entries.{Usize, Stores, TableAnswer, WitnessAnswer, RecordsAnswer, CertificateAnswer, StepAnswers}
+use Rattle.ambiguity.specs.Entries.{Usize, Stores, StepAnswers}
 use Rattle.ambiguity.specs.Searches.{SearchTheorems}
 use Rattle.ambiguity.specs.Texts.{TextTheorems}
 use Rattle.ambiguity.specs.Reports.{ReportTheorems}

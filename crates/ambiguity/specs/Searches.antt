@@ -13,6 +13,7 @@ use Rattle.grammar.specs.Tree.{HasTwoTrees}
 use Rattle.grammar.specs.Refusal.{bufferTooShort}
 use Rattle.grammar.specs.declared.TableChecked.{TableChecked}
 use Rattle.grammar.specs.declared.TableVerdict.the-variants.{Refused}
+use Rattle.grammar.specs.TableCheck.{TableAnswer}
 use Rattle.automaton.specs.Strings.{Potential, Unambiguous}
 use Rattle.automaton.specs.Items.{states}
 use Rattle.automaton.specs.Position.{position}
@@ -23,10 +24,11 @@ use Rattle.triples.specs.Smallest.{size}
 use Rattle.triples.specs.Certificate.{byteCount, Holds, AcceptableCertificate, SmallestCertificate}
 use Rattle.triples.specs.declared.CheckVerdict.{CheckVerdict}
 use Rattle.triples.specs.declared.CheckVerdict.the-variants as check
+use Rattle.triples.specs.Verdict.{WitnessAnswer, CertificateAnswer}
 use Rattle.search.specs.Promise.{Lent, isEnough}
 use Rattle.search.specs.declared.SearchVerdict.{SearchVerdict}
 use Rattle.search.specs.declared.SearchVerdict.the-variants as search
-use Rattle.ambiguity.specs.Entries.{Stores, TableAnswer, WitnessAnswer, CertificateAnswer}
+use Rattle.ambiguity.specs.Entries.{Stores}
 
 -- the list has the index of each triple held, once, and no other
 pub record ListsHeld (Q : ℕ) (bytes l : List ℕ) : Type 0 where

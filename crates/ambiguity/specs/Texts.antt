@@ -10,6 +10,7 @@ use Rattle.grammar.specs.Table.{encode}
 use Rattle.grammar.specs.Refusal.{done}
 use Rattle.grammar.specs.declared.TableChecked.{TableChecked}
 use Rattle.grammar.specs.declared.TableVerdict.the-variants.{Passed, Refused}
+use Rattle.grammar.specs.TableCheck.{TableAnswer}
 use Rattle.text.specs.Read.{Source, symbolNames, readText}
 use Rattle.text.specs.Print.{gather}
 use Rattle.text.specs.Promise.{textRead, ReadsText, WritesText, SameAgain}
@@ -19,7 +20,6 @@ use Rattle.text.specs.declared.TextRead.the-variants.{Read}
 use Rattle.text.specs.declared.TextWritten.{TextWritten}
 use Rattle.text.specs.declared.TextWritten.the-variants as writer
 use Rattle.text.specs.declared.TextWritten.the-variants.{Written}
-use Rattle.ambiguity.specs.Entries.{TableAnswer}
 
 pub record TextTheorems : Type 0 where
   -- demand 2: text that is read and written again, with the names that the reader gave, is the same text

@@ -6,8 +6,10 @@ use mathlib.Core.List.{List}
 use mathlib.Core.Logic.{_⊎_}
 use Rattle.grammar.specs.declared.TableChecked.{TableChecked}
 use Rattle.grammar.specs.declared.TableVerdict.the-variants.{Passed}
+use Rattle.grammar.specs.TableCheck.{TableAnswer}
 use Rattle.triples.specs.declared.CheckVerdict.{CheckVerdict}
 use Rattle.triples.specs.declared.CheckVerdict.the-variants.{Accepted}
+use Rattle.triples.specs.Verdict.{WitnessAnswer, CertificateAnswer}
 use Rattle.search.specs.Promise.{Lent, Searches}
 use Rattle.search.specs.declared.SearchVerdict.{SearchVerdict}
 use Rattle.search.specs.declared.SearchVerdict.the-variants.{Unambiguous, Potential}
@@ -17,7 +19,7 @@ use Rattle.text.specs.declared.TextRead.{TextRead}
 use Rattle.text.specs.declared.TextRead.the-variants.{Read}
 use Rattle.text.specs.declared.TextWritten.{TextWritten}
 use Rattle.text.specs.declared.TextWritten.the-variants.{Written}
-use Rattle.ambiguity.specs.Entries.{Usize, TableAnswer, WitnessAnswer, CertificateAnswer, StepAnswers}
+use Rattle.ambiguity.specs.Entries.{Usize, StepAnswers}
 use Rattle.ambiguity_c.specs.Replies.{tableReply, stepReply, checkReply, searchReply, readReply, writeReply}
 
 -- the cause is none that document 01 does not have, and 0 tells that something is answered

@@ -1,29 +1,27 @@
--- What the search, the reader and the writer promise to C: the entry's own promise, of an answer whose C form is returned.
+-- What each exported function promises to C: the entry's own promise, of an answer whose C form is returned.
 -- Assumes nothing.
 use Prim.Native.Nat.{ℕ}
 use mathlib.Core.Path.{_≡_}
 use mathlib.Core.List.{List}
 use Rattle.search.specs.Promise.{Lent, Searches}
-use Rattle.search.specs.declared.SearchVerdict.{SearchVerdict}
 use Rattle.text.specs.Promise.{ReadsText, WritesText}
-use Rattle.text.specs.declared.TextRead.{TextRead}
-use Rattle.text.specs.declared.TextWritten.{TextWritten}
 use Rattle.ambiguity_c.specs.Replies.{searchReply, readReply, writeReply}
 use Rattle.ambiguity_c.specs.declared.SearchReply.{SearchReply}
 use Rattle.ambiguity_c.specs.declared.ReadReply.{ReadReply}
 use Rattle.ambiguity_c.specs.declared.WriteReply.{WriteReply}
 
-pub record RepliesSearch (t n : ℕ) (table : List ℕ) (before : Lent) (r : SearchReply) (after : Lent) : Type 0 where
-  pub verdict : SearchVerdict
-  pub promised : Searches t n table before verdict after
-  pub told : r ≡ searchReply verdict
+-- r is the C form of an answer of which the promise holds
+pub record Replies {Verdict Reply : Type 0} (Promised : Verdict → Type 0) (reply : Verdict → Reply) (r : Reply) : Type 0 where
+  pub answer : Verdict
+  pub promised : Promised answer
+  pub told : r ≡ reply answer
 
-pub record RepliesRead (text table starts lengths : List ℕ) (r : ReadReply) (table′ starts′ lengths′ : List ℕ) : Type 0 where
-  pub read : TextRead
-  pub promised : ReadsText text table starts lengths read table′ starts′ lengths′
-  pub told : r ≡ readReply read
+abbrev pub RepliesSearch : ℕ → ℕ → List ℕ → Lent → SearchReply → Lent → Type 0
+RepliesSearch t n table before r after = Replies (λ v. Searches t n table before v after) searchReply r
 
-pub record RepliesWritten (t n : ℕ) (table bytes starts lengths out : List ℕ) (r : WriteReply) (out′ : List ℕ) : Type 0 where
-  pub written : TextWritten
-  pub promised : WritesText t n table bytes starts lengths out written out′
-  pub told : r ≡ writeReply written
+abbrev pub RepliesRead : List ℕ → List ℕ → List ℕ → List ℕ → ReadReply → List ℕ → List ℕ → List ℕ → Type 0
+RepliesRead text table starts lengths r table′ starts′ lengths′ =
+    Replies (λ v. ReadsText text table starts lengths v table′ starts′ lengths′) readReply r
+
+abbrev pub RepliesWritten : ℕ → ℕ → List ℕ → List ℕ → List ℕ → List ℕ → List ℕ → WriteReply → List ℕ → Type 0
+RepliesWritten t n table bytes starts lengths out r out′ = Replies (λ v. WritesText t n table bytes starts lengths out v out′) writeReply r

@@ -2,16 +2,12 @@
 // a caller beyond the form of what is lent. bindings/c/ambiguity.h declares these functions.
 mod replies;
 
-ghost use mathlib.Core.Path.{_≡_};
-ghost use Rattle.grammar.specs.Limits.{limits};
-ghost use Rattle.grammar.specs.TableCheck.{checkTable, tableChecked};
+ghost use Rattle.grammar.specs.TableCheck.{TableAnswer};
 ghost use Rattle.search.specs.Promise.{lent};
-ghost use Rattle.steps.specs.Steps.{nthStep, stepAnswer};
-ghost use Rattle.triples.specs.Certificate.{checkCertificate};
-ghost use Rattle.triples.specs.Verdict.{checkVerdict};
-ghost use Rattle.triples.specs.Witness.{checkWitness};
+ghost use Rattle.steps.specs.Steps.{NthAnswer};
+ghost use Rattle.triples.specs.Verdict.{CertificateAnswer, WitnessAnswer};
 ghost use Rattle.ambiguity_c.specs.Replies.{tableReply, stepReply, checkReply};
-ghost use Rattle.ambiguity_c.specs.Lent.{RepliesSearch, RepliesRead, RepliesWritten};
+ghost use Rattle.ambiguity_c.specs.Lent.{Replies, RepliesSearch, RepliesRead, RepliesWritten};
 
 // In every reply `cause` is 0, or document 01's number with its position `at`; what a case does not have is 0.
 #[repr(C)]
@@ -75,7 +71,7 @@ pub struct WriteReply {
 
 #[no_mangle]
 pub extern "C" fn ambiguity_check_table(t: usize, n: usize, table: &[u8]) -> TableReply
-    ensures { λ r. ⌜ r ≡ tableReply (tableChecked (checkTable limits t n (now (table .entry)))) ⌝ }
+    ensures { λ r. ⌜ Replies (TableAnswer t n (now (table .entry))) tableReply r ⌝ }
 {
     let checked = ambiguity::check_table(t, n, table);
     let verdict = checked.verdict;
@@ -92,7 +88,7 @@ pub extern "C" fn ambiguity_nth_step(
     right: usize,
     nth: usize,
 ) -> StepReply
-    ensures { λ r. ⌜ r ≡ stepReply (stepAnswer (nthStep limits t n (now (table .entry)) layer left right nth)) ⌝ }
+    ensures { λ r. ⌜ Replies (NthAnswer t n (now (table .entry)) layer left right nth) stepReply r ⌝ }
 {
     let answer = ambiguity::nth_step(t, n, table, layer, left, right, nth);
     replies::step_told(answer)
@@ -105,7 +101,7 @@ pub extern "C" fn ambiguity_check_certificate(
     table: &[u8],
     bytes: &[u8],
 ) -> CheckReply
-    ensures { λ r. ⌜ r ≡ checkReply (checkVerdict (checkCertificate limits t n (now (table .entry)) (now (bytes .entry)))) ⌝ }
+    ensures { λ r. ⌜ Replies (CertificateAnswer t n (now (table .entry)) (now (bytes .entry))) checkReply r ⌝ }
 {
     let verdict = ambiguity::check_certificate(t, n, table, bytes);
     replies::check_told(verdict)
@@ -118,7 +114,7 @@ pub extern "C" fn ambiguity_check_witness(
     table: &[u8],
     row: &[u32],
 ) -> CheckReply
-    ensures { λ r. ⌜ r ≡ checkReply (checkVerdict (checkWitness limits t n (now (table .entry)) (now (row .entry)))) ⌝ }
+    ensures { λ r. ⌜ Replies (WitnessAnswer t n (now (table .entry)) (now (row .entry))) checkReply r ⌝ }
 {
     let verdict = ambiguity::check_witness(t, n, table, row);
     replies::check_told(verdict)

@@ -5,12 +5,12 @@ mod reading;
 ghost use mathlib.Core.Path.{_≡_};
 ghost use mathlib.Core.List.{[]};
 ghost use Prim.Native.Nat.{_+_, _≤_};
-ghost use lib.ListN.{length, drop};
+ghost use lib.ListN.{length};
 ghost use lib.Seq.{paste};
 ghost use Rattle.grammar.specs.Limits.{limits};
 ghost use Rattle.grammar.specs.Record.{recordOf};
 ghost use Rattle.grammar.specs.Refusal.{refused};
-ghost use Rattle.grammar.specs.TableCheck.{inRange, checkTable, tableChecked};
+ghost use Rattle.grammar.specs.TableCheck.{inRange, tableChecked, TableAnswer};
 ghost use Rattle.grammar.proofs.Steps.{grammarOf};
 ghost use Rattle.table_check.specs.Contracts.{ruleRead, Before, nextOrFull};
 use earlier::repeats;
@@ -93,14 +93,14 @@ fn without_rules(t: u16, n: u16) -> CheckedGrammar
     }
 }
 
-// The codes of a right side of length k, copied from a place in the table to a place in the row.
-fn put_codes(codes: &mut [u16; MAX_STATES], used: usize, table: &[u8], start: usize, k: usize)
-    requires { ⌜ (length (now codes) ≡ limits .maxStates) × (used + k ≤ limits .maxStates) × (start + k ≤ length (now table)) ⌝ }
-    ensures { λ _. ⌜ now (codes .exit) ≡ paste (now (codes .entry)) used (drop start (now (table .entry))) k ⌝ }
+// The codes of a right side, copied from that part of the table to a place in the row.
+fn put_codes(codes: &mut [u16; MAX_STATES], used: usize, right: &[u8])
+    requires { ⌜ (length (now codes) ≡ limits .maxStates) × (used + length (now right) ≤ limits .maxStates) ⌝ }
+    ensures { λ _. ⌜ now (codes .exit) ≡ paste (now (codes .entry)) used (now (right .entry)) (length (now (right .entry))) ⌝ }
 {
     let mut i = 0;
-    while i < k {
-        codes[used + i] = code(table[start + i]);
+    while i < right.len() {
+        codes[used + i] = code(right[i]);
         i += 1;
     }
 }
@@ -117,7 +117,7 @@ fn refuse(cause: u8, at: usize) -> TableChecked
 
 // The table check: the record, or the first refusal in document 01's order with an empty record.
 pub fn check_table(t: usize, n: usize, table: &[u8]) -> TableChecked
-    ensures { λ r. ⌜ r ≡ tableChecked (checkTable limits t n (now (table .entry))) ⌝ }
+    ensures { λ r. ⌜ TableAnswer t n (now (table .entry)) r ⌝ }
 {
     if !in_range(t, n) {
         return refuse(OUT_OF_RANGE, 0);
@@ -145,7 +145,7 @@ pub fn check_table(t: usize, n: usize, table: &[u8]) -> TableChecked
                 return refuse(cause, place);
             }
             RuleRead::Length(k) => {
-                put_codes(&mut g.codes, used, table, at + 2, k);
+                put_codes(&mut g.codes, used, &table[at + 2..at + 2 + k]);
                 g.offsets[count] = at as u16;
                 g.lefts[count] = code(table[at]);
                 g.lengths[count] = k as u16;

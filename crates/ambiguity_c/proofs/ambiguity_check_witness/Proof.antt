@@ -1,7 +1,5 @@
--- ambiguity_check_witness meets its contract: the entry's answer, told in numbers.
+-- ambiguity_check_witness meets its contract: the entry's promise, and its answer told in numbers.
 use borrow.Author.Needs.{needs}
-use mathlib.Core.Path.{ap, _∙_}
-use Rattle.ambiguity_c.specs.Replies.{checkReply}
 use Rattle.ambiguity_c.proofs.ambiguity_check_witness.Statement.{statement}
 use Rattle.ambiguity_c.proofs.ambiguity_check_witness.Tie as tie
 
@@ -12,7 +10,7 @@ check-told-requires : tie.Need-check-told-requires
 check-told-requires c κs = search needs
 
 returns : tie.Need-returns
-returns c = c .check-told .ensures ∙ ap checkReply (c .before .check-witness .ensures)
+returns c = let e = c .before .check-witness in record { answer = e .result; promised = e .ensures; told = c .check-told .ensures }
 
 pub ambiguity-check-witness-spec : {M : Type 1} → statement M
 ambiguity-check-witness-spec =

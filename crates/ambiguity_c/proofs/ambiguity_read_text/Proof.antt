@@ -19,7 +19,7 @@ same-length-3 : tie.Need-same-length-3
 same-length-3 c = search needs
 
 returns : tie.Need-returns
-returns c = let e = c .before .before .before .before .before .before .before .read-text in record { read = e .result; promised = e .ensures; told = c .read-told .ensures }
+returns c = let e = c .before .before .before .before .before .before .before .read-text in record { answer = e .result; promised = e .ensures; told = c .read-told .ensures }
 
 pub ambiguity-read-text-spec : {M : Type 1} → statement M
 ambiguity-read-text-spec =

@@ -22,7 +22,7 @@ same-length-4 : tie.Need-same-length-4
 same-length-4 c = search needs
 
 returns : tie.Need-returns
-returns c = let e = c .before .before .before .before .before .before .before .before .before .search in record { verdict = e .result; promised = e .ensures; told = c .search-told .ensures }
+returns c = let e = c .before .before .before .before .before .before .before .before .before .search in record { answer = e .result; promised = e .ensures; told = c .search-told .ensures }
 
 pub ambiguity-search-spec : {M : Type 1} → statement M
 ambiguity-search-spec =
