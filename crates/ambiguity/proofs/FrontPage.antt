@@ -5,7 +5,7 @@ use mathlib.Core.List.{List, map}
 use mathlib.Core.Logic.{_↔_}
 use native.Mathlib.Omega.{arith}
 use Rattle.grammar.specs.Limits.{limits}
-use Rattle.grammar.specs.Grammar.{Grammar}
+use Rattle.grammar.specs.Grammar.{Grammar, WellFormed}
 use Rattle.grammar.specs.Refusal.{Answer, done, refused, andThen}
 use Rattle.grammar.specs.TableCheck.{checkTable, tableChecked, TableAnswer}
 use Rattle.grammar.specs.declared.TableChecked.{TableChecked}
@@ -22,7 +22,7 @@ use Rattle.triples.specs.Verdict.{checkVerdict, WitnessAnswer, CertificateAnswe
 use Rattle.triples.specs.declared.CheckVerdict.{CheckVerdict}
 use Rattle.triples.specs.declared.CheckVerdict.the-variants as check
 use Rattle.triples.proofs.Reached.{end-not-reached}
-use Rattle.triple_laws.proofs.Laws.{witness-exactly, certificates-of, witnesses-of}
+use Rattle.triple_laws.proofs.Laws.{witness-exactly, smallest-distinct, smallest-below, certificates-of, witnesses-of, reached-of}
 use Rattle.parting.proofs.Position.{potential-reached}
 use Rattle.soundness.proofs.Position.{one-tree}
 use Rattle.witness_records.specs.Records.{triples, RecordsAnswer}
@@ -34,6 +34,7 @@ use Rattle.ambiguity.proofs.Reports.{report-theorems}
 use Rattle.ambiguity.proofs.Steps.{step-theorems}
 use Rattle.ambiguity.proofs.Texts.{text-theorems}
 use Rattle.ambiguity.specs.Entries.{Stores}
+use Rattle.ambiguity.specs.Automata.{AutomatonTheorems}
 use Rattle.ambiguity.specs.FrontPage.{TableTheorems, WitnessTheorems, RecordTheorems, CertificateTheorems, FrontPage}
 
 -- a verdict is accepted exactly if the answer is done
@@ -127,6 +128,17 @@ module _ (t n : ℕ) (table : List ℕ) where
           (potential-reached limits G (s .wellFormed) (omega arith) .0 p);
     }
 
+automaton-theorems : (G : Grammar) → WellFormed limits G → AutomatonTheorems G
+automaton-theorems G W =
+    let M = movesOf limits G in
+    record {
+      listed = lists G W;
+      regular = regular G W;
+      reached = λ f p q h j k. reached-of (position limits G) M (regular G W) (lists G W) h j k;
+      inside = smallest-below M (regular G W);
+      once = smallest-distinct M (regular G W);
+    }
+
 pub front-page : FrontPage
 front-page = record {
   tables = table-theorems;
@@ -137,4 +149,5 @@ front-page = record {
   searches = search-theorems;
   texts = text-theorems;
   reports = report-theorems;
+  automata = automaton-theorems;
 }

@@ -1,8 +1,9 @@
 -- What holds of the library, whatever the input: theorems over what the public entries promise. A promise is the entry's
--- `ensures`; it determines the answer, the choice of witness alone excepted. The promises are in specs/Entries.antt and in the
--- Promise.antt of search and of text; specs/Searches.antt, specs/Texts.antt and specs/Reports.antt have what follows for the
--- search, for texts and for the program, proofs/FrontPage.antt the value of the record. Source: document 01; README.md has the
--- demands. Of demand 1, that a refusal is the first in document 01's order is in the definitions that the promises equal.
+-- `ensures`; it determines the answer, the choice of witness alone excepted. Each promise is a definition of its entry's own
+-- crate: specs/Entries.antt says which. specs/Searches.antt, specs/Texts.antt and specs/Reports.antt have what follows for the
+-- search, for texts and for the program, specs/Automata.antt whose moves the promises compute with, proofs/FrontPage.antt the
+-- value of the record. Source: document 01; README.md has the demands. Of demand 1, that a refusal is the first in document 01's
+-- order is in the definitions that the promises equal.
 -- Assumes nothing.
 use Prim.Native.Nat.{ℕ, _+_, _≤_, _<_}
 use mathlib.Core.Path.{_≡_}
@@ -10,7 +11,7 @@ use mathlib.Core.List.{List, map}
 use mathlib.Core.Logic.{_↔_}
 use Rattle.grammar.specs.Basics.{Mem}
 use Rattle.grammar.specs.Limits.{limits}
-use Rattle.grammar.specs.Grammar.{Grammar}
+use Rattle.grammar.specs.Grammar.{Grammar, WellFormed}
 use Rattle.grammar.specs.Tree.{HasTwoTrees}
 use Rattle.grammar.specs.Record.{recordOf}
 use Rattle.grammar.specs.declared.TableChecked.{TableChecked}
@@ -39,6 +40,7 @@ use Rattle.ambiguity.specs.Entries.{Usize, Stores, StepAnswers}
 use Rattle.ambiguity.specs.Searches.{SearchTheorems}
 use Rattle.ambiguity.specs.Texts.{TextTheorems}
 use Rattle.ambiguity.specs.Reports.{ReportTheorems}
+use Rattle.ambiguity.specs.Automata.{AutomatonTheorems}
 
 module _ (t n : ℕ) (table : List ℕ) where
   pub record TableTheorems (r : TableChecked) : Type 0 where
@@ -89,7 +91,7 @@ module _ (t n : ℕ) (table : List ℕ) where
     -- demand 2: nor do two strings part
     pub unambiguous : (G : Grammar) → Stores t n table G → v ≡ check.Accepted → Unambiguous (position limits G)
 
--- whatever answers as the entries promise
+-- whatever answers as the entries promise; and the automaton with which they are computed
 pub record FrontPage : Type 1 where
   pub tables : (t n : ℕ) (table : List ℕ) (r : TableChecked) → TableAnswer t n table r → TableTheorems t n table r
   pub steps : (t n : ℕ) (table : List ℕ) (f p q : ℕ) (ask : ℕ → StepAnswer) → StepAnswers t n table f p q ask → StepTheorems t n table f p q ask
@@ -101,3 +103,4 @@ pub record FrontPage : Type 1 where
       → SearchTheorems t n table before r after
   pub texts : TextTheorems
   pub reports : (text out : List ℕ) (r : Reported) (out′ : List ℕ) → Reports text out r out′ → ReportTheorems text out r out′
+  pub automata : (G : Grammar) → WellFormed limits G → AutomatonTheorems G

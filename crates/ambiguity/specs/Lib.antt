@@ -2,4 +2,5 @@ pub mod Entries
 pub mod Searches
 pub mod Texts
 pub mod Reports
+pub mod Automata
 pub mod FrontPage

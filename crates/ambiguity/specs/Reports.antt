@@ -22,7 +22,8 @@ pub record ReportLines (G : Grammar) (lines : List ℕ) : Type 0 where
   -- demand 2: potential precisely when two strings part
   pub potential : (lines ≡ report.line report.statesIs (report.decimal (states G)) ++ report.line report.verdictIs report.potential)
       ↔ Potential (position limits G)
-  -- and otherwise unambiguous, with the size of the smallest closed set
+  -- and otherwise unambiguous, with the computed size of the smallest closed set, which is the number of triples reached
+  -- (specs/Automata.antt)
   pub otherwise : Unambiguous (position limits G) → lines ≡ report.line report.statesIs (report.decimal (states G))
       ++ (report.line report.verdictIs report.unambiguous ++ report.line report.reachedIs (report.decimal (size (movesOf limits G))))
 

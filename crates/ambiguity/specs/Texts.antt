@@ -54,7 +54,8 @@ pub record TextTheorems : Type 0 where
   pub passes-on : (text table starts lengths : List ℕ) (t n e q : ℕ) (table′ starts′ lengths′ : List ℕ)
       → ReadsText text table starts lengths (Read t n e q) table′ starts′ lengths′
       → (c : TableChecked) → TableAnswer t n (take e table′) c → c .verdict ≡ Passed
-  -- and is that of the rules of the text; starts and lengths give, in the text, the names that it declares, by symbol number
+  -- and is that of the rules of the text; starts and lengths give, in the text, bytes equal to the names that it declares, by symbol
+  -- number
   pub names-stand : (text table starts lengths : List ℕ) (t n e q : ℕ) (table′ starts′ lengths′ : List ℕ)
       → ReadsText text table starts lengths (Read t n e q) table′ starts′ lengths′
       → (s : Source) × (readText limits text ≡ done s) × (take e table′ ≡ encode (s .rules))

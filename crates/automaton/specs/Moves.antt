@@ -1,4 +1,5 @@
--- The moves of an automaton as lists, with which its triples are computed, and what it is for lists to be an automaton's moves.
+-- The moves of an automaton as lists, with which its triples are computed; what the laws of order need of such lists (`Regular`);
+-- and what it is for lists to be an automaton's moves (`Lists`).
 -- Whatever is computed of triples is computed from this record: it does not matter what the states stand for.
 -- Source: document 01, "States and moves". Assumes nothing.
 use Prim.Native.Nat.{ℕ, _≤_, _<_}
@@ -28,7 +29,7 @@ module _ (M : Moves) where
   abbrev pub terminalAhead : ℕ → Bool
   terminalAhead p = isTerminal (M .terminals) (M .ahead p)
 
-  -- the automaton that has just these moves: state 0 is the start, 1 the end
+  -- the automaton that has just these moves: state 0 is the start, 1 the end; laws go over it, no claim is made of it
   abbrev pub listed : Automaton
   listed = record {
     State = ℕ;
@@ -42,9 +43,9 @@ module _ (M : Moves) where
     Shifts = λ x p q. (M .ahead p ≡ x) × (1 ≤ x) × (q ≡ M .after p);
   }
 
-  -- the lists are regular, as those of items are
+  -- the lists are regular, as those of a well-formed grammar's items are
   pub record Regular : Type 0 where
-    -- there are 0, 1 and the two items of rule 0
+    -- there are at least 0, 1 and the two items of rule 0
     pub four : 4 ≤ M .states
     -- moves lead to states, a shift to a later one
     pub opens-below : (i p q : ℕ) → Mem {A = ℕ × ℕ} (i, q) (M .openings p) → q < M .states
@@ -61,7 +62,8 @@ module _ (M : Moves) where
     pub ahead-no-close : (i p q : ℕ) → 1 ≤ M .ahead p → Mem {A = ℕ × ℕ} (i, q) (M .closings p) → ⊥
     pub opens-no-close : (i j p q r : ℕ) → Mem {A = ℕ × ℕ} (i, q) (M .openings p) → Mem {A = ℕ × ℕ} (j, r) (M .closings p) → ⊥
 
--- the lists are the moves of an automaton, by the numbers of its states
+-- the lists are the moves of an automaton, by the numbers of its states; regular lists have no moves but these, since theirs lead
+-- to numbers below Q
 pub record Lists (A : Automaton) (M : Moves) : Type 0 where
   pub states : A .states ≡ M .states
   pub terminal : (x : ℕ) → A .Terminal x ↔ Terminal (M .terminals) x

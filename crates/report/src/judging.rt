@@ -21,7 +21,8 @@ const TRIPLES: usize = 4608;
 
 const BYTES: usize = 576;
 
-// A table that passes, of q states, is searched.
+// A table that passes, of q states, is searched. The search is a public entry that takes every table, so it checks this one again,
+// though the reader has just done so: a second way in, for checked tables, would be one more promise.
 fn judge_table(t: usize, n: usize, table: &[u8], q: usize) -> Judged
     requires { ⌜ Small t n (now table) q ⌝ }
     ensures { λ r. ⌜ r ≡ judgedOf (checkTable limits t n (now (table .entry))) ⌝ }
