@@ -1,5 +1,6 @@
-/* The library for C: the table check, the step records, the certificate check, the witness check, the search, and the reader and
- * the writer of grammar text. Each function answers as its entry promises; crates/ambiguity_c/src/lib.rt has the promises, proved.
+/* The library for C: the table check, the step records, the certificate check, the witness check over indices and over records, the
+ * search, the reader and the writer of grammar text, and the report that the program prints. Each function answers as its entry
+ * promises; crates/ambiguity_c/src/lib.rt has the promises, proved.
  * "Document 01" is the paper that the library follows: it has the tables, the certificates and the causes of refusal.
  *
  * What holds of every function:
@@ -38,6 +39,11 @@
 /* Enough for any grammar: entries of its table (a rule takes one more than its states), and symbols. */
 #define AMBIGUITY_MAX_TABLE_ENTRIES (AMBIGUITY_MAX_STATES - 4 + AMBIGUITY_MAX_RULES)
 #define AMBIGUITY_MAX_NAMES (AMBIGUITY_MAX_TERMINALS + AMBIGUITY_MAX_NONTERMINALS)
+
+/* What the report takes of a text, and the bytes that are always enough for it. */
+#define AMBIGUITY_MAX_REPORT_TEXT_BYTES 4096
+#define AMBIGUITY_MAX_REPORT_STATES 48
+#define AMBIGUITY_MAX_REPORT_BYTES 64
 
 /* The stack that a call may use, below the caller's frame: bindings/c/stack.c measures it on a painted stack, at Q = 256. The
  * reader has a tree of names there (267,255 bytes measured), the search its marks (73,575 bytes, for few states too); of
@@ -102,6 +108,13 @@ typedef struct {
     uint64_t at;
 } ambiguity_check_reply;
 
+/* An entry of a witness as a triple. */
+typedef struct {
+    uint32_t layer;
+    uint32_t left;
+    uint32_t right;
+} ambiguity_triple_record;
+
 typedef struct {
     uint64_t cause;
     uint64_t at;
@@ -123,6 +136,12 @@ typedef struct {
     uint64_t at;
     uint64_t length; /* bytes written */
 } ambiguity_write_reply;
+
+typedef struct {
+    uint64_t cause;
+    uint64_t at;
+    uint64_t length; /* bytes written */
+} ambiguity_report_reply;
 
 #ifdef __cplusplus
 extern "C" {
@@ -147,6 +166,10 @@ ambiguity_check_reply ambiguity_check_certificate(size_t t, size_t n, const uint
 ambiguity_check_reply ambiguity_check_witness(size_t t, size_t n, const uint8_t *table, size_t table_entries, const uint32_t *row,
                                               size_t row_entries);
 
+/* The witness check over a row of records, which answers alike: a layer above 1 or a state of Q or more is a wrong entry. */
+ambiguity_check_reply ambiguity_check_witness_records(size_t t, size_t n, const uint8_t *table, size_t table_entries,
+                                                      const ambiguity_triple_record *records, size_t records_entries);
+
 /* Searches: the smallest acceptable certificate, or a witness. Lent are AMBIGUITY_CERTIFICATE_BYTES(Q) bytes of certificate, and
  * AMBIGUITY_ROW_ENTRIES(Q) entries of each row; Q comes from ambiguity_check_table or ambiguity_read_text. What they hold before
  * does not matter. Unambiguous writes the certificate and keeps the witness row. Potential writes `count` entries of the witness
@@ -168,6 +191,12 @@ ambiguity_read_reply ambiguity_read_text(const uint8_t *text, size_t text_bytes,
 ambiguity_write_reply ambiguity_write_text(size_t t, size_t n, const uint8_t *table, size_t table_entries, const uint8_t *names,
                                            size_t names_bytes, const uint32_t *starts, size_t starts_entries,
                                            const uint32_t *lengths, size_t lengths_entries, uint8_t *out, size_t out_bytes);
+
+/* Writes what the program prints for a text: `states=`, `verdict=` and `reached=`, or `refused=` and `at=`, each line ended by byte
+ * 10. A text that is at fault, has more than AMBIGUITY_MAX_REPORT_TEXT_BYTES or more than AMBIGUITY_MAX_REPORT_STATES states is
+ * answered by a report of its refusal, and `cause` is 0. Refuses with 14 alone, if the output is too short;
+ * AMBIGUITY_MAX_REPORT_BYTES are always enough. */
+ambiguity_report_reply ambiguity_report(const uint8_t *text, size_t text_bytes, uint8_t *out, size_t out_bytes);
 
 #ifdef __cplusplus
 }

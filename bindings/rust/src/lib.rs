@@ -1,6 +1,7 @@
-//! The library for Rust: the table check, the step records, the certificate check, the witness check, the search, and the reader
-//! and the writer of grammar text. bindings/c/ambiguity.h says of each what is lent and what comes back; here slices stand for pointers,
-//! and enums for numbers. Rows that are written cannot overlap others: the borrow rules see to that.
+//! The library for Rust: the table check, the step records, the certificate check, the witness check over indices and over records,
+//! the search, the reader and the writer of grammar text, and the report that the program prints. bindings/c/ambiguity.h says of
+//! each what is lent and what comes back; here slices stand for pointers, and enums for numbers. Rows that are written cannot
+//! overlap others: the borrow rules see to that.
 //!
 //! Every input is taken. A refusal changes no lent row. A written row may be longer than needed: its rest stays as it was.
 
@@ -22,6 +23,11 @@ pub const MAX_TEXT_BYTES: usize = 65_536;
 /// Enough for any grammar: entries of its table, and symbols.
 pub const MAX_TABLE_ENTRIES: usize = MAX_STATES - 4 + MAX_RULES;
 pub const MAX_NAMES: usize = MAX_TERMINALS + MAX_NONTERMINALS;
+
+/// What the report takes of a text, and the bytes that are always enough for it.
+pub const MAX_REPORT_TEXT_BYTES: usize = 4_096;
+pub const MAX_REPORT_STATES: usize = 48;
+pub const MAX_REPORT_BYTES: usize = 64;
 
 /// The triples of Q states, so the entries of a row with one for each.
 pub const fn row_entries(states: usize) -> usize {
@@ -58,6 +64,15 @@ pub struct Step {
     pub right: usize,
     pub on_left: Move,
     pub on_right: Move,
+}
+
+/// An entry of a witness as a triple. Nothing is asked of its numbers.
+#[derive(Clone, Copy, Debug, PartialEq, Eq)]
+#[repr(C)]
+pub struct TripleRecord {
+    pub layer: u32,
+    pub left: u32,
+    pub right: u32,
 }
 
 /// What the search found: the certificate holds `size` triples, or the witness has so many entries.
@@ -144,6 +159,16 @@ pub fn check_witness(table: Table, row: &[u32]) -> Result<(), Refusal> {
     refusal::or_else(reply.cause, reply.at, || ())
 }
 
+/// The witness check over a row of records, which answers alike: a layer above 1 or a state of Q or more is a wrong entry.
+pub fn check_witness_records(table: Table, records: &[TripleRecord]) -> Result<(), Refusal> {
+    let Table { terminals, nonterminals, rules } = table;
+    let (entries, length) = (records.as_ptr(), records.len());
+    let reply = unsafe {
+        raw::ambiguity_check_witness_records(terminals, nonterminals, rules.as_ptr(), rules.len(), entries, length)
+    };
+    refusal::or_else(reply.cause, reply.at, || ())
+}
+
 /// Searches: `certificate_bytes(Q)` bytes and `row_entries(Q)` entries of each row are just enough. Unambiguous leaves the smallest
 /// acceptable certificate at the front of `certificate` and keeps the witness row; potential leaves a witness at the front of that
 /// row and keeps the certificate. The fronts of queue and parents are 0 afterwards. Uses up to 80 KiB of stack.
@@ -216,5 +241,13 @@ pub fn write_text(table: Table, names: Names, out: &mut [u8]) -> Result<usize, R
             out.len(),
         )
     };
+    refusal::or_else(reply.cause, reply.at, || reply.length as usize)
+}
+
+/// Writes what the program prints for a text to the front of `out`: states, verdict and size, or a refusal's two lines. Back comes
+/// its length; the only refusal is an output that is too short, and `MAX_REPORT_BYTES` are always enough. Uses up to STACK KiB of
+/// stack.
+pub fn report(text: &[u8], out: &mut [u8]) -> Result<usize, Refusal> {
+    let reply = unsafe { raw::ambiguity_report(text.as_ptr(), text.len(), out.as_mut_ptr(), out.len()) };
     refusal::or_else(reply.cause, reply.at, || reply.length as usize)
 }

@@ -1,5 +1,7 @@
 //! The functions of bindings/c/ambiguity.h, and what they return.
 
+use crate::TripleRecord;
+
 #[repr(C)]
 pub struct TableReply {
     pub cause: u64,
@@ -56,6 +58,13 @@ pub struct WriteReply {
     pub length: u64,
 }
 
+#[repr(C)]
+pub struct ReportReply {
+    pub cause: u64,
+    pub at: u64,
+    pub length: u64,
+}
+
 extern "C" {
     pub fn ambiguity_check_table(t: usize, n: usize, table: *const u8, table_entries: usize) -> TableReply;
 
@@ -86,6 +95,15 @@ extern "C" {
         table_entries: usize,
         row: *const u32,
         row_entries: usize,
+    ) -> CheckReply;
+
+    pub fn ambiguity_check_witness_records(
+        t: usize,
+        n: usize,
+        table: *const u8,
+        table_entries: usize,
+        records: *const TripleRecord,
+        records_entries: usize,
     ) -> CheckReply;
 
     pub fn ambiguity_search(
@@ -128,4 +146,6 @@ extern "C" {
         out: *mut u8,
         out_bytes: usize,
     ) -> WriteReply;
+
+    pub fn ambiguity_report(text: *const u8, text_bytes: usize, out: *mut u8, out_bytes: usize) -> ReportReply;
 }

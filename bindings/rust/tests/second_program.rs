@@ -1,9 +1,14 @@
-//! The wrapper's answers on the second program's cases: damaged, short and long inputs, each row lent between guards.
+//! The library's answers on the second program's cases, for each of the nine entries: damaged, short and long inputs, each row lent
+//! between guards. The witnesses that the search finds are its own choice: they are written to a file for the second program.
 
 mod support;
 
-use ambiguity::{certificate_bytes, row_entries, Move, Names, Refusal, Step, Table, Verdict};
-use support::{agree, Cases, Lent};
+use ambiguity::{certificate_bytes, row_entries, Move, Names, Refusal, Step, Table, TripleRecord, Verdict};
+use std::fs;
+use support::{file, Cases, Comparison, Lent};
+
+/// The causes of a table that is refused.
+const TABLE_CAUSES: [usize; 8] = [1, 2, 3, 4, 5, 6, 7, 8];
 
 fn whole(line: &str) -> &str {
     line
@@ -92,6 +97,16 @@ fn witness_line(cases: &mut Cases, guard: u8) -> String {
     })
 }
 
+fn record_line(cases: &mut Cases, guard: u8) -> String {
+    with_table(cases, guard, |cases, table| {
+        let number = word(guard);
+        let records = Lent::new(&cases.records(), TripleRecord { layer: number, left: number, right: number });
+        let answer = ambiguity::check_witness_records(table, records.row());
+        assert!(records.kept());
+        line_of(answer.map(|()| "accepted".to_string()))
+    })
+}
+
 /// What is lent to the search, and what it leaves there.
 struct Searched {
     certificate: Lent<u8>,
@@ -129,7 +144,8 @@ impl Searched {
     }
 }
 
-fn search_line(cases: &mut Cases, guard: u8) -> String {
+/// The answer's line; a witness that was found is given to `found`.
+fn search_line(cases: &mut Cases, guard: u8, found: &mut impl FnMut(&[u32])) -> String {
     with_table(cases, guard, |cases, table| {
         let mut lent = Searched::new(cases, guard);
         let verdict = match lent.ask(table) {
@@ -150,7 +166,9 @@ fn search_line(cases: &mut Cases, guard: u8) -> String {
             }
             Verdict::Potential { entries } => {
                 assert!(lent.written(states, 0, entries));
-                assert_eq!(ambiguity::check_witness(table, &lent.witness.row()[..entries]), Ok(()));
+                let witness = &lent.witness.row()[..entries];
+                assert_eq!(ambiguity::check_witness(table, witness), Ok(()));
+                found(witness);
                 "potential".to_string()
             }
         }
@@ -192,37 +210,83 @@ fn write_line(cases: &mut Cases, guard: u8) -> String {
     })
 }
 
+fn report_line(cases: &mut Cases, guard: u8) -> String {
+    let text = Lent::new(&cases.bytes(), guard);
+    let mut out = Lent::new(&vec![guard ^ 0x5A; cases.number()], guard);
+    let answer = ambiguity::report(text.row(), out.row_mut());
+    let length = answer.unwrap_or(0);
+    assert!(text.kept() && out.kept_past(length));
+    line_of(answer.map(|length| format!("written={length} text={}", hex(&out.row()[..length]))))
+}
+
+/// The comparison of a kind that has all of an answer's line.
+fn comparison<'a>(kind: &'a str, script: &'a str, causes: &'a [usize]) -> Comparison<'a> {
+    Comparison { kind, script, verb: "", causes, told: whole }
+}
+
 #[test]
 fn table_check() {
-    agree("test_tables", "table_cases.py", "", without_columns, table_line);
+    Comparison { told: without_columns, ..comparison("tables", "table_cases.py", &TABLE_CAUSES) }.agrees(table_line);
 }
 
 #[test]
 fn step_records() {
-    agree("test_steps", "step_cases.py", "", whole, step_line);
+    comparison("steps", "step_cases.py", &TABLE_CAUSES).agrees(step_line);
 }
 
 #[test]
 fn certificate_check() {
-    agree("test_certificates", "certificate_cases.py", "", whole, certificate_line);
+    let causes = [1, 2, 3, 4, 5, 6, 7, 8, 9, 10, 11, 12, 13];
+    comparison("certificates", "certificate_cases.py", &causes).agrees(certificate_line);
 }
 
 #[test]
 fn witness_check() {
-    agree("test_witnesses", "witness_cases.py", "", whole, witness_line);
+    comparison("witnesses", "witness_cases.py", &[1, 2, 3, 4, 5, 6, 7, 8, 15]).agrees(witness_line);
+}
+
+#[test]
+fn witness_check_over_records() {
+    comparison("records", "record_cases.py", &[1, 2, 3, 4, 5, 6, 7, 8, 15]).agrees(record_line);
+}
+
+/// Compares the search; the witnesses that were found stand in a file afterwards, each after its number of entries.
+fn searches_agree(compared: Comparison) {
+    let mut witnesses = Vec::new();
+    compared.agrees(|cases, guard| {
+        search_line(cases, guard, &mut |witness| {
+            if guard == 0x00 {
+                witnesses.extend((witness.len() as u32).to_le_bytes());
+                witnesses.extend(witness.iter().flat_map(|entry| entry.to_le_bytes()));
+            }
+        })
+    });
+    fs::write(file(compared.kind, "witnesses"), witnesses).unwrap();
 }
 
 #[test]
 fn search() {
-    agree("test_searches", "search_cases.py", "", whole, search_line);
+    searches_agree(comparison("searches", "search_cases.py", &[1, 2, 3, 4, 5, 6, 7, 8, 14]));
+}
+
+#[test]
+fn search_of_the_corpus() {
+    searches_agree(comparison("corpus", "corpus_cases.py", &[]));
 }
 
 #[test]
 fn reader() {
-    agree("test_reads", "text_cases.py", "read-", whole, read_line);
+    let causes = [1, 4, 6, 7, 8, 14, 16, 17, 18];
+    Comparison { verb: "read-", ..comparison("reads", "text_cases.py", &causes) }.agrees(read_line);
 }
 
 #[test]
 fn writer() {
-    agree("test_writes", "text_cases.py", "write-", whole, write_line);
+    let causes = [1, 2, 3, 4, 5, 6, 7, 8, 14, 16, 18];
+    Comparison { verb: "write-", ..comparison("writes", "text_cases.py", &causes) }.agrees(write_line);
+}
+
+#[test]
+fn report() {
+    comparison("reports", "report_cases.py", &[14]).agrees(report_line);
 }

@@ -20,15 +20,18 @@ use Rattle.triples.specs.Verdict.{checkVerdict}
 use Rattle.triples.specs.declared.CheckVerdict.{CheckVerdict}
 use Rattle.triples.specs.declared.CheckVerdict.the-variants.{Accepted}
 use Rattle.triples.specs.declared.Step.{Step}
+use Rattle.report.specs.Report.{reported}
+use Rattle.report.specs.declared.Reported.the-variants as report
 use Rattle.search.specs.Promise.{Lent, isPotential, Told, Answers}
 use Rattle.search.specs.declared.SearchVerdict.{SearchVerdict}
 use Rattle.steps.specs.Steps.{stepAnswer}
 use Rattle.text.specs.Read.{Source}
 use Rattle.text.specs.Promise.{textRead, textWritten}
 use Rattle.text.specs.declared.TextWritten.the-variants.{Written}
-use Rattle.ambiguity_c.specs.Replies.{tableReply, stepReply, checkReply, searchReply, readReply, writeReply}
+use Rattle.witness_records.specs.Records.{triples}
+use Rattle.ambiguity_c.specs.Replies.{tableReply, stepReply, checkReply, searchReply, readReply, writeReply, reportReply}
 use Rattle.ambiguity_c.specs.Causes.{Tells, IsRead, IsVerdict, CauseTheorems}
-use Rattle.ambiguity_c.proofs.Refusals.{isCause, Caused, cause, check-table, nth-step, check-witness, check-certificate, search-asked, read-into, write-into}
+use Rattle.ambiguity_c.proofs.Refusals.{isCause, Caused, cause, check-table, nth-step, check-witness, check-records, check-certificate, search-asked, read-into, write-into, report-into}
 
 -- nothing is refused
 tells-done : {X : Type 0} → X → Tells 0 X
@@ -80,6 +83,11 @@ write-tells : (o : Answer (List ℕ)) → Caused o
 write-tells (done s) h = tells-done refl
 write-tells (refused c p) (cause h) = tells-refused c h
 
+report-tells : (o : Answer (List ℕ)) → Caused o
+    → Tells (reportReply (reported o) .cause) (reported o ≡ report.Written (reportReply (reported o) .length))
+report-tells (done s) h = tells-done refl
+report-tells (refused c p) (cause h) = tells-refused c h
+
 pub cause-theorems : CauseTheorems
 cause-theorems = record {
   tables = λ t n table r a.
@@ -87,6 +95,7 @@ cause-theorems = record {
   steps = λ t n table f p q ask a k u.
       subst (λ s. Tells (stepReply s .cause) (1 ≤ stepReply s .kind)) (sym (a k u)) (step-tells _ (nth-step limits t n table f p q k));
   witnesses = λ t n table row v a. verdict-tells _ v (check-witness limits t n table row) a;
+  records = λ t n table entries v a. verdict-tells _ v (check-records limits t n table (triples entries)) a;
   certificates = λ t n table bytes v a. verdict-tells _ v (check-certificate limits t n table bytes) a;
   searches = λ t n table before v after a. search-tells _ before v after (search-asked limits t n table before) a;
   reads = λ text table starts lengths v table′ starts′ lengths′ a.
@@ -94,4 +103,7 @@ cause-theorems = record {
   writes = λ t n table bytes starts lengths out v out′ a.
       subst (λ v. Tells (writeReply v .cause) (v ≡ Written (writeReply v .length))) (sym (a .answer))
       (write-tells _ (write-into limits t n table bytes starts lengths _));
+  reports = λ text out v out′ a.
+      subst (λ v. Tells (reportReply v .cause) (v ≡ report.Written (reportReply v .length))) (sym (a .answer))
+      (report-tells _ (report-into _ text));
 }

@@ -15,7 +15,8 @@ use Rattle.grammar.specs.TableCheck.{readRule, nextRule, checkFrom, checkTable}
 use Rattle.automaton.specs.Moves.{Moves}
 use Rattle.automaton.specs.PositionMoves.{movesOf}
 use Rattle.triples.specs.Certificate.{checkBytes, checkCertificate}
-use Rattle.triples.specs.Witness.{checkOn, checkRow, checkWitness}
+use Rattle.triples.specs.Witness.{checkOn, checkRow, checkWitness, checkWitnessRecords}
+use Rattle.report.specs.Report.{reportInto}
 use Rattle.search.specs.Promise.{Lent, searchable}
 use Rattle.steps.specs.Steps.{nthStep}
 use Rattle.text.specs.Read.{refuseNone, declaration, ruleLine, ruleLines, wholeLine, readLines, readText}
@@ -109,6 +110,10 @@ pub check-witness : (L : Limits) (t n : ℕ) (table row : List ℕ) → Caused (
 unfolding checkWitness
 check-witness L t n table row = next _ _ (check-table L t n table) (λ G. check-row (movesOf L G) row)
 
+pub check-records : (L : Limits) (t n : ℕ) (table : List ℕ) (entries : List (ℕ × ℕ × ℕ)) → Caused (checkWitnessRecords L t n table entries)
+unfolding checkWitnessRecords
+check-records L t n table entries = next _ _ (check-table L t n table) (λ G. check-row (movesOf L G) _)
+
 pub search-asked : (L : Limits) (t n : ℕ) (table : List ℕ) (l : Lent) → Caused (searchable L t n table l)
 unfolding searchable
 search-asked L t n table l = next _ _ (check-table L t n table) (λ G. unless bufferTooShort _ _ _ refl result)
@@ -177,3 +182,7 @@ write-into L t n table bytes starts lengths room =
     next _ _ (check-table L t n table) (λ G.
     next _ _ (gathers bytes starts lengths 0 (t + n)) (λ names.
     unless nameRepeated _ _ _ refl (unless bufferTooShort _ _ _ refl result)))
+
+pub report-into : (room : ℕ) (text : List ℕ) → Caused (reportInto room text)
+unfolding reportInto
+report-into room text = unless bufferTooShort _ _ _ refl result

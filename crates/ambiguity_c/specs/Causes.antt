@@ -10,6 +10,9 @@ use Rattle.grammar.specs.TableCheck.{TableAnswer}
 use Rattle.triples.specs.declared.CheckVerdict.{CheckVerdict}
 use Rattle.triples.specs.declared.CheckVerdict.the-variants.{Accepted}
 use Rattle.triples.specs.Verdict.{WitnessAnswer, CertificateAnswer}
+use Rattle.report.specs.Report.{Reports}
+use Rattle.report.specs.declared.Reported.{Reported}
+use Rattle.report.specs.declared.Reported.the-variants as report
 use Rattle.search.specs.Promise.{Lent, Searches}
 use Rattle.search.specs.declared.SearchVerdict.{SearchVerdict}
 use Rattle.search.specs.declared.SearchVerdict.the-variants.{Unambiguous, Potential}
@@ -19,8 +22,10 @@ use Rattle.text.specs.declared.TextRead.{TextRead}
 use Rattle.text.specs.declared.TextRead.the-variants.{Read}
 use Rattle.text.specs.declared.TextWritten.{TextWritten}
 use Rattle.text.specs.declared.TextWritten.the-variants.{Written}
+use Rattle.witness_records.specs.Records.{RecordsAnswer}
+use Rattle.witness_records.specs.declared.TripleRecord.{TripleRecord}
 use Rattle.ambiguity.specs.Entries.{Usize, StepAnswers}
-use Rattle.ambiguity_c.specs.Replies.{tableReply, stepReply, checkReply, searchReply, readReply, writeReply}
+use Rattle.ambiguity_c.specs.Replies.{tableReply, stepReply, checkReply, searchReply, readReply, writeReply, reportReply}
 
 -- the cause is none that document 01 does not have, and 0 tells that something is answered
 pub record Tells (cause : ℕ) (Answered : Type 0) : Type 0 where
@@ -44,6 +49,8 @@ pub record CauseTheorems : Type 0 where
       → (k : ℕ) → Usize k → Tells (stepReply (ask k) .cause) (1 ≤ stepReply (ask k) .kind)
   pub witnesses : (t n : ℕ) (table row : List ℕ) (v : CheckVerdict) → WitnessAnswer t n table row v
       → Tells (checkReply v .cause) (v ≡ Accepted)
+  pub records : (t n : ℕ) (table : List ℕ) (entries : List TripleRecord) (v : CheckVerdict) → RecordsAnswer t n table entries v
+      → Tells (checkReply v .cause) (v ≡ Accepted)
   pub certificates : (t n : ℕ) (table bytes : List ℕ) (v : CheckVerdict) → CertificateAnswer t n table bytes v
       → Tells (checkReply v .cause) (v ≡ Accepted)
   pub searches : (t n : ℕ) (table : List ℕ) (before : Lent) (v : SearchVerdict) (after : Lent) → Searches t n table before v after
@@ -52,3 +59,5 @@ pub record CauseTheorems : Type 0 where
       → ReadsText text table starts lengths v table′ starts′ lengths′ → Tells (readReply v .cause) (IsRead v)
   pub writes : (t n : ℕ) (table bytes starts lengths out : List ℕ) (v : TextWritten) (out′ : List ℕ)
       → WritesText t n table bytes starts lengths out v out′ → Tells (writeReply v .cause) (v ≡ Written (writeReply v .length))
+  pub reports : (text out : List ℕ) (v : Reported) (out′ : List ℕ) → Reports text out v out′
+      → Tells (reportReply v .cause) (v ≡ report.Written (reportReply v .length))

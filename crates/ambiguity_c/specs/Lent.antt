@@ -3,12 +3,14 @@
 use Prim.Native.Nat.{ℕ}
 use mathlib.Core.Path.{_≡_}
 use mathlib.Core.List.{List}
+use Rattle.report.specs.Report.{Reports}
 use Rattle.search.specs.Promise.{Lent, Searches}
 use Rattle.text.specs.Promise.{ReadsText, WritesText}
-use Rattle.ambiguity_c.specs.Replies.{searchReply, readReply, writeReply}
+use Rattle.ambiguity_c.specs.Replies.{searchReply, readReply, writeReply, reportReply}
 use Rattle.ambiguity_c.specs.declared.SearchReply.{SearchReply}
 use Rattle.ambiguity_c.specs.declared.ReadReply.{ReadReply}
 use Rattle.ambiguity_c.specs.declared.WriteReply.{WriteReply}
+use Rattle.ambiguity_c.specs.declared.ReportReply.{ReportReply}
 
 -- r is the C form of an answer of which the promise holds
 pub record Replies {Verdict Reply : Type 0} (Promised : Verdict → Type 0) (reply : Verdict → Reply) (r : Reply) : Type 0 where
@@ -25,3 +27,6 @@ RepliesRead text table starts lengths r table′ starts′ lengths′ =
 
 abbrev pub RepliesWritten : ℕ → ℕ → List ℕ → List ℕ → List ℕ → List ℕ → List ℕ → WriteReply → List ℕ → Type 0
 RepliesWritten t n table bytes starts lengths out r out′ = Replies (λ v. WritesText t n table bytes starts lengths out v out′) writeReply r
+
+abbrev pub RepliesReport : List ℕ → List ℕ → ReportReply → List ℕ → Type 0
+RepliesReport text out r out′ = Replies (λ v. Reports text out v out′) reportReply r

@@ -4,6 +4,8 @@ use Prim.Native.Nat.{ℕ}
 use Rattle.grammar.specs.declared.TableChecked.{TableChecked}
 use Rattle.grammar.specs.declared.TableVerdict.{TableVerdict}
 use Rattle.grammar.specs.declared.TableVerdict.the-variants as table
+use Rattle.report.specs.declared.Reported.{Reported}
+use Rattle.report.specs.declared.Reported.the-variants as report
 use Rattle.search.specs.declared.SearchVerdict.{SearchVerdict}
 use Rattle.search.specs.declared.SearchVerdict.the-variants as search
 use Rattle.steps.specs.declared.StepAnswer.{StepAnswer}
@@ -24,6 +26,7 @@ use Rattle.ambiguity_c.specs.declared.CheckReply.{CheckReply}
 use Rattle.ambiguity_c.specs.declared.SearchReply.{SearchReply}
 use Rattle.ambiguity_c.specs.declared.ReadReply.{ReadReply}
 use Rattle.ambiguity_c.specs.declared.WriteReply.{WriteReply}
+use Rattle.ambiguity_c.specs.declared.ReportReply.{ReportReply}
 
 -- the table check: passed with Q, or refused
 abbrev pub verdictReply : TableVerdict → ℕ → TableReply
@@ -54,7 +57,7 @@ stepReply (step.Record s) = recordReply s
 stepReply step.NoMore = noRecord 0 0 2
 stepReply (step.Refused cause at) = noRecord cause at 0
 
--- the certificate check and the witness check
+-- the certificate check and both witness checks
 abbrev pub checkReply : CheckVerdict → CheckReply
 checkReply check.Accepted = record { cause = 0; at = 0 }
 checkReply (check.Refused cause at) = record { cause = cause; at = at }
@@ -74,3 +77,8 @@ readReply (reader.Refused cause at) = record { cause = cause; at = at; terminals
 abbrev pub writeReply : TextWritten → WriteReply
 writeReply (writer.Written m) = record { cause = 0; at = 0; length = m }
 writeReply (writer.Refused cause at) = record { cause = cause; at = at; length = 0 }
+
+-- what the program prints: how many bytes were written
+abbrev pub reportReply : Reported → ReportReply
+reportReply (report.Written m) = record { cause = 0; at = 0; length = m }
+reportReply (report.Refused cause at) = record { cause = cause; at = at; length = 0 }

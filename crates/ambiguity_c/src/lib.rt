@@ -6,8 +6,10 @@ ghost use Rattle.grammar.specs.TableCheck.{TableAnswer};
 ghost use Rattle.search.specs.Promise.{lent};
 ghost use Rattle.steps.specs.Steps.{NthAnswer};
 ghost use Rattle.triples.specs.Verdict.{CertificateAnswer, WitnessAnswer};
+ghost use Rattle.witness_records.specs.Records.{RecordsAnswer};
 ghost use Rattle.ambiguity_c.specs.Replies.{tableReply, stepReply, checkReply};
-ghost use Rattle.ambiguity_c.specs.Lent.{Replies, RepliesSearch, RepliesRead, RepliesWritten};
+ghost use Rattle.ambiguity_c.specs.Lent.{Replies, RepliesSearch, RepliesRead, RepliesWritten, RepliesReport};
+use ambiguity::TripleRecord;
 
 // In every reply `cause` is 0, or document 01's number with its position `at`; what a case does not have is 0.
 #[repr(C)]
@@ -69,6 +71,13 @@ pub struct WriteReply {
     pub length: u64,
 }
 
+#[repr(C)]
+pub struct ReportReply {
+    pub cause: u64,
+    pub at: u64,
+    pub length: u64,
+}
+
 #[no_mangle]
 pub extern "C" fn ambiguity_check_table(t: usize, n: usize, table: &[u8]) -> TableReply
     ensures { λ r. ⌜ Replies (TableAnswer t n (now (table .entry))) tableReply r ⌝ }
@@ -121,6 +130,19 @@ pub extern "C" fn ambiguity_check_witness(
 }
 
 #[no_mangle]
+pub extern "C" fn ambiguity_check_witness_records(
+    t: usize,
+    n: usize,
+    table: &[u8],
+    entries: &[TripleRecord],
+) -> CheckReply
+    ensures { λ r. ⌜ Replies (RecordsAnswer t n (now (table .entry)) (now (entries .entry))) checkReply r ⌝ }
+{
+    let verdict = ambiguity::check_witness_records(t, n, table, entries);
+    replies::check_told(verdict)
+}
+
+#[no_mangle]
 pub extern "C" fn ambiguity_search(
     t: usize,
     n: usize,
@@ -165,4 +187,12 @@ pub extern "C" fn ambiguity_write_text(
 {
     let answer = ambiguity::write_text(t, n, table, bytes, starts, lengths, out);
     replies::write_told(answer)
+}
+
+#[no_mangle]
+pub extern "C" fn ambiguity_report(text: &[u8], out: &mut [u8]) -> ReportReply
+    ensures { λ r. ⌜ RepliesReport (now (text .entry)) (now (out .entry)) r (now (out .exit)) ⌝ }
+{
+    let answer = ambiguity::report(text, out);
+    replies::report_told(answer)
 }

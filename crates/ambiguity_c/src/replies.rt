@@ -1,15 +1,17 @@
 // The answers of the entries, told in numbers: an arm for each case of specs/Replies.antt.
 ghost use mathlib.Core.Path.{_≡_};
-ghost use Rattle.ambiguity_c.specs.Replies.{verdictReply, moveReply, recordReply, noRecord, stepReply, checkReply, searchReply, readReply, writeReply};
+ghost use Rattle.ambiguity_c.specs.Replies.{verdictReply, moveReply, recordReply, noRecord, stepReply, checkReply, searchReply, readReply, writeReply, reportReply};
 use super::CheckReply;
 use super::MoveReply;
 use super::ReadReply;
+use super::ReportReply;
 use super::SearchReply;
 use super::StepReply;
 use super::TableReply;
 use super::WriteReply;
 use ambiguity::CheckVerdict;
 use ambiguity::Move;
+use ambiguity::Reported;
 use ambiguity::SearchVerdict;
 use ambiguity::Step;
 use ambiguity::StepAnswer;
@@ -182,6 +184,23 @@ pub fn write_told(answer: TextWritten) -> WriteReply
             length: length as u64,
         },
         TextWritten::Refused(cause, at) => WriteReply {
+            cause: cause as u64,
+            at: at as u64,
+            length: 0,
+        },
+    }
+}
+
+pub fn report_told(answer: Reported) -> ReportReply
+    ensures { λ r. ⌜ r ≡ reportReply answer ⌝ }
+{
+    match answer {
+        Reported::Written(length) => ReportReply {
+            cause: 0,
+            at: 0,
+            length: length as u64,
+        },
+        Reported::Refused(cause, at) => ReportReply {
             cause: cause as u64,
             at: at as u64,
             length: 0,

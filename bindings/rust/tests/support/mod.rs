@@ -1,6 +1,7 @@
 //! What the tests share: rows between guards, and the second program's cases with its answers.
 #![allow(dead_code)]
 
+use ambiguity::TripleRecord;
 use std::fmt::Debug;
 use std::fs;
 use std::path::{Path, PathBuf};
@@ -76,12 +77,27 @@ impl Cases {
         (0..length).map(|_| self.number() as u32).collect()
     }
 
+    pub fn records(&mut self) -> Vec<TripleRecord> {
+        let length = self.number();
+        (0..length).map(|_| self.record()).collect()
+    }
+
+    fn record(&mut self) -> TripleRecord {
+        let [layer, left, right] = [0; 3].map(|_| self.number() as u32);
+        TripleRecord { layer, left, right }
+    }
+
     pub fn table(&mut self) -> (usize, usize, Vec<u8>) {
         (self.long(), self.long(), self.bytes())
     }
 }
 
-/// A file of the second program; the gate makes them all, and what is missing is made here.
+/// A file of the comparison of a kind of cases. The gate leaves the second program's there.
+pub fn file(kind: &str, ending: &str) -> PathBuf {
+    Path::new(env!("CARGO_MANIFEST_DIR")).join(format!("../../target/gate/{kind}.{ending}"))
+}
+
+/// A file of the second program; what is missing is made here.
 fn made(file: &Path, script: &str, arguments: &[&Path], verb: &str) {
     if !file.exists() {
         fs::create_dir_all(file.parent().unwrap()).unwrap();
@@ -91,22 +107,52 @@ fn made(file: &Path, script: &str, arguments: &[&Path], verb: &str) {
     }
 }
 
-/// Every case of a file, asked with two kinds of guards, is answered as the second program answers it. `told` is what the
-/// library has of an answer's line.
-pub fn agree(name: &str, script: &str, verb: &str, told: fn(&str) -> &str, ask: fn(&mut Cases, u8) -> String) {
-    let file =
-        |ending: &str| -> PathBuf { Path::new(env!("CARGO_MANIFEST_DIR")).join(format!("../../target/gate/{name}.{ending}")) };
-    let (cases, answers, counts) = (file("cases"), file("answers"), file("counts"));
-    made(&cases, script, &[&cases], &format!("{verb}cases"));
-    made(&answers, script, &[&cases, &answers, &counts], &format!("{verb}answers"));
-    let mut cases = Cases { data: fs::read(cases).unwrap(), at: 0 };
-    let answers = fs::read_to_string(answers).unwrap();
-    for (i, line) in answers.lines().enumerate() {
-        let start = cases.at;
-        assert_eq!(ask(&mut cases, 0x00), told(line), "case {i} of {name}");
-        cases.at = start;
-        assert_eq!(ask(&mut cases, 0xFF), told(line), "case {i} of {name}, other guards");
+/// The number of the refusal that a line tells; 0 where nothing is refused.
+fn cause_of(line: &str) -> usize {
+    let refused = line.strip_prefix("refused=").map(|rest| rest.split(' ').next().unwrap());
+    refused.map_or(0, |cause| cause.parse().unwrap())
+}
+
+/// What is compared: the kind of the cases, the script that makes them, and what stands before its verbs; the causes that such a
+/// case can be refused for; and what the library has of an answer's line.
+pub struct Comparison<'a> {
+    pub kind: &'a str,
+    pub script: &'a str,
+    pub verb: &'a str,
+    pub causes: &'a [usize],
+    pub told: fn(&str) -> &str,
+}
+
+impl Comparison<'_> {
+    /// Every case, asked with two kinds of guards, is answered as the second program answers it. Prints how many answers there are
+    /// for each cause: none is missing.
+    pub fn agrees(&self, mut ask: impl FnMut(&mut Cases, u8) -> String) {
+        let Comparison { kind, script, verb, .. } = self;
+        let (cases, answers, counts) = (file(kind, "cases"), file(kind, "answers"), file(kind, "counts"));
+        made(&cases, script, &[&cases], &format!("{verb}cases"));
+        made(&answers, script, &[&cases, &answers, &counts], &format!("{verb}answers"));
+        let mut cases = Cases { data: fs::read(cases).unwrap(), at: 0 };
+        let answers = fs::read_to_string(answers).unwrap();
+        let mut found = [0; 19];
+        for (i, line) in answers.lines().enumerate() {
+            let start = cases.at;
+            let answer = ask(&mut cases, 0x00);
+            assert_eq!(answer, (self.told)(line), "case {i} of {kind}");
+            cases.at = start;
+            assert_eq!(ask(&mut cases, 0xFF), answer, "case {i} of {kind}, other guards");
+            found[cause_of(&answer)] += 1;
+        }
+        assert_eq!(cases.at, cases.data.len(), "every case of {kind} has its answer");
+        self.counted(&found);
     }
-    assert_eq!(cases.at, cases.data.len(), "every case of {name} has its answer");
-    assert!(answers.lines().count() >= 1000, "{name} has its cases");
+
+    fn counted(&self, found: &[usize; 19]) {
+        let causes: Vec<_> = self.causes.iter().map(|cause| format!("{cause}: {}", found[*cause])).collect();
+        let (kind, all) = (self.kind, found.iter().sum::<usize>());
+        println!("{kind}: {all} cases twice, {} not refused, refused by cause {}", found[0], causes.join(", "));
+        for (cause, count) in found.iter().enumerate() {
+            let expected = cause == 0 || self.causes.contains(&cause);
+            assert_eq!(*count > 0, expected, "{kind} with {count} answers of cause {cause}");
+        }
+    }
 }

@@ -1,0 +1,48 @@
+#!/usr/bin/env bash
+# prepare.sh FOLDER: the second program's own tests, then for each kind of cases FOLDER/KIND.cases, .answers and .counts.
+# Prints the counts. Its last line is 'N passed, M failed'; a count that is too low, so also a count of zero, fails.
+set -uo pipefail
+folder=$(realpath "$1")
+cd "$(dirname "$0")"
+
+passed=0
+failed=0
+
+count() { # count NAME STATUS: one test more, with its result
+    if [ "$2" -eq 0 ]; then
+        passed=$((passed + 1))
+        echo "ok: $1"
+    else
+        failed=$((failed + 1))
+        echo "FAILED: $1"
+    fi
+}
+
+make() { # make KIND SCRIPT [VERB-]: the cases of a kind, the answers to them and how many there are for each reason
+    local files="$folder/$1"
+    python3 "$2" "${3:-}cases" "$files.cases" \
+        && python3 "$2" "${3:-}answers" "$files.cases" "$files.answers" "$files.counts"
+    local status=$?
+    [ -e "$files.counts" ] && sed "s/^/$1 /" "$files.counts"
+    count "$1: the second program has its cases and answers, and enough of them for every cause and reason" "$status"
+}
+
+python3 -m unittest discover -p 'test_*.py' 2>&1
+count "the second program's own tests" $?
+
+make tables table_cases.py
+make steps step_cases.py
+make certificates certificate_cases.py
+make witnesses witness_cases.py
+make records record_cases.py
+make searches search_cases.py
+make corpus corpus_cases.py
+make reads text_cases.py read-
+make writes text_cases.py write-
+make reports report_cases.py
+
+python3 corpus_cases.py check
+count "corpus: every text reads, and states, verdict, size and trees are as its index says" $?
+
+echo "$passed passed, $failed failed"
+[ "$failed" -eq 0 ]

@@ -1,0 +1,48 @@
+"""Tests of the report cases: their bytes, the lines, the sorting by reasons."""
+
+import unittest
+
+from file_tests import FileTests
+from report_cases import ENOUGH, KIND, REASONS, Case, answer, expected, reasons_of
+
+TEXT = b"terminals=a\nnonterminals=S\nrule=S: a\n"
+REPORT = b"states=6\nverdict=unambiguous\nreached=11\n"
+SHORT = "refused=14 at=0"
+
+
+class FileTest(FileTests, unittest.TestCase):
+    KIND = KIND
+    DIGEST = "4989ba69c8edbd0977a45c0aecb4063feecc6a50b76d90fe2b480f2738a81274"
+    CASE = Case(b"ab", 258)
+    BYTES = b"\x02\0\0\0" + b"ab" + b"\x02\x01\0\0"
+
+    def test_answer_lines(self):
+        line = "written=%d text=%s" % (len(REPORT), REPORT.hex())
+        self.assertEqual(answer(Case(TEXT, len(REPORT))), line)
+        self.assertEqual(answer(Case(TEXT, ENOUGH)), line)
+        self.assertEqual(answer(Case(TEXT, len(REPORT) - 1)), SHORT)
+        self.assertEqual(answer(Case(TEXT, 0)), SHORT)
+        self.assertEqual(answer(Case(b"", 16)), "written=16 text=" + b"refused=16\nat=1\n".hex())
+        self.assertEqual(answer(Case(b"", 15)), SHORT)
+
+    def test_so_much_is_always_enough(self):
+        self.assertLessEqual(max(len(expected(case.text)) for case in KIND.all()), ENOUGH)
+
+
+class ReasonsTest(unittest.TestCase):
+    def reasons(self, text, room, *names):
+        found = reasons_of(Case(text, room))
+        self.assertEqual(sorted(found), sorted(names))
+        self.assertLessEqual(set(found), set(REASONS))
+
+    def test_reasons(self):
+        self.reasons(TEXT, len(REPORT), "unambiguous", "exactly-enough")
+        self.reasons(TEXT, ENOUGH, "unambiguous", "longer")
+        self.reasons(TEXT, len(REPORT) - 1, "14-one-byte-short")
+        self.reasons(TEXT, 0, "14-no-room", "14-shorter")
+        self.reasons(b"", 16, "refused-16", "exactly-enough")
+        self.reasons(b"", 15, "14-one-byte-short", "14-for-a-text-that-is-refused")
+
+
+if __name__ == "__main__":
+    unittest.main()
