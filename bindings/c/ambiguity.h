@@ -46,11 +46,13 @@
 #define AMBIGUITY_MAX_REPORT_BYTES 64
 
 /* The stack that a call may use, below the caller's frame: bindings/c/stack.c measures it on a painted stack, at Q = 256. The
- * reader has a tree of names there (267,255 bytes measured), the search its marks (73,575 bytes, for few states too); of
- * the others nth_step goes deepest (8,183 bytes). */
+ * reader has a tree of names there (267,383 bytes measured), the search its marks (73,879 bytes, for few states too), the report
+ * calls both and lends them their rows (325,847 bytes); of the others the witness check over records goes deepest (11,767
+ * bytes). */
 #define AMBIGUITY_STACK_BYTES 12288
 #define AMBIGUITY_READ_TEXT_STACK_BYTES 274432
 #define AMBIGUITY_SEARCH_STACK_BYTES 81920
+#define AMBIGUITY_REPORT_STACK_BYTES 339968
 
 /* The causes of refusal. */
 enum ambiguity_cause {

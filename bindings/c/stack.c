@@ -14,6 +14,7 @@
 #define PAINT 0xA5
 #define ROW AMBIGUITY_ROW_ENTRIES(AMBIGUITY_MAX_STATES)
 #define FEW_STATES 64
+#define REPORT_STATES 46
 #define LAST "rule=S: a9 a9\n"
 #define LAST_POTENTIAL "rule=S: S\nrule=S:\n"
 
@@ -27,6 +28,7 @@ static uint32_t queue[ROW];
 static uint32_t parents[ROW];
 static uint32_t witness[ROW];
 static uint32_t row[] = {0, 256 * 2 + 2, 256 * 2 + 3};
+static ambiguity_triple_record records[] = {{0, 0, 0}, {0, 2, 2}, {0, 2, 3}};
 static ambiguity_read_reply grammar;
 static uint64_t verdict;
 static uint8_t *caller;
@@ -48,6 +50,11 @@ static void run_certificate(void)
 
 static void run_witness(void) { ambiguity_check_witness(grammar.terminals, grammar.nonterminals, table, grammar.entries, row, 3); }
 
+static void run_records(void)
+{
+    ambiguity_check_witness_records(grammar.terminals, grammar.nonterminals, table, grammar.entries, records, 3);
+}
+
 static void run_search(void)
 {
     ambiguity_search_reply reply =
@@ -67,6 +74,8 @@ static void run_write(void)
     ambiguity_write_text(grammar.terminals, grammar.nonterminals, table, grammar.entries, text, strlen((char *)text), starts,
                          AMBIGUITY_MAX_NAMES, lengths, AMBIGUITY_MAX_NAMES, out, sizeof out);
 }
+
+static void run_report(void) { ambiguity_report(text, strlen((char *)text), out, sizeof out); }
 
 static void *on_thread(void *run)
 {
@@ -121,6 +130,13 @@ static int measure_search(const char *name, int states, const char *last, uint64
     return measure(name, run_search, most) + (verdict != right);
 }
 
+/* The report of a text that begins so. */
+static int measure_report(const char *name, const char *last, const char *right)
+{
+    make_text(REPORT_STATES, last);
+    return measure(name, run_report, AMBIGUITY_REPORT_STACK_BYTES) + (memcmp(out, right, strlen(right)) != 0);
+}
+
 int main(void)
 {
     int wrong = 0;
@@ -133,6 +149,7 @@ int main(void)
     wrong += measure("ambiguity_nth_step", run_step, AMBIGUITY_STACK_BYTES);
     wrong += measure("ambiguity_check_certificate", run_certificate, AMBIGUITY_STACK_BYTES);
     wrong += measure("ambiguity_check_witness", run_witness, AMBIGUITY_STACK_BYTES);
+    wrong += measure("ambiguity_check_witness_records", run_records, AMBIGUITY_STACK_BYTES);
     wrong += measure_search("ambiguity_search, 64 states, unambiguous", FEW_STATES, LAST, AMBIGUITY_UNAMBIGUOUS,
                             AMBIGUITY_SEARCH_STACK_BYTES);
     wrong += measure_search("ambiguity_search, 64 states, potential", FEW_STATES, LAST_POTENTIAL, AMBIGUITY_POTENTIAL,
@@ -141,5 +158,7 @@ int main(void)
                             AMBIGUITY_SEARCH_STACK_BYTES);
     wrong += measure_search("ambiguity_search, potential", AMBIGUITY_MAX_STATES, LAST_POTENTIAL, AMBIGUITY_POTENTIAL,
                             AMBIGUITY_SEARCH_STACK_BYTES);
+    wrong += measure_report("ambiguity_report, unambiguous", LAST, "states=46\nverdict=unambiguous\n");
+    wrong += measure_report("ambiguity_report, potential", LAST_POTENTIAL, "states=46\nverdict=potential\n");
     return wrong != 0;
 }

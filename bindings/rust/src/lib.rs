@@ -163,9 +163,8 @@ pub fn check_witness(table: Table, row: &[u32]) -> Result<(), Refusal> {
 pub fn check_witness_records(table: Table, records: &[TripleRecord]) -> Result<(), Refusal> {
     let Table { terminals, nonterminals, rules } = table;
     let (entries, length) = (records.as_ptr(), records.len());
-    let reply = unsafe {
-        raw::ambiguity_check_witness_records(terminals, nonterminals, rules.as_ptr(), rules.len(), entries, length)
-    };
+    let reply =
+        unsafe { raw::ambiguity_check_witness_records(terminals, nonterminals, rules.as_ptr(), rules.len(), entries, length) };
     refusal::or_else(reply.cause, reply.at, || ())
 }
 
@@ -245,7 +244,7 @@ pub fn write_text(table: Table, names: Names, out: &mut [u8]) -> Result<usize, R
 }
 
 /// Writes what the program prints for a text to the front of `out`: states, verdict and size, or a refusal's two lines. Back comes
-/// its length; the only refusal is an output that is too short, and `MAX_REPORT_BYTES` are always enough. Uses up to STACK KiB of
+/// its length; the only refusal is an output that is too short, and `MAX_REPORT_BYTES` are always enough. Uses up to 332 KiB of
 /// stack.
 pub fn report(text: &[u8], out: &mut [u8]) -> Result<usize, Refusal> {
     let reply = unsafe { raw::ambiguity_report(text.as_ptr(), text.len(), out.as_mut_ptr(), out.len()) };

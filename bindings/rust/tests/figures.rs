@@ -113,6 +113,13 @@ fn tables() {
     }
 }
 
+/// The next triple, and what moved on either side.
+type Record = ([usize; 3], Move, Move);
+
+fn record(&([layer, left, right], on_left, on_right): &Record) -> Step {
+    Step { layer, left, right, on_left, on_right }
+}
+
 fn all_steps(table: Table, triple: [usize; 3]) -> Vec<Step> {
     let [layer, left, right] = triple;
     (0..).map_while(|nth| ambiguity::nth_step(table, layer, left, right, nth).unwrap()).collect()
@@ -121,9 +128,19 @@ fn all_steps(table: Table, triple: [usize; 3]) -> Vec<Step> {
 #[test]
 fn steps() {
     use Move::{Closing, Opening, Still, Symbol};
-    let cases: [(usize, &[u8], [usize; 3], &[([usize; 3], Move, Move)]); 9] = [
-        (1, &LEFT_RECURSION, [1, 3, 4], &[([1, 3, 4], Still, Opening(1)), ([1, 1, 4], Closing(0), Still), ([1, 3, 7], Still, Opening(2))]),
-        (1, &LEFT_RECURSION, [0, 4, 0], &[([0, 4, 0], Opening(1), Still), ([0, 4, 2], Still, Opening(0)), ([0, 7, 0], Opening(2), Still)]),
+    let cases: [(usize, &[u8], [usize; 3], &[Record]); 9] = [
+        (
+            1,
+            &LEFT_RECURSION,
+            [1, 3, 4],
+            &[([1, 3, 4], Still, Opening(1)), ([1, 1, 4], Closing(0), Still), ([1, 3, 7], Still, Opening(2))],
+        ),
+        (
+            1,
+            &LEFT_RECURSION,
+            [0, 4, 0],
+            &[([0, 4, 0], Opening(1), Still), ([0, 4, 2], Still, Opening(0)), ([0, 7, 0], Opening(2), Still)],
+        ),
         (
             1,
             &LEFT_RECURSION,
@@ -143,8 +160,7 @@ fn steps() {
         (1, &[128, 1, 1], [0, 65536, 0], &[]),
     ];
     for (terminals, rules, triple, expected) in cases {
-        let step = |&([layer, left, right], on_left, on_right)| Step { layer, left, right, on_left, on_right };
-        let expected: Vec<_> = expected.iter().map(step).collect();
+        let expected: Vec<_> = expected.iter().map(record).collect();
         assert_eq!(all_steps(grammar(terminals, 1, rules), triple), expected, "{triple:?}");
     }
     assert_eq!(ambiguity::nth_step(grammar(1, 1, &[128, 1, 1, 128]), 0, 0, 0, 0), refused(Cause::Truncated, 3));
@@ -153,8 +169,7 @@ fn steps() {
 /// With Q = 9 the certificates have 162 bits, and six bits to spare.
 #[test]
 fn certificates_of_nine_states() {
-    let left: [u8; 21] =
-        [0x95, 0x00, 0x54, 0x42, 0x51, 0x09, 0x05, 0x90, 0x4A, 0, 0x01, 0x80, 0, 0, 0, 0x80, 0, 0, 0, 0, 0];
+    let left: [u8; 21] = [0x95, 0x00, 0x54, 0x42, 0x51, 0x09, 0x05, 0x90, 0x4A, 0, 0x01, 0x80, 0, 0, 0, 0x80, 0, 0, 0, 0, 0];
     let nested: [u8; 21] =
         [0x15, 0x01, 0x54, 0x44, 0x50, 0x13, 0x26, 0x10, 0x40, 0x35, 0x01, 0x40, 0, 0, 0x41, 0x09, 0, 0x08, 0, 0, 0];
     let tables = [grammar(1, 1, &LEFT_RECURSION), grammar(2, 1, &[128, 3, 1, 128, 2, 128, 0])];
@@ -204,8 +219,7 @@ fn records() {
         (0, way.to_vec(), refused(Cause::OutOfRange, 0)),
     ];
     for (nonterminals, records, expected) in cases {
-        let lent: Vec<_> =
-            records.iter().map(|&[layer, left, right]| TripleRecord { layer, left, right }).collect();
+        let lent: Vec<_> = records.iter().map(|&[layer, left, right]| TripleRecord { layer, left, right }).collect();
         let answer = ambiguity::check_witness_records(grammar(0, nonterminals, &[128, 1, 128]), &lent);
         assert_eq!(answer, expected, "{records:?}");
     }
@@ -250,15 +264,31 @@ const NESTED_RULES: [u8; 11] = [128, 2, 1, 129, 128, 0, 129, 3, 2, 128, 2];
 fn texts_read() {
     let long = NESTED.replace("y S y", "y S y y y y y y y y y y y");
     let cases: [(&str, [usize; 3], Result<(Read, &[u8], &[u32]), Refusal>); 10] = [
-        (NESTED, [11, 4, 4], Ok((Read { terminals: 2, nonterminals: 2, entries: 11, states: 12 }, &NESTED_RULES, &[10, 12, 27, 29]))),
-        (NESTED, [100, 10, 11], Ok((Read { terminals: 2, nonterminals: 2, entries: 11, states: 12 }, &NESTED_RULES, &[10, 12, 27, 29]))),
+        (
+            NESTED,
+            [11, 4, 4],
+            Ok((Read { terminals: 2, nonterminals: 2, entries: 11, states: 12 }, &NESTED_RULES, &[10, 12, 27, 29])),
+        ),
+        (
+            NESTED,
+            [100, 10, 11],
+            Ok((Read { terminals: 2, nonterminals: 2, entries: 11, states: 12 }, &NESTED_RULES, &[10, 12, 27, 29])),
+        ),
         (NESTED, [10, 4, 4], refused(Cause::BufferTooShort, 0)),
-        ("terminals=\nnonterminals=S\nrule=S:\n", [20, 5, 5], Ok((Read { terminals: 0, nonterminals: 1, entries: 2, states: 5 }, &[128, 0], &[24]))),
+        (
+            "terminals=\nnonterminals=S\nrule=S:\n",
+            [20, 5, 5],
+            Ok((Read { terminals: 0, nonterminals: 1, entries: 2, states: 5 }, &[128, 0], &[24])),
+        ),
         (NESTED.trim_end(), [100, 10, 10], refused(Cause::Malformed, 5)),
         (&NESTED.replace("y S y", "y S z"), [100, 10, 10], refused(Cause::NameUnknown, 5)),
         (&NESTED.replace("S,A", "S,x"), [100, 10, 10], refused(Cause::NameRepeated, 2)),
         (&long, [100, 10, 10], refused(Cause::RuleTooLong, 5)),
-        ("terminals=x\nnonterminals=S,A\nrule=S: x\n", [100, 10, 10], Ok((Read { terminals: 1, nonterminals: 2, entries: 3, states: 6 }, &[128, 1, 1], &[10, 25, 27]))),
+        (
+            "terminals=x\nnonterminals=S,A\nrule=S: x\n",
+            [100, 10, 10],
+            Ok((Read { terminals: 1, nonterminals: 2, entries: 3, states: 6 }, &[128, 1, 1], &[10, 25, 27])),
+        ),
         ("", [0, 0, 0], refused(Cause::Malformed, 1)),
     ];
     for (text, lent, expected) in cases {

@@ -42,7 +42,6 @@ use Rattle.triples.proofs.CheckVerdict.Laws as Y′
 use Rattle.witness_records.specs.declared.TripleRecord.{TripleRecord}
 use Rattle.witness_records.specs.Records.{RecordsAnswer}
 use Rattle.witness_records.proofs.TripleRecord as T
-use Rattle.witness_records.proofs.TripleRecord.Laws as T′
 use Rattle.witness_records.proofs.check_witness_records as check
 use Rattle.witness_records.proofs.check_witness_records.Symbol as check-def
 use Rattle.witness_records.proofs.check_witness_records.Symbol.{name as #check}
