@@ -1,20 +1,16 @@
-"""How long the reader takes on texts of 65,536 bytes, made to be slow.
+"""How long the reader takes on texts of 65,536 bytes, made to be slow: the least time of many calls of the library.
 
-Needs target/bin/test_reads (rt check test_reads). Each text is read many times in one run of the program; the time of an empty
-run is taken off, so what is printed is the time of one text: passing it to the program, reading it, writing the answer.
+Option: --archive FILE, a static library with the library's functions, in place of the one that rt staticlib makes.
 """
 
+import argparse
 import itertools
-import pathlib
-import struct
-import subprocess
+import os
 import sys
-import time
 
-ROOT = pathlib.Path(__file__).resolve().parent.parent
-PROGRAM = ROOT / "target" / "bin" / "test_reads"
+from search import BENCH, FLAGS, ROOT, WORK, archive, run
+
 LONGEST = 65536
-TURNS = 50
 LETTERS = "abcdefghijklmnopqrstuvwxyzABCDEFGHIJKLMNOPQRSTUVWXYZ0123456789"
 
 
@@ -56,28 +52,28 @@ def texts():
     yield "thousands of short rule lines", filled(head, itertools.repeat("rule=Za:"), "\n", "\n")
 
 
-def case(text):
-    data = text.encode("ascii")
-    assert len(data) <= LONGEST
-    return struct.pack("<I", len(data)) + data + struct.pack("<III", 8192, 254, 254)
-
-
-def seconds(data):
-    begin = time.perf_counter()
-    subprocess.run([PROGRAM], input=data, stdout=subprocess.PIPE, check=True)
-    return time.perf_counter() - begin
+def build(options):
+    WORK.mkdir(parents=True, exist_ok=True)
+    program = WORK / "texts"
+    run(os.environ.get("CC", "gcc"), *FLAGS, "-I", ROOT / "bindings" / "c", BENCH / "texts.c", *archive(options), "-o", program)
+    return program
 
 
 def main():
-    empty = min(seconds(b"") for _ in range(5))
+    parser = argparse.ArgumentParser(description=__doc__, formatter_class=argparse.RawDescriptionHelpFormatter)
+    parser.add_argument("--archive")
+    options = parser.parse_args()
+    options.stand_in = False
+    program = build(options)
     slowest = 0.0
     for label, text in texts():
-        one = case(text)
-        answer = subprocess.run([PROGRAM], input=one, stdout=subprocess.PIPE, check=True).stdout.decode().split("\n")[0]
-        spent = min(seconds(one * TURNS) for _ in range(3)) - empty
-        slowest = max(slowest, spent / TURNS)
-        print(f"{spent / TURNS * 1000:8.3f} ms  {len(text):6d} bytes  {answer[:24]:24s}  {label}")
-    print(f"slowest {slowest * 1000:.3f} ms")
+        data = text.encode("ascii")
+        assert len(data) <= LONGEST
+        done = run(program, input=data, capture_output=True)
+        spent, answer = done.stdout.decode().split(" ", 1)
+        slowest = max(slowest, float(spent))
+        print(f"{float(spent):8.3f} ms  {len(data):6d} bytes  {answer.strip():24s}  {label}")
+    print(f"slowest {slowest:.3f} ms")
     return 0
 
 
