@@ -2,6 +2,7 @@
 # prepare.sh FOLDER: the second program's own tests, then for each kind of cases FOLDER/KIND.cases, .answers and .counts.
 # Prints the counts. Its last line is 'N passed, M failed'; a count that is too low, so also a count of zero, fails.
 set -uo pipefail
+mkdir -p "$1"
 folder=$(realpath "$1")
 cd "$(dirname "$0")"
 
