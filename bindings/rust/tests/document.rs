@@ -2,8 +2,8 @@
 
 mod support;
 
-use ambiguity::{certificate_bytes, row_entries, Cause, Names, Read, Refusal, Table, Verdict};
-use support::Lent;
+use ambiguity::{certificate_bytes, row_entries, Cause, Names, Read, Table, Verdict};
+use support::{grammar, refused, Lent};
 
 const RULES: [u8; 3] = [128, 1, 1];
 const CERTIFICATE: [u8; 9] = [0x15, 0x50, 0x21, 0x15, 0x08, 0x00, 0x00, 0x00, 0x00];
@@ -12,11 +12,7 @@ const STARTS: [u32; 2] = [10, 25];
 const LENGTHS: [u32; 2] = [1, 1];
 
 fn one_a(rules: &[u8]) -> Table<'_> {
-    Table { terminals: 1, nonterminals: 1, rules }
-}
-
-fn refused<T>(cause: Cause, at: usize) -> Result<T, Refusal> {
-    Err(Refusal { cause, at })
+    grammar(1, 1, rules)
 }
 
 #[test]

@@ -3,9 +3,9 @@
 
 mod support;
 
-use ambiguity::{certificate_bytes, row_entries, Move, Names, Refusal, Step, Table, TripleRecord, Verdict};
+use ambiguity::{certificate_bytes, row_entries, Names, Refusal, Table, TripleRecord, Verdict};
 use std::fs;
-use support::{file, Cases, Comparison, Lent};
+use support::{all_steps, file, Cases, Comparison, Lent};
 
 /// The causes of a table that is refused.
 const TABLE_CAUSES: [usize; 8] = [1, 2, 3, 4, 5, 6, 7, 8];
@@ -47,29 +47,6 @@ fn with_table<A>(cases: &mut Cases, guard: u8, ask: impl FnOnce(&mut Cases, Tabl
 fn table_line(cases: &mut Cases, guard: u8) -> String {
     let answer = with_table(cases, guard, |_, table| ambiguity::check_table(table));
     line_of(answer.map(|states| format!("passed states={states}")))
-}
-
-fn move_text(side: Move) -> String {
-    match side {
-        Move::Still => "-".to_string(),
-        Move::Opening(rule) => format!("o{rule}"),
-        Move::Closing(rule) => format!("c{rule}"),
-        Move::Symbol(code) => format!("s{code}"),
-    }
-}
-
-fn step_text(step: Step) -> String {
-    let (on_left, on_right) = (move_text(step.on_left), move_text(step.on_right));
-    format!(" {},{},{},{on_left},{on_right}", step.layer, step.left, step.right)
-}
-
-fn all_steps(table: Table, layer: usize, left: usize, right: usize) -> Result<String, Refusal> {
-    let mut records = Vec::new();
-    while let Some(step) = ambiguity::nth_step(table, layer, left, right, records.len())? {
-        records.push(step_text(step));
-    }
-    assert_eq!(ambiguity::nth_step(table, layer, left, right, usize::MAX)?, None);
-    Ok(format!("records={}{}", records.len(), records.concat()))
 }
 
 fn step_line(cases: &mut Cases, guard: u8) -> String {

@@ -1,13 +1,46 @@
-//! What the tests share: rows between guards, and the second program's cases with its answers.
+//! What the tests share: short words for tables, answers and step records, rows between guards, and the second program's cases with
+//! its answers.
 #![allow(dead_code)]
 
-use ambiguity::TripleRecord;
+use ambiguity::{Cause, Move, Refusal, Step, Table, TripleRecord};
 use std::fmt::Debug;
 use std::fs;
 use std::path::{Path, PathBuf};
 use std::process::Command;
 
 const GUARD: usize = 64;
+
+pub fn grammar(terminals: usize, nonterminals: usize, rules: &[u8]) -> Table<'_> {
+    Table { terminals, nonterminals, rules }
+}
+
+pub fn refused<T>(cause: Cause, at: usize) -> Result<T, Refusal> {
+    Err(Refusal { cause, at })
+}
+
+fn move_text(side: Move) -> String {
+    match side {
+        Move::Still => "-".to_string(),
+        Move::Opening(rule) => format!("o{rule}"),
+        Move::Closing(rule) => format!("c{rule}"),
+        Move::Symbol(code) => format!("s{code}"),
+    }
+}
+
+fn step_text(step: Step) -> String {
+    let (on_left, on_right) = (move_text(step.on_left), move_text(step.on_right));
+    format!(" {},{},{},{on_left},{on_right}", step.layer, step.left, step.right)
+}
+
+/// All step records of a triple, as second/README.md has their line.
+pub fn all_steps(table: Table, layer: usize, left: usize, right: usize) -> Result<String, Refusal> {
+    let mut records = Vec::new();
+    while let Some(step) = ambiguity::nth_step(table, layer, left, right, records.len())? {
+        records.push(step_text(step));
+    }
+    assert_eq!(ambiguity::nth_step(table, layer, left, right, usize::MAX)?, None);
+    Ok(format!("records={}{}", records.len(), records.concat()))
+}
 
 /// A row to lend, between two guards.
 pub struct Lent<T> {
@@ -147,9 +180,9 @@ impl Comparison<'_> {
     }
 
     fn counted(&self, found: &[usize; 19]) {
-        let causes: Vec<_> = self.causes.iter().map(|cause| format!("{cause}: {}", found[*cause])).collect();
+        let causes: String = self.causes.iter().map(|cause| format!(", cause {cause}: {}", found[*cause])).collect();
         let (kind, all) = (self.kind, found.iter().sum::<usize>());
-        println!("{kind}: {all} cases twice, {} not refused, refused by cause {}", found[0], causes.join(", "));
+        println!("{kind}: {all} cases twice, not refused: {}{causes}", found[0]);
         for (cause, count) in found.iter().enumerate() {
             let expected = cause == 0 || self.causes.contains(&cause);
             assert_eq!(*count > 0, expected, "{kind} with {count} answers of cause {cause}");
