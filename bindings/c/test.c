@@ -20,6 +20,8 @@ static const ambiguity_triple_record WITNESS[] = {{0, 0, 0}, {0, 0, 2}, {0, 2, 2
 
 #define WITNESS_ENTRIES (sizeof WITNESS / sizeof WITNESS[0])
 
+_Static_assert(sizeof(ambiguity_triple_record) == 12, "a record is three numbers of 32 bits");
+
 static int wrong = 0;
 
 static void expect(const char *what, ambiguity_check_reply reply, uint64_t cause, uint64_t at)
