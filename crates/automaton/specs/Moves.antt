@@ -57,6 +57,8 @@ module _ (M : Moves) where
     pub closes-once : (p : ℕ) → Distinct (M .closings p)
     pub one-opening : (i j p q : ℕ) → Mem {A = ℕ × ℕ} (i, q) (M .openings p) → Mem {A = ℕ × ℕ} (j, q) (M .openings p) → i ≡ j
     pub one-closing : (i j p q r : ℕ) → Mem {A = ℕ × ℕ} (i, q) (M .closings p) → Mem {A = ℕ × ℕ} (j, r) (M .closings p) → i ≡ j
+    -- no opening leads where the shift leads
+    pub opens-apart : (i p q : ℕ) → 1 ≤ M .ahead p → Mem {A = ℕ × ℕ} (i, q) (M .openings p) → ¬ (q ≡ M .after p)
     -- a state before a terminal does not open; one that stands before a symbol, or opens, does not close
     pub terminal-no-open : (i p q : ℕ) → Terminal (M .terminals) (M .ahead p) → Mem {A = ℕ × ℕ} (i, q) (M .openings p) → ⊥
     pub ahead-no-close : (i p q : ℕ) → 1 ≤ M .ahead p → Mem {A = ℕ × ℕ} (i, q) (M .closings p) → ⊥

@@ -1,5 +1,5 @@
--- The list of moves alone and of the shift has just those, and rises by any number that puts records that lead back first, left
--- before right, and then goes by the next triple. Assumes nothing.
+-- The list of moves alone and of the shift has just those, and, if with a shift the left has no target just past its state, rises by
+-- any number that puts records that lead back first, left before right, and then goes by the next triple. Assumes nothing.
 use Prim.Native.Nat.{ℕ, suc, _+_, _*_, _≤_, _<_}
 use mathlib.Core.Path.{_≡_, refl, ap}
 use mathlib.Core.List.{List, [], _∷_, _++_}
@@ -15,8 +15,8 @@ use Rattle.triple_laws.proofs.Members.{no-element, only-one, mem-either, mem-le
 use Rattle.triple_laws.proofs.Pairs.{Rising}
 use Rattle.moves.specs.Tables.{Ascends}
 use Rattle.steps.specs.declared.Sides.{Sides}
-use Rattle.steps.specs.Plan.{between, leftTo, rightTo, shiftOf, lefts, rights, above, shifted, after, below, alone}
-use Rattle.steps.proofs.Between.{of-between, between-ascends}
+use Rattle.steps.specs.Plan.{between, leftTo, rightTo, shiftOf, lefts, rights, above, shifted, below, alone}
+use Rattle.steps.proofs.Between.{of-between, between-ascends, ascends-past}
 use Rattle.steps.proofs.Windows.{Window, window-none, window-append, window-when, window-map}
 
 -- an element of two lists, one after the other
@@ -56,9 +56,6 @@ module _ (number ls rs : List ℕ) (s : Sides) (x : ℕ) where
   abbrev S′ : List Step
   S′ = shifted number ls s x
 
-  abbrev T′ : List Step
-  T′ = after number ls s x
-
   abbrev B′ : List Step
   B′ = below number ls rs s x
 
@@ -67,7 +64,7 @@ module _ (number ls rs : List ℕ) (s : Sides) (x : ℕ) where
 
   above-out : (t : Step) → Mem t A′ → Lone t
   unfolding above
-  above-out t = either (L′ (s .left + 2) (limits .maxStates)) [] (lefts-out (s .left + 2) (limits .maxStates) t) (λ m. absurd (no-element m))
+  above-out t = either (L′ (s .left + 1) (limits .maxStates)) [] (lefts-out (s .left + 1) (limits .maxStates) t) (λ m. absurd (no-element m))
 
   shift-out : (t : Step) → Mem t shift → Lone t
   shift-out t m = let u = under-test (leb 1 x) (shiftOf s x ∷ []) .0 m in lone-shift (leb-true 1 x (u .0)) (only-one (u .1))
@@ -76,18 +73,14 @@ module _ (number ls rs : List ℕ) (s : Sides) (x : ℕ) where
   unfolding shifted
   shifted-out t = either shift A′ (shift-out t) (above-out t)
 
-  after-out : (t : Step) → Mem t T′ → Lone t
-  unfolding after
-  after-out t = either (L′ (s .left + 1) (s .left + 2)) S′ (lefts-out (s .left + 1) (s .left + 2) t) (shifted-out t)
-
   abbrev beyond : List Step
-  beyond = R′ (s .right + 1) (limits .maxStates) ++ T′
+  beyond = R′ (s .right + 1) (limits .maxStates) ++ S′
 
   below-out : (t : Step) → Mem t B′ → Lone t
   unfolding below
   below-out t = either (L′ 0 (s .left)) (R′ 0 (s .right) ++ beyond) (lefts-out 0 (s .left) t)
       (either (R′ 0 (s .right)) beyond (rights-out 0 (s .right) t)
-      (either (R′ (s .right + 1) (limits .maxStates)) T′ (rights-out (s .right + 1) (limits .maxStates) t) (after-out t)))
+      (either (R′ (s .right + 1) (limits .maxStates)) S′ (rights-out (s .right + 1) (limits .maxStates) t) (shifted-out t)))
 
   -- each record of the list is one of these
   pub alone-out : (t : Step) → Mem t (alone number ls rs s x) → Lone t
@@ -100,24 +93,17 @@ module _ (number ls rs : List ℕ) (s : Sides) (x : ℕ) where
   unfolding alone
   below-in t m = mem-right (L′ (s .left) (s .left + 1)) (mem-right (R′ (s .right) (s .right + 1)) m)
 
-  after-in : (t : Step) → Mem t T′ → Mem t (alone number ls rs s x)
-  unfolding below
-  after-in t m = below-in t (mem-right (L′ 0 (s .left)) (mem-right (R′ 0 (s .right)) (mem-right (R′ (s .right + 1) (limits .maxStates)) m)))
-
   shifted-in : (t : Step) → Mem t S′ → Mem t (alone number ls rs s x)
-  unfolding after
-  shifted-in t m = after-in t (mem-right (L′ (s .left + 1) (s .left + 2)) m)
+  unfolding below
+  shifted-in t m = below-in t (mem-right (L′ 0 (s .left)) (mem-right (R′ 0 (s .right)) (mem-right (R′ (s .right + 1) (limits .maxStates)) m)))
 
   pub alone-left : (u : ℕ) → Mem u ls → u < limits .maxStates → Mem (leftTo number s u) (alone number ls rs s x)
-  unfolding alone below after shifted above
+  unfolding alone below shifted above
   alone-left u m k = elim (lt-or-le u (s .left)) [
     | inl h ↦ below-in (leftTo number s u) (mem-left (R′ 0 (s .right) ++ beyond) (lefts-in 0 (s .left) u m (omega arith) h))
     | inr h ↦ elim (lt-or-le u (s .left + 1)) [
       | inl i ↦ mem-left (R′ (s .right) (s .right + 1) ++ B′) (lefts-in (s .left) (s .left + 1) u m h i)
-      | inr i ↦ elim (lt-or-le u (s .left + 2)) [
-        | inl j ↦ after-in (leftTo number s u) (mem-left S′ (lefts-in (s .left + 1) (s .left + 2) u m i j))
-        | inr j ↦ shifted-in (leftTo number s u) (mem-right shift (mem-left [] (lefts-in (s .left + 2) (limits .maxStates) u m j k)))
-      ]
+      | inr i ↦ shifted-in (leftTo number s u) (mem-right shift (mem-left [] (lefts-in (s .left + 1) (limits .maxStates) u m i k)))
     ]
   ]
 
@@ -128,7 +114,7 @@ module _ (number ls rs : List ℕ) (s : Sides) (x : ℕ) where
     | inr h ↦ elim (lt-or-le v (s .right + 1)) [
       | inl i ↦ mem-right (L′ (s .left) (s .left + 1)) (mem-left B′ (rights-in (s .right) (s .right + 1) v m h i))
       | inr i ↦ below-in (rightTo number s v)
-          (mem-right (L′ 0 (s .left)) (mem-right (R′ 0 (s .right)) (mem-left T′ (rights-in (s .right + 1) (limits .maxStates) v m i k))))
+          (mem-right (L′ 0 (s .left)) (mem-right (R′ 0 (s .right)) (mem-left S′ (rights-in (s .right + 1) (limits .maxStates) v m i k))))
     ]
   ]
 
@@ -149,7 +135,8 @@ module _ (number ls rs : List ℕ) (s : Sides) (x : ℕ) where
     pub right-other : (v : ℕ) → ¬ (v ≡ s .right) → P (rightTo number s v) ≡ 2 * suc (X (s .left) v) + 1
     pub shift-rank : P (shiftOf s x) ≡ 2 * suc (X (s .left + 1) (s .right + 1))
 
-  module _ (P : Step → ℕ) (Q : ℕ) (K : Ranked P Q) (hp : s .left < Q) (hq : s .right < Q) (al : Ascends 0 Q ls) (ar : Ascends 0 Q rs) where
+  module _ (P : Step → ℕ) (Q : ℕ) (K : Ranked P Q) (hp : s .left < Q) (hq : s .right < Q) (al : Ascends 0 Q ls) (ar : Ascends 0 Q rs)
+      (free : 1 ≤ x → Mem (s .left + 1) ls → ⊥) where
     abbrev p : ℕ
     p = s .left
 
@@ -205,37 +192,53 @@ module _ (number ls rs : List ℕ) (s : Sides) (x : ℕ) where
         (between-ascends (q + 1) (limits .maxStates) rs (q + 1) Q 0 Q ar (inr (omega arith)) (inl (omega arith)))
         (λ v i j e. omega arith) (λ v i j. (omega (arith, K .col p q v (omega arith)), omega (arith, K .row p (p + 1) v 0 (omega arith) j)))
 
-    left-next : Window P (c (p + 1) 0) (c (p + 1) q + 1) (L′ (p + 1) (p + 2))
-    left-next = left-window (p + 1) (p + 2) (p + 1) (p + 2) (c (p + 1) 0) (c (p + 1) q + 1)
-        (between-ascends (p + 1) (p + 2) ls (p + 1) (p + 2) 0 Q al (inr (omega arith)) (inr (omega arith)))
-        (λ u i j e. omega arith)
-        (λ u i j. let e : u ≡ p + 1 = omega arith in let z = ap (λ (u : ℕ). K .X u q) e in
-        (omega (arith, z, level (p + 1) 0 q (omega arith)), omega (arith, z)))
+    -- from d on, above p
+    left-above : (d lo : ℕ) → p < d → Ascends d Q (between (p + 1) (limits .maxStates) ls) → ((u : ℕ) → d ≤ u → lo ≤ c u q) → lo ≤ c Q Q + 1
+        → Window P lo (c Q Q + 1) A′
+    unfolding above
+    left-above d lo l w h k = window-append (L′ (p + 1) (limits .maxStates)) [] k (omega arith)
+        (left-window (p + 1) (limits .maxStates) d Q lo (c Q Q + 1) w (λ u i j e. omega arith)
+        (λ u i j. (h u i, omega (arith, K .top u q (omega arith) (omega arith)))))
+        (window-none P (c Q Q + 1) (c Q Q + 1))
 
-    shift-next : Window P (c (p + 1) q + 1) (c (p + 1) (q + 1) + 1) shift
-    shift-next = window-when P (c (p + 1) q + 1) (c (p + 1) (q + 1) + 1) (leb 1 x) (shiftOf s x)
-        (λ e. (omega (arith, K .shift-rank, K .col (p + 1) q (q + 1) (omega arith)), omega (arith, K .shift-rank)))
+    onward : (u : ℕ) → p + 1 ≤ u → c (p + 1) 0 ≤ c u q
+    onward u h = elim (lt-or-le (p + 1) u) [
+      | inl k ↦ omega (arith, K .row (p + 1) u 0 q k (omega arith))
+      | inr k ↦ let e : p + 1 ≡ u = omega arith in omega (arith, level (p + 1) 0 q (omega arith), ap (λ (u : ℕ). K .X u q) e)
+    ]
 
-    left-above : Window P (c (p + 1) (q + 1) + 1) (c Q Q + 1) (L′ (p + 2) (limits .maxStates))
-    left-above = left-window (p + 2) (limits .maxStates) (p + 2) Q (c (p + 1) (q + 1) + 1) (c Q Q + 1)
-        (between-ascends (p + 2) (limits .maxStates) ls (p + 2) Q 0 Q al (inr (omega arith)) (inl (omega arith)))
-        (λ u i j e. omega arith) (λ u i j. (omega (arith, K .skip u i), omega (arith, K .top u q (omega arith) (omega arith))))
+    shift-next : (hi : ℕ) → (1 ≤ x → c (p + 1) (q + 1) < hi) → Window P (c (p + 1) 0) hi shift
+    shift-next hi h = window-when P (c (p + 1) 0) hi (leb 1 x) (shiftOf s x)
+        (λ e. (omega (arith, K .shift-rank, K .col (p + 1) 0 (q + 1) (omega arith)), omega (arith, K .shift-rank, h (leb-true 1 x e))))
+
+    -- with a shift, the targets above begin past the next state
+    from-shift : Window P (c (p + 1) 0) (c Q Q + 1) S′
+    unfolding shifted
+    from-shift =
+        let w = between-ascends (p + 1) (limits .maxStates) ls (p + 1) Q 0 Q al (inr (omega arith)) (inl (omega arith)) in
+        let k = K .top (p + 1) (q + 1) (omega arith) (omega arith) in
+        let j = K .col (p + 1) 0 (q + 1) (omega arith) in
+        elim (lt-or-le x 1) [
+          | inl h ↦ window-append shift A′ (omega arith) (omega arith) (shift-next (c (p + 1) 0) (λ i. absurd (omega arith)))
+              (left-above (p + 1) (c (p + 1) 0) (omega arith) w onward (omega arith))
+          | inr h ↦ window-append shift A′ (omega arith) (omega arith) (shift-next (c (p + 1) (q + 1) + 1) (λ i. omega arith))
+              (left-above (p + 1 + 1) (c (p + 1) (q + 1) + 1) (omega arith)
+              (ascends-past (p + 1) Q (between (p + 1) (limits .maxStates) ls) w
+              (λ m. free h (of-between (p + 1) (limits .maxStates) ls (p + 1) .0 m .0)))
+              (λ u i. omega (arith, K .skip u (omega arith))) (omega arith))
+        ]
 
     -- the list rises
     pub alone-rises : Rising P (alone number ls rs s x)
-    unfolding alone below after shifted above
+    unfolding alone below
     alone-rises =
         let k0 = K .top (p + 1) (q + 1) (omega arith) (omega arith) in
-        let k1 = K .col (p + 1) q (q + 1) (omega arith) in
+        let k1 = K .col (p + 1) 0 (q + 1) (omega arith) in
         let k2 = K .row p (p + 1) q 0 (omega arith) hq in
-        let k3 = level (p + 1) 0 q (omega arith) in
-        let k4 = level p 0 q (omega arith) in
-        let a1 = window-append (L′ (p + 2) (limits .maxStates)) [] (omega arith) (omega arith) left-above (window-none P (c Q Q + 1) (c Q Q + 1)) in
-        let a2 = window-append shift A′ (omega arith) (omega arith) shift-next a1 in
-        let a3 = window-append (L′ (p + 1) (p + 2)) S′ (omega arith) (omega arith) left-next a2 in
-        let a4 = window-append (R′ (q + 1) (limits .maxStates)) T′ (omega arith) (omega arith) right-above a3 in
-        let a5 = window-append (R′ 0 q) beyond (omega arith) (omega arith) right-below a4 in
-        let a6 = window-append (L′ 0 p) (R′ 0 q ++ beyond) (omega arith) (omega arith) left-below a5 in
-        let a7 = window-append (R′ q (q + 1)) B′ (omega arith) (omega arith) self-right a6 in
-        let a8 = window-append (L′ p (p + 1)) (R′ q (q + 1) ++ B′) (omega arith) (omega arith) self-left a7 in
-        a8 .rises
+        let k3 = level p 0 q (omega arith) in
+        let a1 = window-append (R′ (q + 1) (limits .maxStates)) S′ (omega arith) (omega arith) right-above from-shift in
+        let a2 = window-append (R′ 0 q) beyond (omega arith) (omega arith) right-below a1 in
+        let a3 = window-append (L′ 0 p) (R′ 0 q ++ beyond) (omega arith) (omega arith) left-below a2 in
+        let a4 = window-append (R′ q (q + 1)) B′ (omega arith) (omega arith) self-right a3 in
+        let a5 = window-append (L′ p (p + 1)) (R′ q (q + 1) ++ B′) (omega arith) (omega arith) self-left a4 in
+        a5 .rises

@@ -79,6 +79,16 @@ module _ (M : Moves) (R : Rows) (S : Say M R) (p q : ℕ) (hp : p < M .states) (
   shift-of : (r : ℕ) → r < M .states → (a : ℕ) → aheadOf R r ≡ a → 1 ≤ a → (M .ahead r ≡ a) × (1 ≤ a) × (r + 1 ≡ M .after r)
   shift-of r h a e k = S .shifts a r (r + 1) h .1 (e, k, refl)
 
+  -- where a symbol is ahead no target is just past the state
+  none-next : 1 ≤ x → Mem (p + 1) ls → ⊥
+  none-next h m = go (ends R p) refl
+    where
+      go : (b : Bool) → ends R p ≡ b → ⊥
+      go true z = omega (arith, end-none p z)
+      go false z =
+          let k = shift-of p hp x refl h in
+          S .regular .opens-apart _ p (p + 1) (omega (arith, k .0)) (S .opens-out p (p + 1) hp z m) (k .2)
+
   -- the ways on from layer 0 are steps
   zero-goes : (s : Step) → Z s → Goes 0 s
   zero-goes s (open-l u e m z) = subst (Goes 0) (sym z) (open-left (S .opens-out p u hp e m))
@@ -142,12 +152,12 @@ module _ (M : Moves) (R : Rows) (S : Say M R) (p q : ℕ) (hp : p < M .states) (
   plan-zero-is : planZero N (R .terminals) x y (ends R p) (ends R q) p q ls rs ≡ records M 0 p q
   plan-zero-is = records-only M (S .regular) 0 p q (omega arith) hp hq (planZero N (R .terminals) x y (ends R p) (ends R q) p q ls rs)
       (λ s. let w = plan-zero N (R .terminals) x y p q ls rs (ends R p) (ends R q) fits s in (λ m. zero-goes s (w .0 m), λ g. w .1 (goes-zero g)))
-      (zero-rises M N p q hp hq (omega (arith, S .regular .four)) (R .terminals) x y (ends R p) (ends R q) ls rs (S .ascends p hp) (S .ascends q hq))
+      (zero-rises M N p q hp hq (omega (arith, S .regular .four)) (R .terminals) x y (ends R p) (ends R q) ls rs (S .ascends p hp) (S .ascends q hq) none-next)
 
   plan-one-is : planOne N (R .terminals) x y (ends R p) (ends R q) p q ls rs ≡ records M 1 p q
   plan-one-is = records-only M (S .regular) 1 p q (omega arith) hp hq (planOne N (R .terminals) x y (ends R p) (ends R q) p q ls rs)
       (λ s. let w = plan-one N (R .terminals) x y p q ls rs (ends R p) (ends R q) fits s in (λ m. one-goes s (w .0 m), λ g. w .1 (goes-one g)))
-      (one-rises M N p q hp hq (omega (arith, S .regular .four)) (R .terminals) x y (ends R p) (ends R q) ls rs (S .ascends p hp) (S .ascends q hq))
+      (one-rises M N p q hp hq (omega (arith, S .regular .four)) (R .terminals) x y (ends R p) (ends R q) ls rs (S .ascends p hp) (S .ascends q hq) none-next)
 
   -- the list is that of the records
   pub planned-is : (f : ℕ) → planned R f p q ≡ records M f p q

@@ -62,7 +62,8 @@ rightTo number s v = step (s .layer) (s .left) v Still (moveOf number (s .«righ
 abbrev pub shiftOf : Sides → ℕ → Step
 shiftOf s x = step (s .layer) (s .left + 1) (s .right + 1) (Symbol x) (Symbol x)
 
--- records of moves alone to ls and rs, and of the shift of x, where 0 is none: first those that lead back, then by next triple
+-- records of moves alone to ls and rs, and of the shift of x, where 0 is none: first those that lead back, then by next triple;
+-- with a shift that is their order if s .left + 1 is not in ls
 abbrev pub lefts : List ℕ → List ℕ → Sides → ℕ → ℕ → List Step
 lefts number ls s a b = map (leftTo number s) (between a b ls)
 
@@ -70,18 +71,15 @@ abbrev pub rights : List ℕ → List ℕ → Sides → ℕ → ℕ → List Ste
 rights number rs s a b = map (rightTo number s) (between a b rs)
 
 unfoldable pub above : List ℕ → List ℕ → Sides → List Step
-above number ls s = lefts number ls s (s .left + 2) (limits .maxStates) ++ []
+above number ls s = lefts number ls s (s .left + 1) (limits .maxStates) ++ []
 
 unfoldable pub shifted : List ℕ → List ℕ → Sides → ℕ → List Step
 shifted number ls s x = when (leb 1 x) (shiftOf s x ∷ []) ++ above number ls s
 
-unfoldable pub after : List ℕ → List ℕ → Sides → ℕ → List Step
-after number ls s x = lefts number ls s (s .left + 1) (s .left + 2) ++ shifted number ls s x
-
 unfoldable pub below : List ℕ → List ℕ → List ℕ → Sides → ℕ → List Step
 below number ls rs s x =
     lefts number ls s 0 (s .left)
-    ++ (rights number rs s 0 (s .right) ++ (rights number rs s (s .right + 1) (limits .maxStates) ++ after number ls s x))
+    ++ (rights number rs s 0 (s .right) ++ (rights number rs s (s .right + 1) (limits .maxStates) ++ shifted number ls s x))
 
 unfoldable pub alone : List ℕ → List ℕ → List ℕ → Sides → ℕ → List Step
 alone number ls rs s x =

@@ -1,15 +1,16 @@
 -- The lists of the position automaton are its moves, and regular.
 -- Assumes nothing.
-use Prim.Native.Nat.{ℕ, _<_}
-use mathlib.Core.Path.{refl}
+use Prim.Native.Nat.{ℕ, suc, _<_}
+use mathlib.Core.Path.{_≡_, refl}
 use native.Mathlib.Omega.{arith}
 use Rattle.grammar.specs.Limits.{Limits}
 use Rattle.grammar.specs.Grammar.{Terminal, Grammar, rule, WellFormed}
 use Rattle.grammar.proofs.Derives.{rule-listed}
+use Rattle.automaton.specs.Items.{Before}
 use Rattle.automaton.specs.Moves.{Regular, Lists}
 use Rattle.automaton.specs.Position.{Opens, opens-start, opens-rule, position}
 use Rattle.automaton.specs.PositionMoves.{ahead, movesOf}
-use Rattle.automaton.proofs.Items.{states-four, before-below, opens-below, closes-below}
+use Rattle.automaton.proofs.Items.{states-four, one-item, before-below, opens-below, closes-below}
 use Rattle.triple_laws.proofs.Moves.{ahead-before, opening-listed, closing-listed, shift-ahead}
 use Rattle.triple_laws.proofs.MoveDoubles.{openings-distinct, closings-distinct}
 use Rattle.triple_laws.proofs.Classes.{one-symbol, before-low, before-no-close, one-closing, one-opening, opens-no-close}
@@ -36,6 +37,14 @@ module _ (L : Limits) (G : Grammar) (W : WellFormed L G) (apart : L .maxTerminal
       let z = one-symbol L G (ahead-before L G (ahead L G p) p (t .0) .0 refl) b in
       omega (arith, t .1, apart, W .terminals, W .lefts (rule L G i) (rule-listed L G i r) .0)
 
+  -- an opening leads to a rule's beginning, a shift past one
+  opens-apart : {x i p q : ℕ} → Before L G x p → Opens L G i p q → ¬ (q ≡ suc p)
+  opens-apart b (opens-start f g k) e = omega (arith, before-low L G b)
+  opens-apart {x} {i} {p} {q} b (opens-rule w c k) e =
+      let o = one-item L G {p = q} {i = i} {j = b .number} {d = 0} {e = suc (b .place)} (record { rule = w .1; dot = omega arith; state = omega (arith, k) })
+      (record { rule = b .item .rule; dot = b .inside; state = omega (arith, e, b .item .state) }) in
+      omega (arith, o .1)
+
   -- and regular
   pub position-regular : Regular (movesOf L G)
   position-regular = record {
@@ -48,6 +57,7 @@ module _ (L : Limits) (G : Grammar) (W : WellFormed L G) (apart : L .maxTerminal
     closes-once = closings-distinct L G;
     one-opening = λ i j p q m n. one-opening L G (opening-listed L G W apart i p q .0 m) (opening-listed L G W apart j p q .0 n);
     one-closing = λ i j p q r m n. one-closing L G (closing-listed L G W apart i p q .0 m) (closing-listed L G W apart j p r .0 n);
+    opens-apart = λ i p q h m. opens-apart (ahead-before L G (ahead L G p) p h .0 refl) (opening-listed L G W apart i p q .0 m);
     terminal-no-open = λ i p q t m. terminal-no-open t (opening-listed L G W apart i p q .0 m);
     ahead-no-close = λ i p q h m. before-no-close L G (ahead-before L G (ahead L G p) p h .0 refl) (closing-listed L G W apart i p q .0 m);
     opens-no-close = λ i j p q r m n. opens-no-close L G (opening-listed L G W apart i p q .0 m) (closing-listed L G W apart j p r .0 n);
