@@ -1,5 +1,5 @@
 #!/usr/bin/env bash
-# prepare.sh FOLDER: the second program's own tests, then for each kind of cases FOLDER/KIND.cases, .answers and .counts.
+# prepare.sh FOLDER: for each kind of cases FOLDER/KIND.cases, .answers and .counts, and beside that the second program's own tests.
 # Prints the counts. Its last line is 'N passed, M failed'; a count that is too low, so also a count of zero, fails.
 set -uo pipefail
 mkdir -p "$1"
@@ -28,8 +28,8 @@ make() { # make KIND SCRIPT [VERB-]: the cases of a kind, the answers to them an
     count "$1: the second program has its cases and answers, and enough of them for every cause and reason" "$status"
 }
 
-python3 -m unittest discover -p 'test_*.py' 2>&1
-count "the second program's own tests" $?
+python3 -m unittest discover -p 'test_*.py' >"$folder/tests" 2>&1 &
+tests=$!
 
 make tables table_cases.py
 make steps step_cases.py
@@ -44,6 +44,11 @@ make reports report_cases.py
 
 python3 corpus_cases.py check
 count "corpus: every text reads, and states, verdict, size and trees are as its index says" $?
+
+wait "$tests"
+status=$?
+cat "$folder/tests"
+count "the second program's own tests" "$status"
 
 echo "$passed passed, $failed failed"
 [ "$failed" -eq 0 ]
