@@ -1,7 +1,7 @@
 /* The stack that each function uses, in bytes. A thread runs on a stack that was painted; after the call the paint tells how deep
  * the stack went below the caller. Exits with 0 if none went deeper than ambiguity.h says. The frames are of fixed size and no
  * function calls itself, so the largest grammar has the deepest calls that there are. Up to 64 states the search
- * has another path, which is measured too. */
+ * has another path, which is measured too. The report takes no more than 48 states. */
 #define _XOPEN_SOURCE 700
 #include <pthread.h>
 #include <stdio.h>

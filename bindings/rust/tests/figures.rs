@@ -124,34 +124,50 @@ fn certificates_of_nine_states() {
     assert_eq!(ambiguity::check_certificate(grammar(200, 1, &[]), &[]), refused(Cause::OutOfRange, 0));
 }
 
-/// The certificate of document 01's last row, and rows of which one is too short, with all else as long as it must be.
-#[test]
-fn searches() {
-    let rules = [128, 1, 129, 128, 1, 130, 129, 3, 129, 1, 1, 129, 1, 1, 130, 2, 1, 1];
-    let mut certificate = [0xAA; 76];
-    let [mut queue, mut parents, mut witness] = [582, 583, 584].map(|length| vec![0xAA; length]);
-    let table = grammar(1, 3, &rules);
-    let verdict = ambiguity::search(table, &mut certificate, &mut queue, &mut parents, &mut witness);
-    assert_eq!(verdict, Ok(Verdict::Unambiguous { size: 82 }));
-    let hex: String = certificate[..73].iter().map(|byte| format!("{byte:02x}")).collect();
-    assert_eq!(hex, CERTIFICATE_OF_82);
-    let short: [(Table, [usize; 4], Result<Verdict, Refusal>); 6] = [
-        (grammar(0, 1, &[128, 1, 128]), [8, 72, 72, 72], refused(Cause::BufferTooShort, 0)),
-        (grammar(1, 1, &LEFT_RECURSION), [21, 161, 162, 162], refused(Cause::BufferTooShort, 0)),
-        (grammar(0, 1, &[128, 1, 128]), [9, 72, 71, 72], refused(Cause::BufferTooShort, 0)),
-        (grammar(1, 1, &LEFT_RECURSION), [21, 162, 162, 161], refused(Cause::BufferTooShort, 0)),
-        (grammar(128, 1, &[]), [0, 0, 0, 0], refused(Cause::OutOfRange, 0)),
-        (grammar(1, 1, &[128, 1, 2]), [9, 72, 72, 72], refused(Cause::CodeUndeclared, 2)),
-    ];
-    for (table, lengths, expected) in short {
-        let mut certificate = vec![0xAA; lengths[0]];
-        let [mut queue, mut parents, mut witness] = [1, 2, 3].map(|place| vec![0xAA; lengths[place]]);
-        let answer = ambiguity::search(table, &mut certificate, &mut queue, &mut parents, &mut witness);
-        assert_eq!(answer, expected, "{table:?} {lengths:?}");
-    }
-}
-
 const CERTIFICATE_OF_82: &str = concat!(
     "55510000544541005015054440551440005551400400100040501505005455140050000001",
     "000018020000600800000020000000040000280052040800000000000000002a02000800"
 );
+
+/// Searches with rows of these lengths: certificate, queue, parents, witness. Back come the answer and the certificate's row.
+fn search_in(table: Table, lengths: [usize; 4]) -> (Result<Verdict, Refusal>, Vec<u8>) {
+    let mut certificate = vec![0xAA; lengths[0]];
+    let [mut queue, mut parents, mut witness] = [1, 2, 3].map(|place| vec![0xAA; lengths[place]]);
+    let answer = ambiguity::search(table, &mut certificate, &mut queue, &mut parents, &mut witness);
+    (answer, certificate)
+}
+
+/// The certificates of no rule, of S→a and of document 01's last row.
+#[test]
+fn certificates_that_are_found() {
+    let last = [128, 1, 129, 128, 1, 130, 129, 3, 129, 1, 1, 129, 1, 1, 130, 2, 1, 1];
+    let cases = [
+        (grammar(0, 1, &[]), [4, 32, 32, 32], 5, "05850000"),
+        (grammar(1, 1, &[128, 1, 1]), [9, 72, 72, 72], 11, "155021150800000000"),
+        (grammar(1, 3, &last), [76, 582, 583, 584], 82, CERTIFICATE_OF_82),
+    ];
+    for (table, lengths, size, expected) in cases {
+        let (answer, certificate) = search_in(table, lengths);
+        assert_eq!(answer, Ok(Verdict::Unambiguous { size }));
+        let hex: String = certificate.iter().map(|byte| format!("{byte:02x}")).collect();
+        // All that is lent past the certificate is 0xAA still.
+        assert_eq!(hex, format!("{expected:a<0$}", 2 * lengths[0]));
+    }
+}
+
+/// One row is too short by one, and all others are as long as they must be; or the table is at fault.
+#[test]
+fn searches_that_are_refused() {
+    let cases = [
+        (grammar(0, 1, &[128, 1, 128]), [8, 72, 72, 72], Cause::BufferTooShort, 0),
+        (grammar(1, 1, &LEFT_RECURSION), [21, 161, 162, 162], Cause::BufferTooShort, 0),
+        (grammar(0, 1, &[128, 1, 128]), [9, 72, 71, 72], Cause::BufferTooShort, 0),
+        (grammar(1, 1, &LEFT_RECURSION), [21, 162, 162, 161], Cause::BufferTooShort, 0),
+        (grammar(128, 1, &[]), [0, 0, 0, 0], Cause::OutOfRange, 0),
+        (grammar(1, 1, &[128, 1, 2]), [9, 72, 72, 72], Cause::CodeUndeclared, 2),
+    ];
+    for (table, lengths, cause, at) in cases {
+        let (answer, certificate) = search_in(table, lengths);
+        assert_eq!((answer, certificate), (refused(cause, at), vec![0xAA; lengths[0]]), "{table:?} {lengths:?}");
+    }
+}
