@@ -1,6 +1,11 @@
-"""Each must-fail edit was refused because a fact fails, and docs/MUST-FAIL.md has a line for it, and for no other.
+"""Each claim of the must-fail edits is refused by a fact of its own, and docs/MUST-FAIL.md lists it once, and no other.
 
-Reads the logs that `rt ci` leaves in target/must-fail/CRATE/EDIT/.log. Exits with 1 and says which edit is at fault.
+An .edit file is a bundle of claims. Before the replacements of each stands a line
+
+    # claim NAME: proofs/PATH.antt
+
+with the proof file in which it must fail. No two claims of a bundle name the same file: they would hide each other.
+Reads the logs that `rt ci` leaves in target/must-fail/CRATE/BUNDLE/.log. Exits with 1 and says which claim is at fault.
 """
 
 import pathlib
@@ -8,41 +13,56 @@ import re
 import sys
 
 ROOT = pathlib.Path(__file__).resolve().parent.parent
-UNFIT = re.compile(r"has no `Need-[^`]*` that can be named from here")
-ROW = re.compile(r"^\| (\w+) \| (\w+) \|", re.MULTILINE)
+FRONT = re.compile(r"(?:#.*\n|\n)*?# claim ")
+CLAIM = re.compile(r"^# claim (\w+): (proofs/\S+\.antt)$", re.MULTILINE)
+ROW = re.compile(r"^\| (\w+) \| (\w+) \| (\w+) \|", re.MULTILINE)
+ERROR = re.compile(r"^.*/(proofs/[^:]+\.antt):\d+:\d+: error: `([^`]+)`: (.*)$", re.MULTILINE)
+
+# What only follows from another error, or only says that a proof no longer fits the code.
+NO_FACT = re.compile(r"was not admitted|has no `[^`]*`|can(?:not)? be named|not in scope|is expected here")
 
 
-def first_error(log):
-    """The first line of a log that reports an error."""
-    for line in log.read_text(encoding="utf-8", errors="replace").splitlines():
-        if "error" in line:
-            return line
-    return None
+def is_fact(name, words):
+    """The error says that a fact fails. A declaration `F-spec` only lists what is to be proved of the function F."""
+    return not name.endswith("-spec") and not NO_FACT.search(words)
+
+
+def failing(log):
+    """The proof files in which a fact fails."""
+    text = log.read_text(encoding="utf-8", errors="replace")
+    return {path for path, name, words in ERROR.findall(text) if is_fact(name, words)}
 
 
 def faults():
-    """What speaks against the edits, a line each."""
-    listed = ROW.findall((ROOT / "docs" / "MUST-FAIL.md").read_text(encoding="utf-8"))[1:]
-    edits = [(edit.parent.parent.name, edit.stem) for edit in sorted((ROOT / "crates").glob("*/must-fail/*.edit"))]
-    for crate, name in listed:
-        if (crate, name) not in edits:
-            yield f"{crate}/{name}: docs/MUST-FAIL.md has a line for it, and no edit is so named"
-    for crate, name in edits:
-        if listed.count((crate, name)) != 1:
-            yield f"{crate}/{name}: docs/MUST-FAIL.md has not one line for it"
-        log = ROOT / "target" / "must-fail" / crate / name / ".log"
+    """What speaks against the claims, a line each."""
+    found = []
+    for edit in sorted((ROOT / "crates").glob("*/must-fail/*.edit")):
+        crate, bundle = edit.parent.parent.name, edit.stem
+        text = edit.read_text(encoding="utf-8")
+        claims = CLAIM.findall(text)
+        found += [(crate, bundle, name) for name, _ in claims]
+        if not claims or not FRONT.match(text):
+            yield f"{crate}/{bundle}: it does not begin with a claim"
+        paths = [path for _, path in claims]
+        for path in sorted(set(paths)):
+            if paths.count(path) > 1:
+                yield f"{crate}/{bundle}: two claims name {path}"
+        log = ROOT / "target" / "must-fail" / crate / bundle / ".log"
         if not log.exists():
-            yield f"{crate}/{name}: no log"
+            yield f"{crate}/{bundle}: no log"
             continue
-        error = first_error(log)
-        if error is None:
-            yield f"{crate}/{name}: its log has no error"
-        elif UNFIT.search(error):
-            yield f"{crate}/{name}: only unfits the proof: {error}"
+        facts = failing(log)
+        for name, path in claims:
+            if path not in facts:
+                yield f"{crate}/{bundle}: {name}: no fact fails in {path}"
+    listed = ROW.findall((ROOT / "docs" / "MUST-FAIL.md").read_text(encoding="utf-8"))[1:]
+    for row in sorted(set(found) | set(listed)):
+        if found.count(row) != 1 or listed.count(row) != 1:
+            yield "%s/%s: %s: %d claims, %d lines in docs/MUST-FAIL.md" % (*row, found.count(row), listed.count(row))
 
 
 if __name__ == "__main__":
-    found = list(faults())
-    for fault in found:
-        print(fault)
-    sys.exit(1 if found else 0)
+    fault_lines = list(faults())
+    for line in fault_lines:
+        print(line)
+    sys.exit(1 if fault_lines else 0)
