@@ -19,7 +19,8 @@ ROW = re.compile(r"^\| (\w+) \| (\w+) \| (\w+) \|", re.MULTILINE)
 ERROR = re.compile(r"^.*/(proofs/[^:]+\.antt):\d+:\d+: error: `([^`]+)`: (.*)$", re.MULTILINE)
 
 # What only follows from another error, or only says that a proof no longer fits the code.
-NO_FACT = re.compile(r"was not admitted|has no (?:field )?`[^`]*`|can(?:not)? be named|not in scope|is expected here")
+NO_FACT = re.compile(r"was not admitted|has no (?:field )?`|can(?:not)? be named|not in scope"
+                     r"|is expected here|impossible case|argument\(s\) written")
 
 
 def is_fact(name, words):
