@@ -21,8 +21,9 @@
 #error "the archive is for x86-64"
 #endif
 
-/* Of this header; it changes when a caller has to. */
-#define AMBIGUITY_VERSION 1
+/* The version of the whole: library, header, wrapper, tools. The first number changes when a caller has to. */
+#define AMBIGUITY_VERSION "1.0.0"
+#define AMBIGUITY_VERSION_MAJOR 1
 
 /* Document 01's limits. */
 #define AMBIGUITY_MAX_TERMINALS 127
@@ -172,5 +173,7 @@ ambiguity_write_reply ambiguity_write_text(size_t t, size_t n, const uint8_t *ta
 #ifdef __cplusplus
 }
 #endif
+
+#include "ambiguity_cause_text.h"
 
 #endif

@@ -1,78 +1,130 @@
-//! A certificate as lines, written and read. bindings/README.md has the form.
+//! A certificate as lines, written and read. bindings/README.md has the two forms.
 
-use std::fmt::{self, Write};
+use ambiguity::Grammar;
 
-use crate::grammar::Grammar;
-
-/// The form's version.
-const VERSION: usize = 1;
+/// The forms. Form 2 has check digits at each line's end, and leaves lines out whose bytes are all 0.
+#[derive(Clone, Copy, Debug, PartialEq, Eq)]
+pub enum Form {
+    Plain = 1,
+    Checked = 2,
+}
 
 /// Bytes of the certificate on a line.
 const ON_A_LINE: usize = 32;
 
-/// More than any certificate has as lines.
+/// The prime that the check digits are a remainder of: below 256, so that two hexadecimal digits hold it. No wrong digit and no
+/// two swapped ones keep the remainder.
+const CHECK: usize = 251;
+
+/// More than any certificate has as lines, with line ends of two bytes.
 pub const MOST_BYTES: usize = 65_536;
 
+/// The remainder of a row of hexadecimal digits, read as one number.
+fn remainder(digits: impl Iterator<Item = u8>) -> usize {
+    digits.fold(0, |rest, digit| (16 * rest + digit as usize) % CHECK)
+}
+
+/// The hexadecimal digits of a line: four of the offset, two of each byte.
+fn digits(offset: usize, bytes: &[u8]) -> impl Iterator<Item = u8> + '_ {
+    let offset = [12, 8, 4, 0].map(|shift| (offset >> shift & 15) as u8);
+    offset.into_iter().chain(bytes.iter().flat_map(|byte| [byte >> 4, byte & 15]))
+}
+
 /// The lines of a certificate that holds so many triples.
-pub fn written(grammar: &Grammar, size: usize, certificate: &[u8]) -> String {
-    let (states, rules) = (grammar.states(), grammar.rules());
-    let mut lines = format!("certificate-form={VERSION}\nstates={states}\nrules={rules}\nsize={size}\n");
+pub fn written(grammar: &Grammar, size: usize, certificate: &[u8], form: Form) -> String {
+    let (states, rules) = (grammar.states(), grammar.rules().len());
+    let mut lines = format!("certificate-form={}\nstates={states}\nrules={rules}\nsize={size}\n", form as usize);
     for (i, bytes) in certificate.chunks(ON_A_LINE).enumerate() {
-        lines.push_str(&offset(i));
-        for byte in bytes {
-            write!(lines, " {byte:02x}").expect("a string takes every byte");
+        if form == Form::Checked && bytes.iter().all(|byte| *byte == 0) {
+            continue;
         }
-        lines.push('\n');
+        let offset = i * ON_A_LINE;
+        let shown: String = bytes.iter().map(|byte| format!(" {byte:02x}")).collect();
+        let check = match form {
+            Form::Plain => String::new(),
+            Form::Checked => format!(" *{:02x}", remainder(digits(offset, bytes))),
+        };
+        lines.push_str(&format!("{offset:04x}:{shown}{check}\n"));
     }
     lines
 }
 
-/// What stands first on line i of the bytes.
-fn offset(i: usize) -> String {
-    format!("{:04x}:", i * ON_A_LINE)
-}
-
 /// What is wrong with the lines, and where; lines and columns count from 1, columns in bytes.
-#[derive(Debug)]
+#[derive(Debug, PartialEq, Eq)]
 pub struct Malformed {
     pub line: usize,
     pub column: usize,
     pub message: String,
 }
 
-impl fmt::Display for Malformed {
-    fn fmt(&self, f: &mut fmt::Formatter) -> fmt::Result {
-        write!(f, "malformed certificate, line {}, column {}: {}", self.line, self.column, self.message)
+/// A certificate that was read.
+#[derive(Debug)]
+pub struct Certificate {
+    pub bytes: Vec<u8>,
+    /// The offsets that have lines, in order, each with its line.
+    lines: Vec<(usize, usize)>,
+}
+
+impl Certificate {
+    /// Line and column of a byte; if its line was left out, those of the next line.
+    pub fn place(&self, byte: usize) -> (usize, usize) {
+        let here = self.lines.iter().find(|(offset, _)| byte < offset + ON_A_LINE);
+        match here.or(self.lines.last()) {
+            Some((offset, line)) if (*offset..offset + ON_A_LINE).contains(&byte) => (*line, 7 + 3 * (byte - offset)),
+            Some((_, line)) => (*line, 1),
+            None => (HEAD, 1),
+        }
     }
 }
 
-/// The bytes that the lines give, if they are lines of this grammar.
-pub fn read(grammar: &Grammar, lines: &[u8]) -> Result<Vec<u8>, Malformed> {
-    let mut lines = Lines { rest: lines, line: 1, column: 1 };
-    lines.known("certificate-form=", VERSION, "this program reads form")?;
-    lines.known("states=", grammar.states(), "by the grammar this number is")?;
-    lines.known("rules=", grammar.rules(), "by the grammar this number is")?;
-    lines.literal("size=")?;
-    let (line, column) = (lines.line, lines.column);
-    let size = lines.number()?;
-    lines.pass(size.to_string().len());
-    lines.line_end()?;
-    let certificate = lines.bytes(ambiguity::certificate_bytes(grammar.states()))?;
-    let set = certificate.iter().map(|byte| byte.count_ones() as usize).sum::<usize>();
+/// Lines in front of the bytes.
+const HEAD: usize = 4;
+
+/// The bytes that the lines give, if they are lines of this grammar. Digits of either case, line ends with byte 13 and blank lines
+/// at the end are read too.
+pub fn read(grammar: &Grammar, text: &[u8]) -> Result<Certificate, Malformed> {
+    let mut lines: Vec<&[u8]> =
+        text.split(|byte| *byte == b'\n').map(|line| line.strip_suffix(b"\r").unwrap_or(line)).collect();
+    while lines.last().is_some_and(|line| line.is_empty()) {
+        lines.pop();
+    }
+    let line = |number: usize| Line { rest: lines.get(number - 1).copied().unwrap_or_default(), line: number, column: 1 };
+    let form = line(1).form()?;
+    let by_grammar = "by the grammar this number is";
+    line(2).known("states=", grammar.states(), by_grammar)?;
+    line(3).known("rules=", grammar.rules().len(), by_grammar)?;
+    let size = line(HEAD).number("size=")?;
+    let mut certificate = Certificate { bytes: vec![0; ambiguity::certificate_bytes(grammar.states())], lines: Vec::new() };
+    for number in HEAD + 1..=lines.len() {
+        line(number).bytes(form, &mut certificate)?;
+    }
+    if form == Form::Plain && certificate.next() < certificate.bytes.len() {
+        return line(lines.len() + 1).fault(format!("'{:04x}:' is expected", certificate.next()));
+    }
+    let set = certificate.bytes.iter().map(|byte| byte.count_ones() as usize).sum::<usize>();
     if set != size {
-        return Err(Malformed { line, column, message: format!("the number of bits that are set below is {set}") });
+        let place = Line { rest: b"", line: HEAD, column: "size=".len() + 1 };
+        return place
+            .fault(format!("the number of bits that are set below is {set}: this number is wrong, or lines are missing"));
     }
     Ok(certificate)
 }
 
-/// Lines that are still to be read.
-struct Lines<'a> {
+impl Certificate {
+    /// The least offset that the next line may have.
+    fn next(&self) -> usize {
+        self.lines.last().map_or(0, |(offset, _)| offset + ON_A_LINE)
+    }
+}
+
+/// What is still to be read of a line.
+struct Line<'a> {
     rest: &'a [u8],
     line: usize,
     column: usize,
 }
 
-impl Lines<'_> {
+impl Line<'_> {
     fn fault<T>(&self, message: impl Into<String>) -> Result<T, Malformed> {
         Err(Malformed { line: self.line, column: self.column, message: message.into() })
     }
@@ -93,60 +145,127 @@ impl Lines<'_> {
         Ok(())
     }
 
-    /// Passes the byte 10 at a line's end.
-    fn line_end(&mut self) -> Result<(), Malformed> {
-        if self.rest.first() != Some(&b'\n') {
-            return self.fault("the line is to end here, with byte 10");
+    fn end(&self) -> Result<(), Malformed> {
+        if self.rest.is_empty() {
+            return Ok(());
         }
-        self.pass(1);
-        (self.line, self.column) = (self.line + 1, 1);
-        Ok(())
+        self.fault("the line is to end here")
     }
 
-    /// The number that stands here.
-    fn number(&self) -> Result<usize, Malformed> {
+    /// The number of a line with a key and a number.
+    fn number(&mut self, key: &str) -> Result<usize, Malformed> {
+        self.literal(key)?;
         let length = self.rest.iter().take_while(|byte| byte.is_ascii_digit()).count();
         let digits = std::str::from_utf8(&self.rest[..length]).expect("digits are text");
         match digits.parse::<usize>() {
-            Ok(number) if number.to_string() == digits => Ok(number),
+            Ok(number) if number.to_string() == digits => {
+                let rest = Line { rest: &self.rest[length..], line: self.line, column: self.column + length };
+                rest.end().map(|()| number)
+            }
             _ => self.fault("a decimal number without leading zeros is expected"),
         }
     }
 
-    /// Passes a line with a key and this number; what is said of another ends with it.
+    /// A line with a key and this number; what is said of another ends with it.
     fn known(&mut self, key: &str, number: usize, message: &str) -> Result<(), Malformed> {
-        self.literal(key)?;
-        if self.number()? != number {
+        if self.number(key)? != number {
             return self.fault(format!("{message} {number}"));
         }
-        self.pass(number.to_string().len());
-        self.line_end()
+        Ok(())
     }
 
-    /// Passes the lines of so many bytes, and all that is left.
-    fn bytes(&mut self, length: usize) -> Result<Vec<u8>, Malformed> {
-        let mut bytes = Vec::with_capacity(length);
-        while bytes.len() < length {
-            self.literal(&offset(bytes.len() / ON_A_LINE))?;
-            for _ in 0..ON_A_LINE.min(length - bytes.len()) {
-                self.literal(" ")?;
-                bytes.push(16 * self.digit()? + self.digit()?);
-            }
-            self.line_end()?;
+    fn form(&mut self) -> Result<Form, Malformed> {
+        match self.number("certificate-form=")? {
+            1 => Ok(Form::Plain),
+            2 => Ok(Form::Checked),
+            _ => self.fault("this program reads the forms 1 and 2"),
         }
-        if !self.rest.is_empty() {
+    }
+
+    /// A line of bytes, put to its place.
+    fn bytes(&mut self, form: Form, certificate: &mut Certificate) -> Result<(), Malformed> {
+        let (next, length) = (certificate.next(), certificate.bytes.len());
+        if next >= length {
             return self.fault(format!("the certificate has {length} bytes: nothing is expected here"));
         }
-        Ok(bytes)
+        let offset = match form {
+            Form::Plain => {
+                self.offset(next)?;
+                next
+            }
+            Form::Checked => self.any_offset(length)?,
+        };
+        let mut bytes = Vec::new();
+        for _ in 0..ON_A_LINE.min(length - offset) {
+            self.literal(" ")?;
+            bytes.push(16 * self.digit()? + self.digit()?);
+        }
+        match form {
+            Form::Plain if self.rest.starts_with(b" *") => return self.wrong_form(),
+            Form::Plain => (),
+            Form::Checked => self.check(remainder(digits(offset, &bytes)))?,
+        }
+        self.end()?;
+        if offset < next {
+            self.column = 1;
+            return self.fault("this line stands behind one with the same or a larger offset");
+        }
+        certificate.bytes[offset..offset + bytes.len()].copy_from_slice(&bytes);
+        certificate.lines.push((offset, self.line));
+        Ok(())
     }
 
     fn digit(&mut self) -> Result<u8, Malformed> {
-        let digit = match self.rest.first() {
-            Some(byte @ b'0'..=b'9') => byte - b'0',
-            Some(byte @ b'a'..=b'f') => byte - b'a' + 10,
-            _ => return self.fault("a hexadecimal digit is expected, 0 to 9 or a to f"),
-        };
+        let digit = self.rest.first().and_then(|byte| (*byte as char).to_digit(16));
+        let Some(digit) = digit else { return self.fault("a hexadecimal digit is expected, 0 to 9 or a to f") };
         self.pass(1);
-        Ok(digit)
+        Ok(digit as u8)
+    }
+
+    /// Passes this offset and its colon.
+    fn offset(&mut self, offset: usize) -> Result<(), Malformed> {
+        for shift in [12, 8, 4, 0] {
+            let expected = (offset >> shift & 15) as u8;
+            let digit = Line { rest: self.rest, ..*self }.digit();
+            if digit != Ok(expected) {
+                return self.fault(format!("'{offset:04x}:' is expected"));
+            }
+            self.pass(1);
+        }
+        self.literal(":")
+    }
+
+    /// Passes an offset and its colon: a whole number of lines, inside the certificate.
+    fn any_offset(&mut self, length: usize) -> Result<usize, Malformed> {
+        let start = Line { rest: self.rest, ..*self };
+        let mut offset = 0;
+        for _ in 0..4 {
+            offset = 16 * offset + self.digit()? as usize;
+        }
+        if offset % ON_A_LINE != 0 || offset >= length {
+            return start.fault(format!("an offset is expected, a multiple of 0020 below {length:04x}"));
+        }
+        self.literal(":")?;
+        Ok(offset)
+    }
+
+    /// Passes check digits, which are to be these.
+    fn check(&mut self, expected: usize) -> Result<(), Malformed> {
+        self.literal(" *")?;
+        let start = Line { rest: self.rest, ..*self };
+        let found = 16 * self.digit()? as usize + self.digit()? as usize;
+        if found != expected {
+            return start.fault(format!(
+                "the check digits are {found:02x}, but those of this line's digits are {expected:02x}: compare the line with the print"
+            ));
+        }
+        Ok(())
+    }
+
+    /// Form 1 has no check digits: the number of the form is wrong, rather than this line.
+    fn wrong_form<T>(&self) -> Result<T, Malformed> {
+        let column = "certificate-form=".len() + 1;
+        let message = format!("form 1 has no check digits, but line {} has them", self.line);
+        Err(Malformed { line: 1, column, message })
     }
 }
