@@ -9,8 +9,15 @@ pub enum Form {
     Checked = 2,
 }
 
-/// Bytes of the certificate on a line.
-const ON_A_LINE: usize = 32;
+impl Form {
+    /// Bytes of the certificate on a line.
+    fn on_a_line(self) -> usize {
+        match self {
+            Form::Plain => 32,
+            Form::Checked => 16,
+        }
+    }
+}
 
 /// The prime that the check digits are a remainder of: below 256, so that two hexadecimal digits hold it. No wrong digit and no
 /// two swapped ones keep the remainder.
@@ -34,11 +41,11 @@ fn digits(offset: usize, bytes: &[u8]) -> impl Iterator<Item = u8> + '_ {
 pub fn written(grammar: &Grammar, size: usize, certificate: &[u8], form: Form) -> String {
     let (states, rules) = (grammar.states(), grammar.rules().len());
     let mut lines = format!("certificate-form={}\nstates={states}\nrules={rules}\nsize={size}\n", form as usize);
-    for (i, bytes) in certificate.chunks(ON_A_LINE).enumerate() {
+    for (i, bytes) in certificate.chunks(form.on_a_line()).enumerate() {
         if form == Form::Checked && bytes.iter().all(|byte| *byte == 0) {
             continue;
         }
-        let offset = i * ON_A_LINE;
+        let offset = i * form.on_a_line();
         let shown: String = bytes.iter().map(|byte| format!(" {byte:02x}")).collect();
         let check = match form {
             Form::Plain => String::new(),
@@ -61,6 +68,7 @@ pub struct Malformed {
 #[derive(Debug)]
 pub struct Certificate {
     pub bytes: Vec<u8>,
+    form: Form,
     /// The offsets that have lines, in order, each with its line.
     lines: Vec<(usize, usize)>,
 }
@@ -68,9 +76,10 @@ pub struct Certificate {
 impl Certificate {
     /// Line and column of a byte; if its line was left out, those of the next line.
     pub fn place(&self, byte: usize) -> (usize, usize) {
-        let here = self.lines.iter().find(|(offset, _)| byte < offset + ON_A_LINE);
+        let on_a_line = self.form.on_a_line();
+        let here = self.lines.iter().find(|(offset, _)| byte < offset + on_a_line);
         match here.or(self.lines.last()) {
-            Some((offset, line)) if (*offset..offset + ON_A_LINE).contains(&byte) => (*line, 7 + 3 * (byte - offset)),
+            Some((offset, line)) if (*offset..offset + on_a_line).contains(&byte) => (*line, 7 + 3 * (byte - offset)),
             Some((_, line)) => (*line, 1),
             None => (HEAD, 1),
         }
@@ -94,9 +103,10 @@ pub fn read(grammar: &Grammar, text: &[u8]) -> Result<Certificate, Malformed> {
     line(2).known("states=", grammar.states(), by_grammar)?;
     line(3).known("rules=", grammar.rules().len(), by_grammar)?;
     let size = line(HEAD).number("size=")?;
-    let mut certificate = Certificate { bytes: vec![0; ambiguity::certificate_bytes(grammar.states())], lines: Vec::new() };
+    let mut certificate =
+        Certificate { bytes: vec![0; ambiguity::certificate_bytes(grammar.states())], form, lines: Vec::new() };
     for number in HEAD + 1..=lines.len() {
-        line(number).bytes(form, &mut certificate)?;
+        line(number).bytes(&mut certificate)?;
     }
     if form == Form::Plain && certificate.next() < certificate.bytes.len() {
         return line(lines.len() + 1).fault(format!("'{:04x}:' is expected", certificate.next()));
@@ -113,7 +123,7 @@ pub fn read(grammar: &Grammar, text: &[u8]) -> Result<Certificate, Malformed> {
 impl Certificate {
     /// The least offset that the next line may have.
     fn next(&self) -> usize {
-        self.lines.last().map_or(0, |(offset, _)| offset + ON_A_LINE)
+        self.lines.last().map_or(0, |(offset, _)| offset + self.form.on_a_line())
     }
 }
 
@@ -183,8 +193,8 @@ impl Line<'_> {
     }
 
     /// A line of bytes, put to its place.
-    fn bytes(&mut self, form: Form, certificate: &mut Certificate) -> Result<(), Malformed> {
-        let (next, length) = (certificate.next(), certificate.bytes.len());
+    fn bytes(&mut self, certificate: &mut Certificate) -> Result<(), Malformed> {
+        let (form, next, length) = (certificate.form, certificate.next(), certificate.bytes.len());
         if next >= length {
             return self.fault(format!("the certificate has {length} bytes: nothing is expected here"));
         }
@@ -193,17 +203,17 @@ impl Line<'_> {
                 self.offset(next)?;
                 next
             }
-            Form::Checked => self.any_offset(length)?,
+            Form::Checked => self.any_offset(form.on_a_line(), length)?,
         };
         let mut bytes = Vec::new();
-        for _ in 0..ON_A_LINE.min(length - offset) {
+        for _ in 0..form.on_a_line().min(length - offset) {
+            self.not_checked(form)?;
             self.literal(" ")?;
             bytes.push(16 * self.digit()? + self.digit()?);
         }
-        match form {
-            Form::Plain if self.rest.starts_with(b" *") => return self.wrong_form(),
-            Form::Plain => (),
-            Form::Checked => self.check(remainder(digits(offset, &bytes)))?,
+        self.not_checked(form)?;
+        if form == Form::Checked {
+            self.check(remainder(digits(offset, &bytes)))?;
         }
         self.end()?;
         if offset < next {
@@ -236,14 +246,14 @@ impl Line<'_> {
     }
 
     /// Passes an offset and its colon: a whole number of lines, inside the certificate.
-    fn any_offset(&mut self, length: usize) -> Result<usize, Malformed> {
+    fn any_offset(&mut self, on_a_line: usize, length: usize) -> Result<usize, Malformed> {
         let start = Line { rest: self.rest, ..*self };
         let mut offset = 0;
         for _ in 0..4 {
             offset = 16 * offset + self.digit()? as usize;
         }
-        if offset % ON_A_LINE != 0 || offset >= length {
-            return start.fault(format!("an offset is expected, a multiple of 0020 below {length:04x}"));
+        if offset % on_a_line != 0 || offset >= length {
+            return start.fault(format!("an offset is expected, a multiple of {on_a_line:04x} below {length:04x}"));
         }
         self.literal(":")?;
         Ok(offset)
@@ -262,10 +272,12 @@ impl Line<'_> {
         Ok(())
     }
 
-    /// Form 1 has no check digits: the number of the form is wrong, rather than this line.
-    fn wrong_form<T>(&self) -> Result<T, Malformed> {
-        let column = "certificate-form=".len() + 1;
+    /// Form 1 has no check digits: where some stand, the number of the form is wrong rather than this line.
+    fn not_checked(&self, form: Form) -> Result<(), Malformed> {
+        if form == Form::Checked || !self.rest.starts_with(b" *") {
+            return Ok(());
+        }
         let message = format!("form 1 has no check digits, but line {} has them", self.line);
-        Err(Malformed { line: 1, column, message })
+        Err(Malformed { line: 1, column: "certificate-form=".len() + 1, message })
     }
 }

@@ -6,7 +6,7 @@
 use std::collections::HashMap;
 
 use super::distances::Distances;
-use super::items::{Items, FIRST};
+use super::items::{Items, State, FIRST};
 use super::stacks::{Stack, Stacks, EMPTY};
 use super::Extent;
 use crate::tree::{Node, Tree};
@@ -118,6 +118,12 @@ impl Search<'_> {
         Some(distance.max(closings + left_rest.max(right_rest)))
     }
 
+    /// Whether an opening may lead to (1,1,1): a stack that does not is not kept.
+    fn leads(&mut self, layer: usize, left: State, right: State) -> bool {
+        self.tried += 1;
+        self.distances.of(layer, left, right).is_some()
+    }
+
     /// Queues a pair, unless it is known at no more cost.
     fn add(&mut self, pair: Pair, cost: u32, from: Option<(u32, Moved)>) {
         self.tried += 1;
@@ -148,13 +154,17 @@ impl Search<'_> {
         let (items, left_top, right_top) = (self.items, self.stacks.top(pair.left), self.stacks.top(pair.right));
         if pair.turn == Turn::Left {
             for top in items.opened(left_top) {
-                let left = self.stacks.push(pair.left, *top);
-                self.add(Pair { left, ..pair }, cost, Some((number, Moved::OpenedLeft)));
+                if self.leads(pair.layer, *top, right_top) {
+                    let left = self.stacks.push(pair.left, *top);
+                    self.add(Pair { left, ..pair }, cost, Some((number, Moved::OpenedLeft)));
+                }
             }
         }
         for top in items.opened(right_top) {
-            let right = self.stacks.push(pair.right, *top);
-            self.add(Pair { right, turn: Turn::Right, ..pair }, cost, Some((number, Moved::OpenedRight)));
+            if self.leads(pair.layer, left_top, *top) {
+                let right = self.stacks.push(pair.right, *top);
+                self.add(Pair { right, turn: Turn::Right, ..pair }, cost, Some((number, Moved::OpenedRight)));
+            }
         }
         if items.next(left_top).is_some() && items.next(left_top) == items.next(right_top) {
             let (left, right) = (self.stacks.shifted(pair.left), self.stacks.shifted(pair.right));
