@@ -57,7 +57,7 @@ fn damaged_texts() {
             damaged[place] = byte;
             let Err(refusal) = ambiguity::Grammar::read(&damaged) else { continue };
             let finding = ambig_tools::diagnosis::of(&damaged, refusal);
-            let by_offset = matches!(refusal.cause.number(), 6 | 7 | 8);
+            let by_offset = matches!(refusal.cause.number(), 6..=8);
             assert!(by_offset || finding.line == refusal.at, "{finding:?}");
             let line = damaged.split(|byte| *byte == b'\n').nth(finding.line - 1).unwrap_or_default();
             assert!((1..=line.len() + 1).contains(&finding.column), "{finding:?}");
