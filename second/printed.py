@@ -108,7 +108,7 @@ def part_on(line: str, number: int, form: int, length: int) -> Union[Tuple[int, 
     template = "hhhh:" + " hh" * width + (" *hh" if form == CHECKED else "")
     place = misfit(line, template)
     if place is not None:
-        if form == PLAIN and "*" in line[place - 1:place + 2]:
+        if form == PLAIN and " *" in (line[place - 1:place + 1], line[place:place + 2]):
             return Malformed(1, len(KEYS[0]) + 1, "form 1 has no check digits, but line %d has them" % number)
         return Malformed(number, place + 1, "the line does not go on as it should")
     part = bytes.fromhex(line[5:5 + 3 * width])
