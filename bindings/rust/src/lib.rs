@@ -149,6 +149,15 @@ fn verdict_of(reply: &raw::SearchReply) -> Verdict {
 /// # Errors
 ///
 /// Causes 1 to 8; all functions that take a table refuse with them before their own.
+///
+/// ```
+/// use ambiguity::{check_table, Cause, Refusal, Table};
+///
+/// let table = Table { terminals: 1, nonterminals: 1, rules: &[128, 1, 1] };
+/// assert_eq!(check_table(table), Ok(6));
+/// let cut = Table { rules: &[128, 1], ..table };
+/// assert_eq!(check_table(cut), Err(Refusal { cause: Cause::Truncated, at: 0 }));
+/// ```
 pub fn check_table(table: Table) -> Result<usize, Refusal> {
     let Table { terminals, nonterminals, rules } = table;
     // SAFETY: the pointer and the length are those of a slice, which lives on during the call; so in every call below.
