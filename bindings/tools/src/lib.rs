@@ -2,10 +2,13 @@
 
 pub mod command;
 pub mod diagnosis;
+pub mod drawing;
 pub mod explanation;
 pub mod holes;
 pub mod layout;
 pub mod lines;
+pub mod markup;
+pub mod page;
 pub mod pairs;
 pub mod parting;
 pub mod readings;

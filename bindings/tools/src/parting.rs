@@ -18,21 +18,23 @@ pub struct Parting {
     pub passed: Vec<Code>,
     pub left: Next,
     pub right: Next,
+    /// Where that is in either tree, by the place of its node; none for rule 0, and without trees.
+    pub nodes: [Option<usize>; 2],
 }
 
-/// Symbols and closings of a tree in order, those of rule 0 at the end.
-fn walk(grammar: &Grammar, tree: &[Node]) -> Vec<Next> {
+/// Symbols and closings of a tree in order, each with the place of its node; last comes the closing of rule 0.
+fn walk(grammar: &Grammar, tree: &[Node]) -> Vec<(Next, Option<usize>)> {
     let mut walk = Vec::new();
-    // The open rules, each with the number of children that are still to come.
-    let mut open: Vec<(usize, usize)> = vec![(0, 1)];
-    for node in tree {
-        open.last_mut().expect("a tree ends with its last node").1 -= 1;
+    // The open rules and their places, each with the number of children that are still to come.
+    let mut open = vec![(0, None, 1)];
+    for (place, node) in tree.iter().enumerate() {
+        open.last_mut().expect("a tree ends with its last node").2 -= 1;
         match *node {
-            Node::Leaf(code) => walk.push(Next::Symbol(code)),
-            Node::Rule(number) => open.push((number, grammar.rules()[number - 1].right.len())),
+            Node::Leaf(code) => walk.push((Next::Symbol(code), Some(place))),
+            Node::Rule(number) => open.push((number, Some(place), grammar.rules()[number - 1].right.len())),
         }
-        while let Some((number, 0)) = open.last() {
-            walk.push(Next::Closing(*number));
+        while let Some((number, place, 0)) = open.last() {
+            walk.push((Next::Closing(*number), *place));
             open.pop();
         }
     }
@@ -42,12 +44,13 @@ fn walk(grammar: &Grammar, tree: &[Node]) -> Vec<Next> {
 /// Where two different trees of one row part.
 pub fn of_trees(grammar: &Grammar, left: &[Node], right: &[Node]) -> Parting {
     let (left, right) = (walk(grammar, left), walk(grammar, right));
-    let place = left.iter().zip(&right).position(|(left, right)| left != right).expect("the trees differ");
-    let symbols = left[..place].iter().filter_map(|next| match next {
+    let place = left.iter().zip(&right).position(|(left, right)| left.0 != right.0).expect("the trees differ");
+    let symbols = left[..place].iter().filter_map(|(next, _)| match next {
         Next::Symbol(code) => Some(*code),
         Next::Closing(_) => None,
     });
-    Parting { passed: symbols.collect(), left: left[place], right: right[place] }
+    let (left, right) = (left[place], right[place]);
+    Parting { passed: symbols.collect(), left: left.0, right: right.0, nodes: [left.1, right.1] }
 }
 
 /// Where the two strings of a witness part: its step from layer 0 to layer 1.
@@ -63,7 +66,8 @@ pub fn of_witness(grammar: &Grammar, witness: &[u32], steps: &[Step]) -> Parting
         _ => Next::Symbol(symbol_behind(grammar, state)),
     };
     let step = &steps[place];
-    Parting { passed: symbols.collect(), left: next(step.on_left, left), right: next(step.on_right, right) }
+    let (left, right) = (next(step.on_left, left), next(step.on_right, right));
+    Parting { passed: symbols.collect(), left, right, nodes: [None, None] }
 }
 
 /// The symbol behind the dot of an item that stands before one.

@@ -1,11 +1,11 @@
-//! Searches grammars: prints a certificate as lines, or explains why the verdict is potential.
+//! Searches grammars: prints a certificate as lines, or explains why the verdict is potential; both also as a page.
 
 use std::ffi::OsString;
 use std::process::ExitCode;
 
 use ambig_tools::command::{self, Answer, Request, Status, Tool};
 use ambig_tools::lines::{self, Form};
-use ambig_tools::{explanation, refusals, warnings};
+use ambig_tools::{explanation, page, refusals, warnings};
 use ambiguity::{Grammar, Searched, MAX_TEXT_BYTES};
 
 const TOOL: Tool = Tool {
@@ -19,6 +19,7 @@ readings part, and looks for a sentence with two trees. What is refused, and
 warnings about rules and names that no sentence uses, go to standard error.
 
   --steps        print the witness too, entry by entry
+  --html         write one page in HTML, with the trees as drawings (one FILE)
   --form=1       print the certificate without check digits
   --form=2       print it with check digits (this is the default)
   -Werror        let warnings count as a refusal in the exit status
@@ -29,7 +30,7 @@ warnings about rules and names that no sentence uses, go to standard error.
 Exit status: 0 unambiguous, 1 potential or refused, 2 bad use, or a file that
 cannot be read; of several files the worst.
 ",
-    options: &["--steps", "--form=1", "--form=2", "-Werror", "--quiet"],
+    options: &["--steps", "--html", "--form=1", "--form=2", "-Werror", "--quiet"],
     files: 1,
 };
 
@@ -43,10 +44,11 @@ fn verdict_lines(grammar: &Grammar, searched: &Searched) -> String {
 }
 
 /// What standard output gets: the certificate, or the explanation.
-fn explained(request: &Request, grammar: &Grammar, searched: &Searched) -> String {
+fn explained(request: &Request, file: &str, text: &[u8], grammar: &Grammar, searched: &Searched) -> String {
     let verdict = verdict_lines(grammar, searched);
     match searched {
         _ if request.has("--quiet") => verdict,
+        _ if request.has("--html") => page::of(file, text, grammar, searched),
         Searched::Unambiguous { certificate, size } => {
             let form = if request.has("--form=1") { Form::Plain } else { Form::Checked };
             lines::written(grammar, *size, certificate, form)
@@ -74,10 +76,17 @@ fn judged(request: &Request, file: &str, text: &[u8]) -> Answer {
     if potential && !quiet {
         err.push_str(&format!("{file}: potentially ambiguous: there is no certificate\n"));
     }
-    Answer { status: if counts { Status::No } else { Status::Yes }, out: explained(request, &grammar, &searched), err }
+    Answer {
+        status: if counts { Status::No } else { Status::Yes },
+        out: explained(request, file, text, &grammar, &searched),
+        err,
+    }
 }
 
 fn answer(request: &Request, files: &[OsString]) -> Answer {
+    if request.has("--html") && request.several(&TOOL) {
+        return Answer::misuse("ambig-certify: --html takes one file");
+    }
     match command::bytes(&files[0], MAX_TEXT_BYTES) {
         Ok(text) => judged(request, &command::shown(&files[0]), &text),
         Err(misuse) => misuse,
