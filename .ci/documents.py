@@ -6,22 +6,28 @@ A block fenced with ```sh has commands. They are run in order by one shell, in a
 folder that shows the repository and keeps what they write. A block fenced with
 ```text behind it is what they print, standard error and standard output. `rt` is
 stood in for: the gate has run it, and the stand-in looks whether what it builds
-is there. A command that .ci/run has word for word is run there and not again.
+is there. cargo is run in the repository itself, so that it builds nothing twice. A
+command that .ci/run has word for word is run there and not again.
 """
 
 import os
+import shlex
+import shutil
 import subprocess
 import sys
 import tempfile
 from typing import List, NamedTuple, Optional
 
 ROOT = os.path.dirname(os.path.dirname(os.path.abspath(__file__)))
-STAND_IN = """#!/bin/sh
+RT = """#!/bin/sh
 case "$*" in
 "check ambig") test -x target/bin/ambig ;;
 "staticlib ambiguity_c") test -f target/staticlib/libambiguity_c.a ;;
 *) echo "the gate does not run: rt $*" >&2; exit 3 ;;
 esac
+"""
+CARGO = """#!/bin/sh
+cd %s && exec %s "$@"
 """
 
 
@@ -79,6 +85,12 @@ def contents(path: str) -> str:
         return file.read()
 
 
+def put_program(path: str, text: str) -> None:
+    with open(path, "w", encoding="utf-8") as file:
+        file.write(text)
+    os.chmod(path, 0o755)
+
+
 def faults(name: str) -> List[str]:
     """What a document says otherwise than it is."""
     found, gate = blocks(contents(os.path.join(ROOT, name))), contents(os.path.join(ROOT, ".ci/run"))
@@ -89,9 +101,8 @@ def faults(name: str) -> List[str]:
             os.mkdir(part)
         for entry in os.listdir(ROOT):
             os.symlink(os.path.join(ROOT, entry), os.path.join(shown, entry))
-        with open(os.path.join(tools, "rt"), "w", encoding="ascii") as file:
-            file.write(STAND_IN)
-        os.chmod(os.path.join(tools, "rt"), 0o755)
+        put_program(os.path.join(tools, "rt"), RT)
+        put_program(os.path.join(tools, "cargo"), CARGO % (shlex.quote(ROOT), shlex.quote(shutil.which("cargo") or "cargo")))
         environment = dict(os.environ, PATH=tools + os.pathsep + os.environ["PATH"])
         subprocess.run(["bash"], input=script(found, gate, out), cwd=shown, env=environment, text=True, check=False)
         for place, block in enumerate(found):

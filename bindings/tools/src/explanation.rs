@@ -62,7 +62,7 @@ impl Explanation {
         match &self.outcome {
             Outcome::Two { row, left, right } => {
                 let said = paragraph(&ambiguous(grammar, row));
-                format!("{parting}{said}\n{}", layout::trees(grammar, left, right))
+                format!("{parting}{said}{}", layout::trees(grammar, left, right))
             }
             Outcome::NotFound(extent) => format!("{parting}{}", paragraph(&not_found(extent))),
         }

@@ -43,7 +43,7 @@ enum Part {
     Leaves(Vec<ambiguity::Code>),
 }
 
-/// A tree as lines. A rule whose children are all leaves shows them itself.
+/// A tree as lines. A rule whose children are all leaves shows them itself, and a rule with a single child stands before it.
 pub fn lines(grammar: &Grammar, tree: &[Node]) -> Vec<Line> {
     let children = children(grammar, tree);
     let mut lines = Vec::new();
@@ -51,23 +51,44 @@ pub fn lines(grammar: &Grammar, tree: &[Node]) -> Vec<Line> {
     while let Some((depth, part)) = rest.pop() {
         let text = match part {
             Part::Leaves(codes) => words::row(grammar, &codes),
-            Part::Node(place) => match tree[place] {
-                Node::Leaf(code) => words::symbol(grammar, code).to_string(),
-                Node::Rule(number) => {
-                    let parts = parts(tree, &children[place]);
-                    rest.extend(parts.into_iter().rev().map(|part| (depth + 1, part)));
-                    rule_text(grammar, number)
-                }
-            },
+            Part::Node(first) => {
+                let chain = chain(tree, &children, first);
+                let last = chain[chain.len() - 1];
+                rest.extend(parts(tree, &children[last]).into_iter().rev().map(|part| (depth + 1, part)));
+                chain_text(grammar, tree, &chain)
+            }
         };
         lines.push(Line { depth, text });
     }
     lines
 }
 
-fn rule_text(grammar: &Grammar, number: usize) -> String {
-    let empty = if grammar.rules()[number - 1].right.is_empty() { " (empty)" } else { "" };
-    format!("{}{empty}  (line {})", words::rule(grammar, number), words::line_of_rule(number))
+/// A node, its only child if that applies a rule too, and so on.
+fn chain(tree: &[Node], children: &[Vec<usize>], first: usize) -> Vec<usize> {
+    let only_child = |place: &usize| match children[*place][..] {
+        [child] if matches!(tree[child], Node::Rule(_)) => Some(child),
+        _ => None,
+    };
+    std::iter::successors(Some(first), only_child).collect()
+}
+
+/// The rules of a chain: `A: B: b c  (lines 3, 5)`.
+fn chain_text(grammar: &Grammar, tree: &[Node], chain: &[usize]) -> String {
+    let rules: Vec<usize> = chain.iter().filter_map(|place| rule_at(tree, *place)).collect();
+    let Some((last, before)) = rules.split_last() else { return String::new() };
+    let name = |number: &usize| format!("{}: ", words::symbol(grammar, grammar.rules()[number - 1].left));
+    let names: String = before.iter().map(name).collect();
+    let empty = if grammar.rules()[last - 1].right.is_empty() { " (empty)" } else { "" };
+    let lines: Vec<String> = rules.iter().map(|number| words::line_of_rule(*number).to_string()).collect();
+    let line = if before.is_empty() { "line" } else { "lines" };
+    format!("{names}{}{empty}  ({line} {})", words::rule(grammar, *last), lines.join(", "))
+}
+
+fn rule_at(tree: &[Node], place: usize) -> Option<usize> {
+    match tree[place] {
+        Node::Rule(number) => Some(number),
+        Node::Leaf(_) => None,
+    }
 }
 
 /// The places of each node's children.
@@ -133,7 +154,7 @@ pub fn trees(grammar: &Grammar, left: &[Node], right: &[Node]) -> String {
     let widest = |lines: &[String]| lines.iter().map(String::len).max().unwrap_or(0);
     let second = widest(&left) + GAP;
     if second + widest(&right) > WIDTH {
-        return format!("{}\n\n{}\n", left.join("\n"), right.join("\n"));
+        return format!("{}\n{}\n", left.join("\n"), right.join("\n"));
     }
     let cell = |lines: &[String], place: usize| lines.get(place).cloned().unwrap_or_default();
     let rows = (0..left.len().max(right.len())).map(|place| (cell(&left, place), cell(&right, place)));
@@ -153,15 +174,26 @@ mod tests {
     #[test]
     fn deep_and_wide_trees_keep_the_width() {
         let names: Vec<String> = (0..40).map(|i| format!("Nonterminal-{i}")).collect();
-        let mut rules: Vec<String> = (0..39).map(|i| format!("rule={}: {}\n", names[i], names[i + 1])).collect();
+        let mut rules: Vec<String> = (0..39).map(|i| format!("rule={}: x {}\n", names[i], names[i + 1])).collect();
         rules.push(format!("rule={}:{}\n", names[39], " terminal-letter".repeat(12)));
-        let text = format!("terminals=terminal-letter\nnonterminals={}\n{}", names.join(","), rules.concat());
+        let text = format!("terminals=terminal-letter,x\nnonterminals={}\n{}", names.join(","), rules.concat());
         let grammar = Grammar::read(text.as_bytes()).unwrap();
-        let mut tree: Vec<Node> = (1..=40).map(Node::Rule).collect();
+        let mut tree: Vec<Node> = (1..40).flat_map(|rule| [Node::Rule(rule), Node::Leaf(2)]).collect();
+        tree.push(Node::Rule(40));
         tree.extend([Node::Leaf(1); 12]);
         let printed = trees(&grammar, &tree, &tree);
         assert!(printed.lines().all(|line| line.len() <= WIDTH), "{printed}");
         assert_eq!(printed.matches("terminal-letter").count(), 24);
         assert!(printed.contains("[39] Nonterminal-39: "));
+    }
+
+    #[test]
+    fn a_chain_takes_one_line() {
+        let text = b"terminals=x\nnonterminals=S,A,B\nrule=S: A\nrule=A: B\nrule=B: x A\nrule=A:\n";
+        let grammar = Grammar::read(text).unwrap();
+        let tree = [Node::Rule(1), Node::Rule(2), Node::Rule(3), Node::Leaf(1), Node::Rule(4)];
+        let lines: Vec<(usize, String)> = lines(&grammar, &tree).into_iter().map(|line| (line.depth, line.text)).collect();
+        let expected = [(0, "S: A: B: x A  (lines 3, 4, 5)"), (1, "x"), (1, "A: (empty)  (line 6)")];
+        assert_eq!(lines, expected.map(|(depth, text)| (depth, text.to_string())));
     }
 }

@@ -56,7 +56,7 @@ fn explained(request: &Request, file: &str, text: &[u8], grammar: &Grammar, sear
         Searched::Potential { witness } => {
             let explanation = explanation::of(grammar, witness);
             let steps = if request.has("--steps") { format!("\n{}", explanation.steps) } else { String::new() };
-            format!("{verdict}\n{}{steps}", explanation.told(grammar))
+            format!("{verdict}{}{steps}", explanation.told(grammar))
         }
     }
 }

@@ -7,10 +7,8 @@ use ambiguity::{Code, Grammar};
 
 const DANGLING: &str = "states=14
 verdict=potential
-
 after `if if S`: left ends `S: if S`, line 3, right goes on with `else`
 ambiguous: `if if S else S` has two trees, for example `if if x else x`
-
 left tree:                  right tree:
 S: if S else S  (line 4)    S: if S  (line 3)
   if                          if
@@ -20,13 +18,10 @@ S: if S else S  (line 4)    S: if S  (line 3)
 
 const CYCLE: &str = "states=8
 verdict=potential
-
 after `a`: left ends the sentence, right ends `S: S`, line 3
 ambiguous: `a` has two trees
-
 left tree:        right tree:
-S: a  (line 4)    S: S  (line 3)
-                    S: a  (line 4)
+S: a  (line 4)    S: S: a  (lines 3, 4)
 ";
 
 const STEPS: &str = "

@@ -4,4 +4,5 @@ mod certificates;
 mod commands;
 mod explanations;
 mod messages;
+mod pages;
 mod support;
