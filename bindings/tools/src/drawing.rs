@@ -9,8 +9,9 @@ use crate::markup::escaped;
 use crate::tree::Node;
 use crate::words;
 
-/// Sizes in pixels: a letter's width, the gap between two neighbours, the height of a level, the margin.
+/// Sizes in pixels: a letter's width, that of a small one, the gap between two neighbours, the height of a level, the margin.
 const LETTER: usize = 8;
+const SMALL_LETTER: usize = 5;
 const GAP: usize = 20;
 const LEVEL: usize = 44;
 const MARGIN: usize = 12;
@@ -27,8 +28,8 @@ pub struct Drawing {
 /// What stands in a node's place.
 struct Label {
     text: String,
-    /// The line of the rule, under the left name.
-    line: Option<usize>,
+    /// The line of the rule, under the left name; a leaf has none.
+    line: Option<String>,
     class: &'static str,
 }
 
@@ -39,16 +40,17 @@ fn label(grammar: &Grammar, node: Node) -> Label {
             Label { text: words::symbol(grammar, code).to_string(), line: None, class }
         }
         Node::Rule(number) => {
-            let left = grammar.rules()[number - 1].left;
-            let line = Some(words::line_of_rule(number));
-            Label { text: words::symbol(grammar, left).to_string(), line, class: "rule" }
+            let rule = &grammar.rules()[number - 1];
+            let empty = if rule.right.is_empty() { ", empty" } else { "" };
+            let line = Some(format!("line {}{empty}", words::line_of_rule(number)));
+            Label { text: words::symbol(grammar, rule.left).to_string(), line, class: "rule" }
         }
     }
 }
 
 impl Label {
     fn width(&self) -> usize {
-        let line = self.line.map_or(0, |line| LETTER * (5 + line.to_string().len()) * 3 / 4);
+        let line = self.line.as_ref().map_or(0, |line| SMALL_LETTER * line.len());
         (LETTER * self.text.len()).max(line) + GAP
     }
 }
@@ -97,7 +99,8 @@ impl Plan {
             }
             self.middles[place] = starts[place] + self.widths[place] / 2;
         }
-        self.bottom = self.depths.iter().max().map_or(0, |depth| depth + 1);
+        let leaves = (0..self.labels.len()).any(|place| self.is_leaf(place));
+        self.bottom = self.depths.iter().max().map_or(0, |depth| depth + usize::from(leaves));
     }
 
     fn is_leaf(&self, place: usize) -> bool {
@@ -116,14 +119,13 @@ impl Plan {
         MARGIN + HALF + LEVEL * level
     }
 
-    /// Between the symbols that were passed and the next one.
-    fn parting(&self, passed: usize) -> usize {
+    /// Between the leaves that were passed and the next one; nowhere in a tree without leaves.
+    fn parting(&self, passed: usize) -> Option<usize> {
         let leaves: Vec<usize> = (0..self.labels.len()).filter(|place| self.is_leaf(*place)).collect();
         let half = |place: usize| self.widths[place] / 2;
-        match (passed.checked_sub(1).and_then(|last| leaves.get(last)), leaves.get(passed)) {
-            (Some(last), _) => self.middles[*last] + half(*last),
-            (None, Some(next)) => self.middles[*next] - half(*next),
-            (None, None) => MARGIN / 2,
+        match passed.checked_sub(1) {
+            Some(last) => leaves.get(last).map(|last| self.middles[*last] + half(*last)),
+            None => leaves.first().map(|next| self.middles[*next] - half(*next)),
         }
     }
 }
@@ -132,15 +134,17 @@ impl Plan {
 pub fn tree(grammar: &Grammar, tree: &[Node], title: &str, marked: Option<usize>, passed: usize) -> Drawing {
     let plan = Plan::new(grammar, tree);
     let width = plan.widths[0] + 2 * MARGIN;
-    let height = plan.height(plan.bottom) + HALF + MARGIN;
+    let height = plan.height(plan.bottom) + 2 * HALF + MARGIN;
     let mut svg = format!(
         "<svg xmlns=\"http://www.w3.org/2000/svg\" role=\"img\" aria-label=\"{}\" viewBox=\"0 0 {width} {height}\" \
          style=\"width:{width}px\">\n",
         escaped(title)
     );
     let mut put = |part: std::fmt::Arguments| svg.write_fmt(part).expect("a string takes every part");
-    let (x, top) = (plan.parting(passed), plan.height(plan.bottom) - LEVEL / 2);
-    put(format_args!("<line class=\"parting\" x1=\"{x}\" y1=\"{top}\" x2=\"{x}\" y2=\"{height}\"/>\n"));
+    if let Some(x) = plan.parting(passed) {
+        let top = plan.height(plan.bottom) - LEVEL / 2;
+        put(format_args!("<line class=\"parting\" x1=\"{x}\" y1=\"{top}\" x2=\"{x}\" y2=\"{height}\"/>\n"));
+    }
     for place in 0..tree.len() {
         edges(&plan, place, &mut put);
     }
@@ -173,8 +177,7 @@ fn node(plan: &Plan, place: usize, marked: bool, put: &mut impl FnMut(std::fmt::
         ));
     }
     put(format_args!("<text class=\"{}\" x=\"{x}\" y=\"{}\">{}</text>\n", label.class, y + 4, escaped(&label.text)));
-    if let Some(line) = label.line {
-        let empty = if plan.children[place].is_empty() { ", empty" } else { "" };
-        put(format_args!("<text class=\"line\" x=\"{x}\" y=\"{}\">line {line}{empty}</text>\n", y + 15));
+    if let Some(line) = &label.line {
+        put(format_args!("<text class=\"line\" x=\"{x}\" y=\"{}\">{line}</text>\n", y + 15));
     }
 }

@@ -45,6 +45,13 @@ footer { margin-top: 8mm; font-size: 9pt; color: #555; }
 @media print { body { margin: 0; padding: 0; max-width: none; } * { print-color-adjust: exact; } }
 ";
 
+const LEGEND: &str =
+    "Up to the broken line the two trees pass the same symbols. Framed is what each of them does next: it passes \
+                      a symbol, or ends a rule. Symbols in italics are nonterminals that stand for themselves.";
+const EMPTY_LEGEND: &str =
+    "The sentence is empty: the trees pass no symbol. Framed is the first rule that one of them ends where \
+                            the other does not.";
+
 /// The page of a grammar that was read from a file.
 pub fn of(file: &str, text: &[u8], grammar: &Grammar, searched: &Searched) -> String {
     let parts = match searched {
@@ -123,17 +130,13 @@ fn certificate_part(lines: &str) -> String {
 }
 
 fn trees_part(grammar: &Grammar, explanation: &Explanation) -> String {
-    let Outcome::Two { left, right, .. } = &explanation.outcome else { return String::new() };
+    let Outcome::Two { row, left, right } = &explanation.outcome else { return String::new() };
     let parting = &explanation.parting;
     let draw = |side: usize, tree, title| drawing::tree(grammar, tree, title, parting.nodes[side], parting.passed.len());
     let drawings = [draw(0, left, "left tree"), draw(1, right, "right tree")];
     let class = if drawings.iter().any(|drawing| drawing.width > HALF_PAGE) { "trees stacked" } else { "trees" };
     let figure = |title: &str, svg: &str| format!("<figure>\n<figcaption>{title}</figcaption>\n{svg}</figure>\n");
-    format!(
-        "<h2>Two trees</h2>\n<div class=\"{class}\">\n{}{}</div>\n<p>Up to the broken line the two trees pass the same symbols. \
-         Framed is what each of them does next: it passes a symbol, or ends a rule. Symbols in italics are nonterminals that stand \
-         for themselves.</p>\n",
-        figure("Left", &drawings[0].svg),
-        figure("Right", &drawings[1].svg)
-    )
+    let figures = figure("Left", &drawings[0].svg) + &figure("Right", &drawings[1].svg);
+    let legend = if row.is_empty() { EMPTY_LEGEND } else { LEGEND };
+    format!("<h2>Two trees</h2>\n<div class=\"{class}\">\n{figures}</div>\n<p>{legend}</p>\n")
 }

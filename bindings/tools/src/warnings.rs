@@ -4,16 +4,17 @@ use ambiguity::Grammar;
 
 use crate::holes::{self, Warning};
 use crate::refusals::message;
+use crate::words;
 
 /// The column of what a warning is about: a name in its list, or the rule behind its key.
 fn column(grammar: &Grammar, warning: &Warning) -> usize {
-    let (key, names) = match warning.line {
-        1 => ("terminals=", grammar.terminals()),
-        2 => ("nonterminals=", grammar.nonterminals()),
-        _ => ("rule=", &[][..]),
+    let names = match warning.line {
+        1 => grammar.terminals(),
+        2 => grammar.nonterminals(),
+        _ => &[],
     };
     let before = names.iter().take_while(|name| Some(*name) != warning.name.as_ref());
-    key.len() + 1 + before.map(|name| name.len() + 1).sum::<usize>()
+    words::key(warning.line).len() + 1 + before.map(|name| name.len() + 1).sum::<usize>()
 }
 
 /// The warnings about a grammar that was read from a file, a line each.

@@ -2,6 +2,17 @@
 
 use ambiguity::{Code, Grammar, START};
 
+/// What the lines of a grammar's text begin with: the two lists, then each rule.
+const KEYS: [&str; 3] = ["terminals=", "nonterminals=", "rule="];
+
+/// The lines that hold the lists.
+pub const LISTS: usize = 2;
+
+/// What a line of a grammar's text begins with; lines count from 1.
+pub fn key(line: usize) -> &'static str {
+    KEYS[line.min(KEYS.len()) - 1]
+}
+
 /// The name of a declared symbol.
 pub fn symbol(grammar: &Grammar, code: Code) -> &str {
     grammar.name(code).expect("a grammar that was read has no undeclared code")
@@ -12,9 +23,9 @@ pub fn row(grammar: &Grammar, codes: &[Code]) -> String {
     codes.iter().map(|code| symbol(grammar, *code)).collect::<Vec<_>>().join(" ")
 }
 
-/// The line of the text that has a rule: the two lists stand before, and each rule has a line.
+/// The line of the text that has a rule: the lists stand before, and each rule has a line.
 pub fn line_of_rule(number: usize) -> usize {
-    2 + number
+    LISTS + number
 }
 
 /// The left name and the right side of a rule. Rule 0 leads from the primed start to the start.

@@ -1,19 +1,19 @@
 //! What makes a line malformed: the first thing in it that does not belong there.
 
-use super::{words, Found, Word, LISTS};
+use super::{words, Found, Word};
+use crate::words::{key, LISTS};
 
 const MAX_NAME: usize = 15;
-const RULE: &str = "rule=";
 const NAME: &str = "a name has letters, digits and hyphens";
 const EXAMPLE: &str = "a rule is written 'rule=S: a b'";
 
 /// The fault of a line that the reader refused as malformed or missing.
 pub fn found(text: &[u8], number: usize) -> Found {
     let mut lines = text.split_inclusive(|byte| *byte == b'\n').skip(number - 1);
-    let key = key_of(number);
+    let expected = key(number);
     let Some(line) = lines.next() else {
         let what = if number == 1 { "the text is empty" } else { "the text ends here" };
-        return (0, format!("{what}; line {number} begins with '{key}'"));
+        return (0, format!("{what}; line {number} begins with '{expected}'"));
     };
     let content = line.strip_suffix(b"\n").unwrap_or(line);
     let ended = content.len() < line.len();
@@ -21,12 +21,8 @@ pub fn found(text: &[u8], number: usize) -> Found {
     let fault = of_encoding(content, number)
         .or_else(|| of_whole_line(content, ended && last))
         .or_else(|| of_key(content, number))
-        .or_else(|| if number <= LISTS.len() { of_list(content, key.len()) } else { of_rule(content) });
+        .or_else(|| if number <= LISTS { of_list(content, expected.len()) } else { of_rule(content) });
     fault.unwrap_or_else(|| (content.len(), "the last line does not end with byte 10; put a line break behind it".to_string()))
-}
-
-fn key_of(number: usize) -> &'static str {
-    LISTS.get(number - 1).map_or(RULE, |(_, key)| key)
 }
 
 /// A byte as it is shown.
@@ -71,40 +67,40 @@ fn of_whole_line(line: &[u8], last: bool) -> Option<Found> {
 }
 
 fn of_key(line: &[u8], number: usize) -> Option<Found> {
-    let expected = key_of(number);
+    let expected = key(number);
     if line.starts_with(expected.as_bytes()) {
         return None;
     }
     let Some(equals) = line.iter().position(|byte| *byte == b'=') else {
         return Some((0, format!("no '=' is found; line {number} begins with '{expected}'{}", rule_hint(number))));
     };
-    let key = Word { at: 0, bytes: &line[..equals] };
+    let found = Word { at: 0, bytes: &line[..equals] };
     let is = |other: &str| other.as_bytes() == &line[..=equals];
     let hint = if is("certificate-form=") {
         "this is a certificate, and no grammar's text".to_string()
-    } else if is(RULE) {
+    } else if is(key(LISTS + 1)) {
         "the two lists come before the rules".to_string()
-    } else if let Some((place, list)) = LISTS.iter().find(|(_, list)| is(list)) {
-        format!("'{list}' is line {place}")
-    } else if key.bytes.ends_with(b" ") {
+    } else if let Some(place) = (1..=LISTS).find(|place| is(key(*place))) {
+        format!("'{}' is line {place}", key(place))
+    } else if found.bytes.ends_with(b" ") {
         "no space stands before '='".to_string()
     } else {
-        return Some((0, format!("{} is found; line {number} begins with '{expected}'{}", key.quoted(), rule_hint(number))));
+        return Some((0, format!("{} is found; line {number} begins with '{expected}'{}", found.quoted(), rule_hint(number))));
     };
-    Some((0, format!("{} is found where '{expected}' is expected; {hint}", key.quoted())))
+    Some((0, format!("{} is found where '{expected}' is expected; {hint}", found.quoted())))
 }
 
 fn rule_hint(number: usize) -> String {
-    if number > LISTS.len() {
+    if number > LISTS {
         format!(", and {EXAMPLE}")
     } else {
         String::new()
     }
 }
 
-fn of_list(line: &[u8], key: usize) -> Option<Found> {
-    let names = words(line, key, |byte| *byte == b',');
-    if line.len() == key {
+fn of_list(line: &[u8], start: usize) -> Option<Found> {
+    let names = words(line, start, |byte| *byte == b',');
+    if line.len() == start {
         return None;
     }
     names.iter().find_map(|name| {
@@ -125,7 +121,8 @@ fn of_rule(line: &[u8]) -> Option<Found> {
             None => (line.len(), format!("no colon is found; {EXAMPLE}")),
         });
     };
-    let left = Word { at: RULE.len(), bytes: &line[RULE.len()..colon] };
+    let start = key(LISTS + 1).len();
+    let left = Word { at: start, bytes: &line[start..colon] };
     if left.bytes.is_empty() {
         return Some((colon, format!("the left name is missing before the colon; {EXAMPLE}")));
     }

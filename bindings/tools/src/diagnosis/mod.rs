@@ -6,6 +6,8 @@ mod nearest;
 
 use ambiguity::{Cause, Refusal, MAX_NONTERMINALS, MAX_RULES, MAX_STATES, MAX_TERMINALS, MAX_TEXT_BYTES};
 
+use crate::words::{key, LISTS};
+
 /// Symbols that a right side may have.
 const MAX_RIGHT: usize = 12;
 
@@ -74,18 +76,15 @@ fn too_long(text: &[u8]) -> Finding {
     }
 }
 
-const LISTS: [(usize, &str); 2] = [(1, "terminals="), (2, "nonterminals=")];
-
 /// The declared names of a list's line.
 fn declared<'a>(lines: &[&'a [u8]], number: usize) -> Vec<Word<'a>> {
-    let (_, key) = LISTS[number - 1];
-    let names = words(lines[number - 1], key.len(), |byte| *byte == b',');
+    let names = words(lines[number - 1], key(number).len(), |byte| *byte == b',');
     names.into_iter().filter(|name| !name.bytes.is_empty()).collect()
 }
 
 /// Left name and right side of a rule's line.
 fn rule_words(line: &[u8]) -> Vec<Word<'_>> {
-    let words = words(line, "rule=".len(), |byte| matches!(byte, b':' | b' '));
+    let words = words(line, key(LISTS + 1).len(), |byte| matches!(byte, b':' | b' '));
     words.into_iter().filter(|word| !word.bytes.is_empty()).collect()
 }
 
@@ -126,10 +125,11 @@ fn repeated_name(lines: &[&[u8]], number: usize) -> Found {
 
 fn too_many_names(lines: &[&[u8]], number: usize) -> Found {
     let most = if number == 1 { MAX_TERMINALS } else { MAX_NONTERMINALS };
-    let (_, key) = LISTS[number - 1];
     match declared(lines, number).get(most) {
         Some(name) => (name.at, format!("{} is name {} of this list; the limit is {most}", name.quoted(), most + 1)),
-        None => (key.len(), "no nonterminal is declared; the first one is the start, as in 'nonterminals=S'".to_string()),
+        None => {
+            (key(number).len(), "no nonterminal is declared; the first one is the start, as in 'nonterminals=S'".to_string())
+        }
     }
 }
 
@@ -147,7 +147,7 @@ fn too_many_symbols(line: &[u8]) -> Found {
 fn of_rule(lines: &[&[u8]], cause: Cause, offset: usize) -> (usize, Found) {
     let mut end = 0;
     let mut states = 4;
-    let rules = lines.iter().skip(LISTS.len()).map(|line| rule_words(line));
+    let rules = lines.iter().skip(LISTS).map(|line| rule_words(line));
     let place = rules.take_while(|rule| {
         let before = end < offset;
         end += 1 + rule.len();
@@ -155,7 +155,7 @@ fn of_rule(lines: &[&[u8]], cause: Cause, offset: usize) -> (usize, Found) {
         before
     });
     let place = place.count();
-    let line = LISTS.len() + place + 1;
+    let line = LISTS + place + 1;
     let message = match cause {
         Cause::RuleRepeated => {
             let first = lines.iter().position(|first| *first == lines[line - 1]).unwrap_or(0) + 1;
@@ -165,5 +165,5 @@ fn of_rule(lines: &[&[u8]], cause: Cause, offset: usize) -> (usize, Found) {
         Cause::TooManyStates => format!("with this rule there are {states} states; the limit is {MAX_STATES}"),
         cause => cause.to_string(),
     };
-    (line, ("rule=".len(), message))
+    (line, (key(line).len(), message))
 }
