@@ -115,10 +115,10 @@ def main(folder, ambig):
     failed = 0
     for test in as_ambig, messages, certificates, sentences:
         try:
-            print("ok: %s (%s)" % (test.__doc__.strip().rstrip("."), test(tools)))
+            print("%s: %s" % (test(tools), test.__doc__.strip()))
         except AssertionError as error:
             failed += 1
-            print("FAILED: %s\n%s" % (test.__doc__.strip(), error))
+            print("wrong: %s\n%s" % (test.__doc__.strip(), error))
     return 1 if failed else 0
 
 

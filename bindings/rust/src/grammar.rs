@@ -67,7 +67,7 @@ fn rules_of(mut entries: &[u8]) -> Vec<Rule> {
 }
 
 impl Grammar {
-    /// Reads grammar text.
+    /// Reads grammar text. Uses up to 268 KiB of stack, as [`read_text`] does.
     ///
     /// # Errors
     ///

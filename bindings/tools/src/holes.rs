@@ -22,6 +22,21 @@ pub fn productive(grammar: &Grammar) -> Marks {
     }
 }
 
+/// By code, whether a symbol has a sentence that is not empty.
+pub fn visible(grammar: &Grammar) -> Marks {
+    let productive = productive(grammar);
+    let mut marks = [false; CODES];
+    marks[1..=grammar.terminals().len()].fill(true);
+    loop {
+        let shows = |row: &[Code]| all(&productive, row) && row.iter().any(|code| marks[*code as usize]);
+        let found = grammar.rules().iter().find(|rule| !marks[rule.left as usize] && shows(&rule.right));
+        match found {
+            Some(rule) => marks[rule.left as usize] = true,
+            None => return marks,
+        }
+    }
+}
+
 fn all(marks: &Marks, row: &[Code]) -> bool {
     row.iter().all(|code| marks[*code as usize])
 }
@@ -100,6 +115,17 @@ mod tests {
         let grammar = read("terminals=a\nnonterminals=S,A,B\nrule=S: a\nrule=S: A\nrule=A: A\nrule=B: a\nrule=S: B A\n");
         assert_eq!(live_rules(&grammar), [true, false, false, false, false]);
         assert_eq!(live_rules(&read("terminals=\nnonterminals=S\nrule=S: S\n")), [false]);
+    }
+
+    #[test]
+    fn empty_sentences() {
+        let grammar =
+            read("terminals=a\nnonterminals=S,N,E,W\nrule=S: N\nrule=N:\nrule=N: E a\nrule=E:\nrule=E: N W\nrule=W: W a\n");
+        let marks = visible(&grammar);
+        assert_eq!(
+            [1, START, START + 1, START + 2, START + 3].map(|code| marks[code as usize]),
+            [true, true, true, false, false]
+        );
     }
 
     #[test]

@@ -1,51 +1,78 @@
-//! Shortest sentences: what a row with nonterminals may stand for.
+//! Shortest sentences that are not empty: what a row with nonterminals may stand for.
 
-use ambiguity::{Code, Grammar, START};
+use ambiguity::{Code, Grammar, Rule, START};
 
 const CODES: usize = Code::MAX as usize + 1;
 
-/// By code the length of a shortest sentence, and the rule that begins it.
+/// A shortest sentence of a symbol: its length, the rule that begins it, and the place in that rule that must not be empty.
+#[derive(Clone, Copy)]
 struct Shortest {
-    lengths: Vec<Option<usize>>,
-    rules: Vec<usize>,
+    length: usize,
+    rule: usize,
+    shown: Option<usize>,
 }
 
-fn shortest(grammar: &Grammar) -> Shortest {
-    let mut found = Shortest { lengths: vec![None; CODES], rules: vec![0; CODES] };
-    found.lengths[1..=grammar.terminals().len()].fill(Some(1));
-    loop {
-        let mut changed = false;
-        for (place, rule) in grammar.rules().iter().enumerate() {
-            let sum = |sum: usize, code: &Code| Some(sum.saturating_add(found.lengths[*code as usize]?));
-            let length = rule.right.iter().try_fold(0, sum);
-            let known = &mut found.lengths[rule.left as usize];
-            if length.is_some() && (known.is_none() || length < *known) {
-                *known = length;
-                found.rules[rule.left as usize] = place;
-                changed = true;
-            }
-        }
-        if !changed {
-            return found;
-        }
+/// By code the shortest sentence, and the shortest one that is not empty.
+struct Table {
+    any: Vec<Option<Shortest>>,
+    shown: Vec<Option<Shortest>>,
+}
+
+impl Table {
+    fn new(grammar: &Grammar) -> Table {
+        let mut table = Table { any: vec![None; CODES], shown: vec![None; CODES] };
+        let terminal = Some(Shortest { length: 1, rule: 0, shown: None });
+        table.any[1..=grammar.terminals().len()].fill(terminal);
+        table.shown[1..=grammar.terminals().len()].fill(terminal);
+        while grammar.rules().iter().enumerate().filter(|(place, rule)| table.improve(*place, rule)).count() > 0 {}
+        table
+    }
+
+    /// The length of a row, in which the symbol at a place is not empty.
+    fn length(&self, row: &[Code], shown: Option<usize>) -> Option<usize> {
+        row.iter().enumerate().try_fold(0, |sum: usize, (place, code)| {
+            let known = if shown == Some(place) { &self.shown } else { &self.any };
+            Some(sum.saturating_add(known[*code as usize]?.length))
+        })
+    }
+
+    /// Whether a rule begins a shorter sentence than is known.
+    fn improve(&mut self, place: usize, rule: &Rule) -> bool {
+        let of = |length, shown| Shortest { length, rule: place, shown };
+        let any = self.length(&rule.right, None).map(|length| of(length, None));
+        let shown =
+            (0..rule.right.len()).filter_map(|at| self.length(&rule.right, Some(at)).map(|length| of(length, Some(at))));
+        let shown = shown.min_by_key(|found| found.length);
+        let left = rule.left as usize;
+        replace(&mut self.any[left], any) | replace(&mut self.shown[left], shown)
     }
 }
 
-/// The row with a shortest sentence for each nonterminal; none if it has more than `most` terminals, or if a nonterminal has none.
+fn replace(known: &mut Option<Shortest>, found: Option<Shortest>) -> bool {
+    let shorter = found.is_some_and(|found| known.as_ref().map_or(true, |known| found.length < known.length));
+    if shorter {
+        *known = found;
+    }
+    shorter
+}
+
+/// The row with a shortest sentence that is not empty for each nonterminal; none if it has more than `most` terminals, or if a
+/// nonterminal has no such sentence.
 pub fn filled(grammar: &Grammar, row: &[Code], most: usize) -> Option<Vec<Code>> {
-    let shortest = shortest(grammar);
-    let length = |code: &Code| shortest.lengths[*code as usize];
-    let total = row.iter().try_fold(0, |sum: usize, code| Some(sum.saturating_add(length(code)?)))?;
-    if total > most {
+    let table = Table::new(grammar);
+    let lengths = row.iter().map(|code| table.shown[*code as usize].map(|found| found.length));
+    if lengths.sum::<Option<usize>>()? > most {
         return None;
     }
     let mut sentence = Vec::new();
-    let mut rest: Vec<Code> = row.iter().rev().copied().collect();
-    while let Some(code) = rest.pop() {
+    let mut rest: Vec<(Code, bool)> = row.iter().rev().map(|code| (*code, true)).collect();
+    while let Some((code, shown)) = rest.pop() {
+        let found = if shown { &table.shown } else { &table.any }[code as usize]?;
         if code < START {
             sentence.push(code);
-        } else if length(&code) != Some(0) {
-            rest.extend(grammar.rules()[shortest.rules[code as usize]].right.iter().rev());
+        } else if found.length > 0 {
+            let right = grammar.rules()[found.rule].right.iter().enumerate();
+            rest.extend(right.map(|(place, code)| (*code, found.shown == Some(place))).rev());
         }
     }
     Some(sentence)
@@ -59,8 +86,9 @@ mod tests {
     fn shortest_ones() {
         let text = b"terminals=a,b\nnonterminals=S,N,E\nrule=S: S S\nrule=S: a N b\nrule=N:\nrule=N: N N\nrule=E: E\n";
         let grammar = Grammar::read(text).unwrap();
-        assert_eq!(filled(&grammar, &[START, 1, START + 1], 3), Some(vec![1, 2, 1]));
+        assert_eq!(filled(&grammar, &[START, 1], 3), Some(vec![1, 2, 1]));
         assert_eq!(filled(&grammar, &[START, 1], 2), None);
+        assert_eq!(filled(&grammar, &[START + 1], 9), None);
         assert_eq!(filled(&grammar, &[START + 2], 99), None);
     }
 
@@ -68,7 +96,7 @@ mod tests {
     fn a_sentence_past_all_numbers() {
         let names: Vec<String> = (0..80).map(|i| format!("A{i}")).collect();
         let doubled: String = (1..80).map(|i| format!("rule=A{}: A{i} A{i}\n", i - 1)).collect();
-        for (last, sentence) in [("rule=A79: a\n", None), ("rule=A79:\n", Some(vec![]))] {
+        for (last, sentence) in [("rule=A79: a\n", None), ("rule=A79:\nrule=A79: a\n", Some(vec![1]))] {
             let text = format!("terminals=a\nnonterminals={}\n{doubled}{last}", names.join(","));
             let grammar = Grammar::read(text.as_bytes()).unwrap();
             assert_eq!(filled(&grammar, &[START], 1000), sentence);

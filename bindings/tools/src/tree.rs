@@ -7,7 +7,7 @@ use ambiguity::{Code, Grammar, START};
 use crate::holes;
 
 /// A node of a tree: a rule that is applied, by its number from 1, or a symbol that stands for itself.
-#[derive(Clone, Copy, Debug, PartialEq, Eq)]
+#[derive(Clone, Copy, Debug, PartialEq, Eq, Hash)]
 pub enum Node {
     Rule(usize),
     Leaf(Code),
@@ -25,8 +25,8 @@ pub enum Fault {
     Length,
     /// The root applies no rule.
     Root,
-    /// A nonterminal that stands for itself has no sentence.
-    Endless,
+    /// A nonterminal that stands for itself has no sentence, or the empty one alone.
+    Invisible,
     /// The rows differ.
     Rows,
     /// The trees are the same.
@@ -39,7 +39,7 @@ impl fmt::Display for Fault {
             Fault::Node => "a node does not apply its rule",
             Fault::Length => "a tree has too few nodes, or too many",
             Fault::Root => "a root applies no rule",
-            Fault::Endless => "a leaf has no sentence",
+            Fault::Invisible => "a leaf has no sentence but the empty one",
             Fault::Rows => "the rows differ",
             Fault::Same => "the trees are the same",
         })
@@ -71,8 +71,10 @@ pub fn row(grammar: &Grammar, tree: &[Node]) -> Result<Vec<Code>, Fault> {
     }
 }
 
-/// The common row of two different trees. Each nonterminal in it has a sentence, so some sentence has two trees: the same subtree
-/// is put in either tree for it.
+/// The common row of two different trees. Each nonterminal in it has a sentence that is not empty, so some sentence has two trees:
+/// for each such leaf the same subtree is put in either tree. They still differ then. For if they were equal, both copies of a
+/// subtree would be the node over the same part of the sentence with the same nodes below it; that part is not empty, so there is
+/// only one such node, and the leaves had been at the same place.
 pub fn common_row(grammar: &Grammar, left: &[Node], right: &[Node]) -> Result<Vec<Code>, Fault> {
     let common = row(grammar, left)?;
     if row(grammar, right)? != common {
@@ -84,9 +86,9 @@ pub fn common_row(grammar: &Grammar, left: &[Node], right: &[Node]) -> Result<Ve
     if [left, right].iter().any(|tree| !matches!(tree.first(), Some(Node::Rule(_)))) {
         return Err(Fault::Root);
     }
-    let productive = holes::productive(grammar);
-    if common.iter().any(|code| !productive[*code as usize]) {
-        return Err(Fault::Endless);
+    let visible = holes::visible(grammar);
+    if common.iter().any(|code| !visible[*code as usize]) {
+        return Err(Fault::Invisible);
     }
     Ok(common)
 }
@@ -129,10 +131,14 @@ mod tests {
             (&[], &one, Fault::Length),
             (&[Rule(1), Leaf(IF), Leaf(S), Leaf(S)], &one, Fault::Length),
             (&[Leaf(S)], &[Leaf(S)], Fault::Same),
-            (&endless, &[Rule(4), Rule(6), Leaf(S + 1)], Fault::Endless),
+            (&endless, &[Rule(4), Rule(6), Leaf(S + 1)], Fault::Invisible),
         ] {
             assert_eq!(common_row(&dangling(), left, right), Err(fault), "{left:?} {right:?}");
         }
+        // S has one tree: which of the two empty parts stands for itself makes no difference.
+        let empty = Grammar::read(b"terminals=\nnonterminals=S,N\nrule=S: N N\nrule=N:\n").unwrap();
+        let pair = ([Rule(1), Leaf(S + 1), Rule(2)], [Rule(1), Rule(2), Leaf(S + 1)]);
+        assert_eq!(common_row(&empty, &pair.0, &pair.1), Err(Fault::Invisible));
         let cycle = Grammar::read(b"terminals=a\nnonterminals=S\nrule=S: S\nrule=S: a\n").unwrap();
         assert_eq!(common_row(&cycle, &[Leaf(S)], &[Rule(1), Leaf(S)]), Err(Fault::Root));
         assert_eq!(common_row(&cycle, &[Rule(2), Leaf(1)], &[Rule(1), Rule(2), Leaf(1)]), Ok(vec![1]));

@@ -35,6 +35,7 @@ pub struct Items {
     openings: Vec<Vec<State>>,
     ends: Vec<Vec<State>>,
     callers: Vec<Vec<State>>,
+    visible: holes::Marks,
 }
 
 impl Items {
@@ -42,7 +43,8 @@ impl Items {
     pub fn new(grammar: &Grammar) -> Option<Items> {
         let live = holes::live_rules(grammar);
         let by_code = || vec![Vec::new(); CODES];
-        let mut items = Items { items: vec![None; FIRST], openings: by_code(), ends: by_code(), callers: by_code() };
+        let visible = holes::visible(grammar);
+        let mut items = Items { items: vec![None; FIRST], openings: by_code(), ends: by_code(), callers: by_code(), visible };
         items.add(0, PRIMED, &[START], holes::productive(grammar)[START as usize]);
         for (place, rule) in grammar.rules().iter().enumerate() {
             items.add(place + 1, rule.left, &rule.right, live[place]);
@@ -82,6 +84,11 @@ impl Items {
 
     pub fn next(&self, state: State) -> Option<Code> {
         self.items[state]?.next
+    }
+
+    /// Whether a symbol may be passed in a layer: behind the parting it must have a sentence that is not empty.
+    pub fn passable(&self, layer: usize, code: Code) -> bool {
+        layer == 0 || self.visible[code as usize]
     }
 
     pub fn before_terminal(&self, state: State) -> bool {

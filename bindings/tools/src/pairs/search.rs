@@ -166,7 +166,8 @@ impl Search<'_> {
                 self.add(Pair { right, turn: Turn::Right, ..pair }, cost, Some((number, Moved::OpenedRight)));
             }
         }
-        if items.next(left_top).is_some() && items.next(left_top) == items.next(right_top) {
+        let common = items.next(left_top).filter(|code| items.next(right_top) == Some(*code));
+        if common.is_some_and(|code| items.passable(pair.layer, code)) {
             let (left, right) = (self.stacks.shifted(pair.left), self.stacks.shifted(pair.right));
             self.add(Pair { left, right, turn: Turn::Left, ..pair }, cost, Some((number, Moved::Shifted)));
         }

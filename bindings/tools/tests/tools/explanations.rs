@@ -108,9 +108,32 @@ fn false_alarms() {
     assert!(matches!(palindromes, Outcome::NotFound(Extent::Limit { pairs, .. }) if (1000..1100).contains(&pairs)));
     let unused = look(text("a", "S,W", &["S: a S", "S:", "W: S S"]));
     assert_eq!(unused, Outcome::NotFound(Extent::NoParting));
-    assert_eq!(look(text("", "S", &["S: S"])), Outcome::NotFound(Extent::NoParting));
+    assert_eq!(look(text("", "S", &["S: S"])), Outcome::NotFound(Extent::NoSentence));
     let few = pairs::look(&Grammar::read(dangling().as_bytes()).unwrap(), Limits { pairs: 1_000_000, moves: 10 });
     assert!(matches!(few, Outcome::NotFound(Extent::Limit { .. })));
+}
+
+/// Grammars that are made to be searched long: the search ends within its limits.
+#[test]
+fn hostile_grammars() {
+    let of = |terminals: &str, nonterminals: &str, rules: Vec<String>, last: &[&str]| {
+        let rules: Vec<&str> = rules.iter().map(String::as_str).chain(last.iter().copied()).collect();
+        Grammar::read(text(terminals, nonterminals, &rules).as_bytes()).unwrap()
+    };
+    let names = |letter: &str, count: usize| (0..count).map(|i| format!("{letter}{i}")).collect::<Vec<_>>().join(",");
+    let mirrored = (0..62).map(|i| format!("S: t{i} S t{i}")).collect();
+    let palindromes = of(&names("t", 62), "S", mirrored, &["S: t0"]);
+    // Nineteen rules of twelve symbols; the bits of their numbers are symbols in front, and all else is S.
+    let bits = |i: usize| (0..5).map(|bit| if i >> bit & 1 == 1 { " a" } else { " S" }).collect::<String>();
+    let dense = of("a,b", "S", (0..19).map(|i| format!("S:{}{}", bits(i), " S".repeat(7))).collect(), &["S: b"]);
+    let chain = (1..97).map(|i| format!("N{}: N{i}", i - 1)).collect();
+    let chain = of("a", &names("N", 97), chain, &["N96: a", "N96: a N96 a"]);
+    for grammar in [palindromes, dense, chain] {
+        match pairs::look(&grammar, Limits::default()) {
+            Outcome::NotFound(Extent::Limit { pairs, moves }) => assert!(pairs <= 400_300 && moves > 10, "{pairs} {moves}"),
+            other => panic!("{}{other:?}", grammar.write()),
+        }
+    }
 }
 
 /// All trees of a row up to two, by brute force over short rows: another way to count than the search.
