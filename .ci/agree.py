@@ -6,6 +6,7 @@ Prints a line for each comparison and exits with 1 if one fails.
 """
 
 import glob
+import itertools
 import os
 import random
 import re
@@ -16,7 +17,7 @@ ROOT = os.path.dirname(os.path.dirname(os.path.abspath(__file__)))
 sys.path.insert(0, os.path.join(ROOT, "second"))
 sys.dont_write_bytecode = True
 
-from corpus import AMBIGUOUS, coded, entries, found_in, text_in  # noqa: E402
+from corpus import AMBIGUOUS, EMPTY, coded, entries, found_in, text_in  # noqa: E402
 from judge import checked, verdict  # noqa: E402
 from program import MAX_BYTES, MAX_STATES  # noqa: E402
 from trees import MOST, tree_count  # noqa: E402
@@ -24,6 +25,8 @@ from trees import MOST, tree_count  # noqa: E402
 MESSAGES = sorted(glob.glob(os.path.join(ROOT, "bindings/tools/tests/messages/*.grammar")))
 SMALL = 60                # states up to which the second program is quick
 SLIPS = 300
+RANDOM = 400              # grammars
+SHORT = 4                 # terminals of a short sentence
 
 
 def ran(words, text):
@@ -94,26 +97,67 @@ def certificates(tools):
     return "%d certificates, %d damaged ones" % (len(printed), SLIPS)
 
 
+def told_ambiguous(out):
+    """The sentence of terminals that is called ambiguous, in the form of the corpus' index; None if there is none."""
+    told = re.search(r"ambiguous: (the empty sentence|`[^`]*`) has two trees"
+                     r"(?:, for example (`[^`]*`))?", " ".join(out.split()))
+    if told is None:
+        return None
+    sentence = (told[2] or told[1]).strip("`")
+    return EMPTY if sentence == "the empty sentence" else sentence
+
+
+def has_two_trees(text, sentence):
+    found = found_in(text)
+    row = coded(found, sentence)
+    return row is not None and tree_count(found.grammar, row) == MOST
+
+
 def sentences(tools):
-    """Every sentence that is called ambiguous has two trees, and every ambiguous grammar has one."""
+    """Every ambiguous grammar of the corpus is called so, with a sentence that has two trees."""
     count = 0
     for entry in entries():
-        if entry.truth != AMBIGUOUS:
-            continue
-        out = " ".join(ran([tools.certify, "-"], text_in(entry.name))[0].split("\n"))
-        told = re.search(r"ambiguous: (the empty sentence|`[^`]*`) has two trees(?:, +for +example +(`[^`]*`|the empty sentence))?", out)
-        sentence = " ".join((told[2] or told[1]).strip("`").split())
-        found = found_in(text_in(entry.name))
-        row = coded(found, "(empty)" if sentence == "the empty sentence" else sentence)
-        assert row is not None and tree_count(found.grammar, row) == MOST, (entry.name, sentence)
-        count += 1
+        if entry.truth == AMBIGUOUS:
+            text = text_in(entry.name)
+            sentence = told_ambiguous(ran([tools.certify, "-"], text)[0])
+            assert sentence is not None and has_two_trees(text, sentence), (entry.name, sentence)
+            count += 1
     return "%d sentences" % count
+
+
+def random_text(rng):
+    """A small grammar, often with empty rules and rules that no sentence uses."""
+    terminals, nonterminals = ["a", "b"][:rng.randrange(1, 3)], ["S", "A", "B", "C"][:rng.randrange(1, 5)]
+    lengths = rng.choice([(0, 0, 1, 2, 3), (0, 1, 1, 2, 2, 3, 3)])
+    rules = {(rng.choice(nonterminals), tuple(rng.choice(terminals + nonterminals) for _ in range(rng.choice(lengths))))
+             for _ in range(rng.randrange(2, 8))}
+    lines = ["rule=%s:%s\n" % (left, "".join(" " + name for name in right)) for left, right in sorted(rules)]
+    return ("terminals=%s\nnonterminals=%s\n%s" % (",".join(terminals), ",".join(nonterminals), "".join(lines))).encode()
+
+
+def random_grammars(tools):
+    """Random grammars that are called ambiguous have such a sentence; the others have none that is short."""
+    rng = random.Random(1)
+    ambiguous = 0
+    for _ in range(RANDOM):
+        text = random_text(rng)
+        out = ran([tools.certify, "-"], text)[0]
+        sentence = told_ambiguous(out)
+        if sentence is not None:
+            assert has_two_trees(text, sentence), (text, sentence)
+            ambiguous += 1
+        elif "verdict=potential" in out:
+            grammar = found_in(text).grammar
+            short = (bytes(row) for length in range(SHORT + 1)
+                     for row in itertools.product(range(1, grammar.terminals + 1), repeat=length))
+            assert all(tree_count(grammar, row) < MOST for row in short), text
+    return "%d grammars, %d of them ambiguous" % (RANDOM, ambiguous)
 
 
 def main(folder, ambig):
     tools = Tools(folder, ambig)
     failed = 0
-    for test in as_ambig, messages, certificates, sentences:
+    for test in as_ambig, messages, certificates, sentences, random_grammars:
         try:
             print("%s: %s" % (test(tools), test.__doc__.strip()))
         except AssertionError as error:

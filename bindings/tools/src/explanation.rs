@@ -47,7 +47,7 @@ pub fn not_found(extent: &Extent) -> String {
         Extent::NoParting => {
             "the rules that some sentence uses have no parting. Take the other rules out and run again".to_string()
         }
-        Extent::TooLarge => "the two trees that were found are too large to be shown".to_string(),
+        Extent::Unconfirmed => "two trees were found, but could not be confirmed".to_string(),
         Extent::All { pairs } => format!("all pairs of unfinished trees, {pairs}, were tried"),
         Extent::Limit { pairs, moves } => {
             format!("{pairs} pairs of unfinished trees were tried, and all pairs of fewer than {moves} moves")

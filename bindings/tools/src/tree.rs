@@ -1,7 +1,5 @@
 //! Derivation trees, and the test that two of them belong to one row. What finds the trees is elsewhere: nothing here relies on it.
 
-use std::fmt;
-
 use ambiguity::{Code, Grammar, START};
 
 use crate::holes;
@@ -31,19 +29,6 @@ pub enum Fault {
     Rows,
     /// The trees are the same.
     Same,
-}
-
-impl fmt::Display for Fault {
-    fn fmt(&self, f: &mut fmt::Formatter) -> fmt::Result {
-        f.write_str(match self {
-            Fault::Node => "a node does not apply its rule",
-            Fault::Length => "a tree has too few nodes, or too many",
-            Fault::Root => "a root applies no rule",
-            Fault::Invisible => "a leaf has no sentence but the empty one",
-            Fault::Rows => "the rows differ",
-            Fault::Same => "the trees are the same",
-        })
-    }
 }
 
 /// The row of a tree: every node applies its rule, and each child stands for its symbol.

@@ -1,6 +1,6 @@
 //! Why a verdict is potential: two real trees, the parting, and the witness step by step.
 
-use crate::support::{certify, corpus, file, run, text, Ran, CERTIFY};
+use crate::support::{certify, corpus, file, folder, run, text, Ran, CERTIFY};
 use ambig_tools::pairs::{self, Extent, Limits, Outcome};
 use ambig_tools::tree::{self, Node};
 use ambiguity::{Code, Grammar};
@@ -67,6 +67,22 @@ fn the_readme_shows_what_is_printed() {
     let readme = include_str!("../../../README.md");
     for printed in [DANGLING, STEPS] {
         assert!(readme.contains(printed.trim_start()), "{printed}");
+    }
+}
+
+/// The readme's table beside bison has the number of lines that explain.
+#[test]
+fn the_table_beside_bison() {
+    let readme = include_str!("../../../README.md");
+    let rows = readme.lines().skip_while(|line| !line.starts_with("| grammar | ours | bison")).skip(2);
+    let rows: Vec<Vec<&str>> = rows.take_while(|line| line.starts_with('|')).map(|line| line.split(" | ").collect()).collect();
+    assert_eq!(rows.len(), 6);
+    for row in rows {
+        let name = row[0].trim_start_matches("| ");
+        let path = folder("bindings/tools/tests/beside-bison").join(format!("{name}.grammar"));
+        let explained = run(CERTIFY, &[path.to_str().unwrap()], b"").out.lines().skip(2).count();
+        assert_eq!(explained.to_string(), row[1], "{name}");
+        assert!(explained <= row[2].parse().unwrap(), "{name}");
     }
 }
 
