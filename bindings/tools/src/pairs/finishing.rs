@@ -7,7 +7,7 @@ use crate::holes;
 use crate::tree::{Node, Tree};
 
 /// Nodes of a tree that is shown.
-const MOST_NODES: usize = 10_000;
+const MOST_NODES: usize = 4_000;
 
 /// Two trees that were found, finished. Where one is the start standing for itself, a rule is applied to it in both. Leaves that
 /// have the empty sentence alone get their subtrees, and what both trees have in common is folded. None if they get too large.

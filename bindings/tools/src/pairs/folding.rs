@@ -13,6 +13,13 @@ struct Subtree {
     row: (usize, usize),
 }
 
+impl Subtree {
+    /// What tells it from other subtrees: where it begins in the row, and its nodes.
+    fn of<'a>(&self, tree: &'a [Node]) -> (usize, &'a [Node]) {
+        (self.row.0, &tree[self.nodes.0..self.nodes.1])
+    }
+}
+
 /// The subtrees below the root that apply a rule and have a part of the row, in the order of their nodes.
 fn subtrees(grammar: &Grammar, tree: &[Node]) -> Vec<Subtree> {
     let mut found: Vec<Option<Subtree>> = vec![None; tree.len()];
@@ -37,11 +44,10 @@ fn subtrees(grammar: &Grammar, tree: &[Node]) -> Vec<Subtree> {
 
 /// The tree with leaves in place of its largest subtrees that the other tree has too.
 fn without(grammar: &Grammar, tree: &[Node], other: &[Node]) -> Tree {
-    let of = |tree: &[Node], part: &Subtree| (part.row.0, tree[part.nodes.0..part.nodes.1].to_vec());
-    let common: HashSet<(usize, Tree)> = subtrees(grammar, other).iter().map(|part| of(other, part)).collect();
+    let common: HashSet<(usize, &[Node])> = subtrees(grammar, other).iter().map(|part| part.of(other)).collect();
     let mut folded = Vec::new();
     let mut done = 0;
-    for part in subtrees(grammar, tree).iter().filter(|part| common.contains(&of(tree, part))) {
+    for part in subtrees(grammar, tree).iter().filter(|part| common.contains(&part.of(tree))) {
         let (start, end) = part.nodes;
         if let (true, Node::Rule(number)) = (start >= done, tree[start]) {
             folded.extend_from_slice(&tree[done..start]);
