@@ -1,76 +1,115 @@
 """Judges a grammar, or a printed certificate of it, by this program alone.
 
-    judge.py GRAMMAR              prints what the program prints, without its limits
-    judge.py GRAMMAR CERTIFICATE  prints 'accepted', or 'refused=CAUSE at=POSITION',
-                                  or 'malformed certificate'
-
-GRAMMAR is a file of grammar text, CERTIFICATE one of the lines that ambig-certify
-prints (bindings/README.md). The exit status is 0 for unambiguous or accepted, 1 for
-all else that is printed, 2 for other words.
+It needs Python 3.8 or later and nothing else: no kit, no compiler.
 """
 
+import argparse
+import os
 import sys
-from typing import Optional, Sequence
+from typing import NamedTuple, Optional, Sequence
 
-from case_files import accepted_or_refused, refused
 from certificates import check_certificate
-from corpus import Found, found_in
+from corpus import found_in
+from places import Place, place_of
+from printed import Malformed, certificate_in
 from program import AMPLE, judged
 from tables import Refusal
-from text import read_text
-from triples import held_indices
+from text import MAX_TEXT, read_text
 
-ON_A_LINE = 32            # bytes of the certificate
-
-
-def lines_of(found: Found, certificate: bytes) -> bytes:
-    """A certificate as it is printed."""
-    head = "certificate-form=1\nstates=%d\nrules=%d\nsize=%d\n" % (
-        found.grammar.states, len(found.grammar.rules), len(held_indices(certificate)))
-    places = range(0, len(certificate), ON_A_LINE)
-    return (head + "".join("%04x: %s\n" % (place, certificate[place:place + ON_A_LINE].hex(" "))
-                           for place in places)).encode("ascii")
+MOST = MAX_TEXT + 1       # bytes that are read of a file: one more than a text has
+VERSION_FILE = os.path.join(os.path.dirname(os.path.dirname(os.path.abspath(__file__))), "VERSION")
+STATUS = """GRAMMAR is a file of grammar text, CERTIFICATE one of the lines that
+ambig-certify prints; one of them may be -, standard input. For a grammar alone
+the lines of the program ambig are printed, without its limits; with a
+certificate 'accepted', or 'refused=' and 'at=', or 'malformed'. What is wrong,
+and where, goes to standard error. The exit status is 0 for unambiguous or
+accepted, 1 for all else that is judged, 2 for bad use, or a file that cannot be
+read."""
 
 
-def certificate_in(found: Found, lines: bytes) -> Optional[bytes]:
-    """The bytes of a printed certificate; None if it would be printed otherwise."""
-    digits = [line.partition(b":")[2].decode("latin-1") for line in lines.split(b"\n")[4:]]
-    try:
-        certificate = bytes.fromhex("".join(digits))
-    except ValueError:
-        return None
-    return certificate if lines_of(found, certificate) == lines else None
+class Answer(NamedTuple):
+    """What is printed, and where the fault is: in the grammar, or in the certificate."""
+
+    printed: str
+    grammar_fault: Optional[Place] = None
+    certificate_fault: Optional[Malformed] = None
 
 
-def checked(text: bytes, lines: bytes) -> str:
-    """What is said of a printed certificate."""
+def refused(refusal: Refusal) -> str:
+    return "refused=%d\nat=%d\n" % refusal
+
+
+def verdict(text: bytes) -> Answer:
+    """What is said of a grammar."""
     result = read_text(text, AMPLE)
-    if isinstance(result, Refusal):
-        return refused(result)
+    fault = place_of(text, result) if isinstance(result, Refusal) else None
+    return Answer(judged(result).decode("ascii"), fault)
+
+
+def checked(text: bytes, lines: bytes) -> Answer:
+    """What is said of a printed certificate."""
     found = found_in(text)
-    assert found is not None
+    if found is None:
+        return verdict(text)
     certificate = certificate_in(found, lines)
-    if certificate is None:
-        return "malformed certificate"
-    return accepted_or_refused(check_certificate(*found.table, certificate))
+    if isinstance(certificate, Malformed):
+        return Answer("malformed\n", None, certificate)
+    result = check_certificate(*found.table, certificate)
+    return Answer(refused(result) if isinstance(result, Refusal) else "accepted\n")
 
 
 def contents(path: str) -> bytes:
+    """The front of a file; what is longer is refused anyway."""
+    if path == "-":
+        return sys.stdin.buffer.read(MOST)
     with open(path, "rb") as file:
-        return file.read()
+        return file.read(MOST)
+
+
+def version() -> str:
+    with open(VERSION_FILE, encoding="ascii") as file:
+        return file.read().strip()
+
+
+def parser() -> argparse.ArgumentParser:
+    words = argparse.ArgumentParser(
+        prog="judge.py", description=__doc__, epilog=STATUS,
+        formatter_class=argparse.RawDescriptionHelpFormatter)
+    words.add_argument("grammar", metavar="GRAMMAR")
+    words.add_argument("certificate", metavar="CERTIFICATE", nargs="?")
+    words.add_argument("-q", "--quiet", action="store_true", help="say nothing on standard error")
+    words.add_argument("-V", "--version", action="version", version="judge.py " + version())
+    return words
 
 
 def run(words: Sequence[str]) -> int:
     """Prints the answer; gives the exit status."""
-    if len(words) == 1:
-        said = judged(read_text(contents(words[0]), AMPLE)).decode("ascii")
-    elif len(words) == 2:
-        said = checked(*map(contents, words)) + "\n"
-    else:
-        print(__doc__, file=sys.stderr)
+    try:
+        asked = parser().parse_args(words)
+        if asked.grammar == asked.certificate == "-":
+            parser().error("standard input can be read once only")
+    except SystemExit as ended:
+        return 2 if ended.code else 0
+    data = []
+    for path in [asked.grammar] + ([] if asked.certificate is None else [asked.certificate]):
+        try:
+            data.append(contents(path))
+        except (OSError, ValueError) as error:
+            print("%s: %s" % (path, getattr(error, "strerror", None) or error), file=sys.stderr)
+            return 2
+    answer = checked(*data) if len(data) == 2 else verdict(*data)
+    for path, fault in [(asked.grammar, answer.grammar_fault), (asked.certificate, answer.certificate_fault)]:
+        if fault is not None and not asked.quiet:
+            name = "<stdin>" if path == "-" else path
+            print("%s:%d:%d: %s" % (name, fault.line, fault.column, fault.message), file=sys.stderr)
+    try:
+        print(answer.printed, end="", flush=True)
+    except OSError as error:
+        print("standard output: %s" % error.strerror, file=sys.stderr)
+        # Nothing more can be written there, not even at the end.
+        os.dup2(os.open(os.devnull, os.O_WRONLY), sys.stdout.fileno())
         return 2
-    print(said, end="")
-    return 0 if said == "accepted\n" or "\nverdict=unambiguous\n" in said else 1
+    return 0 if answer.printed == "accepted\n" or "\nverdict=unambiguous\n" in answer.printed else 1
 
 
 if __name__ == "__main__":

@@ -1,6 +1,9 @@
-"""Tests of judge.py: verdicts, printed certificates, exit statuses."""
+"""Tests of judge.py: verdicts, printed certificates, places, exit statuses."""
 
 import os
+import random
+import subprocess
+import sys
 import tempfile
 import unittest
 from contextlib import redirect_stderr, redirect_stdout
@@ -8,74 +11,172 @@ from io import StringIO
 
 from case_grammars import ONE_A_BYTES
 from corpus import entries, found_in, text_in
-from judge import certificate_in, checked, lines_of, run
-from program import printed
+from judge import checked, run, verdict
+from places import place_of
+from printed import CHECKED, FORMS, PLAIN, Malformed, certificate_in, lines_of
+from program import AMPLE, printed
 from searches import Unambiguous, needed, search
+from tables import Refusal
+from text import read_text
 from text_read_inputs import EXAMPLE
 
 # What bindings/README.md shows for document 01's example.
 LINES = (b"certificate-form=1\nstates=6\nrules=1\nsize=11\n"
          b"0000: 15 50 21 15 08 00 00 00 00\n")
+LINES_CHECKED = (b"certificate-form=2\nstates=6\nrules=1\nsize=11\n"
+                 b"0000: 15 50 21 15 08 00 00 00 00 *d0\n")
+PROGRAM = os.path.join(os.path.dirname(os.path.abspath(__file__)), "judge.py")
+
+
+def certified():
+    """The grammars of the corpus that have a certificate, with it."""
+    for entry in entries():
+        text = text_in(entry.name)
+        found = found_in(text)
+        result = search(*found.table, needed(entry.states))
+        if isinstance(result, Unambiguous):
+            yield text, found, result.certificate
 
 
 class CertificateTest(unittest.TestCase):
     def test_the_example(self):
         found = found_in(EXAMPLE)
-        self.assertEqual(lines_of(found, ONE_A_BYTES), LINES)
-        self.assertEqual(certificate_in(found, LINES), ONE_A_BYTES)
-        self.assertEqual(checked(EXAMPLE, LINES), "accepted")
-        self.assertEqual(checked(EXAMPLE[:-1], LINES), "refused=16 at=3")
+        for form, lines in [(PLAIN, LINES), (CHECKED, LINES_CHECKED)]:
+            self.assertEqual(lines_of(found, ONE_A_BYTES, form), lines)
+            self.assertEqual(certificate_in(found, lines), ONE_A_BYTES)
+            self.assertEqual(checked(EXAMPLE, lines), ("accepted\n", None, None))
+            self.assertEqual(checked(EXAMPLE[:-1], lines)[0], "refused=16\nat=3\n")
 
     def test_the_corpus(self):
-        for entry in entries():
-            text = text_in(entry.name)
-            found = found_in(text)
-            result = search(*found.table, needed(entry.states))
-            if isinstance(result, Unambiguous):
-                self.assertEqual(checked(text, lines_of(found, result.certificate)), "accepted")
+        for text, found, certificate in certified():
+            for form in FORMS:
+                self.assertEqual(checked(text, lines_of(found, certificate, form))[0], "accepted\n")
+
+    def test_lenient(self):
+        found = found_in(EXAMPLE)
+        for lines in LINES, LINES_CHECKED:
+            head, part = lines.split(b"0000")
+            for other in [lines.replace(b"\n", b"\r\n"), lines + b"\n\r\n", lines[:-1], head + b"0000" + part.upper()]:
+                self.assertEqual(certificate_in(found, other), ONE_A_BYTES)
 
     def test_refused(self):
-        for bytes_, size, answer in [(bytes(9), 0, "refused=11 at=0"),
-                                     (b"\xff" * 9, 72, "refused=12 at=43"),
-                                     (b"\x01" + bytes(8), 1, "refused=13 at=0")]:
+        for bytes_, size, answer in [(bytes(9), 0, "refused=11\nat=0\n"),
+                                     (b"\xff" * 9, 72, "refused=12\nat=43\n"),
+                                     (b"\x01" + bytes(8), 1, "refused=13\nat=0\n")]:
             lines = LINES.replace(b"11", b"%d" % size).replace(
                 ONE_A_BYTES.hex(" ").encode(), bytes_.hex(" ").encode())
-            self.assertEqual(checked(EXAMPLE, lines), answer)
-        self.assertEqual(checked(EXAMPLE, lines_of(found_in(EXAMPLE), bytes(8))),
-                         "refused=9 at=0")
+            self.assertEqual(checked(EXAMPLE, lines)[0], answer)
 
     def test_malformed(self):
-        for old, new in [(b"form=1", b"form=2"), (b"states=6", b"states=06"), (b"=1\nsize", b"=2\nsize"),
-                         (b"11", b"12"), (b"15 50", b"1550"), (b"15 50", b"1g 50"), (b"0000", b"0001"),
-                         (b"08", b"0\xe9"), (b"00\n", b"00"), (b"00\n", b"00\n\n"), (LINES, b"")]:
+        for old, new, line, column in [
+                (b"form=1", b"form=3", 1, 18), (b"states=6", b"states=06", 2, 8), (b"=1\nsize", b"=2\nsize", 3, 7),
+                (b"11", b"12", 4, 6), (b"15 50", b"1550", 5, 9), (b"15 50", b"1g 50", 5, 8), (b"0000", b"0001", 5, 1),
+                (b"08", b"0\xe9", 5, 20), (b"00\n", b"00 00\n", 5, 33), (b"00\n", b"00\n0000:\n", 6, 6),
+                (b"0000:", b"00\xb20:", 5, 1), (b"=11", b"=\xb2", 4, 6), (b"=11", b"=" + b"1" * 9999, 4, 6), (LINES, b"", 1, 1)]:
             lines = LINES.replace(old, new, 1)
             self.assertNotEqual(lines, LINES)
-            self.assertEqual(checked(EXAMPLE, lines), "malformed certificate")
+            printed_, _, fault = checked(EXAMPLE, lines)
+            self.assertEqual((printed_, fault[:2]), ("malformed\n", (line, column)), lines)
+        wrong = certificate_in(found_in(EXAMPLE), LINES_CHECKED.replace(b"form=2", b"form=1"))
+        self.assertEqual(wrong[:2], (1, 18))
+
+    def test_slips_are_told_by_line(self):
+        rng = random.Random(1)
+        cases = list(certified())
+        for _ in range(300):
+            _, found, certificate = rng.choice(cases)
+            lines = lines_of(found, certificate, CHECKED).split(b"\n")[:-1]
+            slip = rng.randrange(4, len(lines))
+            line = bytearray(lines[slip])
+            places = [place for place, byte in enumerate(line) if chr(byte) in "0123456789abcdef"]
+            place = rng.randrange(len(places) - 1)
+            if rng.random() < 0.5:
+                line[places[place]] = rng.choice([byte for byte in b"0123456789abcdef" if byte != line[places[place]]])
+            else:
+                line[places[place]], line[places[place + 1]] = line[places[place + 1]], line[places[place]]
+            if bytes(line) != lines[slip]:
+                lines[slip] = bytes(line)
+                fault = certificate_in(found, b"\n".join(lines))
+                self.assertIsInstance(fault, Malformed)
+                self.assertEqual(fault.line, slip + 1)
+
+
+class PlaceTest(unittest.TestCase):
+    def place(self, text):
+        refusal = read_text(text, AMPLE)
+        self.assertIsInstance(refusal, Refusal)
+        return place_of(text, refusal)
+
+    def test_places(self):
+        lists = b"terminals=a,b\nnonterminals=S\n"
+        for text, line, column in [
+                (b"", 1, 1), (b"terminals=a\n", 2, 1), (b"\xef\xbb\xbf" + lists, 1, 1), (b"# x\n" + lists, 1, 1),
+                (lists.replace(b"\n", b"\r\n"), 1, 14), (b"terminals=a, b\n", 1, 13), (b"terminals=a_b\n", 1, 12),
+                (b"terminals=a,\n", 1, 13), (b"terminals=" + b"x" * 16 + b"\n", 1, 26), (b"nonterminals=S\n", 1, 1),
+                (lists + b"rule=S: a", 3, 10), (lists + b"rule=S: a \n", 3, 11), (lists + b"rule=S:  a\n", 3, 9),
+                (lists + b"rule=S -> a\n", 3, 7), (lists + b"rule=S:\ta\n", 3, 8), (lists + b"\n", 3, 1),
+                (lists + b"rule=S: a | b\n", 3, 11), (lists + b"rule=S: c\n", 3, 9), (lists + b"rule=a: a\n", 3, 6),
+                (b"terminals=a,b,a\n", 1, 15), (b"terminals=a\nnonterminals=S,a\n", 2, 16), (b"terminals=\nnonterminals=\n", 2, 14),
+                (lists + b"rule=S:" + b" a" * 13 + b"\n", 3, 6), (lists + b"rule=S: a\nrule=S:\nrule=S: a\n", 5, 6),
+                (b"x" * 65537, 1, 1)]:
+            self.assertEqual(self.place(text)[:2], (line, column), text[:60])
+
+    def test_every_refusal_has_its_line(self):
+        rng = random.Random(1)
+        for _ in range(2000):
+            text = bytearray(EXAMPLE + b"rule=S: S a\n")
+            for _ in range(rng.randrange(1, 4)):
+                text[rng.randrange(len(text))] = rng.choice(b"\n\r\t =:,|#_-aS\xc3")
+            refusal = read_text(bytes(text), AMPLE)
+            if isinstance(refusal, Refusal):
+                place = place_of(bytes(text), refusal)
+                if refusal.cause not in (6, 7, 8):
+                    self.assertEqual(place.line, refusal.position)
 
 
 class RunTest(unittest.TestCase):
-    def run_with(self, *files):
-        """Exit status and output for files with these contents."""
+    def run_with(self, *files, words=()):
+        """Exit status, output and messages for files with these contents."""
         with tempfile.TemporaryDirectory() as folder:
             paths = [os.path.join(folder, str(place)) for place in range(len(files))]
             for path, data in zip(paths, files):
                 with open(path, "wb") as file:
                     file.write(data)
-            with redirect_stdout(StringIO()) as out, redirect_stderr(StringIO()):
-                status = run(paths)
-        return status, out.getvalue()
+            with redirect_stdout(StringIO()) as out, redirect_stderr(StringIO()) as err:
+                status = run(list(words) + paths)
+        return status, out.getvalue(), err.getvalue().replace(folder + os.sep, "")
 
     def test_verdicts(self):
-        self.assertEqual(self.run_with(EXAMPLE), (0, printed(EXAMPLE).decode()))
+        self.assertEqual(self.run_with(EXAMPLE), (0, printed(EXAMPLE).decode(), ""))
         cycle = text_in("row-cycle")
-        self.assertEqual(self.run_with(cycle), (1, printed(cycle).decode()))
-        self.assertEqual(self.run_with(b""), (1, "refused=16\nat=1\n"))
-        self.assertTrue(self.run_with(text_in("robot-49"))[1].startswith("states=49\n"))
+        self.assertEqual(self.run_with(cycle), (1, printed(cycle).decode(), ""))
+        fault = "0:1:1: the text ends here; line 1 begins with 'terminals='\n"
+        self.assertEqual(self.run_with(b""), (1, "refused=16\nat=1\n", fault))
+        self.assertEqual(self.run_with(b"", words=["--quiet"]), (1, "refused=16\nat=1\n", ""))
+        self.assertTrue(verdict(text_in("robot-49")).printed.startswith("states=49\n"))
 
-    def test_certificates_and_other_words(self):
-        self.assertEqual(self.run_with(EXAMPLE, LINES), (0, "accepted\n"))
-        self.assertEqual(self.run_with(EXAMPLE, b""), (1, "malformed certificate\n"))
-        self.assertEqual(self.run_with(), (2, ""))
+    def test_certificates(self):
+        self.assertEqual(self.run_with(EXAMPLE, LINES_CHECKED), (0, "accepted\n", ""))
+        self.assertEqual(self.run_with(EXAMPLE, b""), (1, "malformed\n", "1:1:1: 'certificate-form=' is expected\n"))
+
+    def test_words(self):
+        self.assertEqual(self.run_with()[:2], (2, ""))
+        self.assertEqual(self.run_with(words=["-", "-"])[:2], (2, ""))
+        self.assertEqual(self.run_with(words=["--no-such-option"])[:2], (2, ""))
+        for word in "--help", "-h", "--version":
+            status, out, err = self.run_with(words=[word])
+            self.assertEqual((status, err), (0, ""))
+            self.assertIn("judge.py", out)
+
+    def test_no_traceback(self):
+        """Whatever is named, the program ends with a status and without a traceback."""
+        with tempfile.TemporaryDirectory() as folder:
+            missing = os.path.join(folder, "missing")
+            for words, status in [([missing], 2), ([folder], 2), (["/dev/zero"], 1), (["\0"[:0]], 2), (["-"], 1),
+                                  (["-", missing], 2), ([folder, "-"], 2), (["--"], 2), (["a", "b", "c"], 2)]:
+                ran = subprocess.run([sys.executable, PROGRAM] + words, input=b"\xff\x00", capture_output=True)
+                self.assertEqual(ran.returncode, status, words)
+                self.assertNotIn(b"Traceback", ran.stderr)
 
 
 if __name__ == "__main__":

@@ -22,8 +22,9 @@
 #error "the archive is for x86-64"
 #endif
 
-/* Of this header; it changes when a caller has to. */
-#define AMBIGUITY_VERSION 1
+/* The version of the whole: library, header, wrapper, tools. The first number changes when a caller has to. */
+#define AMBIGUITY_VERSION "1.0.0"
+#define AMBIGUITY_VERSION_MAJOR 1
 
 /* Document 01's limits. */
 #define AMBIGUITY_MAX_TERMINALS 127
@@ -203,5 +204,7 @@ ambiguity_report_reply ambiguity_report(const uint8_t *text, size_t text_bytes, 
 #ifdef __cplusplus
 }
 #endif
+
+#include "ambiguity_cause_text.h"
 
 #endif

@@ -4,24 +4,36 @@
 //! overlap others: the borrow rules see to that.
 //!
 //! Every input is taken. A refusal changes no lent row. A written row may be longer than needed: its rest stays as it was.
+//!
+//! [`Grammar`] owns its rows: read a text, search it, check a certificate. The functions below it lend rows.
+
+#![warn(missing_docs)]
 
 #[cfg(not(all(target_arch = "x86_64", unix)))]
 compile_error!("the archive is for x86-64 with the System V calling convention");
 
+mod cause_text;
+mod grammar;
 mod raw;
 mod refusal;
 
+pub use grammar::{Code, Grammar, Rule, Searched, START};
 pub use refusal::{Cause, Refusal};
 
-/// Document 01's limits.
+/// Document 01's limit of terminals.
 pub const MAX_TERMINALS: usize = 127;
+/// Document 01's limit of nonterminals.
 pub const MAX_NONTERMINALS: usize = 127;
+/// Document 01's limit of rules, rule 0 not counted.
 pub const MAX_RULES: usize = 100;
+/// Document 01's limit of states.
 pub const MAX_STATES: usize = 256;
+/// Document 01's limit of a text's bytes.
 pub const MAX_TEXT_BYTES: usize = 65_536;
 
-/// Enough for any grammar: entries of its table, and symbols.
+/// Enough for any grammar: the entries of its table.
 pub const MAX_TABLE_ENTRIES: usize = MAX_STATES - 4 + MAX_RULES;
+/// Enough for any grammar: its symbols.
 pub const MAX_NAMES: usize = MAX_TERMINALS + MAX_NONTERMINALS;
 
 /// What the report takes of a text, and the bytes that are always enough for it.
@@ -30,11 +42,13 @@ pub const MAX_REPORT_STATES: usize = 48;
 pub const MAX_REPORT_BYTES: usize = 64;
 
 /// The triples of Q states, so the entries of a row with one for each.
+#[must_use]
 pub const fn row_entries(states: usize) -> usize {
     2 * states * states
 }
 
 /// The bytes of a certificate for Q states.
+#[must_use]
 pub const fn certificate_bytes(states: usize) -> usize {
     row_entries(states).div_ceil(8)
 }
@@ -42,27 +56,39 @@ pub const fn certificate_bytes(states: usize) -> usize {
 /// A grammar as tables: t terminals, n nonterminals, the rules end to end. Nothing is asked of it.
 #[derive(Clone, Copy, Debug)]
 pub struct Table<'a> {
+    /// t.
     pub terminals: usize,
+    /// n.
     pub nonterminals: usize,
+    /// Of each rule the left code, the length of its right side and the codes of that.
     pub rules: &'a [u8],
 }
 
 /// What moved on one side of a step: a rule opened or closed, by its number, or a symbol passed, by its code.
 #[derive(Clone, Copy, Debug, PartialEq, Eq)]
 pub enum Move {
+    /// Nothing moved.
     Still,
+    /// The rule of this number was opened.
     Opening(u64),
+    /// The rule of this number was closed.
     Closing(u64),
+    /// The symbol of this code was passed.
     Symbol(u64),
 }
 
 /// A step record: the next triple, and for either side what moved.
 #[derive(Clone, Copy, Debug, PartialEq, Eq)]
 pub struct Step {
+    /// The next triple's layer, 0 or 1.
     pub layer: usize,
+    /// Its left state.
     pub left: usize,
+    /// Its right state.
     pub right: usize,
+    /// What moved on the left.
     pub on_left: Move,
+    /// What moved on the right.
     pub on_right: Move,
 }
 
@@ -78,24 +104,39 @@ pub struct TripleRecord {
 /// What the search found: the certificate holds `size` triples, or the witness has so many entries.
 #[derive(Clone, Copy, Debug, PartialEq, Eq)]
 pub enum Verdict {
-    Unambiguous { size: usize },
-    Potential { entries: usize },
+    /// No sentence has two derivation trees.
+    Unambiguous {
+        /// The number of triples that the certificate holds.
+        size: usize,
+    },
+    /// Two strings part.
+    Potential {
+        /// The number of the witness's entries.
+        entries: usize,
+    },
 }
 
 /// What a text says: t, n, the number of the table's entries, and Q.
 #[derive(Clone, Copy, Debug, PartialEq, Eq)]
 pub struct Read {
+    /// t.
     pub terminals: usize,
+    /// n.
     pub nonterminals: usize,
+    /// The number of the table's entries.
     pub entries: usize,
+    /// Q.
     pub states: usize,
 }
 
 /// The names of a table's symbols, terminals first: name i is the part of `bytes` from `starts[i]` on, of `lengths[i]` bytes.
 #[derive(Clone, Copy, Debug)]
 pub struct Names<'a> {
+    /// What holds all the names; the text that was read serves.
     pub bytes: &'a [u8],
+    /// Where each name starts.
     pub starts: &'a [u32],
+    /// How many bytes each name has.
     pub lengths: &'a [u32],
 }
 
@@ -118,7 +159,20 @@ fn verdict_of(reply: &raw::SearchReply) -> Verdict {
     }
 }
 
-/// Q of a table, or its first refusal.
+/// Q of a table.
+///
+/// # Errors
+///
+/// Causes 1 to 8; all functions that take a table refuse with them before their own.
+///
+/// ```
+/// use ambiguity::{check_table, Cause, Refusal, Table};
+///
+/// let table = Table { terminals: 1, nonterminals: 1, rules: &[128, 1, 1] };
+/// assert_eq!(check_table(table), Ok(6));
+/// let cut = Table { rules: &[128, 1], ..table };
+/// assert_eq!(check_table(cut), Err(Refusal { cause: Cause::Truncated, at: 0 }));
+/// ```
 pub fn check_table(table: Table) -> Result<usize, Refusal> {
     let Table { terminals, nonterminals, rules } = table;
     // SAFETY: the pointer and the length are those of a slice, which lives on during the call; so in every call below.
@@ -127,6 +181,10 @@ pub fn check_table(table: Table) -> Result<usize, Refusal> {
 }
 
 /// The step record of (layer, left, right) at a place from 0; none past the last one, and for a triple out of range.
+///
+/// # Errors
+///
+/// Those of the table.
 pub fn nth_step(table: Table, layer: usize, left: usize, right: usize, nth: usize) -> Result<Option<Step>, Refusal> {
     let Table { terminals, nonterminals, rules } = table;
     let reply =
@@ -143,6 +201,10 @@ pub fn nth_step(table: Table, layer: usize, left: usize, right: usize, nth: usiz
 }
 
 /// Accepted exactly if the certificate is acceptable; then no sentence of the grammar has two derivation trees.
+///
+/// # Errors
+///
+/// Causes 9 to 13.
 pub fn check_certificate(table: Table, certificate: &[u8]) -> Result<(), Refusal> {
     let Table { terminals, nonterminals, rules } = table;
     let (bytes, length) = (certificate.as_ptr(), certificate.len());
@@ -152,6 +214,10 @@ pub fn check_certificate(table: Table, certificate: &[u8]) -> Result<(), Refusal
 }
 
 /// Accepted exactly if the row of indices leads from (0,0,0) to (1,1,1) by successors; then two strings part.
+///
+/// # Errors
+///
+/// Cause 15.
 pub fn check_witness(table: Table, row: &[u32]) -> Result<(), Refusal> {
     let Table { terminals, nonterminals, rules } = table;
     let reply =
@@ -171,6 +237,10 @@ pub fn check_witness_records(table: Table, records: &[TripleRecord]) -> Result<(
 /// Searches: `certificate_bytes(Q)` bytes and `row_entries(Q)` entries of each row are just enough. Unambiguous leaves the smallest
 /// acceptable certificate at the front of `certificate` and keeps the witness row; potential leaves a witness at the front of that
 /// row and keeps the certificate. The fronts of queue and parents are 0 afterwards. Uses up to 80 KiB of stack.
+///
+/// # Errors
+///
+/// Cause 14.
 pub fn search(
     table: Table,
     certificate: &mut [u8],
@@ -200,6 +270,10 @@ pub fn search(
 
 /// Reads grammar text; the table, and the start and length of each name, come at the fronts of the lent rows. `MAX_TABLE_ENTRIES`
 /// and `MAX_NAMES` entries are always enough. Uses up to 268 KiB of stack.
+///
+/// # Errors
+///
+/// Causes 16, 17, 18, 1, 4, 7, 6, 8, 14.
 pub fn read_text(text: &[u8], table: &mut [u8], starts: &mut [u32], lengths: &mut [u32]) -> Result<Read, Refusal> {
     let reply = unsafe {
         raw::ambiguity_read_text(
@@ -222,6 +296,10 @@ pub fn read_text(text: &[u8], table: &mut [u8], starts: &mut [u32], lengths: &mu
 }
 
 /// Writes grammar text to the front of `out`; back comes its length. `MAX_TEXT_BYTES` are always enough.
+///
+/// # Errors
+///
+/// Causes 16, 18, 14.
 pub fn write_text(table: Table, names: Names, out: &mut [u8]) -> Result<usize, Refusal> {
     let Table { terminals, nonterminals, rules } = table;
     let reply = unsafe {

@@ -6,27 +6,45 @@ use std::fmt;
 #[derive(Clone, Copy, Debug, PartialEq, Eq)]
 #[repr(u8)]
 pub enum Cause {
+    /// t or n is outside its range: at 0, or the line.
     OutOfRange = 1,
+    /// The table ends inside a rule: at the rule's offset.
     Truncated = 2,
+    /// The left code is no declared nonterminal: at the rule's offset.
     LeftUndeclared = 3,
+    /// A right side has more than 12 codes: at the rule's offset, or the line.
     RuleTooLong = 4,
+    /// A right code is undeclared: at the code's offset.
     CodeUndeclared = 5,
+    /// A rule equals an earlier one: at the later rule's offset.
     RuleRepeated = 6,
+    /// A rule past [`MAX_RULES`](crate::MAX_RULES): at its offset.
     TooManyRules = 7,
+    /// Q would pass [`MAX_STATES`](crate::MAX_STATES): at the rule's offset.
     TooManyStates = 8,
+    /// The certificate has the wrong length: at 0.
     CertificateLength = 9,
+    /// A bit past the last triple is set: at the lowest such index.
     SpareBit = 10,
+    /// (0,0,0) is missing: at 0.
     StartMissing = 11,
+    /// (1,1,1) is present: at its index.
     EndPresent = 12,
+    /// A successor is missing: at the lowest index that lacks one.
     SuccessorMissing = 13,
+    /// A lent output or work row is too short: at 0.
     BufferTooShort = 14,
+    /// The witness is wrong: at its first wrong entry, or at its length if only the end fails.
     WitnessWrong = 15,
+    /// A line or a name is malformed: at the line; for the writer at the symbol's number from 0.
     Malformed = 16,
+    /// A name is unknown or of the wrong kind: at the line.
     NameUnknown = 17,
+    /// A name is declared twice: at the line, or at the symbol's number.
     NameRepeated = 18,
 }
 
-const CAUSES: [Cause; 18] = [
+pub(crate) const CAUSES: [Cause; 18] = [
     Cause::OutOfRange,
     Cause::Truncated,
     Cause::LeftUndeclared,
@@ -50,19 +68,28 @@ const CAUSES: [Cause; 18] = [
 /// What is refused, and where; bindings/c/ambiguity.h says for each cause what the position counts.
 #[derive(Clone, Copy, Debug, PartialEq, Eq)]
 pub struct Refusal {
+    /// Why.
     pub cause: Cause,
+    /// Where.
     pub at: usize,
 }
 
 impl Cause {
+    /// Document 01's number, 1 to 18.
+    #[must_use]
     pub fn number(self) -> u8 {
         self as u8
     }
 }
 
+/// `refused=17 at=6`; with `{:#}` the words follow in brackets.
 impl fmt::Display for Refusal {
     fn fmt(&self, f: &mut fmt::Formatter) -> fmt::Result {
-        write!(f, "refused={} at={}", self.cause.number(), self.at)
+        write!(f, "refused={} at={}", self.cause.number(), self.at)?;
+        if f.alternate() {
+            write!(f, " ({})", self.cause)?;
+        }
+        Ok(())
     }
 }
 
@@ -85,5 +112,12 @@ mod tests {
         for (i, cause) in CAUSES.iter().enumerate() {
             assert_eq!(cause.number() as usize, i + 1);
         }
+    }
+
+    #[test]
+    fn words_stand_behind_the_numbers() {
+        let refusal = Refusal { cause: Cause::NameRepeated, at: 2 };
+        assert_eq!(format!("{refusal}"), "refused=18 at=2");
+        assert_eq!(format!("{refusal:#}"), "refused=18 at=2 (a name is declared twice)");
     }
 }

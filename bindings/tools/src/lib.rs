@@ -1,7 +1,19 @@
-//! What `ambig-certify` and `ambig-check` share. All that is decided is decided by the library; here it is put into words and lines.
+//! What `ambig-certify` and `ambig-check` share. Verdicts are the library's; here they are put into words, lines and pages.
 
 pub mod command;
-pub mod grammar;
+pub mod diagnosis;
+pub mod drawing;
+pub mod explanation;
+pub mod holes;
+pub mod layout;
 pub mod lines;
+pub mod markup;
+pub mod page;
+pub mod pairs;
+pub mod parting;
 pub mod readings;
 pub mod refusals;
+pub mod sentences;
+pub mod tree;
+pub mod warnings;
+pub mod words;

@@ -5,6 +5,7 @@
 use ambiguity::{Cause, Move, Refusal, Step, Table, TripleRecord};
 use std::fmt::Debug;
 use std::fs;
+use std::io::{self, Write};
 use std::path::{Path, PathBuf};
 use std::process::Command;
 
@@ -134,6 +135,8 @@ pub fn file(kind: &str, ending: &str) -> PathBuf {
 fn made(file: &Path, script: &str, arguments: &[&Path], verb: &str) {
     if !file.exists() {
         fs::create_dir_all(file.parent().unwrap()).unwrap();
+        // Written past the capture of the tests: this may take a minute.
+        let _ = writeln!(io::stderr(), "python3 second/{script} {verb}: makes {}", file.file_name().unwrap().to_string_lossy());
         let second = Path::new(env!("CARGO_MANIFEST_DIR")).join("../../second").join(script);
         let status = Command::new("python3").arg(second).arg(verb).args(arguments).status();
         assert!(status.expect("python3 runs").success(), "{script} {verb}");

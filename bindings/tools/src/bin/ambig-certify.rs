@@ -1,43 +1,98 @@
-//! Searches a grammar: prints its certificate as lines, or the two readings of a witness.
+//! Searches grammars: prints a certificate as lines, or explains why the verdict is potential; both also as a page.
 
 use std::ffi::OsString;
 use std::process::ExitCode;
 
-use ambig_tools::command::{self, Answer};
-use ambig_tools::grammar::Grammar;
-use ambig_tools::{lines, readings, refusals};
-use ambiguity::{certificate_bytes, row_entries, Refusal, Verdict, MAX_TEXT_BYTES};
+use ambig_tools::command::{self, Answer, Request, Status, Tool};
+use ambig_tools::lines::{self, Form};
+use ambig_tools::{explanation, page, refusals, warnings};
+use ambiguity::{Grammar, Searched, MAX_TEXT_BYTES};
 
-const USAGE: &str = "ambig-certify FILE";
+const TOOL: Tool = Tool {
+    name: "ambig-certify",
+    usage: "ambig-certify [OPTION]... [--] FILE...",
+    help: "
+Reads grammar text from each FILE, standard input for -. If the verdict is
+unambiguous, no sentence has two derivation trees: prints the certificate as
+lines that ambig-check reads. If the verdict is potential: prints where two
+readings part, and looks for a sentence with two trees. What is refused, and
+warnings about rules and names that no sentence uses, go to standard error.
 
-const HELP: &str = "usage: ambig-certify FILE
+  --steps        print the witness too, entry by entry
+  --html         write one page in HTML, with the trees as drawings (one FILE)
+  --form=1       print the certificate without check digits
+  --form=2       print it with check digits (this is the default)
+  -Werror        let warnings count as a refusal in the exit status
+  -q, --quiet    print only the lines that the program ambig prints
+  -h, --help     print this help
+  -V, --version  print the version
 
-Reads grammar text from FILE, or from standard input if FILE is -.
-Prints the certificate as lines that ambig-check reads, if the verdict is
-unambiguous: no sentence has two derivation trees. If the verdict is potential,
-prints a witness: the items of either side, what moves them, and the two strings.
+Exit status: 0 unambiguous, 1 potential or refused, 2 bad use, or a file that
+cannot be read; of several files the worst.
+",
+    options: &["--steps", "--html", "--form=1", "--form=2", "-Werror", "--quiet"],
+    files: 1,
+};
 
-Exit status: 0 unambiguous, 1 potential or refused, 2 bad use.
-";
-
-/// The verdict in lines.
-fn searched(grammar: &Grammar) -> Result<Answer, Refusal> {
-    let mut certificate = vec![0; certificate_bytes(grammar.states())];
-    let row = || vec![0; row_entries(grammar.states())];
-    let (mut queue, mut parents, mut witness) = (row(), row(), row());
-    match ambiguity::search(grammar.table(), &mut certificate, &mut queue, &mut parents, &mut witness)? {
-        Verdict::Unambiguous { size } => Ok(Answer::Yes(lines::written(grammar, size, &certificate))),
-        Verdict::Potential { entries } => Ok(Answer::No(readings::told(grammar, &witness[..entries])?)),
+/// The lines that the program `ambig` prints for a verdict.
+fn verdict_lines(grammar: &Grammar, searched: &Searched) -> String {
+    let states = grammar.states();
+    match searched {
+        Searched::Unambiguous { size, .. } => format!("states={states}\nverdict=unambiguous\nreached={size}\n"),
+        Searched::Potential { .. } => format!("states={states}\nverdict=potential\n"),
     }
 }
 
-fn answer(words: &[OsString]) -> Result<Answer, String> {
-    let [file] = command::files(words, USAGE)?;
-    let text = command::bytes(file, MAX_TEXT_BYTES)?;
-    let answer = Grammar::read(&text).and_then(|grammar| searched(&grammar));
-    Ok(answer.unwrap_or_else(|refusal| Answer::No(refusals::of_text(refusal, &text))))
+/// What standard output gets: the certificate, or the explanation.
+fn explained(request: &Request, file: &str, text: &[u8], grammar: &Grammar, searched: &Searched) -> String {
+    let verdict = verdict_lines(grammar, searched);
+    match searched {
+        _ if request.has("--quiet") => verdict,
+        _ if request.has("--html") => page::of(file, text, grammar, searched),
+        Searched::Unambiguous { certificate, size } => {
+            let form = if request.has("--form=1") { Form::Plain } else { Form::Checked };
+            lines::written(grammar, *size, certificate, form)
+        }
+        Searched::Potential { witness } => {
+            let explanation = explanation::of(grammar, witness);
+            let steps = if request.has("--steps") { format!("\n{}", explanation.steps) } else { String::new() };
+            format!("{verdict}{}{steps}", explanation.told(grammar))
+        }
+    }
+}
+
+fn judged(request: &Request, file: &str, text: &[u8]) -> Answer {
+    let quiet = request.has("--quiet");
+    let grammar = match Grammar::read(text) {
+        Ok(grammar) => grammar,
+        Err(refusal) if quiet => return Answer { status: Status::No, out: refusals::numbers(refusal), err: String::new() },
+        Err(refusal) => return Answer { status: Status::No, out: String::new(), err: refusals::of_text(file, text, refusal) },
+    };
+    let searched = grammar.search();
+    let warnings = warnings::told(file, &grammar);
+    let potential = matches!(searched, Searched::Potential { .. });
+    let counts = potential || request.has("-Werror") && !warnings.is_empty();
+    let mut err = if quiet { String::new() } else { warnings };
+    if potential && !quiet {
+        err.push_str(&format!("{file}: potentially ambiguous: there is no certificate\n"));
+    }
+    Answer {
+        status: if counts { Status::No } else { Status::Yes },
+        out: explained(request, file, text, &grammar, &searched),
+        err,
+    }
+}
+
+fn answer(request: &Request, files: &[OsString]) -> Answer {
+    if request.has("--html") && request.several(&TOOL) {
+        return Answer::misuse("ambig-certify: --html takes one file");
+    }
+    match command::bytes(&files[0], MAX_TEXT_BYTES) {
+        Ok(text) => judged(request, &command::shown(&files[0]), &text),
+        Err(misuse) => misuse,
+    }
 }
 
 fn main() -> ExitCode {
-    command::run(HELP, answer)
+    command::run(&TOOL, answer)
 }

@@ -1,47 +1,67 @@
-//! Checks a certificate that stands in lines against a grammar.
+//! Checks certificates that stand in lines against grammars.
 
 use std::ffi::OsString;
 use std::process::ExitCode;
 
-use ambig_tools::command::{self, Answer};
-use ambig_tools::grammar::Grammar;
+use ambig_tools::command::{self, Answer, Request, Status, Tool};
 use ambig_tools::{lines, refusals};
-use ambiguity::MAX_TEXT_BYTES;
+use ambiguity::{Grammar, MAX_TEXT_BYTES};
 
-const USAGE: &str = "ambig-check GRAMMAR CERTIFICATE";
-
-const HELP: &str = "usage: ambig-check GRAMMAR CERTIFICATE
-
+const TOOL: Tool = Tool {
+    name: "ambig-check",
+    usage: "ambig-check [OPTION]... [--] GRAMMAR CERTIFICATE [GRAMMAR CERTIFICATE]...",
+    help: "
 Reads grammar text from GRAMMAR and the lines of ambig-certify from CERTIFICATE;
-one of the two may be -, standard input. Says 'accepted' if the certificate is
-acceptable: no sentence of the grammar has two derivation trees. Else says what
-is refused and where, or the line and column of what is malformed.
+one of the files may be -, standard input. Says 'accepted' if the certificate is
+acceptable: then no sentence of the grammar has two derivation trees. Otherwise
+says on standard error what is wrong, in which file, line and column.
 
-Exit status: 0 accepted, 1 refused, 2 bad use.
-";
+  -q, --quiet    print only 'accepted', or the lines refused= and at=
+  -h, --help     print this help
+  -V, --version  print the version
 
-/// What is said of a certificate in lines.
-fn checked(grammar: &Grammar, text: &[u8]) -> Answer {
-    let certificate = match lines::read(grammar, text) {
-        Ok(certificate) => certificate,
-        Err(malformed) => return Answer::No(format!("{malformed}\n")),
+Exit status: 0 accepted, 1 refused, 2 bad use, or a file that cannot be read; of
+several pairs the worst.
+",
+    options: &["--quiet"],
+    files: 2,
+};
+
+/// Refused: numbers for scripts, or a message.
+fn refused(request: &Request, numbers: String, message: String) -> Answer {
+    let (out, err) = if request.has("--quiet") { (numbers, String::new()) } else { (String::new(), message) };
+    Answer { status: Status::No, out, err }
+}
+
+fn judged(request: &Request, [grammar_file, file]: [&str; 2], text: &[u8], certificate: &[u8]) -> Answer {
+    let grammar = match Grammar::read(text) {
+        Ok(grammar) => grammar,
+        Err(refusal) => return refused(request, refusals::numbers(refusal), refusals::of_text(grammar_file, text, refusal)),
     };
-    match ambiguity::check_certificate(grammar.table(), &certificate) {
-        Ok(()) => Answer::Yes("accepted\n".to_string()),
-        Err(refusal) => Answer::No(refusals::of_certificate(refusal, grammar)),
+    let certificate = match lines::read(&grammar, certificate) {
+        Ok(certificate) => certificate,
+        Err(malformed) => return refused(request, "malformed\n".to_string(), refusals::of_lines(file, &malformed)),
+    };
+    match grammar.check(&certificate.bytes) {
+        Ok(()) => Answer { status: Status::Yes, out: "accepted\n".to_string(), err: String::new() },
+        Err(refusal) => {
+            let message = refusals::of_certificate(file, &certificate, refusal, &grammar);
+            refused(request, refusals::numbers(refusal), message)
+        }
     }
 }
 
-fn answer(words: &[OsString]) -> Result<Answer, String> {
-    let [grammar, certificate] = command::files(words, USAGE)?;
-    let text = command::bytes(grammar, MAX_TEXT_BYTES)?;
-    let certificate = command::bytes(certificate, lines::MOST_BYTES)?;
-    Ok(match Grammar::read(&text) {
-        Ok(grammar) => checked(&grammar, &certificate),
-        Err(refusal) => Answer::No(refusals::of_text(refusal, &text)),
-    })
+fn answer(request: &Request, files: &[OsString]) -> Answer {
+    let text = command::bytes(&files[0], MAX_TEXT_BYTES);
+    let certificate = command::bytes(&files[1], lines::MOST_BYTES);
+    match (text, certificate) {
+        (Ok(text), Ok(certificate)) => {
+            judged(request, [&command::shown(&files[0]), &command::shown(&files[1])], &text, &certificate)
+        }
+        (Err(misuse), _) | (_, Err(misuse)) => misuse,
+    }
 }
 
 fn main() -> ExitCode {
-    command::run(HELP, answer)
+    command::run(&TOOL, answer)
 }

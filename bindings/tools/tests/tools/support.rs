@@ -34,6 +34,34 @@ pub fn file(name: &str, text: &str) -> String {
     path.to_str().unwrap().to_string()
 }
 
+/// A folder of the repository.
+pub fn folder(name: &str) -> PathBuf {
+    PathBuf::from(env!("CARGO_MANIFEST_DIR")).join("../..").join(name)
+}
+
+/// What a tool answers if nothing goes to standard error.
+pub fn said(status: i32, out: &str) -> Ran {
+    Ran { status, out: out.to_string(), err: String::new() }
+}
+
+/// A grammar of the corpus: its name, its truth and its text.
+pub struct Entry {
+    pub name: String,
+    pub truth: String,
+    pub text: String,
+}
+
+/// The corpus, by its index.
+pub fn corpus() -> Vec<Entry> {
+    let read = |name: &str| std::fs::read_to_string(folder("corpus").join(name)).unwrap();
+    let entry = |line: &str| {
+        let columns: Vec<&str> = line.split('\t').collect();
+        let text = read(&format!("{}.grammar", columns[0]));
+        Entry { name: columns[0].to_string(), truth: columns[6].to_string(), text }
+    };
+    read("INDEX.tsv").lines().skip(1).map(entry).collect()
+}
+
 /// What the certificate tool says of a text.
 pub fn certify(text: &str) -> Ran {
     run(CERTIFY, &["-"], text.as_bytes())

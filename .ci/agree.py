@@ -1,0 +1,170 @@
+"""Compares the tools with the program ambig and with the second program, judge.py.
+
+    agree.py TOOLS AMBIG     TOOLS is the folder of ambig-certify and ambig-check
+
+Prints a line for each comparison and exits with 1 if one fails.
+"""
+
+import glob
+import itertools
+import os
+import random
+import re
+import subprocess
+import sys
+
+ROOT = os.path.dirname(os.path.dirname(os.path.abspath(__file__)))
+sys.path.insert(0, os.path.join(ROOT, "second"))
+sys.dont_write_bytecode = True
+
+from corpus import AMBIGUOUS, EMPTY, coded, entries, found_in, text_in  # noqa: E402
+from judge import checked, verdict  # noqa: E402
+from program import MAX_BYTES, MAX_STATES  # noqa: E402
+from trees import MOST, tree_count  # noqa: E402
+
+MESSAGES = sorted(glob.glob(os.path.join(ROOT, "bindings/tools/tests/messages/*.grammar")))
+SMALL = 60                # states up to which the second program is quick
+SLIPS = 300
+RANDOM = 400              # grammars
+SHORT = 4                 # terminals of a short sentence
+
+
+def ran(words, text):
+    """Output, messages and exit status."""
+    done = subprocess.run(words, input=text, capture_output=True)
+    return done.stdout.decode(), done.stderr.decode(), done.returncode
+
+
+def line_of(message):
+    """The line in `FILE:LINE:COLUMN: ...`."""
+    found = re.match(r"[^:]*:(\d+):\d+: ", message)
+    return int(found[1]) if found else None
+
+
+class Tools:
+    def __init__(self, folder, ambig):
+        self.certify = os.path.join(folder, "ambig-certify")
+        self.check = os.path.join(folder, "ambig-check")
+        self.ambig = ambig
+
+
+def as_ambig(tools):
+    """With --quiet ambig-certify prints what ambig prints, where ambig takes the text."""
+    texts = [text_in(entry.name) for entry in entries() if entry.states <= MAX_STATES]
+    for path in MESSAGES:
+        with open(path, "rb") as file:
+            texts.append(file.read())
+    for text in texts:
+        if len(text) <= MAX_BYTES:
+            quiet = ran([tools.certify, "--quiet", "-"], text)[0]
+            assert quiet == ran([tools.ambig], text)[0], text
+    return "%d texts" % len(texts)
+
+
+def messages(tools):
+    """The second program refuses alike, and names the same line."""
+    for path in MESSAGES:
+        with open(path, "rb") as file:
+            text = file.read()
+        answer = verdict(text)
+        assert answer.printed == ran([tools.certify, "--quiet", path], b"")[0], path
+        assert answer.grammar_fault.line == line_of(ran([tools.certify, path], b"")[1].replace(path, "")), path
+    return "%d texts" % len(MESSAGES)
+
+
+def certificates(tools):
+    """The second program takes what ambig-certify prints, and judges damaged lines alike."""
+    rng = random.Random(1)
+    printed = []
+    for entry in entries():
+        if entry.size is not None and entry.states <= SMALL:
+            text = text_in(entry.name)
+            printed += [(entry.name, text, ran([tools.certify, form, "-"], text)[0].encode()) for form in ("--form=1", "--form=2")]
+    for _, text, lines in printed:
+        assert checked(text, lines).printed == "accepted\n", text
+    for _ in range(SLIPS):
+        name, text, lines = rng.choice(printed)
+        damaged = bytearray(lines)
+        for _ in range(rng.randrange(1, 3)):
+            place = rng.randrange(len(damaged))
+            damaged[place:place + rng.randrange(2)] = rng.choice([b"", b"0", b"f", b" ", b"\n", b"*", b"\xb2"])
+        path = os.path.join(ROOT, "corpus", name + ".grammar")
+        answer = checked(text, bytes(damaged))
+        assert answer.printed == ran([tools.check, "--quiet", path, "-"], damaged)[0], bytes(damaged)
+        if answer.certificate_fault is not None:
+            said = ran([tools.check, path, "-"], damaged)[1]
+            assert answer.certificate_fault.line == line_of(said), (said, answer, bytes(damaged))
+    return "%d certificates, %d damaged ones" % (len(printed), SLIPS)
+
+
+def told_ambiguous(out):
+    """The sentence of terminals that is called ambiguous, in the form of the corpus' index; None if there is none."""
+    told = re.search(r"ambiguous: (the empty sentence|`[^`]*`) has two trees"
+                     r"(?:, for example (`[^`]*`))?", " ".join(out.split()))
+    if told is None:
+        return None
+    sentence = (told[2] or told[1]).strip("`")
+    return EMPTY if sentence == "the empty sentence" else sentence
+
+
+def has_two_trees(text, sentence):
+    found = found_in(text)
+    row = coded(found, sentence)
+    return row is not None and tree_count(found.grammar, row) == MOST
+
+
+def sentences(tools):
+    """Every ambiguous grammar of the corpus is called so, with a sentence that has two trees."""
+    count = 0
+    for entry in entries():
+        if entry.truth == AMBIGUOUS:
+            text = text_in(entry.name)
+            sentence = told_ambiguous(ran([tools.certify, "-"], text)[0])
+            assert sentence is not None and has_two_trees(text, sentence), (entry.name, sentence)
+            count += 1
+    return "%d sentences" % count
+
+
+def random_text(rng):
+    """A small grammar, often with empty rules and rules that no sentence uses."""
+    terminals, nonterminals = ["a", "b"][:rng.randrange(1, 3)], ["S", "A", "B", "C"][:rng.randrange(1, 5)]
+    lengths = rng.choice([(0, 0, 1, 2, 3), (0, 1, 1, 2, 2, 3, 3)])
+    rules = {(rng.choice(nonterminals), tuple(rng.choice(terminals + nonterminals) for _ in range(rng.choice(lengths))))
+             for _ in range(rng.randrange(2, 8))}
+    lines = ["rule=%s:%s\n" % (left, "".join(" " + name for name in right)) for left, right in sorted(rules)]
+    return ("terminals=%s\nnonterminals=%s\n%s" % (",".join(terminals), ",".join(nonterminals), "".join(lines))).encode()
+
+
+def random_grammars(tools):
+    """Random grammars that are called ambiguous have such a sentence; the others have none that is short."""
+    rng = random.Random(1)
+    ambiguous = 0
+    for _ in range(RANDOM):
+        text = random_text(rng)
+        out = ran([tools.certify, "-"], text)[0]
+        sentence = told_ambiguous(out)
+        if sentence is not None:
+            assert has_two_trees(text, sentence), (text, sentence)
+            ambiguous += 1
+        elif "verdict=potential" in out:
+            grammar = found_in(text).grammar
+            short = (bytes(row) for length in range(SHORT + 1)
+                     for row in itertools.product(range(1, grammar.terminals + 1), repeat=length))
+            assert all(tree_count(grammar, row) < MOST for row in short), text
+    return "%d grammars, %d of them ambiguous" % (RANDOM, ambiguous)
+
+
+def main(folder, ambig):
+    tools = Tools(folder, ambig)
+    failed = 0
+    for test in as_ambig, messages, certificates, sentences, random_grammars:
+        try:
+            print("%s: %s" % (test(tools), test.__doc__.strip()))
+        except AssertionError as error:
+            failed += 1
+            print("wrong: %s\n%s" % (test.__doc__.strip(), error))
+    return 1 if failed else 0
+
+
+if __name__ == "__main__":
+    sys.exit(main(*sys.argv[1:]))

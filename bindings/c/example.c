@@ -1,0 +1,82 @@
+/* From grammar text to the verdict: reads a text from standard input, searches it, and prints the verdict with the certificate's
+ * bytes, which are then checked. Exits with 0 for unambiguous, 1 for potential, 2 for a refusal. */
+#include <stdio.h>
+#include <stdlib.h>
+
+#include "ambiguity.h"
+
+static uint8_t text[AMBIGUITY_MAX_TEXT_BYTES + 1];
+static uint8_t table[AMBIGUITY_MAX_TABLE_ENTRIES];
+static uint32_t starts[AMBIGUITY_MAX_NAMES];
+static uint32_t lengths[AMBIGUITY_MAX_NAMES];
+
+static int refused(uint64_t cause, uint64_t at)
+{
+    fprintf(stderr, "refused=%llu at=%llu: %s\n", (unsigned long long)cause, (unsigned long long)at, ambiguity_cause_text(cause));
+    return 2;
+}
+
+/* The rows of the search, for so many states. */
+struct rows {
+    size_t bytes;
+    size_t entries;
+    uint8_t *certificate;
+    uint32_t *queue, *parents, *witness;
+};
+
+static int lend(struct rows *rows, size_t states)
+{
+    rows->bytes = AMBIGUITY_CERTIFICATE_BYTES(states);
+    rows->entries = AMBIGUITY_ROW_ENTRIES(states);
+    rows->certificate = malloc(rows->bytes);
+    rows->queue = malloc(rows->entries * sizeof *rows->queue);
+    rows->parents = malloc(rows->entries * sizeof *rows->parents);
+    rows->witness = malloc(rows->entries * sizeof *rows->witness);
+    return rows->certificate != NULL && rows->queue != NULL && rows->parents != NULL && rows->witness != NULL;
+}
+
+static void give_back(struct rows *rows)
+{
+    free(rows->certificate);
+    free(rows->queue);
+    free(rows->parents);
+    free(rows->witness);
+}
+
+static int judge(ambiguity_read_reply grammar, struct rows *rows)
+{
+    size_t t = grammar.terminals, n = grammar.nonterminals, entries = grammar.entries;
+    ambiguity_search_reply found =
+        ambiguity_search(t, n, table, entries, rows->certificate, rows->bytes, rows->queue, rows->entries, rows->parents,
+                         rows->entries, rows->witness, rows->entries);
+    if (found.cause != AMBIGUITY_NOT_REFUSED)
+        return refused(found.cause, found.at);
+    printf("states=%llu\n", (unsigned long long)grammar.states);
+    if (found.verdict == AMBIGUITY_POTENTIAL) {
+        printf("verdict=potential\n");
+        return 1;
+    }
+    printf("verdict=unambiguous\nreached=%llu\ncertificate=", (unsigned long long)found.count);
+    for (size_t i = 0; i < rows->bytes; i++)
+        printf("%02x", rows->certificate[i]);
+    printf("\n");
+    ambiguity_check_reply checked = ambiguity_check_certificate(t, n, table, entries, rows->certificate, rows->bytes);
+    return checked.cause == AMBIGUITY_NOT_REFUSED ? 0 : refused(checked.cause, checked.at);
+}
+
+int main(void)
+{
+    size_t bytes = fread(text, 1, sizeof text, stdin);
+    if (ferror(stdin)) {
+        perror("standard input");
+        return 2;
+    }
+    ambiguity_read_reply grammar = ambiguity_read_text(text, bytes, table, AMBIGUITY_MAX_TABLE_ENTRIES, starts,
+                                                       AMBIGUITY_MAX_NAMES, lengths, AMBIGUITY_MAX_NAMES);
+    if (grammar.cause != AMBIGUITY_NOT_REFUSED)
+        return refused(grammar.cause, grammar.at);
+    struct rows rows;
+    int status = lend(&rows, grammar.states) ? judge(grammar, &rows) : refused(AMBIGUITY_BUFFER_TOO_SHORT, 0);
+    give_back(&rows);
+    return status;
+}

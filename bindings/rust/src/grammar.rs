@@ -1,0 +1,202 @@
+//! A grammar that owns its table and its names, for callers who want no rows to lend.
+
+use crate::{certificate_bytes, check_certificate, read_text, row_entries, search, write_text};
+use crate::{Names, Refusal, Table, Verdict, MAX_NAMES, MAX_TABLE_ENTRIES, MAX_TEXT_BYTES};
+
+/// A symbol's code: terminals are 1 to t, nonterminals [`START`] and up.
+pub type Code = u8;
+
+/// The code of the first nonterminal, the start.
+pub const START: Code = 128;
+
+/// A stored rule. Rule 0, from the primed start to the start, is not stored: `rules()[i]` is rule i + 1.
+#[derive(Clone, Debug, PartialEq, Eq)]
+pub struct Rule {
+    /// The nonterminal on the left side.
+    pub left: Code,
+    /// The symbols of the right side.
+    pub right: Vec<Code>,
+}
+
+/// What the search of a grammar gives.
+#[derive(Clone, Debug, PartialEq, Eq)]
+pub enum Searched {
+    /// No sentence has two derivation trees.
+    Unambiguous {
+        /// The smallest acceptable certificate.
+        certificate: Vec<u8>,
+        /// The number of triples that it holds.
+        size: usize,
+    },
+    /// Two strings of the position automaton part.
+    Potential {
+        /// The indices of triples from (0,0,0) to (1,1,1), each a successor of the one before.
+        witness: Vec<u32>,
+    },
+}
+
+/// A grammar that the reader took.
+///
+/// ```
+/// use ambiguity::{Grammar, Searched};
+///
+/// let grammar = Grammar::read(b"terminals=a\nnonterminals=S\nrule=S: a\n")?;
+/// let Searched::Unambiguous { certificate, size } = grammar.search() else { panic!("S: a has one tree") };
+/// assert_eq!((grammar.states(), size), (6, 11));
+/// grammar.check(&certificate)?;
+/// # Ok::<(), ambiguity::Refusal>(())
+/// ```
+#[derive(Clone, Debug, PartialEq, Eq)]
+pub struct Grammar {
+    names: Vec<String>,
+    terminals: usize,
+    entries: Vec<u8>,
+    rules: Vec<Rule>,
+    states: usize,
+}
+
+/// The rules of a table that passed its check.
+fn rules_of(mut entries: &[u8]) -> Vec<Rule> {
+    let mut rules = Vec::new();
+    while let [left, length, rest @ ..] = entries {
+        let (right, rest) = rest.split_at(*length as usize);
+        rules.push(Rule { left: *left, right: right.to_vec() });
+        entries = rest;
+    }
+    rules
+}
+
+impl Grammar {
+    /// Reads grammar text. Uses up to 268 KiB of stack, as [`read_text`] does.
+    ///
+    /// # Errors
+    ///
+    /// The first refusal in document 01's order, with its line or offset:
+    ///
+    /// ```
+    /// let refusal = ambiguity::Grammar::read(b"terminals=a\nnonterminals=S\nrule=S: b\n").unwrap_err();
+    /// assert_eq!(refusal.to_string(), "refused=17 at=3");
+    /// assert_eq!(refusal.cause.to_string(), "a name is not declared, or is of the wrong kind");
+    /// ```
+    pub fn read(text: &[u8]) -> Result<Grammar, Refusal> {
+        let mut entries = vec![0; MAX_TABLE_ENTRIES];
+        let (mut starts, mut lengths) = ([0; MAX_NAMES], [0; MAX_NAMES]);
+        let read = read_text(text, &mut entries, &mut starts, &mut lengths)?;
+        entries.truncate(read.entries);
+        let name = |i: usize| {
+            let start = starts[i] as usize;
+            String::from_utf8_lossy(&text[start..start + lengths[i] as usize]).into_owned()
+        };
+        Ok(Grammar {
+            names: (0..read.terminals + read.nonterminals).map(name).collect(),
+            terminals: read.terminals,
+            rules: rules_of(&entries),
+            entries,
+            states: read.states,
+        })
+    }
+
+    /// The grammar as text: what was read comes back the same.
+    ///
+    /// ```
+    /// let text = "terminals=a\nnonterminals=S\nrule=S: S a\nrule=S:\n";
+    /// assert_eq!(ambiguity::Grammar::read(text.as_bytes())?.write(), text);
+    /// # Ok::<(), ambiguity::Refusal>(())
+    /// ```
+    #[must_use]
+    pub fn write(&self) -> String {
+        let lengths: Vec<u32> = self.names.iter().map(|name| name.len() as u32).collect();
+        let starts: Vec<u32> = lengths.iter().scan(0, |end, length| Some(std::mem::replace(end, *end + length))).collect();
+        let bytes = self.names.concat();
+        let names = Names { bytes: bytes.as_bytes(), starts: &starts, lengths: &lengths };
+        let mut text = vec![0; MAX_TEXT_BYTES];
+        let length = write_text(self.table(), names, &mut text).expect("a grammar that was read is written");
+        text.truncate(length);
+        String::from_utf8(text).expect("grammar text is ASCII")
+    }
+
+    /// Searches the grammar; the rows are lent here.
+    #[must_use]
+    pub fn search(&self) -> Searched {
+        let mut certificate = vec![0; certificate_bytes(self.states)];
+        let row = || vec![0; row_entries(self.states)];
+        let (mut queue, mut parents, mut witness) = (row(), row(), row());
+        let verdict = search(self.table(), &mut certificate, &mut queue, &mut parents, &mut witness);
+        match verdict.expect("a search that is lent enough is not refused") {
+            Verdict::Unambiguous { size } => Searched::Unambiguous { certificate, size },
+            Verdict::Potential { entries } => {
+                witness.truncate(entries);
+                Searched::Potential { witness }
+            }
+        }
+    }
+
+    /// Checks a certificate. If it is accepted, no sentence has two derivation trees.
+    ///
+    /// # Errors
+    ///
+    /// Causes 9 to 13, with their positions.
+    pub fn check(&self, certificate: &[u8]) -> Result<(), Refusal> {
+        check_certificate(self.table(), certificate)
+    }
+
+    /// The table, for the functions that take one.
+    #[must_use]
+    pub fn table(&self) -> Table<'_> {
+        Table { terminals: self.terminals, nonterminals: self.names.len() - self.terminals, rules: &self.entries }
+    }
+
+    /// Q, the number of states.
+    #[must_use]
+    pub fn states(&self) -> usize {
+        self.states
+    }
+
+    /// The stored rules, in order.
+    #[must_use]
+    pub fn rules(&self) -> &[Rule] {
+        &self.rules
+    }
+
+    /// The terminals' names, in order of their codes from 1.
+    #[must_use]
+    pub fn terminals(&self) -> &[String] {
+        &self.names[..self.terminals]
+    }
+
+    /// The nonterminals' names, in order of their codes from [`START`]; the first is the start.
+    #[must_use]
+    pub fn nonterminals(&self) -> &[String] {
+        &self.names[self.terminals..]
+    }
+
+    /// The name of a symbol; none for a code that is not declared.
+    #[must_use]
+    pub fn name(&self, code: Code) -> Option<&str> {
+        let (names, first) = if code < START { (self.terminals(), 1) } else { (self.nonterminals(), START) };
+        names.get(code.checked_sub(first)? as usize).map(String::as_str)
+    }
+}
+
+#[cfg(test)]
+mod tests {
+    use super::*;
+
+    #[test]
+    fn names_by_code() {
+        let grammar = Grammar::read(b"terminals=a,b\nnonterminals=S,T\nrule=S: a T\nrule=T: b\n").unwrap();
+        let named: Vec<Code> = (0..=Code::MAX).filter(|code| grammar.name(*code).is_some()).collect();
+        assert_eq!(named, [1, 2, START, START + 1]);
+        assert_eq!(named.iter().map(|code| grammar.name(*code).unwrap()).collect::<Vec<_>>(), ["a", "b", "S", "T"]);
+        assert_eq!((grammar.terminals().len(), grammar.nonterminals().len(), grammar.rules().len()), (2, 2, 2));
+        assert_eq!(grammar.rules()[0], Rule { left: START, right: vec![1, START + 1] });
+    }
+
+    #[test]
+    fn a_witness_is_accepted() {
+        let grammar = Grammar::read(b"terminals=a\nnonterminals=S\nrule=S: S\nrule=S: a\n").unwrap();
+        let Searched::Potential { witness } = grammar.search() else { panic!("S: S is taken any number of times") };
+        assert_eq!(crate::check_witness(grammar.table(), &witness), Ok(()));
+        assert_eq!(grammar.check(&[]).unwrap_err().cause.number(), 9);
+    }
+}

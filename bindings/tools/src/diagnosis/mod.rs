@@ -1,0 +1,169 @@
+//! What is wrong with a grammar's text, where, and what to do. The library's refusal decides; the text is looked at only to put it
+//! into words.
+
+mod malformed;
+mod nearest;
+
+use ambiguity::{Cause, Refusal, MAX_NONTERMINALS, MAX_RULES, MAX_STATES, MAX_TERMINALS, MAX_TEXT_BYTES};
+
+use crate::words::{key, LISTS};
+
+/// Symbols that a right side may have.
+const MAX_RIGHT: usize = 12;
+
+/// What is wrong at a place; lines and columns count from 1, columns in bytes.
+#[derive(Debug, PartialEq, Eq)]
+pub struct Finding {
+    pub line: usize,
+    pub column: usize,
+    pub message: String,
+}
+
+/// A part of a line, with its place from 0.
+#[derive(Clone, Copy)]
+struct Word<'a> {
+    at: usize,
+    bytes: &'a [u8],
+}
+
+impl Word<'_> {
+    /// The word in quotes; bytes that do not print are escaped.
+    fn quoted(&self) -> String {
+        format!("'{}'", self.bytes.escape_ascii())
+    }
+}
+
+/// The parts of a line's value between separators, which stands behind a key of `key` bytes.
+fn words(line: &[u8], key: usize, separator: impl Fn(&u8) -> bool) -> Vec<Word<'_>> {
+    let mut at = key;
+    let parts = line.get(key..).unwrap_or_default().split(separator);
+    parts
+        .map(|bytes| {
+            let word = Word { at, bytes };
+            at += bytes.len() + 1;
+            word
+        })
+        .collect()
+}
+
+/// The finding for a refusal of this text.
+pub fn of(text: &[u8], refusal: Refusal) -> Finding {
+    let lines: Vec<&[u8]> = text.split(|byte| *byte == b'\n').collect();
+    let at = refusal.at;
+    let (line, (place, message)) = match refusal.cause {
+        Cause::Malformed if at == 0 => return too_long(text),
+        Cause::Malformed => (at, malformed::found(text, at)),
+        Cause::NameUnknown => (at, unknown_name(&lines, at)),
+        Cause::NameRepeated => (at, repeated_name(&lines, at)),
+        Cause::OutOfRange => (at, too_many_names(&lines, at)),
+        Cause::RuleTooLong => (at, too_many_symbols(lines[at - 1])),
+        cause => of_rule(&lines, cause, at),
+    };
+    Finding { line, column: place + 1, message }
+}
+
+/// Place and message.
+type Found = (usize, String);
+
+fn too_long(text: &[u8]) -> Finding {
+    let front = &text[..MAX_TEXT_BYTES.min(text.len())];
+    let line = front.iter().filter(|byte| **byte == b'\n').count();
+    let column = front.iter().rev().take_while(|byte| **byte != b'\n').count();
+    Finding {
+        line: line + 1,
+        column: column + 1,
+        message: format!("the text has more than {MAX_TEXT_BYTES} bytes; that is the limit"),
+    }
+}
+
+/// The declared names of a list's line.
+fn declared<'a>(lines: &[&'a [u8]], number: usize) -> Vec<Word<'a>> {
+    let names = words(lines[number - 1], key(number).len(), |byte| *byte == b',');
+    names.into_iter().filter(|name| !name.bytes.is_empty()).collect()
+}
+
+/// Left name and right side of a rule's line.
+fn rule_words(line: &[u8]) -> Vec<Word<'_>> {
+    let words = words(line, key(LISTS + 1).len(), |byte| matches!(byte, b':' | b' '));
+    words.into_iter().filter(|word| !word.bytes.is_empty()).collect()
+}
+
+fn unknown_name(lines: &[&[u8]], number: usize) -> Found {
+    let (terminals, nonterminals) = (declared(lines, 1), declared(lines, 2));
+    let is_in = |names: &[Word], word: &Word| names.iter().any(|name| name.bytes == word.bytes);
+    let words = rule_words(lines[number - 1]);
+    let Some(left) = words.first() else { return (0, "a name is not declared".to_string()) };
+    if is_in(&terminals, left) {
+        let message = format!("{} is a terminal, declared on line 1; only a nonterminal has rules", left.quoted());
+        return (left.at, message);
+    }
+    let unknown = words.iter().find(|word| !is_in(&terminals, word) && !is_in(&nonterminals, word)).unwrap_or(left);
+    let names = if unknown.at == left.at { nonterminals } else { [terminals, nonterminals].concat() };
+    let remedy = match nearest::nearest(unknown.bytes, names.iter().map(|name| name.bytes)) {
+        Some(place) => format!("is {} meant?", names[place].quoted()),
+        None if unknown.at == left.at => "add it to the nonterminals on line 2".to_string(),
+        None => "add it to the terminals on line 1 or to the nonterminals on line 2".to_string(),
+    };
+    (unknown.at, format!("{} is not declared; {remedy}", unknown.quoted()))
+}
+
+fn repeated_name(lines: &[&[u8]], number: usize) -> Found {
+    let mut earlier: Vec<(usize, Word)> = Vec::new();
+    for line in 1..=number {
+        for name in declared(lines, line) {
+            match earlier.iter().find(|(_, first)| line == number && first.bytes == name.bytes) {
+                Some((first_line, first)) => {
+                    let place = format!("line {first_line}, column {}", first.at + 1);
+                    return (name.at, format!("{} is declared twice, first on {place}; take one of them out", name.quoted()));
+                }
+                None => earlier.push((line, name)),
+            }
+        }
+    }
+    (0, "a name is declared twice".to_string())
+}
+
+fn too_many_names(lines: &[&[u8]], number: usize) -> Found {
+    let most = if number == 1 { MAX_TERMINALS } else { MAX_NONTERMINALS };
+    match declared(lines, number).get(most) {
+        Some(name) => (name.at, format!("{} is name {} of this list; the limit is {most}", name.quoted(), most + 1)),
+        None => {
+            (key(number).len(), "no nonterminal is declared; the first one is the start, as in 'nonterminals=S'".to_string())
+        }
+    }
+}
+
+fn too_many_symbols(line: &[u8]) -> Found {
+    let words = rule_words(line);
+    let symbols = words.len() - 1;
+    let place = words.get(1 + MAX_RIGHT).map_or(0, |word| word.at);
+    (
+        place,
+        format!("the right side has {symbols} symbols; the limit is {MAX_RIGHT}: put some of them into a rule of their own"),
+    )
+}
+
+/// The faults that are told by a rule's offset in the table, where every line is well formed.
+fn of_rule(lines: &[&[u8]], cause: Cause, offset: usize) -> (usize, Found) {
+    let mut end = 0;
+    let mut states = 4;
+    let rules = lines.iter().skip(LISTS).map(|line| rule_words(line));
+    let place = rules.take_while(|rule| {
+        let before = end < offset;
+        end += 1 + rule.len();
+        states += rule.len();
+        before
+    });
+    let place = place.count();
+    let line = LISTS + place + 1;
+    let message = match cause {
+        Cause::RuleRepeated => {
+            let first = lines.iter().position(|first| *first == lines[line - 1]).unwrap_or(0) + 1;
+            format!("this rule equals the rule on line {first}; take one of them out")
+        }
+        Cause::TooManyRules => format!("this is rule {}; the limit is {MAX_RULES}", place + 1),
+        Cause::TooManyStates => format!("with this rule there are {states} states; the limit is {MAX_STATES}"),
+        cause => cause.to_string(),
+    };
+    (line, (key(line).len(), message))
+}

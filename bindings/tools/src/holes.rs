@@ -1,0 +1,152 @@
+//! Holes of a grammar: what no sentence uses. They change no verdict here; a half-finished grammar shows in them.
+
+use ambiguity::{Code, Grammar, START};
+
+use crate::words;
+
+const CODES: usize = Code::MAX as usize + 1;
+
+/// Marks for codes.
+pub type Marks = [bool; CODES];
+
+/// By code, whether a symbol has a sentence: terminals have, and nonterminals with a finite tree.
+pub fn productive(grammar: &Grammar) -> Marks {
+    let mut marks = [false; CODES];
+    marks[1..=grammar.terminals().len()].fill(true);
+    loop {
+        let found = grammar.rules().iter().find(|rule| !marks[rule.left as usize] && all(&marks, &rule.right));
+        match found {
+            Some(rule) => marks[rule.left as usize] = true,
+            None => return marks,
+        }
+    }
+}
+
+/// By code, whether a symbol has a sentence that is not empty.
+pub fn visible(grammar: &Grammar) -> Marks {
+    let productive = productive(grammar);
+    let mut marks = [false; CODES];
+    marks[1..=grammar.terminals().len()].fill(true);
+    loop {
+        let shows = |row: &[Code]| all(&productive, row) && row.iter().any(|code| marks[*code as usize]);
+        let found = grammar.rules().iter().find(|rule| !marks[rule.left as usize] && shows(&rule.right));
+        match found {
+            Some(rule) => marks[rule.left as usize] = true,
+            None => return marks,
+        }
+    }
+}
+
+fn all(marks: &Marks, row: &[Code]) -> bool {
+    row.iter().all(|code| marks[*code as usize])
+}
+
+/// By code, whether a symbol is reached from the start through rules whose symbols all have sentences.
+fn reached(grammar: &Grammar, productive: &Marks) -> Marks {
+    let mut marks = [false; CODES];
+    let mut rest = vec![START];
+    while let Some(code) = rest.pop() {
+        if !std::mem::replace(&mut marks[code as usize], true) {
+            let rules = grammar.rules().iter().filter(|rule| rule.left == code && all(productive, &rule.right));
+            rest.extend(rules.flat_map(|rule| &rule.right));
+        }
+    }
+    marks
+}
+
+/// For each stored rule whether some sentence has a tree that uses it.
+pub fn live_rules(grammar: &Grammar) -> Vec<bool> {
+    let productive = productive(grammar);
+    let reached = reached(grammar, &productive);
+    grammar.rules().iter().map(|rule| reached[rule.left as usize] && all(&productive, &rule.right)).collect()
+}
+
+/// A warning, with the line of the text that it is about.
+#[derive(Debug, PartialEq, Eq)]
+pub struct Warning {
+    pub line: usize,
+    /// The name that it is about, if that stands in a list; a rule otherwise.
+    pub name: Option<String>,
+    pub message: String,
+}
+
+/// Terminals that stand in no rule, nonterminals without rules, and rules that no sentence uses.
+pub fn warnings(grammar: &Grammar) -> Vec<Warning> {
+    let mut found = Vec::new();
+    for (place, name) in grammar.terminals().iter().enumerate() {
+        let code = 1 + place as Code;
+        if !grammar.rules().iter().any(|rule| rule.right.contains(&code)) {
+            found.push(listed(1, name, format!("the terminal '{name}' stands in no rule")));
+        }
+    }
+    for (place, name) in grammar.nonterminals().iter().enumerate() {
+        let code = START + place as Code;
+        if !grammar.rules().iter().any(|rule| rule.left == code) {
+            found.push(listed(2, name, format!("the nonterminal '{name}' has no rule")));
+        }
+    }
+    let productive = productive(grammar);
+    for (place, _) in live_rules(grammar).iter().enumerate().filter(|(_, live)| !**live) {
+        let rule = &grammar.rules()[place];
+        let reason = match rule.right.iter().find(|code| !productive[**code as usize]) {
+            Some(code) => format!("'{}' has no finite tree", words::symbol(grammar, *code)),
+            None => format!("'{}' is not reached from '{}'", words::symbol(grammar, rule.left), grammar.nonterminals()[0]),
+        };
+        let message = format!("no sentence uses this rule: {reason}");
+        found.push(Warning { line: words::line_of_rule(place + 1), name: None, message });
+    }
+    found
+}
+
+fn listed(line: usize, name: &str, message: String) -> Warning {
+    Warning { line, name: Some(name.to_string()), message }
+}
+
+#[cfg(test)]
+mod tests {
+    use super::*;
+
+    fn read(text: &str) -> Grammar {
+        Grammar::read(text.as_bytes()).unwrap()
+    }
+
+    #[test]
+    fn live() {
+        let grammar = read("terminals=a\nnonterminals=S,A,B\nrule=S: a\nrule=S: A\nrule=A: A\nrule=B: a\nrule=S: B A\n");
+        assert_eq!(live_rules(&grammar), [true, false, false, false, false]);
+        assert_eq!(live_rules(&read("terminals=\nnonterminals=S\nrule=S: S\n")), [false]);
+    }
+
+    #[test]
+    fn empty_sentences() {
+        let grammar =
+            read("terminals=a\nnonterminals=S,N,E,W\nrule=S: N\nrule=N:\nrule=N: E a\nrule=E:\nrule=E: N W\nrule=W: W a\n");
+        let marks = visible(&grammar);
+        assert_eq!(
+            [1, START, START + 1, START + 2, START + 3].map(|code| marks[code as usize]),
+            [true, true, true, false, false]
+        );
+    }
+
+    #[test]
+    fn each_hole_is_told() {
+        let grammar = read(
+            "terminals=a,b\nnonterminals=S,None,Endless,Apart\nrule=S: a\nrule=S: None a\nrule=S: Endless\nrule=Endless: Endless a\n\
+             rule=Apart: a Apart\nrule=Apart: a\n",
+        );
+        let told: Vec<(usize, String)> =
+            warnings(&grammar).into_iter().map(|warning| (warning.line, warning.message)).collect();
+        let unused = |line: usize, reason: &str| (line, format!("no sentence uses this rule: {reason}"));
+        let expected = [
+            (1, "the terminal 'b' stands in no rule".to_string()),
+            (2, "the nonterminal 'None' has no rule".to_string()),
+            unused(4, "'None' has no finite tree"),
+            unused(5, "'Endless' has no finite tree"),
+            unused(6, "'Endless' has no finite tree"),
+            unused(7, "'Apart' is not reached from 'S'"),
+            unused(8, "'Apart' is not reached from 'S'"),
+        ];
+        assert_eq!(told, expected);
+        assert_eq!(warnings(&read("terminals=a\nnonterminals=S\nrule=S: a S\nrule=S:\n")), []);
+    }
+}

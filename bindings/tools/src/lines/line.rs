@@ -1,0 +1,158 @@
+//! A line of a certificate, read from the left.
+
+use super::{digits, remainder, Certificate, Form, Malformed};
+
+/// What is still to be read of a line.
+pub struct Line<'a> {
+    pub rest: &'a [u8],
+    pub line: usize,
+    pub column: usize,
+}
+
+impl Line<'_> {
+    pub fn fault<T>(&self, message: impl Into<String>) -> Result<T, Malformed> {
+        Err(Malformed { line: self.line, column: self.column, message: message.into() })
+    }
+
+    fn pass(&mut self, bytes: usize) {
+        self.rest = &self.rest[bytes..];
+        self.column += bytes;
+    }
+
+    /// Passes these bytes; the fault is at the first that differs.
+    fn literal(&mut self, bytes: &str) -> Result<(), Malformed> {
+        for byte in bytes.bytes() {
+            if self.rest.first() != Some(&byte) {
+                return self.fault(format!("'{bytes}' is expected"));
+            }
+            self.pass(1);
+        }
+        Ok(())
+    }
+
+    fn end(&self) -> Result<(), Malformed> {
+        if self.rest.is_empty() {
+            return Ok(());
+        }
+        self.fault("the line is to end here")
+    }
+
+    /// The number of a line with a key and a number.
+    pub fn number(&mut self, key: &str) -> Result<usize, Malformed> {
+        self.literal(key)?;
+        let length = self.rest.iter().take_while(|byte| byte.is_ascii_digit()).count();
+        let digits = std::str::from_utf8(&self.rest[..length]).expect("digits are text");
+        match digits.parse::<usize>() {
+            Ok(number) if number.to_string() == digits => {
+                let rest = Line { rest: &self.rest[length..], line: self.line, column: self.column + length };
+                rest.end().map(|()| number)
+            }
+            _ => self.fault("a decimal number without leading zeros is expected"),
+        }
+    }
+
+    /// A line with a key and this number; what is said of another ends with it.
+    pub fn known(&mut self, key: &str, number: usize, message: &str) -> Result<(), Malformed> {
+        if self.number(key)? != number {
+            return self.fault(format!("{message} {number}"));
+        }
+        Ok(())
+    }
+
+    pub fn form(&mut self) -> Result<Form, Malformed> {
+        match self.number("certificate-form=")? {
+            1 => Ok(Form::Plain),
+            2 => Ok(Form::Checked),
+            _ => self.fault("this program reads the forms 1 and 2"),
+        }
+    }
+
+    /// A line of bytes, put to its place.
+    pub fn bytes(&mut self, certificate: &mut Certificate) -> Result<(), Malformed> {
+        let (form, next, length) = (certificate.form, certificate.next(), certificate.bytes.len());
+        if next >= length {
+            return self.fault(format!("the certificate has {length} bytes: nothing is expected here"));
+        }
+        let offset = match form {
+            Form::Plain => {
+                self.offset(next)?;
+                next
+            }
+            Form::Checked => self.any_offset(form.on_a_line(), length)?,
+        };
+        let mut bytes = Vec::new();
+        for _ in 0..form.on_a_line().min(length - offset) {
+            self.not_checked(form)?;
+            self.literal(" ")?;
+            bytes.push(16 * self.digit()? + self.digit()?);
+        }
+        self.not_checked(form)?;
+        if form == Form::Checked {
+            self.check(remainder(digits(offset, &bytes)))?;
+        }
+        self.end()?;
+        if offset < next {
+            self.column = 1;
+            return self.fault("this line stands behind one with the same or a larger offset");
+        }
+        certificate.bytes[offset..offset + bytes.len()].copy_from_slice(&bytes);
+        certificate.lines.push((offset, self.line));
+        Ok(())
+    }
+
+    fn digit(&mut self) -> Result<u8, Malformed> {
+        let digit = self.rest.first().and_then(|byte| (*byte as char).to_digit(16));
+        let Some(digit) = digit else { return self.fault("a hexadecimal digit is expected, 0 to 9 or a to f") };
+        self.pass(1);
+        Ok(digit as u8)
+    }
+
+    /// Passes this offset and its colon.
+    fn offset(&mut self, offset: usize) -> Result<(), Malformed> {
+        for shift in [12, 8, 4, 0] {
+            let expected = (offset >> shift & 15) as u8;
+            let digit = Line { rest: self.rest, ..*self }.digit();
+            if digit != Ok(expected) {
+                return self.fault(format!("'{offset:04x}:' is expected"));
+            }
+            self.pass(1);
+        }
+        self.literal(":")
+    }
+
+    /// Passes an offset and its colon: a whole number of lines, inside the certificate.
+    fn any_offset(&mut self, on_a_line: usize, length: usize) -> Result<usize, Malformed> {
+        let start = Line { rest: self.rest, ..*self };
+        let mut offset = 0;
+        for _ in 0..4 {
+            offset = 16 * offset + self.digit()? as usize;
+        }
+        if offset % on_a_line != 0 || offset >= length {
+            return start.fault(format!("an offset is expected, a multiple of {on_a_line:04x} below {length:04x}"));
+        }
+        self.literal(":")?;
+        Ok(offset)
+    }
+
+    /// Passes check digits, which are to be these.
+    fn check(&mut self, expected: usize) -> Result<(), Malformed> {
+        self.literal(" *")?;
+        let start = Line { rest: self.rest, ..*self };
+        let found = 16 * self.digit()? as usize + self.digit()? as usize;
+        if found != expected {
+            return start.fault(format!(
+                "the check digits are {found:02x}, but those of this line's digits are {expected:02x}: compare the line with the print"
+            ));
+        }
+        Ok(())
+    }
+
+    /// Form 1 has no check digits: where some stand, the number of the form is wrong rather than this line.
+    fn not_checked(&self, form: Form) -> Result<(), Malformed> {
+        if form == Form::Checked || !self.rest.starts_with(b" *") {
+            return Ok(());
+        }
+        let message = format!("form 1 has no check digits, but line {} has them", self.line);
+        Err(Malformed { line: 1, column: "certificate-form=".len() + 1, message })
+    }
+}

@@ -1,0 +1,131 @@
+//! Derivation trees, and the test that two of them belong to one row. What finds the trees is elsewhere: nothing here relies on it.
+
+use ambiguity::{Code, Grammar, START};
+
+use crate::holes;
+
+/// A node of a tree: a rule that is applied, by its number from 1, or a symbol that stands for itself.
+#[derive(Clone, Copy, Debug, PartialEq, Eq, Hash)]
+pub enum Node {
+    Rule(usize),
+    Leaf(Code),
+}
+
+/// A tree as the list of its nodes, each before its children, children left to right.
+pub type Tree = Vec<Node>;
+
+/// Why two lists of nodes are no two trees of one row.
+#[derive(Debug, PartialEq, Eq)]
+pub enum Fault {
+    /// A node is not what stands at its place in the rule above, or no such rule exists.
+    Node,
+    /// Nodes are missing, or left over.
+    Length,
+    /// The root applies no rule.
+    Root,
+    /// A nonterminal that stands for itself has no sentence, or the empty one alone.
+    Invisible,
+    /// The rows differ.
+    Rows,
+    /// The trees are the same.
+    Same,
+}
+
+/// The row of a tree: every node applies its rule, and each child stands for its symbol.
+pub fn row(grammar: &Grammar, tree: &[Node]) -> Result<Vec<Code>, Fault> {
+    let mut row = Vec::new();
+    let mut expected = vec![START];
+    for node in tree {
+        let symbol = expected.pop().ok_or(Fault::Length)?;
+        match *node {
+            Node::Leaf(code) if code == symbol => row.push(code),
+            Node::Rule(number) => {
+                let rule = number.checked_sub(1).and_then(|place| grammar.rules().get(place)).ok_or(Fault::Node)?;
+                if rule.left != symbol {
+                    return Err(Fault::Node);
+                }
+                expected.extend(rule.right.iter().rev());
+            }
+            Node::Leaf(_) => return Err(Fault::Node),
+        }
+    }
+    if expected.is_empty() {
+        Ok(row)
+    } else {
+        Err(Fault::Length)
+    }
+}
+
+/// The common row of two different trees. Each nonterminal in it has a sentence that is not empty, so some sentence has two trees:
+/// for each such leaf the same subtree is put in either tree. They still differ then. For if they were equal, both copies of a
+/// subtree would be the node over the same part of the sentence with the same nodes below it; that part is not empty, so there is
+/// only one such node, and the leaves had been at the same place.
+pub fn common_row(grammar: &Grammar, left: &[Node], right: &[Node]) -> Result<Vec<Code>, Fault> {
+    let common = row(grammar, left)?;
+    if row(grammar, right)? != common {
+        return Err(Fault::Rows);
+    }
+    if left == right {
+        return Err(Fault::Same);
+    }
+    if [left, right].iter().any(|tree| !matches!(tree.first(), Some(Node::Rule(_)))) {
+        return Err(Fault::Root);
+    }
+    let visible = holes::visible(grammar);
+    if common.iter().any(|code| !visible[*code as usize]) {
+        return Err(Fault::Invisible);
+    }
+    Ok(common)
+}
+
+#[cfg(test)]
+mod tests {
+    use super::Node::{Leaf, Rule};
+    use super::*;
+
+    const IF: Code = 1;
+    const ELSE: Code = 2;
+    const S: Code = START;
+
+    fn dangling() -> Grammar {
+        let text = "terminals=if,else,x\nnonterminals=S,Endless\nrule=S: if S\nrule=S: if S else S\nrule=S: x\n\
+                    rule=S: Endless\nrule=S: Endless Endless\nrule=Endless: Endless\n";
+        Grammar::read(text.as_bytes()).unwrap()
+    }
+
+    #[test]
+    fn two_trees_of_one_row() {
+        let left = [Rule(2), Leaf(IF), Rule(1), Leaf(IF), Leaf(S), Leaf(ELSE), Leaf(S)];
+        let right = [Rule(1), Leaf(IF), Rule(2), Leaf(IF), Leaf(S), Leaf(ELSE), Leaf(S)];
+        assert_eq!(common_row(&dangling(), &left, &right), Ok(vec![IF, IF, S, ELSE, S]));
+    }
+
+    #[test]
+    fn what_is_no_pair() {
+        let one = [Rule(1), Leaf(IF), Leaf(S)];
+        let deeper = [Rule(1), Leaf(IF), Rule(1), Leaf(IF), Leaf(S)];
+        let endless = [Rule(4), Leaf(S + 1)];
+        for (left, right, fault) in [
+            (&one[..], &one[..], Fault::Same),
+            (&one, &deeper, Fault::Rows),
+            (&one, &[Rule(1), Leaf(ELSE), Leaf(S)], Fault::Node),
+            (&one, &[Rule(1), Leaf(IF), Rule(6), Leaf(S + 1)], Fault::Node),
+            (&[Rule(0), Leaf(S)], &one, Fault::Node),
+            (&[Rule(9)], &one, Fault::Node),
+            (&one, &one[..2], Fault::Length),
+            (&[], &one, Fault::Length),
+            (&[Rule(1), Leaf(IF), Leaf(S), Leaf(S)], &one, Fault::Length),
+            (&[Leaf(S)], &[Leaf(S)], Fault::Same),
+            (&endless, &[Rule(4), Rule(6), Leaf(S + 1)], Fault::Invisible),
+        ] {
+            assert_eq!(common_row(&dangling(), left, right), Err(fault), "{left:?} {right:?}");
+        }
+        // S has one tree: which of the two empty parts stands for itself makes no difference.
+        let empty = Grammar::read(b"terminals=\nnonterminals=S,N\nrule=S: N N\nrule=N:\n").unwrap();
+        let pair = ([Rule(1), Leaf(S + 1), Rule(2)], [Rule(1), Rule(2), Leaf(S + 1)]);
+        assert_eq!(common_row(&empty, &pair.0, &pair.1), Err(Fault::Invisible));
+        let cycle = Grammar::read(b"terminals=a\nnonterminals=S\nrule=S: S\nrule=S: a\n").unwrap();
+        assert_eq!(common_row(&cycle, &[Leaf(S)], &[Rule(1), Leaf(S)]), Err(Fault::Root));
+        assert_eq!(common_row(&cycle, &[Rule(2), Leaf(1)], &[Rule(1), Rule(2), Leaf(1)]), Ok(vec![1]));
+    }
+}

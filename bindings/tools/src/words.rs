@@ -1,0 +1,78 @@
+//! Symbols, rules and states of a grammar in words. A rule is written as the grammar's text has it.
+
+use ambiguity::{Code, Grammar, START};
+
+/// What the lines of a grammar's text begin with: the two lists, then each rule.
+const KEYS: [&str; 3] = ["terminals=", "nonterminals=", "rule="];
+
+/// The lines that hold the lists.
+pub const LISTS: usize = 2;
+
+/// What a line of a grammar's text begins with; lines count from 1.
+pub fn key(line: usize) -> &'static str {
+    KEYS[line.min(KEYS.len()) - 1]
+}
+
+/// The name of a declared symbol.
+pub fn symbol(grammar: &Grammar, code: Code) -> &str {
+    grammar.name(code).expect("a grammar that was read has no undeclared code")
+}
+
+/// The names of a row of symbols, one space between them.
+pub fn row(grammar: &Grammar, codes: &[Code]) -> String {
+    codes.iter().map(|code| symbol(grammar, *code)).collect::<Vec<_>>().join(" ")
+}
+
+/// The line of the text that has a rule: the lists stand before, and each rule has a line.
+pub fn line_of_rule(number: usize) -> usize {
+    LISTS + number
+}
+
+/// The left name and the right side of a rule. Rule 0 leads from the primed start to the start.
+fn sides(grammar: &Grammar, number: usize) -> (String, &[Code]) {
+    match number.checked_sub(1) {
+        None => (format!("{}'", symbol(grammar, START)), &[START]),
+        Some(place) => {
+            let rule = &grammar.rules()[place];
+            (symbol(grammar, rule.left).to_string(), &rule.right)
+        }
+    }
+}
+
+/// A rule by its number, as the text has it: `S: a b`.
+pub fn rule(grammar: &Grammar, number: usize) -> String {
+    let (left, right) = sides(grammar, number);
+    format!("{left}: {}", row(grammar, right)).trim_end().to_string()
+}
+
+/// A rule with its dot before the symbol at a place: `S: a . b`.
+fn item(grammar: &Grammar, number: usize, dot: usize) -> String {
+    let (left, right) = sides(grammar, number);
+    let mut words: Vec<&str> = right.iter().map(|code| symbol(grammar, *code)).collect();
+    words.insert(dot, ".");
+    format!("{left}: {}", words.join(" "))
+}
+
+/// A state of the position automaton: the start, the end, or an item.
+pub fn state(grammar: &Grammar, state: usize) -> String {
+    match state {
+        0 => return "start".to_string(),
+        1 => return "end".to_string(),
+        2 | 3 => return item(grammar, 0, state - 2),
+        _ => (),
+    }
+    let mut dot = state - 4;
+    for (place, rule) in grammar.rules().iter().enumerate() {
+        if dot <= rule.right.len() {
+            return item(grammar, place + 1, dot);
+        }
+        dot -= rule.right.len() + 1;
+    }
+    unreachable!("state {state} of {}", grammar.states())
+}
+
+/// Layer, left and right of a triple's index.
+pub fn triple(grammar: &Grammar, index: usize) -> (usize, usize, usize) {
+    let states = grammar.states();
+    (index / states / states, index / states % states, index % states)
+}

@@ -1,0 +1,275 @@
+//! Certificates as lines: both forms written and read, slips told by line, and what the check refuses.
+
+use crate::support::{certify, corpus, file, one_a, run, said, text, unambiguous, Ran, CERTIFY, CHECK};
+use ambig_tools::lines::{self, Form, Malformed};
+use ambiguity::{Grammar, Searched};
+
+const PLAIN: &str = "certificate-form=1\nstates=6\nrules=1\nsize=11\n0000: 15 50 21 15 08 00 00 00 00\n";
+const CHECKED: &str = "certificate-form=2\nstates=6\nrules=1\nsize=11\n0000: 15 50 21 15 08 00 00 00 00 *d0\n";
+
+/// What the check says of lines, the grammar being in a file.
+fn check(grammar: &str, lines: &str) -> Ran {
+    run(CHECK, &[grammar, "-"], lines.as_bytes())
+}
+
+#[test]
+fn the_certificate_of_document_01() {
+    let grammar = file("document", &one_a());
+    assert_eq!(certify(&one_a()), said(0, CHECKED));
+    assert_eq!(run(CERTIFY, &["--form=1", &grammar], b""), said(0, PLAIN));
+    assert_eq!(run(CERTIFY, &["--form=2", &grammar], b""), said(0, CHECKED));
+    for lines in [PLAIN, CHECKED] {
+        assert_eq!(check(&grammar, lines), said(0, "accepted\n"));
+        let lines = file("document-lines", lines);
+        assert_eq!(run(CHECK, &["-", &lines], one_a().as_bytes()), said(0, "accepted\n"));
+        assert_eq!(run(CHECK, &[&grammar, &lines], b""), said(0, "accepted\n"));
+    }
+}
+
+#[test]
+fn the_readme_shows_what_is_printed() {
+    let readme = include_str!("../../../README.md");
+    for printed in [PLAIN, CHECKED] {
+        assert!(readme.contains(printed), "{printed}");
+    }
+}
+
+#[test]
+fn what_cannot_mean_anything_else_is_read() {
+    let grammar = file("lenient", &one_a());
+    for lines in [PLAIN, CHECKED] {
+        let blank = format!("{lines}\n");
+        let blanks = format!("{lines}\n\r\n");
+        for other in [lines.replace('\n', "\r\n"), blank, blanks, lines.trim_end().to_string()] {
+            assert_eq!(check(&grammar, &other), said(0, "accepted\n"), "{other:?}");
+        }
+    }
+    let wide = text("a", "S,A,B", &["S: A", "S: B", "A: A a a", "A: a", "B: a a"]);
+    let Ran { out: lines, .. } = certify(&wide);
+    let (head, bytes) = lines.split_at(lines.find("0000:").unwrap());
+    assert_ne!(bytes, bytes.to_uppercase());
+    assert_eq!(check(&file("lenient-wide", &wide), &format!("{head}{}", bytes.to_uppercase())), said(0, "accepted\n"));
+}
+
+#[test]
+fn lines_that_are_malformed() {
+    let grammar = file("malformed", &one_a());
+    let wide = text("a", "S,A,B", &["S: A", "S: B", "A: A a a", "A: a", "B: a a"]);
+    let wide_grammar = file("malformed-wide", &wide);
+    let wide_plain = run(CERTIFY, &["--form=1", &wide_grammar], b"").out;
+    let wide_checked = certify(&wide).out;
+    let line = |lines: &str, place: usize| lines.lines().nth(place).unwrap().to_string() + "\n";
+    let (second, last) = (line(&wide_plain, 5), line(&wide_plain, wide_plain.lines().count() - 1));
+    let plain = |from: &str, to: &str| (&grammar, PLAIN.replacen(from, to, 1));
+    let checked = |from: &str, to: &str| (&grammar, CHECKED.replacen(from, to, 1));
+    let wide = |from: &str, to: &str| (&wide_grammar, wide_plain.replacen(from, to, 1));
+    let number = "a decimal number without leading zeros is expected";
+    let digit = "a hexadecimal digit is expected, 0 to 9 or a to f";
+    let bits = "the number of bits that are set below is";
+    for ((grammar, lines), line, column, message) in [
+        (plain("form=1", "form=3"), 1, 18, "this program reads the forms 1 and 2"),
+        (plain("certificate", "Certificate"), 1, 1, "'certificate-form=' is expected"),
+        (plain("states=6", "states=7"), 2, 8, "by the grammar this number is 6"),
+        (plain("states=6", "states=06"), 2, 8, number),
+        (plain("states=6", "states="), 2, 8, number),
+        (plain("states=6", "states=99999999999999999999"), 2, 8, number),
+        (plain("states=6", "states=6 "), 2, 9, "the line is to end here"),
+        (plain("rules=1", "rules=2"), 3, 7, "by the grammar this number is 1"),
+        (plain("size=11", "size=12"), 4, 6, &format!("{bits} 11: this number is wrong, or lines are missing")),
+        (plain("15 50", "15 51"), 4, 6, &format!("{bits} 12: this number is wrong, or lines are missing")),
+        (plain("0000:", "0001:"), 5, 4, "'0000:' is expected"),
+        (plain("15 50", "1g 50"), 5, 8, digit),
+        (plain("15 50", "15  50"), 5, 10, digit),
+        (plain(" 00\n", "\n"), 5, 30, "' ' is expected"),
+        (plain(" 00\n", " 00 00\n"), 5, 33, "the line is to end here"),
+        (plain(" 00\n", " 00\n\n0020:"), 6, 1, "the certificate has 9 bytes: nothing is expected here"),
+        (plain("0000: 15 50 21 15 08 00 00 00 00\n", ""), 5, 1, "'0000:' is expected"),
+        (plain("size=11\n", ""), 4, 1, "'size=' is expected"),
+        (plain("form=1", "form=2"), 5, 33, "' *' is expected"),
+        (wide(&second, ""), 6, 3, "'0020:' is expected"),
+        (wide(&last, ""), 7, 1, "'0040:' is expected"),
+        (wide("0020:", "0040:"), 6, 3, "'0020:' is expected"),
+        (checked("form=2", "form=1"), 1, 18, "form 1 has no check digits, but line 5 has them"),
+        (
+            checked("*d0", "*d1"),
+            5,
+            35,
+            "the check digits are d1, but those of this line's digits are d0: compare the line with the print",
+        ),
+        (
+            checked("15 50", "51 50"),
+            5,
+            35,
+            "the check digits are d0, but those of this line's digits are 51: compare the line with the print",
+        ),
+        (checked("0000:", "0010:"), 5, 1, "an offset is expected, a multiple of 0010 below 0009"),
+        (
+            checked("0000: 15 50 21 15 08 00 00 00 00 *d0\n", ""),
+            4,
+            6,
+            &format!("{bits} 0: this number is wrong, or lines are missing"),
+        ),
+        ((&grammar, String::new()), 1, 1, "'certificate-form=' is expected"),
+        ((&grammar, "\u{e9}".to_string()), 1, 1, "'certificate-form=' is expected"),
+    ] {
+        let ran = check(grammar, &lines);
+        assert_eq!((ran.status, ran.out.as_str()), (1, ""));
+        assert_eq!(ran.err, format!("<stdin>:{line}:{column}: {message}\n"), "{lines}");
+    }
+    let (first, second) = (line(&wide_checked, 4), line(&wide_checked, 5));
+    let exchanged = wide_checked.replacen(&(first.clone() + &second), &(second + &first), 1);
+    let ran = check(&wide_grammar, &exchanged);
+    assert_eq!(ran.err, "<stdin>:6:1: this line stands behind one with the same or a larger offset\n");
+}
+
+#[test]
+fn certificates_that_are_refused() {
+    let grammar = file("refused", &one_a());
+    for (size, bytes, place, words) in [
+        (
+            0,
+            "00 00 00 00 00 00 00 00 00",
+            "5:7",
+            "the certificate lacks layer 0, left 'start', right 'start' (refused=11 at=0)",
+        ),
+        (72, "ff ff ff ff ff ff ff ff ff", "5:22", "the certificate holds layer 1, left 'end', right 'end' (refused=12 at=43)"),
+        (
+            1,
+            "01 00 00 00 00 00 00 00 00",
+            "5:7",
+            "the certificate lacks a successor of layer 0, left 'start', right 'start' (refused=13 at=0)",
+        ),
+        (
+            10,
+            "15 50 21 15 00 00 00 00 00",
+            "5:16",
+            "the certificate lacks a successor of layer 0, left 'S: . a', right 'S: . a' (refused=13 at=28)",
+        ),
+    ] {
+        let lines = file("refused-lines", &format!("certificate-form=1\nstates=6\nrules=1\nsize={size}\n0000: {bytes}\n"));
+        let ran = run(CHECK, &[&grammar, &lines], b"");
+        assert_eq!((ran.status, ran.out.as_str()), (1, ""));
+        assert_eq!(ran.err, format!("{lines}:{place}: {words}\n"));
+    }
+    let empty = check(&grammar, "certificate-form=2\nstates=6\nrules=1\nsize=0\n");
+    assert_eq!(empty.err, "<stdin>:4:1: the certificate lacks layer 0, left 'start', right 'start' (refused=11 at=0)\n");
+}
+
+/// A grammar of the corpus with its certificate in the second form.
+fn certified() -> Vec<(Grammar, String)> {
+    let of = |text: &str| {
+        let grammar = Grammar::read(text.as_bytes()).unwrap();
+        let Searched::Unambiguous { certificate, size } = grammar.search() else { return None };
+        let lines = lines::written(&grammar, size, &certificate, Form::Checked);
+        Some((grammar, lines))
+    };
+    corpus().iter().filter_map(|entry| of(&entry.text)).collect()
+}
+
+#[test]
+fn both_forms_give_the_same_bytes() {
+    let certified = certified();
+    assert!(certified.len() >= 50);
+    for (grammar, checked) in certified {
+        let Searched::Unambiguous { certificate, size } = grammar.search() else { unreachable!() };
+        let plain = lines::written(&grammar, size, &certificate, Form::Plain);
+        for lines in [plain, checked] {
+            assert_eq!(lines::read(&grammar, lines.as_bytes()).unwrap().bytes, certificate);
+        }
+    }
+}
+
+/// Numbers that look random, the same ones every time.
+struct Random(u64);
+
+impl Random {
+    fn below(&mut self, limit: usize) -> usize {
+        self.0 = self.0.wrapping_mul(6_364_136_223_846_793_005).wrapping_add(1_442_695_040_888_963_407);
+        (self.0 >> 33) as usize % limit
+    }
+}
+
+/// The places of the digits on a line: of its number, or of offset, bytes and check digits.
+fn digits(line: &[u8]) -> Vec<usize> {
+    let start = line.iter().position(|byte| *byte == b'=').unwrap_or(0);
+    (start..line.len()).filter(|place| line[*place].is_ascii_hexdigit()).collect()
+}
+
+/// A slip must be told with its line, whatever else is said, and is never accepted.
+fn told_by_line(grammar: &Grammar, lines: &[Vec<u8>], slip: usize) {
+    let text: Vec<u8> = lines.join(&b'\n');
+    match lines::read(grammar, &text) {
+        Err(Malformed { line, .. }) => assert_eq!(line, slip + 1, "{}", String::from_utf8_lossy(&text)),
+        Ok(_) => panic!("line {} has a slip: {}", slip + 1, String::from_utf8_lossy(&text)),
+    }
+}
+
+#[test]
+fn a_thousand_wrong_digits_and_a_thousand_swaps_are_told_by_line() {
+    let certified = certified();
+    let mut random = Random(1);
+    let (mut wrong, mut swapped) = (0, 0);
+    while wrong < 1000 || swapped < 1000 {
+        let (grammar, text) = &certified[random.below(certified.len())];
+        let lines: Vec<Vec<u8>> = text.lines().map(|line| line.as_bytes().to_vec()).collect();
+        let slip = random.below(lines.len());
+        let places = digits(&lines[slip]);
+        let place = random.below(places.len());
+        if wrong < 1000 {
+            let all = if slip < 4 { &b"0123456789"[..] } else { b"0123456789abcdef" };
+            let digit = all[random.below(all.len())];
+            if digit != lines[slip][places[place]] {
+                let mut lines = lines.clone();
+                lines[slip][places[place]] = digit;
+                told_by_line(grammar, &lines, slip);
+                wrong += 1;
+            }
+        }
+        if let Some(next) = places.get(place + 1).filter(|_| swapped < 1000) {
+            if lines[slip][places[place]] != lines[slip][*next] {
+                let mut lines = lines.clone();
+                lines[slip].swap(places[place], *next);
+                told_by_line(grammar, &lines, slip);
+                swapped += 1;
+            }
+        }
+    }
+}
+
+/// The same lines with another byte at a place, and with another size.
+fn with_byte(lines: &str, size: usize, at: usize, byte: u8) -> String {
+    let mut lines: Vec<String> = lines.lines().map(String::from).collect();
+    lines[3] = format!("size={size}");
+    lines[4 + at / 32].replace_range(6 + at % 32 * 3..8 + at % 32 * 3, &format!("{byte:02x}"));
+    lines.join("\n") + "\n"
+}
+
+#[test]
+fn every_bit_of_a_certificate_is_needed() {
+    assert!(unambiguous().len() >= 20);
+    for text in unambiguous() {
+        let grammar = Grammar::read(text.as_bytes()).unwrap();
+        let Searched::Unambiguous { certificate: bytes, size } = grammar.search() else { panic!("{text}") };
+        let lines = lines::written(&grammar, size, &bytes, Form::Plain);
+        let held: Vec<usize> = (0..8 * bytes.len()).filter(|index| bytes[index / 8] >> (index % 8) & 1 == 1).collect();
+        assert_eq!(size, held.len());
+        for index in held {
+            let flipped = with_byte(&lines, size - 1, index / 8, bytes[index / 8] ^ 1 << (index % 8));
+            let without = lines::read(&grammar, flipped.as_bytes()).unwrap();
+            let cause = if index == 0 { 11 } else { 13 };
+            assert_eq!(grammar.check(&without.bytes).unwrap_err().cause.number(), cause, "{text}");
+        }
+    }
+}
+
+#[test]
+fn the_largest_grammar() {
+    let rules: Vec<String> = (0..84).map(|i| format!("S: a{} a{}", i / 10, i % 10)).collect();
+    let text = text("a0,a1,a2,a3,a4,a5,a6,a7,a8,a9", "S", &rules.iter().map(String::as_str).collect::<Vec<_>>());
+    let grammar = file("largest", &text);
+    let Ran { status, out: lines, .. } = run(CERTIFY, &["--form=1", &grammar], b"");
+    assert_eq!((status, lines.lines().count()), (0, 4 + 16_384 / 32));
+    assert!(lines.starts_with("certificate-form=1\nstates=256\nrules=84\nsize="));
+    assert_eq!(check(&grammar, &lines), said(0, "accepted\n"));
+    assert_eq!(check(&grammar, &certify(&text).out), said(0, "accepted\n"));
+}

@@ -1,0 +1,113 @@
+//! What the tools have in common: options, several files, standard input, exit statuses, lines for scripts.
+
+use crate::support::{certify, corpus, file, one_a, run, said, text, CERTIFY, CHECK};
+
+const VERSION: &str = include_str!("../../../../VERSION");
+
+#[test]
+fn help_and_version() {
+    for (tool, name) in [(CERTIFY, "ambig-certify"), (CHECK, "ambig-check")] {
+        for word in ["--help", "-h"] {
+            let ran = run(tool, &[word], b"");
+            assert!(ran.status == 0 && ran.out.starts_with(&format!("usage: {name} [OPTION]")) && ran.err.is_empty());
+            assert!(ran.out.lines().all(|line| line.len() <= 80));
+        }
+        for word in ["--version", "-V"] {
+            assert_eq!(run(tool, &[word], b""), said(0, &format!("{name} {VERSION}")));
+        }
+    }
+    assert_eq!(VERSION.trim_end(), env!("CARGO_PKG_VERSION"));
+}
+
+#[test]
+fn bad_use() {
+    let path = file("used", &one_a());
+    let grammar = path.as_str();
+    let usage = |tool: &str, arguments: &str| format!("usage: {tool} [OPTION]... [--] {arguments}\nTry {tool} --help.\n");
+    for (words, said) in [
+        (&[][..], "files are missing"),
+        (&["--"], "files are missing"),
+        (&["-", "-"], "standard input can be read once only"),
+        (&["-x", grammar], "there is no option -x"),
+        (&["--form=3", grammar], "there is no option --form=3"),
+    ] {
+        let ran = run(CERTIFY, words, b"");
+        assert_eq!((ran.status, ran.out.as_str()), (2, ""));
+        assert_eq!(ran.err, format!("ambig-certify: {said}\n{}", usage("ambig-certify", "FILE...")));
+    }
+    for (words, said) in [
+        (&[][..], "files are missing"),
+        (&[grammar], "files are missing"),
+        (&["-", "-"], "standard input can be read once only"),
+        (&[grammar, "-", "-"], "files are missing"),
+        (&[grammar, "--steps"], "there is no option --steps"),
+    ] {
+        let ran = run(CHECK, words, b"");
+        assert_eq!((ran.status, ran.out.as_str()), (2, ""));
+        let usage = usage("ambig-check", "GRAMMAR CERTIFICATE [GRAMMAR CERTIFICATE]...");
+        assert_eq!(ran.err, format!("ambig-check: {said}\n{usage}"));
+    }
+    let missing = format!("{grammar}-that-is-not-there");
+    for ran in [run(CERTIFY, &[&missing], b""), run(CHECK, &[&missing, "-"], b""), run(CHECK, &[grammar, &missing], b"")] {
+        assert_eq!((ran.status, ran.out.as_str()), (2, ""));
+        assert!(ran.err.starts_with(&format!("{missing}: ")));
+    }
+}
+
+#[test]
+fn several_files() {
+    let good = file("several-good", &one_a());
+    let cycle = file("several-cycle", &text("a", "S", &["S: S", "S: a"]));
+    let wrong = file("several-wrong", "terminals=a\nnonterminals=S\nrule=S: b\n");
+    let missing = format!("{good}-that-is-not-there");
+    let quiet = |files: &[&str]| run(CERTIFY, &[&["-q", "--"], files].concat(), one_a().as_bytes());
+    let lines = |file: &str, lines: &str| format!("file={file}\n{lines}");
+    let (yes, potential) = ("states=6\nverdict=unambiguous\nreached=11\n", "states=8\nverdict=potential\n");
+    assert_eq!(quiet(&[&good, "-"]), said(0, &(lines(&good, yes) + &lines("<stdin>", yes))));
+    assert_eq!(quiet(&[&cycle, &good]), said(1, &(lines(&cycle, potential) + &lines(&good, yes))));
+    assert_eq!(quiet(&[&good, &wrong]), said(1, &(lines(&good, yes) + &lines(&wrong, "refused=17\nat=3\n"))));
+    let with_missing = quiet(&[&missing, &wrong, &good]);
+    assert_eq!(with_missing.status, 2);
+    assert!(with_missing.out.ends_with(yes) && with_missing.err.starts_with(&missing));
+
+    let certificate = file("several-certificate", &certify(&one_a()).out);
+    let pairs = run(CHECK, &[&good, &certificate, &good, "-"], b"certificate-form=2\n");
+    assert_eq!((pairs.status, pairs.out), (1, format!("file={certificate}\naccepted\nfile=<stdin>\n")));
+    assert_eq!(pairs.err, "<stdin>:2:1: 'states=' is expected\n");
+}
+
+#[test]
+fn a_name_that_looks_like_an_option() {
+    let path = file("-x", &one_a());
+    let folder = std::path::Path::new(&path).parent().unwrap();
+    let mut command = std::process::Command::new(CERTIFY);
+    let output = command.args(["--quiet", "--", "-x"]).current_dir(folder).output().unwrap();
+    assert_eq!(output.stdout, b"states=6\nverdict=unambiguous\nreached=11\n");
+}
+
+#[test]
+fn lines_for_scripts() {
+    let good = file("scripts", &one_a());
+    let quiet = |lines: &str| run(CHECK, &["--quiet", &good, "-"], lines.as_bytes());
+    let lines = certify(&one_a()).out;
+    assert_eq!(quiet(&lines), said(0, "accepted\n"));
+    assert_eq!(
+        quiet("certificate-form=1\nstates=6\nrules=1\nsize=0\n0000: 00 00 00 00 00 00 00 00 00\n"),
+        said(1, "refused=11\nat=0\n")
+    );
+    assert_eq!(quiet(""), said(1, "malformed\n"));
+}
+
+/// Where `--quiet` is asked for, the tool prints what `ambig` prints, whose lines the index has.
+#[test]
+fn the_corpus_as_the_program_prints_it() {
+    for entry in corpus() {
+        let ran = run(CERTIFY, &["--quiet", "-"], entry.text.as_bytes());
+        let verdict = if entry.truth == "unambiguous" { "unambiguous" } else { "potential" };
+        let mut lines = ran.out.lines();
+        assert!(lines.next().unwrap().starts_with("states="));
+        assert_eq!(lines.next(), Some(format!("verdict={verdict}").as_str()));
+        assert_eq!(lines.next().is_some_and(|line| line.starts_with("reached=")), verdict == "unambiguous");
+        assert_eq!((lines.next(), ran.err.as_str(), ran.status), (None, "", i32::from(verdict == "potential")));
+    }
+}

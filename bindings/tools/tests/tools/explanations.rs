@@ -1,0 +1,246 @@
+//! Why a verdict is potential: two real trees, the parting, and the witness step by step.
+
+use crate::support::{certify, corpus, file, folder, run, text, Ran, CERTIFY};
+use ambig_tools::pairs::{self, Extent, Limits, Outcome};
+use ambig_tools::tree::{self, Node};
+use ambiguity::{Code, Grammar};
+
+const DANGLING: &str = "states=14
+verdict=potential
+after `if if S`: left ends `S: if S`, line 3, right goes on with `else`
+ambiguous: `if if S else S` has two trees, for example `if if x else x`
+left tree:                  right tree:
+S: if S else S  (line 4)    S: if S  (line 3)
+  if                          if
+  S: if S  (line 3)           S: if S else S  (line 4)
+  else S
+";
+
+const CYCLE: &str = "states=8
+verdict=potential
+after `a`: left ends the sentence, right ends `S: S`, line 3
+ambiguous: `a` has two trees
+left tree:        right tree:
+S: a  (line 4)    S: S: a  (lines 3, 4)
+";
+
+const STEPS: &str = "
+entries=7
+
+entry  layer  left     right    left moves   right moves
+0      0      start    start                 open S': S
+1      0      start    S': . S               open S: S
+2      0      start    S: . S   open S': S
+3      0      S': . S  S: . S   S            S
+4      0      S': S .  S: S .   close S': S  close S: S
+5      1      end      S': S .               close S': S
+6      1      end      end
+
+left string  right string
+open S': S   open S': S
+S            open S: S
+close S': S  S
+             close S: S
+             close S': S
+";
+
+fn dangling() -> String {
+    text("if,else,x", "S", &["S: if S", "S: if S else S", "S: x"])
+}
+
+#[test]
+fn the_dangling_else() {
+    let ran = certify(&dangling());
+    assert_eq!((ran.status, ran.out.as_str()), (1, DANGLING));
+    assert_eq!(ran.err, "<stdin>: potentially ambiguous: there is no certificate\n");
+}
+
+#[test]
+fn steps_come_when_they_are_asked_for() {
+    let cycle = file("cycle", &text("a", "S", &["S: S", "S: a"]));
+    assert_eq!(run(CERTIFY, &[&cycle], b"").out, CYCLE);
+    assert_eq!(run(CERTIFY, &["--steps", &cycle], b"").out, format!("{CYCLE}{STEPS}"));
+}
+
+#[test]
+fn the_readme_shows_what_is_printed() {
+    let readme = include_str!("../../../README.md");
+    for printed in [DANGLING, STEPS] {
+        assert!(readme.contains(printed.trim_start()), "{printed}");
+    }
+}
+
+/// The readme's table beside bison has the number of lines that explain.
+#[test]
+fn the_table_beside_bison() {
+    let readme = include_str!("../../../README.md");
+    let rows = readme.lines().skip_while(|line| !line.starts_with("| grammar | ours | bison")).skip(2);
+    let rows: Vec<Vec<&str>> = rows.take_while(|line| line.starts_with('|')).map(|line| line.split(" | ").collect()).collect();
+    assert_eq!(rows.len(), 6);
+    for row in rows {
+        let name = row[0].trim_start_matches("| ");
+        let path = folder("bindings/tools/tests/beside-bison").join(format!("{name}.grammar"));
+        let explained = run(CERTIFY, &[path.to_str().unwrap()], b"").out.lines().skip(2).count();
+        assert_eq!(explained.to_string(), row[1], "{name}");
+        assert!(explained <= row[2].parse().unwrap(), "{name}");
+    }
+}
+
+/// Every ambiguous grammar of the corpus is called so, with two trees that are checked again here; no other one is.
+#[test]
+fn the_corpus() {
+    let mut ambiguous = 0;
+    for entry in corpus() {
+        let grammar = Grammar::read(entry.text.as_bytes()).unwrap();
+        match pairs::look(&grammar, Limits::default()) {
+            Outcome::Two { row, left, right } => {
+                assert_eq!(entry.truth, "ambiguous", "{}", entry.name);
+                assert_eq!(tree::common_row(&grammar, &left, &right), Ok(row));
+                ambiguous += 1;
+            }
+            Outcome::NotFound(_) => assert_ne!(entry.truth, "ambiguous", "{}", entry.name),
+        }
+    }
+    assert_eq!(ambiguous, 35);
+}
+
+/// What is printed for the corpus fits on a page, and is the same when it is printed again.
+#[test]
+fn pages_of_the_corpus() {
+    for entry in corpus().iter().filter(|entry| entry.truth != "unambiguous") {
+        let Ran { status, out, .. } = certify(&entry.text);
+        assert_eq!(status, 1);
+        assert!(out.lines().all(|line| line.len() <= 80), "{out}");
+        assert_eq!(out.contains("\nambiguous: "), entry.truth == "ambiguous", "{out}");
+        assert_eq!(out.contains("\nno sentence with two trees was found: "), entry.truth == "false-alarm", "{out}");
+        assert_eq!(certify(&entry.text).out, out);
+    }
+}
+
+#[test]
+fn false_alarms() {
+    let look = |text: String| pairs::look(&Grammar::read(text.as_bytes()).unwrap(), Limits { pairs: 1000, moves: 100_000 });
+    let palindromes = look(text("a,b", "S", &["S: a S a", "S: b S b", "S:"]));
+    assert!(matches!(palindromes, Outcome::NotFound(Extent::Limit { pairs, .. }) if (1000..1100).contains(&pairs)));
+    let unused = look(text("a", "S,W", &["S: a S", "S:", "W: S S"]));
+    assert_eq!(unused, Outcome::NotFound(Extent::NoParting));
+    assert_eq!(look(text("", "S", &["S: S"])), Outcome::NotFound(Extent::NoSentence));
+    let few = pairs::look(&Grammar::read(dangling().as_bytes()).unwrap(), Limits { pairs: 1_000_000, moves: 10 });
+    assert!(matches!(few, Outcome::NotFound(Extent::Limit { .. })));
+}
+
+/// Grammars that are made to be searched long: the search ends within its limits.
+#[test]
+fn hostile_grammars() {
+    let of = |terminals: &str, nonterminals: &str, rules: Vec<String>, last: &[&str]| {
+        let rules: Vec<&str> = rules.iter().map(String::as_str).chain(last.iter().copied()).collect();
+        Grammar::read(text(terminals, nonterminals, &rules).as_bytes()).unwrap()
+    };
+    let names = |letter: &str, count: usize| (0..count).map(|i| format!("{letter}{i}")).collect::<Vec<_>>().join(",");
+    let mirrored = (0..62).map(|i| format!("S: t{i} S t{i}")).collect();
+    let palindromes = of(&names("t", 62), "S", mirrored, &["S: t0"]);
+    // Nineteen rules of twelve symbols; the bits of their numbers are symbols in front, and all else is S.
+    let bits = |i: usize| (0..5).map(|bit| if i >> bit & 1 == 1 { " a" } else { " S" }).collect::<String>();
+    let dense = of("a,b", "S", (0..19).map(|i| format!("S:{}{}", bits(i), " S".repeat(7))).collect(), &["S: b"]);
+    let chain = (1..97).map(|i| format!("N{}: N{i}", i - 1)).collect();
+    let chain = of("a", &names("N", 97), chain, &["N96: a", "N96: a N96 a"]);
+    for grammar in [palindromes, dense, chain] {
+        match pairs::look(&grammar, Limits::default()) {
+            Outcome::NotFound(Extent::Limit { pairs, moves }) => assert!(pairs <= 400_300 && moves > 10, "{pairs} {moves}"),
+            other => panic!("{}{other:?}", grammar.write()),
+        }
+    }
+}
+
+/// All trees of a row up to two, by brute force over short rows: another way to count than the search.
+fn trees_of(grammar: &Grammar, symbol: Code, row: &[Code], depth: usize) -> Vec<Vec<Node>> {
+    let mut found = if row == [symbol] { vec![vec![Node::Leaf(symbol)]] } else { Vec::new() };
+    if depth > 0 {
+        for (place, rule) in grammar.rules().iter().enumerate().filter(|(_, rule)| rule.left == symbol) {
+            for children in splits(grammar, &rule.right, row, depth - 1) {
+                found.push([&[Node::Rule(place + 1)], &children[..]].concat());
+            }
+        }
+    }
+    found
+}
+
+fn splits(grammar: &Grammar, symbols: &[Code], row: &[Code], depth: usize) -> Vec<Vec<Node>> {
+    let [first, rest @ ..] = symbols else { return if row.is_empty() { vec![Vec::new()] } else { Vec::new() } };
+    let mut found = Vec::new();
+    for length in 0..=row.len() {
+        let behind = splits(grammar, rest, &row[length..], depth);
+        for front in trees_of(grammar, *first, &row[..length], depth) {
+            found.extend(behind.iter().map(|behind| [&front[..], behind].concat()));
+        }
+    }
+    found
+}
+
+#[test]
+fn the_trees_are_found_by_brute_force_too() {
+    for rules in [
+        &["S: if S", "S: if S else S", "S: x"][..],
+        &["S: S x S", "S: if"],
+        &["S: A", "S: B", "A: if", "B: if"],
+        &["S: if A x", "S: B x", "A: else", "B: if else"],
+    ] {
+        let grammar = Grammar::read(text("if,else,x", "S,A,B", rules).as_bytes()).unwrap();
+        let Outcome::Two { row, left, right } = pairs::look(&grammar, Limits::default()) else { panic!("{rules:?}") };
+        let trees = trees_of(&grammar, ambiguity::START, &row, 4);
+        assert!(trees.contains(&left) && trees.contains(&right) && left != right, "{rules:?}");
+    }
+}
+
+/// The cells under some names of a head, in the lines up to an empty one.
+fn cells<'a, const N: usize>(out: &'a str, head: [&str; N]) -> Vec<[&'a str; N]> {
+    let mut lines = out.lines().skip_while(|line| !head.iter().all(|name| line.contains(name)));
+    let line = format!("  {}  ", lines.next().unwrap());
+    let starts = head.map(|name| line.find(&format!("  {name}  ")).unwrap());
+    let end = |i: usize| if i + 1 < N { starts[i + 1] } else { usize::MAX };
+    let cell = |line: &'a str, i: usize| line.get(starts[i]..end(i).min(line.len())).unwrap_or("").trim();
+    lines.take_while(|line| !line.is_empty()).map(|line| std::array::from_fn(|i| cell(line, i))).collect()
+}
+
+/// The symbols of a string, openings and closings dropped.
+fn symbols<'a>(string: impl Iterator<Item = &'a str>) -> Vec<&'a str> {
+    string.filter(|name| !name.is_empty() && !name.starts_with("open ") && !name.starts_with("close ")).collect()
+}
+
+#[test]
+fn steps_hold_together() {
+    for text in [
+        text("a", "S", &["S: S", "S: a"]),
+        text("a", "S", &["S: a S a", "S: a"]),
+        text("", "S,A,B", &["S: A", "S: B", "A:", "B:"]),
+        text("plus,id", "expr", &["expr: expr plus expr", "expr: id"]),
+        dangling(),
+        text("a,b,c", "S,A,B,C,D", &["S: A D", "S: B C", "A: a A", "A:", "D: b D c", "D:", "B: a B b", "B:", "C: c C", "C:"]),
+    ] {
+        let Ran { status, out, .. } = run(CERTIFY, &["--steps", "-"], text.as_bytes());
+        assert_eq!(status, 1);
+        let entries = cells(&out, ["left", "right", "left moves", "right moves"]);
+        assert!(out.contains(&format!("\nentries={}\n", entries.len())));
+        assert_eq!((entries[0][0], entries[0][1]), ("start", "start"));
+        assert_eq!(entries[entries.len() - 1], ["end", "end", "", ""]);
+        for steps in entries.windows(2) {
+            assert!(!steps[0][2].is_empty() || !steps[0][3].is_empty());
+            for side in 0..2 {
+                // A side that stays has no move, and a symbol's dot passes it.
+                let (from, to, name) = (steps[0][side], steps[1][side], steps[0][side + 2]);
+                assert!(!name.is_empty() || from == to, "{out}");
+                let passes = from.replacen(&format!(". {name}"), &format!("{name} ."), 1) == to;
+                assert!(name.is_empty() || name.starts_with("open ") || name.starts_with("close ") || passes, "{out}");
+            }
+        }
+        let strings = cells(&out, ["left string", "right string"]);
+        for side in 0..2 {
+            let string: Vec<&str> = strings.iter().map(|row| row[side]).filter(|name| !name.is_empty()).collect();
+            let moves: Vec<&str> = entries.iter().map(|row| row[side + 2]).filter(|name| !name.is_empty()).collect();
+            assert_eq!(string, moves);
+            assert!(string[0].starts_with("open ") && string[string.len() - 1].starts_with("close "));
+        }
+        assert!(strings.iter().any(|row| row[0] != row[1]));
+        assert_eq!(symbols(strings.iter().map(|row| row[0])), symbols(strings.iter().map(|row| row[1])));
+    }
+}

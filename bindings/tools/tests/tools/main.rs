@@ -1,0 +1,8 @@
+//! Tests of the tools, and of what they share.
+
+mod certificates;
+mod commands;
+mod explanations;
+mod messages;
+mod pages;
+mod support;

@@ -1,0 +1,89 @@
+//! Messages about grammar texts: tests/messages has a file for each, EXPECTED.txt what is said of it.
+
+use std::collections::BTreeMap;
+
+use crate::support::{certify, file, folder, one_a, run, CERTIFY, CHECK};
+
+/// By file name what is said of it, without the folder.
+fn expected() -> BTreeMap<String, String> {
+    let lines = std::fs::read_to_string(folder("bindings/tools/tests/messages/EXPECTED.txt")).unwrap();
+    lines.lines().map(|line| (line.split(':').next().unwrap().to_string(), format!("{line}\n"))).collect()
+}
+
+#[test]
+fn every_file_gives_its_message() {
+    let folder = folder("bindings/tools/tests/messages");
+    let expected = expected();
+    let grammars = std::fs::read_dir(&folder).unwrap().map(|entry| entry.unwrap().file_name().into_string().unwrap());
+    let grammars: Vec<String> = grammars.filter(|name| name.ends_with(".grammar")).collect();
+    assert_eq!(grammars.len(), expected.len());
+    let lines = file("any-lines", "certificate-form=2\n");
+    for name in &grammars {
+        let path = folder.join(name).to_str().unwrap().to_string();
+        for (tool, words) in [(CERTIFY, vec![path.as_str()]), (CHECK, vec![path.as_str(), lines.as_str()])] {
+            let ran = run(tool, &words, b"");
+            assert_eq!((ran.status, ran.out.as_str()), (1, ""));
+            assert_eq!(ran.err.replace(&path, name), expected[name], "{tool}");
+        }
+    }
+}
+
+/// No two kinds of mistakes share a message.
+#[test]
+fn messages_differ() {
+    let said = |line: &String| line.splitn(4, ':').last().unwrap().to_string();
+    let mut messages: Vec<String> = expected().values().map(said).collect();
+    let all = messages.len();
+    messages.sort();
+    messages.dedup();
+    assert!(all >= 58 && messages.len() >= 52, "{} of {all}", messages.len());
+}
+
+#[test]
+fn a_text_over_the_limit() {
+    let text = "terminals=\n".repeat(6000);
+    let ran = certify(&text);
+    let message = "<stdin>:5958:10: the text has more than 65536 bytes; that is the limit (refused=16 at=0)\n";
+    assert_eq!((ran.status, ran.err.as_str()), (1, message));
+}
+
+/// Whatever byte is damaged, the message has the line that the library names, and a column of that line.
+#[test]
+fn damaged_texts() {
+    let text = one_a() + "rule=S: S a\n";
+    for place in 0..text.len() {
+        for byte in 0..=127u8 {
+            let mut damaged = text.clone().into_bytes();
+            damaged[place] = byte;
+            let Err(refusal) = ambiguity::Grammar::read(&damaged) else { continue };
+            let finding = ambig_tools::diagnosis::of(&damaged, refusal);
+            let by_offset = matches!(refusal.cause.number(), 6..=8);
+            assert!(by_offset || finding.line == refusal.at, "{finding:?}");
+            let line = damaged.split(|byte| *byte == b'\n').nth(finding.line - 1).unwrap_or_default();
+            assert!((1..=line.len() + 1).contains(&finding.column), "{finding:?}");
+            assert!(finding.message.is_ascii() && !finding.message.contains('\n'));
+        }
+    }
+}
+
+#[test]
+fn warnings() {
+    let text =
+        "terminals=asp,vol,mix\nnonterminals=Method,Wells,Step\nrule=Method: asp vol\nrule=Method: asp Wells\nrule=Step: vol\n";
+    let path = file("holes", text);
+    let place = |place: &str, message: &str| format!("{path}:{place}: warning: {message}\n");
+    let warnings = [
+        place("1:19", "the terminal 'mix' stands in no rule"),
+        place("2:21", "the nonterminal 'Wells' has no rule"),
+        place("4:6", "no sentence uses this rule: 'Wells' has no finite tree"),
+        place("5:6", "no sentence uses this rule: 'Step' is not reached from 'Method'"),
+    ];
+    let ran = run(CERTIFY, &[&path], b"");
+    assert_eq!((ran.status, ran.err), (0, warnings.concat()));
+    let counted = run(CERTIFY, &["-Werror", &path], b"");
+    assert_eq!((counted.status, counted.err, &counted.out), (1, warnings.concat(), &ran.out));
+    assert_eq!(run(CHECK, &[&path, "-"], ran.out.as_bytes()).out, "accepted\n");
+    let quiet = run(CERTIFY, &["--quiet", "-Werror", &path], b"");
+    assert_eq!((quiet.status, quiet.err.as_str()), (1, ""));
+    assert_eq!(run(CERTIFY, &["-Werror", &file("no-holes", &one_a())], b"").status, 0);
+}

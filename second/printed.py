@@ -1,0 +1,153 @@
+"""Certificates as lines: bindings/README.md has the two forms.
+
+`lines_of` prints a certificate, `certificate_in` reads one back and answers its
+bytes or what is Malformed.
+"""
+
+from typing import Iterator, List, NamedTuple, Optional, Tuple, Union
+
+from corpus import Found
+from triples import held_indices
+
+FORMS = PLAIN, CHECKED = (1, 2)
+ON_A_LINE = {PLAIN: 32, CHECKED: 16}    # bytes of the certificate
+CHECK = 251               # the check digits are a remainder of this prime
+KEYS = "certificate-form=", "states=", "rules=", "size="
+HEX = "0123456789abcdefABCDEF"
+DIGIT = "h"               # stands for a hexadecimal digit in a template
+
+
+class Malformed(NamedTuple):
+    """Where lines are not those of a certificate; both count from 1."""
+
+    line: int
+    column: int
+    message: str
+
+
+def bytes_needed(states: int) -> int:
+    """As few bytes as hold two bits for each pair of states."""
+    return (2 * states * states + 7) // 8
+
+
+def check_digits(offset: int, part: bytes) -> str:
+    """The remainder of a line's digits, offset and bytes, as one number."""
+    return "%02x" % (int("%04x" % offset + part.hex(), 16) % CHECK)
+
+
+def lines_of(found: Found, certificate: bytes, form: int) -> bytes:
+    """A certificate as it is printed."""
+    numbers = form, found.grammar.states, len(found.grammar.rules), len(held_indices(certificate))
+    lines = ["%s%d\n" % pair for pair in zip(KEYS, numbers)]
+    for offset in range(0, len(certificate), ON_A_LINE[form]):
+        part = certificate[offset:offset + ON_A_LINE[form]]
+        line = "%04x: %s" % (offset, part.hex(" "))
+        if form == PLAIN:
+            lines.append(line + "\n")
+        elif any(part):
+            lines.append("%s *%s\n" % (line, check_digits(offset, part)))
+    return "".join(lines).encode("ascii")
+
+
+# Reading.
+
+def lines_in(printed: bytes) -> List[str]:
+    """The lines without their ends, and without blank ones behind the last."""
+    lines = [line[:-1] if line.endswith("\r") else line
+             for line in printed.decode("latin-1").split("\n")]
+    while lines and not lines[-1]:
+        lines.pop()
+    return lines
+
+
+def number_on(line: str, number: int, key: str) -> Union[int, Malformed]:
+    """The decimal number behind a key."""
+    for place, letter in enumerate(key):
+        if line[place:place + 1] != letter:
+            return Malformed(number, place + 1, "'%s' is expected" % key)
+    digits = line[len(key):]
+    if not digits.isascii() or not digits.isdigit() or str(int(digits[:20])) != digits:
+        return Malformed(number, len(key) + 1, "a decimal number without leading zeros is expected")
+    return int(digits)
+
+
+def head_of(lines: List[str], found: Found) -> Union[Tuple[int, int], Malformed]:
+    """Form and size; the other two numbers are the grammar's."""
+    known = None, found.grammar.states, len(found.grammar.rules), None
+    numbers = []
+    for place, (key, expected) in enumerate(zip(KEYS, known)):
+        value = number_on(lines[place] if place < len(lines) else "", place + 1, key)
+        if isinstance(value, Malformed):
+            return value
+        if expected is not None and value != expected:
+            return Malformed(place + 1, len(key) + 1, "by the grammar this number is %d" % expected)
+        if place == 0 and value not in FORMS:
+            return Malformed(1, len(key) + 1, "this program reads the forms 1 and 2")
+        numbers.append(value)
+    return numbers[0], numbers[3]
+
+
+def misfit(line: str, template: str) -> Optional[int]:
+    """The place from 0 where a line does not follow a template."""
+    for place, expected in enumerate(template):
+        letter = line[place:place + 1]
+        if not letter or (letter not in HEX if expected == DIGIT else letter != expected):
+            return place
+    return len(template) if len(line) > len(template) else None
+
+
+def part_on(line: str, number: int, form: int, length: int) -> Union[Tuple[int, bytes], Malformed]:
+    """Offset and bytes of a line."""
+    step = ON_A_LINE[form]
+    if misfit(line[:4], DIGIT * 4) is not None:
+        return Malformed(number, 1, "an offset of four hexadecimal digits is expected")
+    offset = int(line[:4], 16)
+    if offset % step or offset >= length:
+        return Malformed(number, 1, "a multiple of %04x below %04x is expected" % (step, length))
+    width = min(step, length - offset)
+    template = "hhhh:" + " hh" * width + (" *hh" if form == CHECKED else "")
+    place = misfit(line, template)
+    if place is not None:
+        if form == PLAIN and " *" in (line[place - 1:place + 1], line[place:place + 2]):
+            return Malformed(1, len(KEYS[0]) + 1, "form 1 has no check digits, but line %d has them" % number)
+        return Malformed(number, place + 1, "the line does not go on as it should")
+    part = bytes.fromhex(line[5:5 + 3 * width])
+    found, expected = line[-2:].lower(), check_digits(offset, part)
+    if form == CHECKED and found != expected:
+        return Malformed(number, len(line) - 1, "the check digits are %s, but those of this line's digits are %s"
+                         % (found, expected))
+    return offset, part
+
+
+def parts_in(lines: List[str], form: int, length: int) -> Iterator[Union[Tuple[int, bytes], Malformed]]:
+    """The parts on the lines behind the head, up to the first fault."""
+    due = 0
+    for place, line in enumerate(lines[len(KEYS):]):
+        number = place + len(KEYS) + 1
+        part = part_on(line, number, form, length)
+        if not isinstance(part, Malformed) and (part[0] < due or form == PLAIN and part[0] > due):
+            part = Malformed(number, 1, "another offset is due here")
+        yield part
+        if isinstance(part, Malformed):
+            return
+        due = part[0] + ON_A_LINE[form]
+    if form == PLAIN and due < length:
+        yield Malformed(len(lines) + 1, 1, "'%04x:' is expected" % due)
+
+
+def certificate_in(found: Found, printed: bytes) -> Union[bytes, Malformed]:
+    """The bytes of a printed certificate of this grammar."""
+    lines = lines_in(printed)
+    head = head_of(lines, found)
+    if isinstance(head, Malformed):
+        return head
+    form, size = head
+    certificate = bytearray(bytes_needed(found.grammar.states))
+    for part in parts_in(lines, form, len(certificate)):
+        if isinstance(part, Malformed):
+            return part
+        certificate[part[0]:part[0] + len(part[1])] = part[1]
+    held = len(held_indices(bytes(certificate)))
+    if held != size:
+        return Malformed(len(KEYS), len(KEYS[3]) + 1, "the number of bits that are set below is %d" % held)
+    return bytes(certificate)
