@@ -6,18 +6,7 @@ mkdir -p "$1"
 folder=$(realpath "$1")
 cd "$(dirname "$0")"
 
-passed=0
-failed=0
-
-count() { # count NAME STATUS: one test more, with its result
-    if [ "$2" -eq 0 ]; then
-        passed=$((passed + 1))
-        echo "ok: $1"
-    else
-        failed=$((failed + 1))
-        echo "FAILED: $1"
-    fi
-}
+source ../.ci/count.sh
 
 make() { # make KIND SCRIPT [VERB-]: the cases of a kind, the answers to them and how many there are for each reason
     local files="$folder/$1"
@@ -50,5 +39,4 @@ status=$?
 cat "$folder/tests"
 count "the second program's own tests" "$status"
 
-echo "$passed passed, $failed failed"
-[ "$failed" -eq 0 ]
+counted

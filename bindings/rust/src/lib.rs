@@ -36,9 +36,11 @@ pub const MAX_TABLE_ENTRIES: usize = MAX_STATES - 4 + MAX_RULES;
 /// Enough for any grammar: its symbols.
 pub const MAX_NAMES: usize = MAX_TERMINALS + MAX_NONTERMINALS;
 
-/// What the report takes of a text, and the bytes that are always enough for it.
+/// The most bytes of a text that the report takes.
 pub const MAX_REPORT_TEXT_BYTES: usize = 4_096;
+/// The most states of a grammar that the report takes.
 pub const MAX_REPORT_STATES: usize = 48;
+/// An output of so many bytes is never too short for a report.
 pub const MAX_REPORT_BYTES: usize = 64;
 
 /// The triples of Q states, so the entries of a row with one for each.
@@ -96,8 +98,11 @@ pub struct Step {
 #[derive(Clone, Copy, Debug, PartialEq, Eq)]
 #[repr(C)]
 pub struct TripleRecord {
+    /// 0 or 1.
     pub layer: u32,
+    /// The left state, below Q.
     pub left: u32,
+    /// The right state, below Q.
     pub right: u32,
 }
 

@@ -1,5 +1,5 @@
 -- What the theorems of the front page are about: the grammar that a table stores, and the answers of nth_step for every place.
--- Each entry's promise is a definition of its own crate, which its `ensures` cites and over which the front page quantifies:
+-- Each entry's promise is one definition, which its `ensures` cites and over which the front page quantifies:
 -- TableAnswer in grammar/specs/TableCheck.antt; CertificateAnswer and WitnessAnswer in triples/specs/Verdict.antt; RecordsAnswer in
 -- witness_records/specs/Records.antt; NthAnswer in steps/specs/Steps.antt; Searches in search/specs/Promise.antt; ReadsText and
 -- WritesText in text/specs/Promise.antt; Reports in report/specs/Report.antt. That a refusal is the first in document 01's order is

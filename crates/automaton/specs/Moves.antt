@@ -64,8 +64,8 @@ module _ (M : Moves) where
     pub ahead-no-close : (i p q : ℕ) → 1 ≤ M .ahead p → Mem {A = ℕ × ℕ} (i, q) (M .closings p) → ⊥
     pub opens-no-close : (i j p q r : ℕ) → Mem {A = ℕ × ℕ} (i, q) (M .openings p) → Mem {A = ℕ × ℕ} (j, r) (M .closings p) → ⊥
 
--- the lists are the moves of an automaton, by the numbers of its states; regular lists have no moves but these, since theirs lead
--- to numbers below Q
+-- the lists are the moves of an automaton, by the numbers of its states; regular lists have no others from numbers below Q, since
+-- theirs lead to numbers below Q
 pub record Lists (A : Automaton) (M : Moves) : Type 0 where
   pub states : A .states ≡ M .states
   pub terminal : (x : ℕ) → A .Terminal x ↔ Terminal (M .terminals) x

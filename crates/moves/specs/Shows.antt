@@ -23,7 +23,7 @@ module _ (M : Moves) where
   Alone p q = ((i : ℕ) × Opened i p q) ⊎ ((i : ℕ) × Closed i p q)
 
   pub record Shows (t m : ℕ) (T : Tables) : Type 0 where
-    -- t, Q and m are within their limits
+    -- t is the number of terminals; Q and m are within their limits
     pub terminals : t ≡ M .terminals
     pub few : M .states ≤ limits .maxStates
     pub kinds : m ≤ limits .maxNonterminals + 1
@@ -32,6 +32,7 @@ module _ (M : Moves) where
     pub next : (p : ℕ) → p < M .states → 1 ≤ M .ahead p → M .after p ≡ suc p
     -- a state moves alone to another exactly when its class leads there
     pub leads : (p q : ℕ) → p < M .states → q < M .states → (getD (T .member) p 0 ≡ getD (T .target) q 0) ↔ Alone p q
+    -- classes go up to 2m, that of the states that move nowhere
     pub class : (p : ℕ) → p < M .states → getD (T .member) p 0 ≤ 2 * m
     -- opening classes are from m on, closing classes below
     pub opens-class : (i p q : ℕ) → p < M .states → Opened i p q → m ≤ getD (T .member) p 0

@@ -1,4 +1,4 @@
--- What the entries over tables begin with: the table's refusal, or rows that show the moves of its grammar's position automaton.
+-- What the entries over triples begin with: the table's refusal, or rows that show the moves of its grammar's position automaton.
 -- Assumes nothing.
 use Prim.Native.Nat.{ℕ, _≤_}
 use mathlib.Core.Path.{_≡_}
