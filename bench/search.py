@@ -11,6 +11,7 @@ The compiler is $CC or gcc, with -O3. README.md beside this file says what the n
 import argparse
 import os
 import pathlib
+import re
 import statistics
 import subprocess
 import sys
@@ -127,7 +128,7 @@ def check(options):
             words = [program, kind, party] + [found] * (kind == "search")
             with open(cases, "rb") as file:
                 done = subprocess.run(words, stdin=file, stdout=subprocess.PIPE, check=False)
-            right = done.returncode == 0 and done.stdout == expected
+            right = done.returncode == 0 and done.stdout == re.sub(rb" witness=.*", b"", expected)
             if right and kind == "search":
                 words = [sys.executable, ROOT / "second" / "search_cases.py", "witness-ok", cases, found]
                 right = subprocess.run(words, check=False).returncode == 0

@@ -3,7 +3,6 @@
     corpus_cases.py check                     compares the corpus with its index
     corpus_cases.py cases FILE                writes inputs for the search
     corpus_cases.py answers CASES OUT COUNTS  answers them and counts the reasons
-    corpus_cases.py witness-ok CASES FOUND    checks the witnesses that were found
     corpus_cases.py program ambig BINARY      compares what the program prints
 
 The cases are those of search_cases.py, of the corpus and of grammars grown from
@@ -25,9 +24,7 @@ from corpus_texts import Sample, samples
 from corpus_texts import reasons_of as text_reasons_of
 from program import MAX_STATES, printed
 from robot_grammars import grown, table_of
-from search_cases import (
-    Case, answer, decode_case, encode_case, exact_and_longer, witness_ok,
-)
+from search_cases import Case, answer, decode_case, encode_case, exact_and_longer
 from searches import Potential, needed, search
 from tables import Refusal
 
@@ -148,8 +145,6 @@ def run(words: Sequence[str]) -> int:
     """The verbs, those of every file of cases among them."""
     if list(words) == ["check"]:
         return check()
-    if len(words) == 3 and words[0] == "witness-ok":
-        return witness_ok(words[1], words[2])
     if len(words) == 3 and list(words[:2]) == ["program", "ambig"]:
         return compare_program(words[2], list(samples()))
     return main(__doc__, words, KIND)

@@ -12,7 +12,7 @@ from typing import Iterator, List, NamedTuple, Optional, Sequence, Tuple
 
 from case_files import (
     TABLE_REASONS, Kind, Reader, Rng, cases_of, encode_number, encode_table, main,
-    read_cases, refused,
+    numbers, read_cases, refused,
 )
 from case_grammars import (
     CLASSICS, ROWS, STATEMENTS, Table, faulty_tables, keywords, larger_random, operators,
@@ -160,7 +160,7 @@ def answer(case: Case) -> str:
     if isinstance(result, Refusal):
         return refused(result)
     if isinstance(result, Potential):
-        return "potential"
+        return "potential witness=%s" % numbers(result.witness)
     return "unambiguous size=%d certificate=%s" % (result.size, result.certificate.hex())
 
 
@@ -249,7 +249,7 @@ def has_layer_1(grammar: Grammar, result: Unambiguous) -> bool:
     return bits >> grammar.states * grammar.states != 0
 
 
-# Witnesses that were found.
+# Witnesses that another program found, the shortest or not.
 
 def witness_faults(
     cases: Sequence[Case], found: bytes

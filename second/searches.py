@@ -1,12 +1,12 @@
 """The search of document 01: what it must be lent, and what it answers.
 
-The witness of a potential verdict is the program's choice and not given here;
-`certificates.check_witness` says whether a choice is right.
+Which witness comes with a potential verdict is document 02's [1]: shortest.py.
 """
 
-from typing import NamedTuple, Union
+from typing import NamedTuple, Tuple, Union
 
 from certificates import checked_triples
+from shortest import shortest_witness
 from tables import Refusal
 from triples import LAYERS, certificate_length, certificate_of, reached
 
@@ -30,7 +30,9 @@ class Unambiguous(NamedTuple):
 
 
 class Potential(NamedTuple):
-    """The search writes a witness of its own choice."""
+    """The search writes the shortest witness, and returns its number of entries."""
+
+    witness: Tuple[int, ...]
 
 
 def needed(states: int) -> Lent:
@@ -50,5 +52,7 @@ def search(
         return Refusal(ROW_TOO_SHORT, 0)
     held = reached(triples)
     if triples.last in held:
-        return Potential()
+        witness = shortest_witness(triples)
+        assert witness is not None
+        return Potential(witness)
     return Unambiguous(len(held), certificate_of(triples.states, held))

@@ -25,7 +25,8 @@ class FileTest(FileTests, unittest.TestCase):
     def test_answer_lines(self):
         self.assertEqual(answer(Case(*ONE_A, ENOUGH, 7)),
                          "unambiguous size=11 certificate=155021150800000000")
-        self.assertEqual(answer(Case(*CYCLE, ENOUGH, 7)), "potential")
+        self.assertEqual(answer(Case(*CYCLE, ENOUGH, 7)),
+                         "potential witness=0,2,4,16,23,45,43")
         for short in ENOUGH._fields:
             lent = ENOUGH._replace(**{short: getattr(ENOUGH, short) - 1})
             self.assertEqual(answer(Case(*CYCLE, lent, 7)), "refused=14 at=0")

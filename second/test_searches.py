@@ -44,7 +44,8 @@ class VerdictTest(unittest.TestCase):
         results = [search(*row, PLENTY) for row in ROWS]
         self.assertEqual([result.size for result in results[:5] + results[9:]],
                          [5, 10, 11, 24, 30, 82])
-        self.assertEqual(results[5:9], [Potential()] * 4)
+        self.assertEqual([type(result) for result in results[5:9]], [Potential] * 4)
+        self.assertEqual(results[5].witness, (0, 2, 4, 16, 23, 45, 43))
 
     def test_the_certificate_is_accepted(self):
         for table in ROWS + list(CLASSICS.values()):

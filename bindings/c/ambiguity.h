@@ -173,7 +173,8 @@ ambiguity_check_reply ambiguity_check_witness(size_t t, size_t n, const uint8_t 
 ambiguity_check_reply ambiguity_check_witness_records(size_t t, size_t n, const uint8_t *table, size_t table_entries,
                                                       const ambiguity_triple_record *records, size_t records_entries);
 
-/* Searches: the smallest acceptable certificate, or a witness. Lent are AMBIGUITY_CERTIFICATE_BYTES(Q) bytes of certificate, and
+/* Searches: the smallest acceptable certificate, or the shortest witness, which has the fewest entries and, among those, the smaller
+ * index where two first differ. Lent are AMBIGUITY_CERTIFICATE_BYTES(Q) bytes of certificate, and
  * AMBIGUITY_ROW_ENTRIES(Q) entries of each row; Q comes from ambiguity_check_table or ambiguity_read_text. What they hold before
  * does not matter. Unambiguous writes the certificate and keeps the witness row. Potential writes `count` entries of the witness
  * row, and keeps the certificate and the rest of that row. The first AMBIGUITY_ROW_ENTRIES(Q) entries of queue and parents are

@@ -240,8 +240,8 @@ pub fn check_witness_records(table: Table, records: &[TripleRecord]) -> Result<(
 }
 
 /// Searches: `certificate_bytes(Q)` bytes and `row_entries(Q)` entries of each row are just enough. Unambiguous leaves the smallest
-/// acceptable certificate at the front of `certificate` and keeps the witness row; potential leaves a witness at the front of that
-/// row and keeps the certificate. The fronts of queue and parents are 0 afterwards. Uses up to 80 KiB of stack.
+/// acceptable certificate at the front of `certificate` and keeps the witness row; potential leaves the shortest witness at the front
+/// of that row and keeps the certificate. The fronts of queue and parents are 0 afterwards. Uses up to 80 KiB of stack.
 ///
 /// # Errors
 ///

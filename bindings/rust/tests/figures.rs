@@ -63,6 +63,27 @@ fn search_text(text: &[u8], states: usize, size: Option<usize>) {
     }
 }
 
+/// The witness that the search writes.
+fn witness_of(table: Table, states: usize) -> Vec<u32> {
+    let mut certificate = vec![0; certificate_bytes(states)];
+    let [mut queue, mut parents, mut witness] = [0; 3].map(|_| vec![0; row_entries(states)]);
+    let found = ambiguity::search(table, &mut certificate, &mut queue, &mut parents, &mut witness);
+    let Ok(Verdict::Potential { entries }) = found else { panic!("{found:?}") };
+    witness.truncate(entries);
+    witness
+}
+
+#[test]
+fn shortest_witnesses() {
+    // S→S; S→S and S→a; S→a S a and S→a; S→A, S→B, A→ and B→.
+    assert_eq!(witness_of(grammar(0, 1, &[128, 1, 128]), 6), [0, 2, 4, 16, 23, 45, 43]);
+    assert_eq!(witness_of(grammar(1, 1, &[128, 1, 128, 128, 1, 1]), 8), [0, 2, 4, 20, 29, 75, 73]);
+    let palindromes = witness_of(grammar(1, 1, &[128, 3, 1, 128, 1, 128, 1, 1]), 10);
+    assert_eq!(palindromes, [0, 2, 4, 24, 84, 95, 98, 168, 179, 139, 119, 113, 111]);
+    let two_empty = witness_of(grammar(0, 3, &[128, 1, 129, 128, 1, 130, 129, 0, 130, 0]), 10);
+    assert_eq!(two_empty, [0, 2, 4, 8, 28, 68, 98, 175, 135, 115, 113, 111]);
+}
+
 /// So many rules S→x, each of another terminal.
 fn unit_rules(count: u8) -> Vec<u8> {
     (1..=count).flat_map(|code| [128, 1, code]).collect()

@@ -1,11 +1,10 @@
 //! The library's answers on the second program's cases, for each of the nine entries: damaged, short and long inputs, each row lent
-//! between guards. The witnesses that the search finds are its own choice: they are written to a file for the second program.
+//! between guards; of a search all that it wrote is compared, the witness entry by entry.
 
 mod support;
 
 use ambiguity::{certificate_bytes, row_entries, Names, Refusal, Table, TripleRecord, Verdict};
-use std::fs;
-use support::{all_steps, file, Cases, Comparison, Lent};
+use support::{all_steps, Cases, Comparison, Lent};
 
 /// The causes of a table that is refused.
 const TABLE_CAUSES: [usize; 8] = [1, 2, 3, 4, 5, 6, 7, 8];
@@ -121,8 +120,7 @@ impl Searched {
     }
 }
 
-/// The answer's line; a witness that was found is given to `found`.
-fn search_line(cases: &mut Cases, guard: u8, found: &mut impl FnMut(&[u32])) -> String {
+fn search_line(cases: &mut Cases, guard: u8) -> String {
     with_table(cases, guard, |cases, table| {
         let mut lent = Searched::new(cases, guard);
         let verdict = match lent.ask(table) {
@@ -145,8 +143,7 @@ fn search_line(cases: &mut Cases, guard: u8, found: &mut impl FnMut(&[u32])) -> 
                 assert!(lent.written(states, 0, entries));
                 let witness = &lent.witness.row()[..entries];
                 assert_eq!(ambiguity::check_witness(table, witness), Ok(()));
-                found(witness);
-                "potential".to_string()
+                format!("potential witness={}", joined(witness))
             }
         }
     })
@@ -227,28 +224,14 @@ fn witness_check_over_records() {
     comparison("records", "record_cases.py", &[1, 2, 3, 4, 5, 6, 7, 8, 15]).agrees(record_line);
 }
 
-/// Compares the search; the witnesses that were found stand in a file afterwards, each after its number of entries.
-fn searches_agree(compared: Comparison) {
-    let mut witnesses = Vec::new();
-    compared.agrees(|cases, guard| {
-        search_line(cases, guard, &mut |witness| {
-            if guard == 0x00 {
-                witnesses.extend((witness.len() as u32).to_le_bytes());
-                witnesses.extend(witness.iter().flat_map(|entry| entry.to_le_bytes()));
-            }
-        })
-    });
-    fs::write(file(compared.kind, "witnesses"), witnesses).unwrap();
-}
-
 #[test]
 fn search() {
-    searches_agree(comparison("searches", "search_cases.py", &[1, 2, 3, 4, 5, 6, 7, 8, 14]));
+    comparison("searches", "search_cases.py", &[1, 2, 3, 4, 5, 6, 7, 8, 14]).agrees(search_line);
 }
 
 #[test]
 fn search_of_the_corpus() {
-    searches_agree(comparison("corpus", "corpus_cases.py", &[]));
+    comparison("corpus", "corpus_cases.py", &[]).agrees(search_line);
 }
 
 #[test]

@@ -1,5 +1,5 @@
 -- What follows from the promise of the search. Assumes nothing.
-use Prim.Native.Nat.{ℕ}
+use Prim.Native.Nat.{ℕ, _≤_}
 use mathlib.Core.Path.{_≡_, refl, ap, sym, subst, _∙_}
 use mathlib.Core.Bool.{Bool, true, false}
 use mathlib.Core.List.{List}
@@ -25,6 +25,7 @@ use Rattle.triples.specs.Successor.{Reached}
 use Rattle.triples.specs.Smallest.{isElement, smallest, size}
 use Rattle.triples.specs.Certificate.{byteCount, Holds, SmallestCertificate, certificateOf, checkBytes, checkCertificate}
 use Rattle.triples.specs.Witness.{checkRow, checkWitness}
+use Rattle.triples.specs.Shortest.{ShortestWitness, shortest}
 use Rattle.triples.specs.Verdict.{checkVerdict, WitnessAnswer}
 use Rattle.triples.specs.declared.CheckVerdict.{CheckVerdict}
 use Rattle.triples.specs.declared.CheckVerdict.the-variants as check
@@ -33,8 +34,9 @@ use Rattle.triples.proofs.Reached.{reached-held}
 use Rattle.triple_laws.proofs.Explore.{is-element, not-element}
 use Rattle.triple_laws.proofs.CertificateCheck.{bits-fit}
 use Rattle.triple_laws.proofs.CertificateOf.{bytes-length, certificate-bit}
-use Rattle.triple_laws.proofs.Laws.{smallest-distinct, size-cardinal, smallest-below, certificates-of, reached-of, end-of, smallest-of, lacks-of}
+use Rattle.triple_laws.proofs.Laws.{smallest-distinct, size-cardinal, smallest-below, certificates-of, witnesses-of, reached-of, end-of, smallest-of, lacks-of}
 use Rattle.triple_laws.proofs.Position.{position-listed, position-regular}
+use Rattle.figures.proofs.ShortestLaws.{shortest-of, one-shortest}
 use Rattle.parting.proofs.Position.{potential-reached}
 use Rattle.soundness.proofs.Position.{one-tree}
 use Rattle.table_check.proofs.Callers.{refused-table}
@@ -59,6 +61,9 @@ no-refusal cause at k e = let z : _≡_ {A = ℕ} 0 1 = cc in absurd (let o : �
 
 same-number : (n k : ℕ) → search.Potential n ≡ search.Potential k → n ≡ k
 same-number n k e = cc
+
+same-grammar : (G H : Grammar) → _≡_ {A = Answer Grammar} (done G) (done H) → G ≡ H
+same-grammar G H e = cc
 
 -- a stored table passes
 pub checked : (t n : ℕ) (table : List ℕ) (G : Grammar) → Stores t n table G → checkTable limits t n table ≡ done G
@@ -170,14 +175,14 @@ module _ (t n : ℕ) (table : List ℕ) where
           → VerdictTheorems t n table G r (take (byteCount (states G)) (after .certificate))
       verdict-theorems true e w =
           let p = parting G (s .wellFormed) e in
-          let k : (k : ℕ) × (r ≡ search.Potential k) = (length (w .row), w .verdict) in
+          let k : (k : ℕ) × (r ≡ search.Potential k) = (length (shortest (movesOf limits G)), w .verdict) in
           record {
             potential = (λ q. p, λ q. k);
             otherwise = λ u. absurd (u p);
             one-of-two = inl k;
             certificates = λ l a. absurd (lacks-of (position limits G) (movesOf limits G) (regular G (s .wellFormed)) (lists G (s .wellFormed)) l a
                 (is-element (index (states G) 1 1 1) (smallest (movesOf limits G)) .0 e));
-            one-tree = λ n q. no-two n (length (w .row)) (sym q ∙ w .verdict);
+            one-tree = λ n q. no-two n (length (shortest (movesOf limits G))) (sym q ∙ w .verdict);
           }
       verdict-theorems false e c =
           let k = certified e c in
@@ -198,25 +203,45 @@ module _ (t n : ℕ) (table : List ℕ) where
     abbrev go-on : Grammar → Answer Grammar
     go-on G = refuseUnless bufferTooShort 0 (isEnough (states G) before) (done G)
 
-    -- potential: the row written is accepted
+    -- potential: the row written is the shortest witness
+    abbrev Shortest : Grammar → ℕ → Type 0
+    Shortest G k = ShortestWitness (position limits G) (take k (after .witness)) × (k ≤ tripleCount (states G))
+
+    written : (G : Grammar) → WellFormed limits G → (b : Bool) → isPotential (movesOf limits G) ≡ b → Told b (movesOf limits G) before r after
+        → (k : ℕ) → r ≡ search.Potential k → Shortest G k
+    written G W true e y k q =
+        let row = shortest (movesOf limits G) in
+        let z : length row ≡ k = same-number (length row) k (sym (y .verdict) ∙ q) in
+        let l : take k (after .witness) ≡ row = ap (take k) (y .witness) ∙ front-of row (before .witness) k z in
+        let s = shortest-of (position limits G) (movesOf limits G) (regular G W) (lists G W) (is-element (index (states G) 1 1 1) (smallest (movesOf limits G)) .0 e) in
+        (subst (ShortestWitness (position limits G)) (sym l) (s .0), subst (λ (j : ℕ). j ≤ tripleCount (states G)) z (s .1))
+    written G W false e y k q = no-two (size (movesOf limits G)) k (sym (y .verdict) ∙ q)
+
+    passed : (G : Grammar) → searchable limits t n table before ≡ done G → checkTable limits t n table ≡ done G
+    unfolding searchable
+    passed G e =
+        let x = then-done (checkTable limits t n table) go-on G e in
+        x .1 ∙ unless-done bufferTooShort 0 (isEnough (states (x .0)) before) (done (x .0)) G (x .2) .1
+
+    row-written : (G : Grammar) → searchable limits t n table before ≡ done G → Answers (done G) before r after
+        → (k : ℕ) → r ≡ search.Potential k → Shortest G k
+    row-written G e a k q = written G (passes-exactly limits room t n table G .0 (passed G e) .0) (isPotential (movesOf limits G)) refl a k q
+
+    -- the witness check accepts it
     witness-accepted : (o : Answer Grammar) → searchable limits t n table before ≡ o → Answers o before r after
         → (k : ℕ) → r ≡ search.Potential k → (v : CheckVerdict) → WitnessAnswer t n table (take k (after .witness)) v → v ≡ check.Accepted
-    unfolding searchable checkWitness
+    unfolding checkWitness
     witness-accepted (refused cause at) e a k q v w = no-refusal cause at k (sym (a .0) ∙ q)
-    witness-accepted (done G) e a k q v w = go (isPotential (movesOf limits G)) a
-      where
-        passed : checkTable limits t n table ≡ done G
-        passed =
-            let x = then-done (checkTable limits t n table) go-on G e in
-            x .1 ∙ unless-done bufferTooShort 0 (isEnough (states (x .0)) before) (done (x .0)) G (x .2) .1
+    witness-accepted (done G) e a k q v w =
+        let W = passes-exactly limits room t n table G .0 (passed G e) .0 in
+        w ∙ ap checkVerdict (then-goes (checkTable limits t n table) (λ G. checkRow (movesOf limits G) (take k (after .witness))) G (passed G e)
+        ∙ witnesses-of (position limits G) (movesOf limits G) (regular G W) (lists G W) (take k (after .witness)) .1 (row-written G e a k q .0 .witness))
 
-        go : (b : Bool) → Told b (movesOf limits G) before r after → v ≡ check.Accepted
-        go true y =
-            let z : length (y .row) ≡ k = same-number (length (y .row)) k (sym (y .verdict) ∙ q) in
-            let l : take k (after .witness) ≡ y .row = ap (take k) (y .witness) ∙ front-of (y .row) (before .witness) k z in
-            w ∙ ap checkVerdict (then-goes (checkTable limits t n table) (λ G. checkRow (movesOf limits G) (take k (after .witness))) G passed
-            ∙ ap (checkRow (movesOf limits G)) l ∙ y .accepted)
-        go false y = no-two (size (movesOf limits G)) k (sym (y .verdict) ∙ q)
+    shortest-written : (o : Answer Grammar) → searchable limits t n table before ≡ o → Answers o before r after
+        → (G : Grammar) → Stores t n table G → (k : ℕ) → r ≡ search.Potential k → Shortest G k
+    shortest-written (refused cause at) e a G s k q = no-refusal cause at k (sym (a .0) ∙ q)
+    shortest-written (done H) e a G s k q =
+        subst (λ (G : Grammar). Shortest G k) (same-grammar H G (sym (passed H e) ∙ checked t n table G s)) (row-written H e a k q)
 
     pub search-theorems : SearchTheorems t n table before r after
     unfolding searchable
@@ -228,4 +253,7 @@ module _ (t n : ℕ) (table : List ℕ) where
       enough = λ G s e. verdict-theorems G s before r after (isPotential (movesOf limits G)) refl (answers-as (done G)
           (then-goes (checkTable limits t n table) go-on G (checked t n table G s) ∙ unless-holds bufferTooShort 0 (isEnough (states G) before) (done G) e));
       witness = witness-accepted (searchable limits t n table before) refl h;
+      shortest = shortest-written (searchable limits t n table before) refl h;
+      only = λ G s k q row x. one-shortest (position limits G) row (take k (after .witness)) x
+          (shortest-written (searchable limits t n table before) refl h G s k q .0);
     }

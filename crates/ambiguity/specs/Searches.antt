@@ -1,6 +1,7 @@
--- What follows from the promise of the search, whatever the input. Source: document 01; README.md has the demands.
+-- What follows from the promise of the search, whatever the input. Source: document 01, document 02's [1]; README.md has
+-- the demands.
 -- Assumes nothing.
-use Prim.Native.Nat.{ℕ}
+use Prim.Native.Nat.{ℕ, _≤_}
 use mathlib.Core.Path.{_≡_}
 use mathlib.Core.Bool.{true, false}
 use mathlib.Core.List.{List}
@@ -18,10 +19,11 @@ use Rattle.automaton.specs.Strings.{Potential, Unambiguous}
 use Rattle.automaton.specs.Items.{states}
 use Rattle.automaton.specs.Position.{position}
 use Rattle.automaton.specs.PositionMoves.{movesOf}
-use Rattle.triples.specs.Index.{index}
+use Rattle.triples.specs.Index.{index, tripleCount}
 use Rattle.triples.specs.Successor.{Reached, Closed}
 use Rattle.triples.specs.Smallest.{size}
 use Rattle.triples.specs.Certificate.{byteCount, Holds, AcceptableCertificate, SmallestCertificate}
+use Rattle.triples.specs.Shortest.{ShortestWitness}
 use Rattle.triples.specs.declared.CheckVerdict.{CheckVerdict}
 use Rattle.triples.specs.declared.CheckVerdict.the-variants as check
 use Rattle.triples.specs.Verdict.{WitnessAnswer, CertificateAnswer}
@@ -69,3 +71,10 @@ module _ (t n : ℕ) (table : List ℕ) where
     pub enough : (G : Grammar) → Stores t n table G → isEnough (states G) before ≡ true → VerdictTheorems G r (take (byteCount (states G)) (after .certificate))
     -- demand 2: the witness check accepts the row that it wrote
     pub witness : (k : ℕ) → r ≡ search.Potential k → (v : CheckVerdict) → WitnessAnswer t n table (take k (after .witness)) v → v ≡ check.Accepted
+    -- of all witnesses that is the one with the fewest entries and, among those, the smaller index where they first differ; it has
+    -- at most 2Q² entries
+    pub shortest : (G : Grammar) → Stores t n table G → (k : ℕ) → r ≡ search.Potential k
+        → ShortestWitness (position limits G) (take k (after .witness)) × (k ≤ tripleCount (states G))
+    -- and no other row is
+    pub only : (G : Grammar) → Stores t n table G → (k : ℕ) → r ≡ search.Potential k
+        → (row : List ℕ) → ShortestWitness (position limits G) row → row ≡ take k (after .witness)

@@ -8,11 +8,11 @@ use Rattle.grammar.specs.Limits.{limits}
 use Rattle.grammar.specs.Grammar.{Grammar, WellFormed}
 use Rattle.automaton.specs.Items.{states}
 use Rattle.automaton.specs.Position.{Opens, Closes}
-use Rattle.automaton.specs.PositionMoves.{movesOf}
-use Rattle.triple_laws.proofs.Moves.{opening-listed, closing-listed}
+use Rattle.automaton.specs.PositionMoves.{ahead, movesOf}
+use Rattle.triple_laws.proofs.Moves.{ahead-before, opening-listed, closing-listed}
 use Rattle.moves.specs.Tables.{Ascends, targets, kinds, Tables, Built}
 use Rattle.moves.specs.Shows.{Alone, Shows}
-use Rattle.moves.proofs.Moves.{opens-class, closes-class, opens-number, closes-number, member-target, targets-exactly, targets-ascend, member-most}
+use Rattle.moves.proofs.Moves.{before-class, opens-class, closes-class, opens-number, closes-number, member-target, targets-exactly, targets-ascend, member-most}
 use Rattle.moves.proofs.Built.{ahead-at, number-at, member-at, target-at, segment-of, segment-order, segment-inside}
 
 module _ (G : Grammar) (W : WellFormed limits G) (old new : Tables) (X : Built G old new) where
@@ -43,6 +43,8 @@ module _ (G : Grammar) (W : WellFormed limits G) (old new : Tables) (X : Built G
         let b = target-at G old new X q hq in
         (λ e. to-lists (l .0 (sym a ∙ e ∙ b)), λ o. a ∙ l .1 (from-lists o) ∙ sym b);
     class = λ p h. subst (λ c. c ≤ 2 * kinds G) (sym (member-at G old new X p h)) (member-most limits G W apart p h);
+    ahead-class = λ p h k.
+        subst (λ c. kinds G ≤ c) (sym (member-at G old new X p h)) (before-class limits G W apart (ahead-before limits G (ahead limits G p) p k .0 refl));
     opens-class = λ i p q h o.
         subst (λ c. kinds G ≤ c) (sym (member-at G old new X p h)) (opens-class limits G W apart (opening-listed limits G W apart i p q .0 o) .0);
     closes-class = λ i p q h o.

@@ -34,7 +34,8 @@ module _ (M : Moves) where
     pub leads : (p q : ℕ) → p < M .states → q < M .states → (getD (T .member) p 0 ≡ getD (T .target) q 0) ↔ Alone p q
     -- classes go up to 2m, that of the states that move nowhere
     pub class : (p : ℕ) → p < M .states → getD (T .member) p 0 ≤ 2 * m
-    -- opening classes are from m on, closing classes below
+    -- classes of states before a symbol and of states that open are from m on, closing classes below
+    pub ahead-class : (p : ℕ) → p < M .states → 1 ≤ M .ahead p → m ≤ getD (T .member) p 0
     pub opens-class : (i p q : ℕ) → p < M .states → Opened i p q → m ≤ getD (T .member) p 0
     pub closes-class : (i p q : ℕ) → p < M .states → Closed i p q → getD (T .member) p 0 < m
     -- the rule that is opened is that of the target, the rule that is closed that of the state

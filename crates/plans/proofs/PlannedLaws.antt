@@ -70,23 +70,23 @@ module _ (M : Moves) (R : Regular M) (t m : ℕ) (new : Tables) (X : Shows M t m
   }
 
   -- the targets of a state stand in its segment
-  abbrev part : ℕ → List ℕ
+  abbrev pub part : ℕ → List ℕ
   part p = take (side p .span) (drop (side p .from) ts)
 
   -- its states are those to which p moves alone
-  part-moves : (p u : ℕ) → p < Q → Mem u (part p) ↔ Alone M p u
+  pub part-moves : (p u : ℕ) → p < Q → Mem u (part p) ↔ Alone M p u
   unfolding segment
   part-moves p u h = X .targets p u h
 
-  part-length : (p : ℕ) → p < Q → length (part p) ≡ side p .span
+  pub part-length : (p : ℕ) → p < Q → length (part p) ≡ side p .span
   part-length p h =
       let f = fits-at p h in
       length-take-le (side p .span) (drop (side p .from) ts) (omega (arith, length-drop (side p .from) ts, f .order, f .inside))
 
-  part-at : (p k : ℕ) → k < side p .span → getD (part p) k 0 ≡ getD ts (side p .from + k) 0
+  pub part-at : (p k : ℕ) → k < side p .span → getD (part p) k 0 ≡ getD ts (side p .from + k) 0
   part-at p k h = getD-take (side p .span) (drop (side p .from) ts) k 0 h ∙ getD-drop (side p .from) ts k 0
 
-  abbrev cell : ℕ → ℕ → ℕ
+  abbrev pub cell : ℕ → ℕ → ℕ
   cell p k = getD ts (side p .from + k) 0
 
   pub cell-target : (p k : ℕ) → p < Q → k < side p .span → Alone M p (cell p k)
@@ -100,16 +100,16 @@ module _ (M : Moves) (R : Regular M) (t m : ℕ) (new : Tables) (X : Shows M t m
       (r .0, l, sym (part-at p (r .0) l) ∙ r .2)
 
   -- opening classes are not below m, closing classes are
-  opens-kind : {i p u : ℕ} → p < Q → Opened M i p u → m ≤ side p .kind
+  pub opens-kind : {i p u : ℕ} → p < Q → Opened M i p u → m ≤ side p .kind
   opens-kind {i} {p} {u} h o = X .opens-class i p u h o
 
-  closes-kind : {i p u : ℕ} → p < Q → Closed M i p u → side p .kind < m
+  pub closes-kind : {i p u : ℕ} → p < Q → Closed M i p u → side p .kind < m
   closes-kind {i} {p} {u} h o = X .closes-class i p u h o
 
   reads-is : (p : ℕ) → p < Q → readsAt (new .ahead) t p ≡ terminalAhead M p
   reads-is p h = ap (λ (x : ℕ). leb 1 x && leb x t) (X .ahead p h) ∙ ap (λ (t : ℕ). leb 1 (M .ahead p) && leb (M .ahead p) t) (X .terminals)
 
-  reads-before : (p : ℕ) → p < Q → readsAt (new .ahead) t p ≡ true → BeforeTerminal (listed M) p
+  pub reads-before : (p : ℕ) → p < Q → readsAt (new .ahead) t p ≡ true → BeforeTerminal (listed M) p
   reads-before p h e = terminal-ahead M p .0 (sym (reads-is p h) ∙ e)
 
   before-reads : (p : ℕ) → p < Q → BeforeTerminal (listed M) p → readsAt (new .ahead) t p ≡ true

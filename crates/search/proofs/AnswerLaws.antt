@@ -1,8 +1,8 @@
--- A finished search has found the smallest closed set. Assumes nothing.
+-- A finished search has found the smallest closed set, and the shortest way to (1,1,1). Assumes nothing.
 use mathlib.Core.Path.{_≡_, refl, ap, ap₂, sym, subst, _∙_}
 use mathlib.Core.Logic.{_↔_}
 use mathlib.Core.Bool.{Bool, true, false}
-use mathlib.Core.List.{List, _∷_, _++_}
+use mathlib.Core.List.{List, [], _∷_, _++_}
 use Prim.Native.Nat.{ℕ, zero, suc, _+_, _*_, _/_, _%_, _^_, _≤_, _<_}
 use native.Mathlib.Omega.{arith}
 use native.Mathlib.Nat.{pow-zero, pow-succ', div-one, div-div-eq-div-mul, mul-le-mul}
@@ -10,7 +10,7 @@ use native.Mathlib.Decide.{ℕ-discrete}
 use lib.ListN.{length, getD, take, drop, replicate, length-replicate}
 use lib.Seq.{length-take-le, getD-take, drop-cons}
 use borrow.Author.Tests.{eq-eqb}
-use Rattle.grammar.specs.Basics.{choose, Mem, over}
+use Rattle.grammar.specs.Basics.{choose, Mem, over, Distinct, more as fresh}
 use Rattle.grammar.specs.Refusal.{done}
 use Rattle.grammar.proofs.Answers.{no-bool, unless-holds}
 use Rattle.automaton.specs.Moves.{Moves, Regular}
@@ -18,6 +18,7 @@ use Rattle.triples.specs.Index.{index, tripleCount}
 use Rattle.triples.specs.Smallest.{isElement, successors, smallest, size}
 use Rattle.triples.specs.Certificate.{byteCount, bit, isSet, bitsFrom, bytesFrom, certificateOf}
 use Rattle.triples.specs.Witness.{checkOn, checkRow}
+use Rattle.triples.specs.Shortest.{shortest}
 use Rattle.triples.proofs.Index.{index-below}
 use Rattle.triple_laws.proofs.Members.{mem-place, place-mem}
 use Rattle.triple_laws.proofs.Explore.{is-element, not-element, explore-start, explore-closed, explore-least}
@@ -25,6 +26,10 @@ use Rattle.triple_laws.proofs.Lowest.{set-bit, clear-bit}
 use Rattle.triple_laws.proofs.CertificateCheck.{bits-fit, index-zero}
 use Rattle.triple_laws.proofs.Records.{successors-below}
 use Rattle.triple_laws.proofs.Laws.{size-cardinal}
+use Rattle.figures.proofs.Shortest.{Leads}
+use Rattle.figures.proofs.ShortestLaws.{accepted-leads, shortest-only}
+use Rattle.figures.proofs.Found.{Way, start, more}
+use Rattle.figures.proofs.Row.{onto, row-fewest}
 use Rattle.plans.specs.Plan.{Rows}
 use Rattle.plans.specs.Contracts.{Planned}
 use Rattle.search.specs.Promise.{Told, isPotential, lent, cleared}
@@ -68,6 +73,21 @@ bytes-are held marks (suc m) b h small e =
         let q : (8 * b + k) / 8 ≡ b = omega arith in
         let r : (8 * b + k) % 8 ≡ k = omega arith in
         ap (λ (z : ℕ). getD marks z 0 / 2 ^ ((8 * b + k) % 8) % 2) q ∙ ap (λ (z : ℕ). getD marks b 0 / 2 ^ z % 2) r
+
+-- places of a list without doubles
+distinct-places : (l : List ℕ) → Distinct l → (k j : ℕ) → k < length l → j < length l → getD l k 0 ≡ getD l j 0 → k ≡ j
+distinct-places [] d k j hk hj e = absurd (omega arith)
+distinct-places (a ∷ l) d zero zero hk hj e = refl
+distinct-places (a ∷ l) (fresh n d) zero (suc j) hk hj e = absurd (n (subst (λ (b : ℕ). Mem b l) (sym e) (place-mem l j 0 (omega arith))))
+distinct-places (a ∷ l) (fresh n d) (suc k) zero hk hj e = absurd (n (subst (λ (b : ℕ). Mem b l) e (place-mem l k 0 (omega arith))))
+distinct-places (a ∷ l) (fresh n d) (suc k) (suc j) hk hj e = ap suc (distinct-places l d k j (omega arith) (omega arith) e)
+
+tail-of : {a b : ℕ} {u v : List ℕ} → _≡_ {A = List ℕ} (a ∷ u) (b ∷ v) → u ≡ v
+tail-of e = ap rest-of e
+  where
+    rest-of : List ℕ → List ℕ
+    rest-of [] = []
+    rest-of (x ∷ w) = w
 
 module _ (M : Moves) (W : Regular M) (R : Rows) (targets : List ℕ) (t m Q : ℕ) (p : Planned M R targets t m Q)
     (queue parents : List ℕ) (s : State) (x : Explored R targets t m Q queue parents s) where
@@ -203,6 +223,37 @@ module _ (M : Moves) (W : Regular M) (R : Rows) (targets : List ℕ) (t m Q : �
       (eq-eqb (getD (s .queue) 0 0) (index (M .states) 0 0 0) (x .going .first ∙ sym (index-zero (M .states))))
       ∙ ahead-accepted place 1 e a
 
+  -- places of the queue with one index are one
+  one-place : (k l : ℕ) → k < s .count → l < s .count → getD (s .queue) k 0 ≡ getD (s .queue) l 0 → k ≡ l
+  one-place k l hk hl e =
+      distinct-places (used s) (marked .distinct) k l (omega (arith, count-used)) (omega (arith, count-used))
+      (getD-take (s .count) (s .queue) k 0 hk ∙ e ∙ sym (getD-take (s .count) (s .queue) l 0 hl))
+
+  ahead-inside : {place j : ℕ} {is : List ℕ} → Ahead (s .queue) (s .parents) (s .count) place j is → j < s .count → place < s .count
+  ahead-inside here h = h
+  ahead-inside (back a b c d) h = ahead-inside d b
+
+  ahead-way : {place j : ℕ} {is : List ℕ} → Ahead (s .queue) (s .parents) (s .count) place j is
+      → (u : List ℕ) → Way (s .queue) (s .parents) j u → Way (s .queue) (s .parents) place (onto is u)
+  ahead-way here u w = w
+  ahead-way (back {j} {k} {is} a b c d) u w = ahead-way d (getD (s .queue) k 0 ∷ u) (more a (subst (λ (i : ℕ). Way (s .queue) (s .parents) i u) c w))
+
+  -- the way to (1,1,1) is the shortest witness
+  pub row-shortest : (place : ℕ) (rest : List ℕ) → Ahead (s .queue) (s .parents) (s .count) place 0 rest
+      → getD (s .queue) place 0 ≡ index Q 1 1 1 → shortest M ≡ getD (s .queue) 0 0 ∷ rest
+  row-shortest place rest a e =
+      let z = x .going .first in
+      let goal = index (M .states) 1 1 1 in
+      let c = accepted-leads M (getD (s .queue) 0 0 ∷ rest) (row-accepted place rest a e) in
+      let leads : Leads (successors M) goal 0 rest = subst (Leads (successors M) goal 0) (sym (tail-of (c .1))) (c .2) in
+      let way : Way (s .queue) (s .parents) place (onto rest (0 ∷ []))
+      = subst (λ (i : ℕ). Way (s .queue) (s .parents) place (onto rest (i ∷ []))) z (ahead-way a (getD (s .queue) 0 0 ∷ []) start) in
+      shortest-only M W rest
+      (row-fewest (successors M) goal (tripleCount (M .states)) inside (NextOf R targets t m Q)
+      (λ i j h n. p .lists i (subst (λ (q : ℕ). i < tripleCount q) (sym (p .size)) h) .all j n) (s .queue) (s .parents) (s .count) (x .ordered) one-place some place
+      (ahead-inside a (x .going .some)) (e ∙ ap (λ (q : ℕ). index q 1 1 1) (p .size)) rest way leads)
+      ∙ ap (λ (i : ℕ). i ∷ rest) (sym z)
+
   -- a work row that is cleared, if it is as it was past its first 2Q² entries
   row-cleared : (old row : List ℕ) → drop (tripleCount Q) row ≡ drop (tripleCount Q) old
       → over (replicate (tripleCount Q) 0) row ≡ cleared (M .states) old
@@ -232,14 +283,12 @@ module _ (M : Moves) (W : Regular M) (R : Rows) (targets : List ℕ) (t m Q : �
           witness = w;
         })
     told (Potential n) certificate′ witness′ (e, b, w) =
+        let q = row-shortest (w .place) (w .rest) (w .ahead) (w .entry) in
         subst (told-of (Potential n) certificate′ witness′) (sym e ∙ potential-is) (record {
-          row = getD (s .queue) 0 0 ∷ w .rest;
-          accepted = row-accepted (w .place) (w .rest) (w .ahead) (w .entry);
-          few = subst (λ (q : ℕ). suc (length (w .rest)) ≤ tripleCount q) (p .size) (omega (arith, w .number-is, w .few, marked .fits));
-          verdict = ap Potential (let q : n ≡ suc (length (w .rest)) = omega (arith, w .number-is) in q);
+          verdict = ap Potential ((let k : n ≡ suc (length (w .rest)) = omega (arith, w .number-is) in k) ∙ sym (ap length q));
           certificate = b;
           queue = row-cleared queue (s .queue) (x .queue-rest);
           parents = row-cleared parents (s .parents) (x .parents-rest);
-          witness = w .front;
+          witness = w .front ∙ ap (λ (l : List ℕ). over l witness) (sym q);
         })
     told (Refused cause at) certificate′ witness′ e = absurd e

@@ -1,7 +1,8 @@
 -- What the search promises: its answer, and every lent row afterwards.
--- Source: document 01, "Triples, certificate, witness", from "The search writes the smallest such set" on, and "Causes of refusal".
+-- Source: document 01, "Triples, certificate, witness", from "The search writes the smallest such set" on, and "Causes of refusal";
+-- document 02, [1] (which witness).
 -- Assumes nothing.
-use Prim.Native.Nat.{ℕ, _≤_}
+use Prim.Native.Nat.{ℕ}
 use mathlib.Core.Path.{_≡_}
 use mathlib.Core.Bool.{Bool, true, false, _&&_}
 use mathlib.Core.List.{List}
@@ -18,7 +19,7 @@ use Rattle.automaton.specs.PositionMoves.{movesOf}
 use Rattle.triples.specs.Index.{index, tripleCount}
 use Rattle.triples.specs.Smallest.{isElement, smallest, size}
 use Rattle.triples.specs.Certificate.{byteCount, certificateOf}
-use Rattle.triples.specs.Witness.{checkRow}
+use Rattle.triples.specs.Shortest.{shortest}
 use Rattle.search.specs.declared.SearchVerdict.{SearchVerdict}
 use Rattle.search.specs.declared.SearchVerdict.the-variants.{Unambiguous, Potential, Refused}
 
@@ -69,17 +70,14 @@ pub record Certified (M : Moves) (before : Lent) (r : SearchVerdict) (after : Le
   pub parents : after .parents ≡ cleared (M .states) (before .parents)
   pub witness : after .witness ≡ before .witness
 
--- potential: which row is the program's choice; the witness check accepts it, it has 2Q² entries at most, and their number is
--- returned; the certificate and the witness row past its end are untouched
+-- potential: with the number of entries of the shortest witness, which stands in the front of the witness row; the certificate is
+-- untouched
 pub record Witnessed (M : Moves) (before : Lent) (r : SearchVerdict) (after : Lent) : Type 0 where
-  pub row : List ℕ
-  pub accepted : checkRow M row ≡ done tt
-  pub few : length row ≤ tripleCount (M .states)
-  pub verdict : r ≡ searchVerdict (done (potential (length row)))
+  pub verdict : r ≡ searchVerdict (done (potential (length (shortest M))))
   pub certificate : after .certificate ≡ before .certificate
   pub queue : after .queue ≡ cleared (M .states) (before .queue)
   pub parents : after .parents ≡ cleared (M .states) (before .parents)
-  pub witness : after .witness ≡ over row (before .witness)
+  pub witness : after .witness ≡ over (shortest M) (before .witness)
 
 abbrev pub Told : Bool → Moves → Lent → SearchVerdict → Lent → Type 0
 Told true = Witnessed

@@ -1,0 +1,4 @@
+pub mod Shortest
+pub mod ShortestLaws
+pub mod Found
+pub mod Row
