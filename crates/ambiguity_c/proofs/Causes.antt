@@ -30,7 +30,7 @@ use Rattle.text.specs.Promise.{textRead, textWritten}
 use Rattle.text.specs.declared.TextWritten.the-variants.{Written}
 use Rattle.witness_records.specs.Records.{triples}
 use Rattle.ambiguity_c.specs.Replies.{tableReply, stepReply, checkReply, searchReply, readReply, writeReply, reportReply}
-use Rattle.ambiguity_c.specs.Causes.{Tells, IsRead, IsVerdict, CauseTheorems}
+use Rattle.ambiguity_c.specs.Causes.{Tells, IsRead, IsVerdict, IsStep, CauseTheorems}
 use Rattle.ambiguity_c.proofs.Refusals.{isCause, Caused, cause, check-table, nth-step, check-witness, check-records, check-certificate, search-asked, read-into, write-into, report-into}
 
 -- nothing is refused
@@ -49,9 +49,9 @@ table-tells : (o : Answer Grammar) → Caused o → Tells (tableReply (tableChec
 table-tells (done G) h = tells-done refl
 table-tells (refused c p) (cause h) = tells-refused c h
 
-step-tells : (o : Answer (Option Step)) → Caused o → Tells (stepReply (stepAnswer o) .cause) (1 ≤ stepReply (stepAnswer o) .kind)
-step-tells (done none) h = tells-done (omega arith)
-step-tells (done (some s)) h = tells-done (omega arith)
+step-tells : (o : Answer (Option Step)) → Caused o → Tells (stepReply (stepAnswer o) .cause) (IsStep (stepAnswer o))
+step-tells (done none) h = tells-done (inr (refl, refl))
+step-tells (done (some s)) h = tells-done (inl (refl, (s, refl)))
 step-tells (refused c p) (cause h) = tells-refused c h
 
 check-tells : (o : Answer Unit) → Caused o → Tells (checkReply (checkVerdict o) .cause) (checkVerdict o ≡ Accepted)
@@ -93,7 +93,7 @@ cause-theorems = record {
   tables = λ t n table r a.
       subst (λ r. Tells (tableReply r .cause) (r .verdict ≡ Passed)) (sym a) (table-tells _ (check-table limits t n table));
   steps = λ t n table f p q ask a k u.
-      subst (λ s. Tells (stepReply s .cause) (1 ≤ stepReply s .kind)) (sym (a k u)) (step-tells _ (nth-step limits t n table f p q k));
+      subst (λ s. Tells (stepReply s .cause) (IsStep s)) (sym (a k u)) (step-tells _ (nth-step limits t n table f p q k));
   witnesses = λ t n table row v a. verdict-tells _ v (check-witness limits t n table row) a;
   records = λ t n table entries v a. verdict-tells _ v (check-records limits t n table (triples entries)) a;
   certificates = λ t n table bytes v a. verdict-tells _ v (check-certificate limits t n table bytes) a;

@@ -9,6 +9,7 @@ use Rattle.grammar.specs.declared.TableVerdict.the-variants.{Passed}
 use Rattle.grammar.specs.TableCheck.{TableAnswer}
 use Rattle.triples.specs.declared.CheckVerdict.{CheckVerdict}
 use Rattle.triples.specs.declared.CheckVerdict.the-variants.{Accepted}
+use Rattle.triples.specs.declared.Step.{Step}
 use Rattle.triples.specs.Verdict.{WitnessAnswer, CertificateAnswer}
 use Rattle.report.specs.Report.{Reports}
 use Rattle.report.specs.declared.Reported.{Reported}
@@ -17,6 +18,7 @@ use Rattle.search.specs.Promise.{Lent, Searches}
 use Rattle.search.specs.declared.SearchVerdict.{SearchVerdict}
 use Rattle.search.specs.declared.SearchVerdict.the-variants.{Unambiguous, Potential}
 use Rattle.steps.specs.declared.StepAnswer.{StepAnswer}
+use Rattle.steps.specs.declared.StepAnswer.the-variants.{Record, NoMore}
 use Rattle.text.specs.Promise.{ReadsText, WritesText}
 use Rattle.text.specs.declared.TextRead.{TextRead}
 use Rattle.text.specs.declared.TextRead.the-variants.{Read}
@@ -41,12 +43,17 @@ IsVerdict v =
     ((searchReply v .verdict ≡ 1) × (v ≡ Unambiguous (searchReply v .count)))
     ⊎ ((searchReply v .verdict ≡ 2) × (v ≡ Potential (searchReply v .count)))
 
+-- 1 a record, or 2 no more
+abbrev pub IsStep : StepAnswer → Type 0
+IsStep v =
+    ((stepReply v .kind ≡ 1) × ((s : Step) × (v ≡ Record s)))
+    ⊎ ((stepReply v .kind ≡ 2) × (v ≡ NoMore))
+
 -- whatever answers as the entries promise
 pub record CauseTheorems : Type 0 where
   pub tables : (t n : ℕ) (table : List ℕ) (r : TableChecked) → TableAnswer t n table r → Tells (tableReply r .cause) (r .verdict ≡ Passed)
-  -- 1 a record, or 2 no more
   pub steps : (t n : ℕ) (table : List ℕ) (f p q : ℕ) (ask : ℕ → StepAnswer) → StepAnswers t n table f p q ask
-      → (k : ℕ) → Usize k → Tells (stepReply (ask k) .cause) (1 ≤ stepReply (ask k) .kind)
+      → (k : ℕ) → Usize k → Tells (stepReply (ask k) .cause) (IsStep (ask k))
   pub witnesses : (t n : ℕ) (table row : List ℕ) (v : CheckVerdict) → WitnessAnswer t n table row v
       → Tells (checkReply v .cause) (v ≡ Accepted)
   pub records : (t n : ℕ) (table : List ℕ) (entries : List TripleRecord) (v : CheckVerdict) → RecordsAnswer t n table entries v
