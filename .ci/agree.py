@@ -20,11 +20,15 @@ sys.dont_write_bytecode = True
 from corpus import AMBIGUOUS, EMPTY, coded, entries, found_in, text_in  # noqa: E402
 from judge import checked, verdict  # noqa: E402
 from program import MAX_BYTES, MAX_STATES  # noqa: E402
+from readings import LentStrings, Refused, named_in, read_back, reading_lines  # noqa: E402
+from test_partings import accepts, has_pair  # noqa: E402
 from trees import MOST, tree_count  # noqa: E402
+from triples import triples_of  # noqa: E402
 
 MESSAGES = sorted(glob.glob(os.path.join(ROOT, "bindings/tools/tests/messages/*.grammar")))
 SMALL = 60                # states up to which the second program is quick
 SLIPS = 300
+LETTER_SLIPS = 1500       # of which most do not part
 RANDOM = 400              # grammars
 SHORT = 4                 # terminals of a short sentence
 
@@ -97,6 +101,59 @@ def certificates(tools):
     return "%d certificates, %d damaged ones" % (len(printed), SLIPS)
 
 
+def slip(rng, lines):
+    """Two lines with a letter dropped, doubled or put elsewhere, or with another byte."""
+    place = rng.randrange(len(lines))
+    if rng.randrange(3) == 0:
+        return lines[:place] + rng.choice([b"", b" ", b"(", b")", b"0", b"1", b"9", b"\n", b"x"]) + lines[place + 1:]
+    words = re.split(b"([ =\n])", lines)
+    one, other = rng.randrange(0, len(words), 2), rng.randrange(0, len(words), 2)
+    kind = rng.randrange(4)
+    if kind == 0:
+        words[one:one + 2] = []
+    elif kind == 1:
+        words[one:one] = words[one], b" "
+    elif kind == 2:
+        words[one], words[other] = words[other], words[one]
+    else:
+        words[one] = words[other]
+    return b"".join(words)
+
+
+def said_of_strings(text, lines):
+    """What ambig-check says of two lines for scripts, by the second program."""
+    pair = read_back(text, lines, LentStrings(len(lines), len(lines)))
+    if isinstance(pair, Refused):
+        return "refused=%d\nat=%d\n" % pair.refusal
+    automaton = triples_of(named_in(text).grammar).automaton
+    part = all(accepts(automaton, string) for string in pair) and has_pair(pair)
+    return "accepted\n" if part else "not-parting\n"
+
+
+def strings(tools):
+    """The second program prints the same two strings, reads damaged ones alike, and finds that the same pairs part."""
+    rng = random.Random(1)
+    printed = []
+    for entry in entries():
+        if entry.size is None and entry.states <= SMALL:
+            text = text_in(entry.name)
+            lines = ran([tools.certify, "--quiet", "-"], text)[0].encode().split(b"\n", 2)[2]
+            assert lines == reading_lines(named_in(text)) and said_of_strings(text, lines) == "accepted\n", entry.name
+            printed.append((entry.name, text, lines))
+    found = dict.fromkeys(["accepted", "not-parting", "refused=16", "refused=17"], 0)
+    for _ in range(LETTER_SLIPS):
+        name, text, lines = rng.choice(printed)
+        damaged = slip(rng, lines)
+        path = os.path.join(ROOT, "corpus", name + ".grammar")
+        quiet = ran([tools.check, "--quiet", "--lines", path, "-"], damaged)[0]
+        assert quiet == said_of_strings(text, damaged), (name, damaged)
+        found[quiet.split("\n")[0]] += 1
+        said = ran([tools.check, "--lines", path, "-"], damaged)[1]
+        assert not quiet.startswith("refused=") or "at=%d\n" % line_of(said) in quiet, (said, damaged)
+    assert min(found.values()) > 0, found
+    return "%d pairs, damaged: %s" % (len(printed), ", ".join("%s %d" % count for count in found.items()))
+
+
 def told_ambiguous(out):
     """The sentence of terminals that is called ambiguous, in the form of the corpus' index; None if there is none."""
     told = re.search(r"ambiguous: (the empty sentence|`[^`]*`) has two trees"
@@ -157,7 +214,7 @@ def random_grammars(tools):
 def main(folder, ambig):
     tools = Tools(folder, ambig)
     failed = 0
-    for test in as_ambig, messages, certificates, sentences, random_grammars:
+    for test in as_ambig, messages, certificates, strings, sentences, random_grammars:
         try:
             print("%s: %s" % (test(tools), test.__doc__.strip()))
         except AssertionError as error:

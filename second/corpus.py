@@ -8,10 +8,10 @@ import os
 import random
 from typing import Iterator, List, NamedTuple, Optional, Tuple
 
-from program import AMPLE
+from readings import named_of
 from searches import Potential, needed, search
-from tables import MAX_STATES, Grammar, Refusal, check_table
-from text import Text, read_text, write_text
+from tables import MAX_STATES, Grammar, Refusal
+from text import AMPLE, Text, read_text, write_text
 from trees import MOST, some_sentences, tree_count
 
 FOLDER = os.path.join(os.path.dirname(os.path.dirname(os.path.abspath(__file__))), "corpus")
@@ -91,11 +91,8 @@ def found_in(text: bytes) -> Optional[Found]:
     if isinstance(result, Refusal):
         return None
     table = result.terminals, result.nonterminals, result.table
-    grammar = check_table(*table)
-    assert isinstance(grammar, Grammar), "the reader writes good tables"
-    names = [text[start:start + length].decode("ascii")
-             for start, length in zip(result.starts, result.lengths)]
-    return Found(result, table, grammar, names)
+    grammar, names = named_of(text, result)
+    return Found(result, table, grammar, [name.decode("ascii") for name in names])
 
 
 def table_in(name: str, folder: str = FOLDER) -> Tuple[int, int, bytes]:

@@ -1,16 +1,18 @@
 """The texts that the program is tried with, in groups; they depend on the seed alone.
 
 The corpus, grown grammars, both damaged in one byte or cut, texts with one fault
-of each cause, and texts of too many bytes or states.
+of each cause, texts of too many bytes or states, and texts with long readings.
 """
 
 from functools import lru_cache
+from math import gcd
 from typing import Callable, Dict, Iterator, List, NamedTuple, Optional, Sequence, Tuple
 
 from case_files import Rng
 from corpus import entries, text_in
-from named_grammars import join_lines, lines_of, text_of
+from named_grammars import Named, join_lines, lines_of, long_names, text_of
 from program import MAX_BYTES, MAX_STATES
+from random_tables import A, B, S, Rule, a
 from robot_grammars import grown, states_of
 from tables import (
     FIXED_STATES, MAX_LENGTH, MAX_NONTERMINALS, MAX_RULES, MAX_TERMINALS, Refusal,
@@ -20,6 +22,7 @@ from text import MAX_NAME, Text, read_lines
 
 SEED = 5
 MARKS = b"\x00\t\n\r ,-:=_aSz09\x7f\xff"    # bytes that part something, or seem to
+LONG = 1000               # bytes of a long output
 
 
 class Sample(NamedTuple):
@@ -243,6 +246,39 @@ def faulty_large(rng: Rng) -> Iterator[bytes]:
         yield join_lines(fault(rng, lines_of(grown(rng, 12))))
 
 
+# Long readings.
+
+def ring(left: int, helper: int, count: int) -> List[Rule]:
+    """Rules by which `left` makes `count` terminals and then itself again."""
+    most = MAX_LENGTH - 1
+    if count <= most:
+        return [(left, bytes([a] * count + [left]))]
+    return [(left, bytes([a] * most + [helper])),
+            (helper, bytes([a] * (count - most) + [left]))]
+
+
+def counting(rng: Rng) -> Named:
+    """Two ways to make a row of one terminal, which agree only in long rows.
+
+    A makes i×p + r of it, B makes j×q + s.
+    """
+    while True:
+        p, q = (7 + rng.randrange(10) for _ in range(2))
+        r, s = (rng.randrange(3) for _ in range(2))
+        rules = [(S, bytes([A])), (S, bytes([B])), (A, bytes([a] * r)), (B, bytes([a] * s))]
+        rules += ring(A, B + 1, p) + ring(B, B + 2, q)
+        rng.shuffle(rules)
+        grammar = Named(1, 5, rules, long_names(rng, 6))
+        if gcd(p, q) == 1 and r != s and states_of(grammar) <= MAX_STATES:
+            return grammar
+
+
+def long_readings(rng: Rng) -> Iterator[bytes]:
+    """Readings of a hundred words and more, of 15 bytes each."""
+    for _ in range(24):
+        yield text_of(counting(rng))
+
+
 GROUPS: Dict[str, Callable[[Rng], Iterator[bytes]]] = {
     "corpus": of_the_corpus,
     "grown": grown_small,
@@ -255,6 +291,7 @@ GROUPS: Dict[str, Callable[[Rng], Iterator[bytes]]] = {
     "at-the-limit": at_the_limit,
     "too-long": too_long,
     "faulty-large": faulty_large,
+    "long-readings": long_readings,
 }
 
 
@@ -269,6 +306,12 @@ def samples() -> Iterator[Sample]:
 
 CAUSES = [1, 4, 6, 7, 8, 16, 17, 18]     # those that a text can be refused for
 REASONS = ["unambiguous", "potential"] + ["refused-%d" % cause for cause in CAUSES] + [
+    "readings-with-a-terminal",
+    "readings-with-a-nonterminal",
+    "readings-with-a-name-of-15",
+    "readings-with-a-rule-of-two-digits",
+    "readings-of-unequal-length",
+    "readings-of-1000-bytes",
     "refused-14-bytes",
     "refused-14-states",
     "refused-14-bytes-and-otherwise-at-fault",
@@ -284,6 +327,24 @@ def items_in(lines: Sequence[bytes]) -> int:
     """Q as the lines' spaces tell it, also where a line is at fault."""
     rules = [line for line in lines if line.startswith(b"rule=")]
     return FIXED_STATES + sum(line.count(b" ") + 1 for line in rules)
+
+
+def reading_reasons(text: bytes, printed: bytes) -> List[str]:
+    """What the lines after a potential verdict have in them."""
+    left, right = [line.partition(b"=")[2].split(b" ") for line in printed.split(b"\n")[2:4]]
+    words = set(left + right)
+    terminals, nonterminals = [line.partition(b"=")[2].split(b",")
+                               for line in text.split(b"\n")[:2]]
+    met = [
+        ("readings-with-a-terminal", not words.isdisjoint(terminals)),
+        ("readings-with-a-nonterminal", not words.isdisjoint(nonterminals)),
+        ("readings-with-a-name-of-15", any(len(word) == MAX_NAME for word in words)),
+        ("readings-with-a-rule-of-two-digits",
+         any(word[:1] in b"()" and len(word) == 3 for word in words)),
+        ("readings-of-unequal-length", len(left) != len(right)),
+        ("readings-of-1000-bytes", len(printed) >= LONG),
+    ]
+    return [name for name, holds in met if holds]
 
 
 def reasons_of(text: bytes, printed: bytes) -> List[str]:
@@ -308,4 +369,5 @@ def reasons_of(text: bytes, printed: bytes) -> List[str]:
         ("of-48-states", states == MAX_STATES),
         ("of-49-states", states == MAX_STATES + 1),
     ] + [("refused-%d" % number, cause == number) for number in CAUSES]
-    return [name for name, holds in met if holds]
+    found = [name for name, holds in met if holds]
+    return found + (reading_reasons(text, printed) if "potential" in found else [])

@@ -12,9 +12,9 @@ from certificates import check_certificate
 from corpus import found_in
 from places import Place, place_of
 from printed import Malformed, certificate_in
-from program import AMPLE, judged
+from program import judged
 from tables import Refusal
-from text import MAX_TEXT, read_text
+from text import AMPLE, MAX_TEXT, read_text
 
 MOST = MAX_TEXT + 1       # bytes that are read of a file: one more than a text has
 VERSION_FILE = os.path.join(os.path.dirname(os.path.dirname(os.path.abspath(__file__))), "VERSION")
@@ -43,7 +43,7 @@ def verdict(text: bytes) -> Answer:
     """What is said of a grammar."""
     result = read_text(text, AMPLE)
     fault = place_of(text, result) if isinstance(result, Refusal) else None
-    return Answer(judged(result).decode("ascii"), fault)
+    return Answer(judged(text, result).decode("ascii"), fault)
 
 
 def checked(text: bytes, lines: bytes) -> Answer:

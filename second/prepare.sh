@@ -30,6 +30,7 @@ make corpus corpus_cases.py
 make reads text_cases.py read-
 make writes text_cases.py write-
 make reports report_cases.py
+make backs back_cases.py
 
 python3 corpus_cases.py check
 count "corpus: every text reads, and states, verdict, size and trees are as its index says" $?

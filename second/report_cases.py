@@ -22,8 +22,9 @@ from program import TOO_MUCH, printed
 
 MAX_BYTES = 100000         # of a text
 MAX_ROOM = 70000
-ENOUGH = 64                # bytes that no report passes
+ENOUGH = 8192              # bytes that no report of these texts passes
 FEWEST = 10                # cases that each reason must have
+POTENTIAL_LINES = 4        # states, verdict, left, right
 
 
 class Case(NamedTuple):
@@ -46,13 +47,28 @@ def the_programs_texts(rng: Rng) -> Iterator[Case]:
 
 
 def every_room(rng: Rng) -> Iterator[Case]:
-    """Some texts with every room up to what is always enough, and a little more."""
+    """Some texts with every room up to what is enough, and a little more."""
     for text in [b"", b"terminals=a\nnonterminals=S\nrule=S: a\n"] + [small(rng) for _ in range(8)]:
-        for room in range(ENOUGH + 3):
+        for room in range(len(expected(text)) + 3):
             yield Case(text, room)
 
 
-GROUPS = [the_programs_texts, every_room]
+def ends_of(report: bytes) -> List[int]:
+    """Where the lines of a report end, each with its byte 10."""
+    return [place + 1 for place, byte in enumerate(report) if byte == ord("\n")]
+
+
+def some_lines(rng: Rng) -> Iterator[Case]:
+    """Room for the verdict without the readings, or without the second, or for parts of them."""
+    for sample in samples():
+        ends = ends_of(expected(sample.text))
+        if len(ends) == POTENTIAL_LINES:
+            yield Case(sample.text, ends[1])
+            yield Case(sample.text, ends[2])
+            yield Case(sample.text, rng.randrange(ends[1], ends[3]))
+
+
+GROUPS = [the_programs_texts, every_room, some_lines]
 
 
 # Reasons.
@@ -64,6 +80,8 @@ REASONS = TEXT_REASONS + [
     "14-one-byte-short",
     "14-shorter",
     "14-for-a-text-that-is-refused",
+    "14-room-for-the-verdict",
+    "14-room-for-the-verdict-and-left",
 ]
 
 
@@ -79,6 +97,10 @@ def reasons_of(case: Case) -> List[str]:
         ("14-shorter", short > 1),
         ("14-for-a-text-that-is-refused", report.startswith(b"refused=")),
     ]
+    ends = ends_of(report)
+    if len(ends) == POTENTIAL_LINES:
+        met += [("14-room-for-the-verdict", ends[1] <= case.room < ends[2]),
+                ("14-room-for-the-verdict-and-left", ends[2] <= case.room)]
     return [name for name, holds in met if holds]
 
 

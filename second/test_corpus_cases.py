@@ -17,20 +17,21 @@ from corpus import (
 from corpus_cases import FEWEST, KIND, REASONS, compare_program, difference, reasons_of, run
 from corpus_texts import Sample, padded, padding, samples
 from named_grammars import text_of
-from program import AMPLE, printed
+from program import printed
 from robot_grammars import CHANGES, grow, grown, named, states_of, table_of
 from search_cases import Case
 from searches import needed
 from tables import MAX_STATES
 from test_tables import STATES
-from text import read_text
+from text import AMPLE, read_text
 from text_read_inputs import EXAMPLE
 
 # SHA-256 of the file of cases, and of the program's texts, each after its length.
 DIGEST = "3f6f7857b7fd5a41260f8e5274a9bec9ab54a9aa77be4e1863daa207b3af88d9"
-TEXTS = "61915549c8c34e20b0adc5711f436cf085b3b0bbabfab40d19ac9dd88db2024e"
+TEXTS = "098f52fd11466533239f7ea91d7ca9d31b4f5b244e7086efb5aff98996fcfe8c"
 
 RIGHT = b"states=6\nverdict=unambiguous\nreached=11\n"
+CYCLE = b"states=6\nverdict=potential\nleft=(0 S )0\nright=(0 (1 S )1 )0\n"
 
 
 class IndexTest(unittest.TestCase):
@@ -169,7 +170,7 @@ class GrownTest(unittest.TestCase):
 class PrintedTest(unittest.TestCase):
     def test_document_01(self):
         self.assertEqual(printed(EXAMPLE), RIGHT)
-        self.assertEqual(printed(text_in("row-cycle")), b"states=6\nverdict=potential\n")
+        self.assertEqual(printed(text_in("row-cycle")), CYCLE)
         self.assertEqual(printed(EXAMPLE[:-1]), b"refused=16\nat=3\n")
         self.assertEqual(printed(b""), b"refused=16\nat=1\n")
 
@@ -203,10 +204,18 @@ class TextsTest(unittest.TestCase):
         self.assertEqual(printed(padded(EXAMPLE, 3500)), RIGHT)
         self.assertIsNone(padded(EXAMPLE, 4096))
 
+    def test_long_readings(self):
+        rng = random.Random(12)
+        outputs = [printed(text_of(corpus_texts.counting(rng))) for _ in range(20)]
+        self.assertTrue(all(b"\nverdict=potential\nleft=" in output for output in outputs))
+        self.assertGreater(max(map(len, outputs)), 4000)
+
     def test_reasons(self):
         for text, expected in [
             (EXAMPLE, ["unambiguous"]),
-            (text_in("row-cycle"), ["potential"]),
+            (text_in("row-cycle"), ["potential", "readings-with-a-nonterminal",
+                                    "readings-of-unequal-length"]),
+            (text_in("row-odd-a"), ["potential", "readings-with-a-terminal"]),
             (text_in("robot-48"), ["unambiguous", "of-48-states"]),
             (text_in("robot-49"), ["refused-14-states", "of-49-states"]),
             (b"x" * 4097, ["refused-14-bytes", "refused-14-bytes-and-otherwise-at-fault",
@@ -244,9 +253,22 @@ class ProgramTest(unittest.TestCase):
         for output in ("", "states=6\\nverdict=unambiguous\\nreached=12\\n",
                        "states=6\\nverdict=unambiguous\\nreached=11",
                        "states=6\\nverdict=unambiguous\\nreached=11\\n\\n",
-                       "states=6\\nverdict=potential\\n"):
+                       "states=6\\nverdict=potential\\nleft=(0 a )0\\nright=(0 (1 a )1 )0\\n"):
             self.script("printf '%s'" % output)
             self.assertTrue(self.differs())
+
+    def test_readings(self):
+        text = text_in("row-cycle")
+        right = CYCLE.decode("ascii").replace("\n", "\\n")
+        self.script("printf '%s'" % right)
+        self.assertFalse(self.differs(text))
+        for old, new in [("left=(0 S )0\\nright=(0 (1 S )1 )0\\n", ""), ("right=(0 (1 S )1 )0\\n", ""),
+                         ("(1", "(01"), ("left=", "left= "), (")0\\n", ")0 \\n"), (" S", "  S"),
+                         ("left=(0 S )0\\nright=(0 (1 S )1 )0", "left=(0 (1 S )1 )0\\nright=(0 S )0"),
+                         ("S )1 )0\\n", "S )1 )0")]:
+            self.assertIn(old, right)
+            self.script("printf '%s'" % right.replace(old, new, 1))
+            self.assertTrue(self.differs(text))
 
     def test_the_status_is_not_compared_but_a_signal_is_wrong(self):
         right = "printf 'states=6\\nverdict=unambiguous\\nreached=11\\n'; "

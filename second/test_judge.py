@@ -14,10 +14,10 @@ from corpus import entries, found_in, text_in
 from judge import checked, run, verdict
 from places import place_of
 from printed import CHECKED, FORMS, PLAIN, Malformed, certificate_in, lines_of
-from program import AMPLE, printed
+from program import printed
 from searches import Unambiguous, needed, search
 from tables import Refusal
-from text import read_text
+from text import AMPLE, read_text
 from text_read_inputs import EXAMPLE
 
 # What bindings/README.md shows for document 01's example.
@@ -154,6 +154,11 @@ class RunTest(unittest.TestCase):
         self.assertEqual(self.run_with(b""), (1, "refused=16\nat=1\n", fault))
         self.assertEqual(self.run_with(b"", words=["--quiet"]), (1, "refused=16\nat=1\n", ""))
         self.assertTrue(verdict(text_in("robot-49")).printed.startswith("states=49\n"))
+        large = verdict(text_in("robot-large-lab")).printed.split("\n")
+        self.assertEqual(large[:2], ["states=255", "verdict=potential"])
+        self.assertEqual([line.split(" ")[:2] for line in large[2:4]],
+                         [["left=(0", "(2"], ["right=(0", "(2"]])
+        self.assertEqual(large[4:], [""])
 
     def test_certificates(self):
         self.assertEqual(self.run_with(EXAMPLE, LINES_CHECKED), (0, "accepted\n", ""))

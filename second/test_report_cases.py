@@ -7,12 +7,14 @@ from report_cases import ENOUGH, KIND, REASONS, Case, answer, expected, reasons_
 
 TEXT = b"terminals=a\nnonterminals=S\nrule=S: a\n"
 REPORT = b"states=6\nverdict=unambiguous\nreached=11\n"
+CYCLE = b"terminals=\nnonterminals=S\nrule=S: S\n"
+READINGS = b"states=6\nverdict=potential\nleft=(0 S )0\nright=(0 (1 S )1 )0\n"
 SHORT = "refused=14 at=0"
 
 
 class FileTest(FileTests, unittest.TestCase):
     KIND = KIND
-    DIGEST = "4989ba69c8edbd0977a45c0aecb4063feecc6a50b76d90fe2b480f2738a81274"
+    DIGEST = "763f7caf81b90198dd410f6f07c172c91871b55a790d90606b74fd41e08de591"
     CASE = Case(b"ab", 258)
     BYTES = b"\x02\0\0\0" + b"ab" + b"\x02\x01\0\0"
 
@@ -24,6 +26,10 @@ class FileTest(FileTests, unittest.TestCase):
         self.assertEqual(answer(Case(TEXT, 0)), SHORT)
         self.assertEqual(answer(Case(b"", 16)), "written=16 text=" + b"refused=16\nat=1\n".hex())
         self.assertEqual(answer(Case(b"", 15)), SHORT)
+        line = "written=%d text=%s" % (len(READINGS), READINGS.hex())
+        self.assertEqual(answer(Case(CYCLE, len(READINGS))), line)
+        for room in (27, 40, len(READINGS) - 1):
+            self.assertEqual(answer(Case(CYCLE, room)), SHORT)
 
     def test_so_much_is_always_enough(self):
         self.assertLessEqual(max(len(expected(case.text)) for case in KIND.all()), ENOUGH)
@@ -42,6 +48,17 @@ class ReasonsTest(unittest.TestCase):
         self.reasons(TEXT, 0, "14-no-room", "14-shorter")
         self.reasons(b"", 16, "refused-16", "exactly-enough")
         self.reasons(b"", 15, "14-one-byte-short", "14-for-a-text-that-is-refused")
+
+    def test_reasons_of_readings(self):
+        readings = "readings-with-a-nonterminal", "readings-of-unequal-length"
+        self.reasons(CYCLE, len(READINGS), "potential", "exactly-enough", *readings)
+        self.reasons(CYCLE, ENOUGH, "potential", "longer", *readings)
+        self.reasons(CYCLE, len(READINGS) - 1, "14-one-byte-short",
+                     "14-room-for-the-verdict-and-left")
+        for room, name in [(27, "14-room-for-the-verdict"), (39, "14-room-for-the-verdict"),
+                           (40, "14-room-for-the-verdict-and-left")]:
+            self.reasons(CYCLE, room, "14-shorter", name)
+        self.reasons(CYCLE, 26, "14-shorter")
 
 
 if __name__ == "__main__":

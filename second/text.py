@@ -58,6 +58,9 @@ class Lent(NamedTuple):
     lengths: int
 
 
+AMPLE = Lent(MAX_TEXT, MAX_TEXT, MAX_TEXT)   # no text has more entries than bytes
+
+
 class Text(NamedTuple):
     """What the reader gives; `starts` and `lengths` in order of symbol numbers."""
 

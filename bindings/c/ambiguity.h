@@ -1,6 +1,6 @@
 /* The library for C: the table check, the step records, the certificate check, the witness check over indices and over records, the
- * search, the reader and the writer of grammar text, and the report that the program prints. Each function answers as its entry
- * promises; crates/ambiguity_c/src/lib.rt has the promises, proved.
+ * search, the reader and the writer of grammar text, the report that the program prints, and reading back of the two strings that
+ * it prints. Each function answers as its entry promises; crates/ambiguity_c/src/lib.rt has the promises, proved.
  * "Document 01" is the paper that the library follows: it has the tables, the certificates and the causes of refusal.
  *
  * What holds of every function:
@@ -23,8 +23,8 @@
 #endif
 
 /* The version of the whole: library, header, wrapper, tools. The first number changes when a caller has to. */
-#define AMBIGUITY_VERSION "1.0.0"
-#define AMBIGUITY_VERSION_MAJOR 1
+#define AMBIGUITY_VERSION "2.0.0"
+#define AMBIGUITY_VERSION_MAJOR 2
 
 /* Document 01's limits. */
 #define AMBIGUITY_MAX_TERMINALS 127
@@ -41,19 +41,26 @@
 #define AMBIGUITY_MAX_TABLE_ENTRIES (AMBIGUITY_MAX_STATES - 4 + AMBIGUITY_MAX_RULES)
 #define AMBIGUITY_MAX_NAMES (AMBIGUITY_MAX_TERMINALS + AMBIGUITY_MAX_NONTERMINALS)
 
-/* What the report takes of a text, and the bytes that are always enough for it. */
+/* What the report takes of a text, and the bytes that are always enough for it: 64, and 16 for each letter of two strings with at
+ * most AMBIGUITY_ROW_ENTRIES(AMBIGUITY_MAX_REPORT_STATES) letters each. A report without strings has at most 64. */
 #define AMBIGUITY_MAX_REPORT_TEXT_BYTES 4096
 #define AMBIGUITY_MAX_REPORT_STATES 48
-#define AMBIGUITY_MAX_REPORT_BYTES 64
+#define AMBIGUITY_MAX_REPORT_BYTES 147520
+
+/* A letter of a string as an entry of a row: its kind, an ambiguity_moved but AMBIGUITY_STILL, times 65536, and its number, that of
+ * the rule that is opened or closed, or the symbol's code. */
+#define AMBIGUITY_LETTER_KIND(entry) ((entry) / 65536)
+#define AMBIGUITY_LETTER_NUMBER(entry) ((entry) % 65536)
 
 /* The stack that a call may use, below the caller's frame: bindings/c/stack.c measures it on a painted stack, at Q = 256. The
  * reader has a tree of names there (267,383 bytes measured), the search its marks (73,879 bytes, for few states too), the report
- * calls both and lends them their rows (325,847 bytes); of the others the witness check over records goes deepest (11,767
- * bytes). */
+ * calls both and lends them their rows (513,495 bytes), reading back calls the reader (270,343 bytes); of the others the
+ * witness check over records goes deepest (11,767 bytes). */
 #define AMBIGUITY_STACK_BYTES 12288
 #define AMBIGUITY_READ_TEXT_STACK_BYTES 274432
 #define AMBIGUITY_SEARCH_STACK_BYTES 81920
-#define AMBIGUITY_REPORT_STACK_BYTES 339968
+#define AMBIGUITY_REPORT_STACK_BYTES 532480
+#define AMBIGUITY_READ_BACK_STACK_BYTES 278528
 
 /* The causes of refusal. */
 enum ambiguity_cause {
@@ -83,6 +90,9 @@ enum ambiguity_moved { AMBIGUITY_STILL = 0, AMBIGUITY_OPENING = 1, AMBIGUITY_CLO
 enum ambiguity_kind { AMBIGUITY_REFUSED = 0, AMBIGUITY_RECORD = 1, AMBIGUITY_NO_MORE = 2 };
 
 enum ambiguity_verdict { AMBIGUITY_NO_VERDICT = 0, AMBIGUITY_UNAMBIGUOUS = 1, AMBIGUITY_POTENTIAL = 2 };
+
+/* What reading back refuses: the grammar's text, or the two lines and the rows for them. */
+enum ambiguity_part { AMBIGUITY_NO_PART = 0, AMBIGUITY_GRAMMAR = 1, AMBIGUITY_LINES = 2 };
 
 typedef struct {
     uint64_t cause;
@@ -146,6 +156,14 @@ typedef struct {
     uint64_t length; /* bytes written */
 } ambiguity_report_reply;
 
+typedef struct {
+    uint64_t cause;
+    uint64_t at;
+    uint64_t part;  /* an ambiguity_part; with cause 0 AMBIGUITY_NO_PART */
+    uint64_t left;  /* letters of the left string */
+    uint64_t right; /* letters of the right string */
+} ambiguity_read_back_reply;
+
 #ifdef __cplusplus
 extern "C" {
 #endif
@@ -196,11 +214,20 @@ ambiguity_write_reply ambiguity_write_text(size_t t, size_t n, const uint8_t *ta
                                            size_t names_bytes, const uint32_t *starts, size_t starts_entries,
                                            const uint32_t *lengths, size_t lengths_entries, uint8_t *out, size_t out_bytes);
 
-/* Writes what the program prints for a text: `states=`, `verdict=` and `reached=`, or `refused=` and `at=`, each line ended by byte
- * 10. A text that is at fault, has more than AMBIGUITY_MAX_REPORT_TEXT_BYTES or more than AMBIGUITY_MAX_REPORT_STATES states is
- * answered by a report of its refusal, and `cause` is 0. Refuses with 14 alone, if the output is too short;
- * AMBIGUITY_MAX_REPORT_BYTES are always enough. */
+/* Writes what the program prints for a text, each line ended by byte 10: `states=` and `verdict=`, then with unambiguous `reached=`,
+ * with potential `left=` and `right=`, the two strings of the shortest witness; or `refused=` and `at=`. In a string `(i` opens rule
+ * i, `)i` closes it, a symbol stands by its name, and one space stands between two letters. A text that is at fault, has more than
+ * AMBIGUITY_MAX_REPORT_TEXT_BYTES or more than AMBIGUITY_MAX_REPORT_STATES states is answered by a report of its refusal, and `cause`
+ * is 0. Refuses with 14 alone, if the output is too short; AMBIGUITY_MAX_REPORT_BYTES are always enough. */
 ambiguity_report_reply ambiguity_report(const uint8_t *text, size_t text_bytes, uint8_t *out, size_t out_bytes);
+
+/* Reads two lines `left=` and `right=` back, in the grammar of a text: the two strings are written, an entry for each letter. Lines
+ * and strings may have any length; rows of `lines_bytes` entries are always enough. The strings need be neither accepted by the
+ * automaton nor parting. First the text is refused, as by ambiguity_read_text but never with 14 (AMBIGUITY_GRAMMAR); then line 1 with
+ * 16 or 17, line 2 likewise, and the rows with 14 (AMBIGUITY_LINES). 16 is a line that is missing or not of this form, a rule number
+ * that the grammar lacks, and anything behind line 2; 17 is a name that it lacks. */
+ambiguity_read_back_reply ambiguity_read_back(const uint8_t *text, size_t text_bytes, const uint8_t *lines, size_t lines_bytes,
+                                              uint32_t *left, size_t left_entries, uint32_t *right, size_t right_entries);
 
 #ifdef __cplusplus
 }

@@ -1,5 +1,6 @@
-/* From grammar text to the verdict: reads a text from standard input, searches it, and prints the verdict with the certificate's
- * bytes, which are then checked. Exits with 0 for unambiguous, 1 for potential, 2 for a refusal. */
+/* From grammar text to the verdict: reads a text from standard input, searches it, and prints the verdict: with the certificate's
+ * bytes, which are then checked, or with the two strings of the witness. Exits with 0 for unambiguous, 1 for potential, 2 for a
+ * refusal. */
 #include <stdio.h>
 #include <stdlib.h>
 
@@ -43,6 +44,46 @@ static void give_back(struct rows *rows)
     free(rows->witness);
 }
 
+/* The step record that leads from an entry of the witness to the next one. */
+static ambiguity_step_reply step_between(ambiguity_read_reply grammar, uint32_t from, uint32_t to)
+{
+    size_t q = grammar.states;
+    for (size_t nth = 0;; nth++) {
+        ambiguity_step_reply step = ambiguity_nth_step(grammar.terminals, grammar.nonterminals, table, grammar.entries,
+                                                       from / q / q, from / q % q, from % q, nth);
+        if (step.kind != AMBIGUITY_RECORD || (step.layer * q + step.left) * q + step.right == to)
+            return step;
+    }
+}
+
+/* A letter as a word: (i opens rule i, )i closes it, a symbol stands by its name. */
+static void print_letter(ambiguity_read_reply grammar, ambiguity_move move)
+{
+    if (move.moved == AMBIGUITY_SYMBOL) {
+        size_t symbol = (size_t)(move.number < 128 ? move.number - 1 : grammar.terminals + move.number - 128);
+        printf("%.*s", (int)lengths[symbol], (const char *)text + starts[symbol]);
+    } else {
+        printf("%c%llu", move.moved == AMBIGUITY_OPENING ? '(' : ')', (unsigned long long)move.number);
+    }
+}
+
+/* The string of one side: its letters in order, and nothing where it stays. */
+static void print_string(ambiguity_read_reply grammar, const uint32_t *witness, size_t entries, int on_left)
+{
+    const char *between = "";
+    printf(on_left ? "left=" : "right=");
+    for (size_t i = 0; i + 1 < entries; i++) {
+        ambiguity_step_reply step = step_between(grammar, witness[i], witness[i + 1]);
+        ambiguity_move move = on_left ? step.on_left : step.on_right;
+        if (move.moved != AMBIGUITY_STILL) {
+            printf("%s", between);
+            print_letter(grammar, move);
+            between = " ";
+        }
+    }
+    printf("\n");
+}
+
 static int judge(ambiguity_read_reply grammar, struct rows *rows)
 {
     size_t t = grammar.terminals, n = grammar.nonterminals, entries = grammar.entries;
@@ -54,6 +95,8 @@ static int judge(ambiguity_read_reply grammar, struct rows *rows)
     printf("states=%llu\n", (unsigned long long)grammar.states);
     if (found.verdict == AMBIGUITY_POTENTIAL) {
         printf("verdict=potential\n");
+        print_string(grammar, rows->witness, found.count, 1);
+        print_string(grammar, rows->witness, found.count, 0);
         return 1;
     }
     printf("verdict=unambiguous\nreached=%llu\ncertificate=", (unsigned long long)found.count);

@@ -1,7 +1,7 @@
 /* The stack that each function uses, in bytes. A thread runs on a stack that was painted; after the call the paint tells how deep
  * the stack went below the caller. Exits with 0 if none went deeper than ambiguity.h says. The frames are of fixed size and no
  * function calls itself, so the largest grammar has the deepest calls that there are. Up to 64 states the search
- * has another path, which is measured too. The report takes no more than 48 states. */
+ * has another path, which is measured too. The report takes no more than 48 states; its two strings are read back. */
 #define _XOPEN_SOURCE 700
 #include <pthread.h>
 #include <stdio.h>
@@ -17,11 +17,13 @@
 #define REPORT_STATES 46
 #define LAST "rule=S: a9 a9\n"
 #define LAST_POTENTIAL "rule=S: S\nrule=S:\n"
+#define LINES "left=(0 (1 a0 )1 )0\nright=S (0 a9\n"
+#define LETTERS 5
 
 static uint8_t table[AMBIGUITY_MAX_TABLE_ENTRIES];
 static uint8_t certificate[AMBIGUITY_CERTIFICATE_BYTES(AMBIGUITY_MAX_STATES)];
 static uint8_t text[AMBIGUITY_MAX_TEXT_BYTES];
-static uint8_t out[AMBIGUITY_MAX_TEXT_BYTES];
+static uint8_t out[AMBIGUITY_MAX_REPORT_BYTES];
 static uint32_t starts[AMBIGUITY_MAX_NAMES];
 static uint32_t lengths[AMBIGUITY_MAX_NAMES];
 static uint32_t queue[ROW];
@@ -29,6 +31,8 @@ static uint32_t parents[ROW];
 static uint32_t witness[ROW];
 static uint32_t row[] = {0, 256 * 2 + 2, 256 * 2 + 3};
 static ambiguity_triple_record records[] = {{0, 0, 0}, {0, 2, 2}, {0, 2, 3}};
+static uint32_t strings[2][LETTERS];
+static ambiguity_read_back_reply read_back;
 static ambiguity_read_reply grammar;
 static uint64_t verdict;
 static uint8_t *caller;
@@ -73,6 +77,12 @@ static void run_write(void)
 {
     ambiguity_write_text(grammar.terminals, grammar.nonterminals, table, grammar.entries, text, strlen((char *)text), starts,
                          AMBIGUITY_MAX_NAMES, lengths, AMBIGUITY_MAX_NAMES, out, sizeof out);
+}
+
+static void run_read_back(void)
+{
+    read_back = ambiguity_read_back(text, strlen((char *)text), (const uint8_t *)LINES, strlen(LINES), strings[0], LETTERS,
+                                    strings[1], LETTERS);
 }
 
 static void run_report(void) { ambiguity_report(text, strlen((char *)text), out, sizeof out); }
@@ -144,6 +154,8 @@ int main(void)
     wrong += measure("ambiguity_read_text", run_read, AMBIGUITY_READ_TEXT_STACK_BYTES);
     if (grammar.cause != AMBIGUITY_NOT_REFUSED || grammar.states != AMBIGUITY_MAX_STATES)
         return 1;
+    wrong += measure("ambiguity_read_back", run_read_back, AMBIGUITY_READ_BACK_STACK_BYTES);
+    wrong += read_back.cause != AMBIGUITY_NOT_REFUSED || read_back.left != LETTERS;
     wrong += measure("ambiguity_write_text", run_write, AMBIGUITY_STACK_BYTES);
     wrong += measure("ambiguity_check_table", run_table, AMBIGUITY_STACK_BYTES);
     wrong += measure("ambiguity_nth_step", run_step, AMBIGUITY_STACK_BYTES);
@@ -159,6 +171,6 @@ int main(void)
     wrong += measure_search("ambiguity_search, potential", AMBIGUITY_MAX_STATES, LAST_POTENTIAL, AMBIGUITY_POTENTIAL,
                             AMBIGUITY_SEARCH_STACK_BYTES);
     wrong += measure_report("ambiguity_report, unambiguous", LAST, "states=46\nverdict=unambiguous\n");
-    wrong += measure_report("ambiguity_report, potential", LAST_POTENTIAL, "states=46\nverdict=potential\n");
+    wrong += measure_report("ambiguity_report, potential", LAST_POTENTIAL, "states=46\nverdict=potential\nleft=(0 ");
     return wrong != 0;
 }

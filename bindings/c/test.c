@@ -1,5 +1,5 @@
-/* The certificate check on document 01's cases of S -> a, the witness check over records on those of S -> S, and the report.
- * Exits with 0 if every answer is document 01's. */
+/* The certificate check on document 01's cases of S -> a, the witness check over records on those of S -> S, the report, and reading
+ * its two strings back. Exits with 0 if every answer is document 01's and document 02's. */
 #include <stdio.h>
 #include <string.h>
 
@@ -20,7 +20,13 @@ static const ambiguity_triple_record WITNESS[] = {{0, 0, 0}, {0, 0, 2}, {0, 2, 2
 
 #define WITNESS_ENTRIES (sizeof WITNESS / sizeof WITNESS[0])
 
+/* S -> S as text, and the two strings of its shortest witness. */
+static const char CYCLE_TEXT[] = "terminals=\nnonterminals=S\nrule=S: S\n";
+static const char CYCLE_LINES[] = "left=(0 S )0\nright=(0 (1 S )1 )0\n";
+
 _Static_assert(sizeof(ambiguity_triple_record) == 12, "a record is three numbers of 32 bits");
+_Static_assert(AMBIGUITY_MAX_REPORT_BYTES == 64 + 2 * 16 * AMBIGUITY_ROW_ENTRIES(AMBIGUITY_MAX_REPORT_STATES),
+               "a report has 64 bytes, and 16 for each letter");
 
 static int wrong = 0;
 
@@ -62,7 +68,7 @@ static ambiguity_check_reply check_other(size_t place, uint32_t layer, uint32_t 
 /* The report of a text is these lines, at the front of what is lent; one byte less is refused and stays as it was. */
 static void expect_report(const char *text, const char *lines)
 {
-    uint8_t out[AMBIGUITY_MAX_REPORT_BYTES + 1];
+    static uint8_t out[AMBIGUITY_MAX_REPORT_BYTES + 1];
     size_t length = strlen(lines), i;
     ambiguity_report_reply reply, refused;
     memset(out, 7, sizeof out);
@@ -76,6 +82,52 @@ static void expect_report(const char *text, const char *lines)
         right = right && out[i] == 7;
     printf("%s: a report of %llu bytes\n", right ? "ok" : "WRONG", (unsigned long long)reply.length);
     wrong += !right;
+}
+
+/* The letter of an entry as the lines have it, for symbols of one byte: `(1`, `)1`, S. */
+static void put_letter(char *word, uint32_t entry)
+{
+    uint32_t kind = AMBIGUITY_LETTER_KIND(entry), number = AMBIGUITY_LETTER_NUMBER(entry);
+    if (kind == AMBIGUITY_SYMBOL)
+        sprintf(word, "%s", number == 128 ? "S" : "?");
+    else
+        sprintf(word, "%s%u", kind == AMBIGUITY_OPENING ? "(" : kind == AMBIGUITY_CLOSING ? ")" : "?", (unsigned)number);
+}
+
+/* The letters of a row give this string again; nothing past them was written. */
+static int has_string(const uint32_t *row, size_t letters, size_t entries, const char *string)
+{
+    char read[64] = "", word[16];
+    size_t i;
+    for (i = 0; i < letters; i++) {
+        put_letter(word, row[i]);
+        strcat(strcat(read, i == 0 ? "" : " "), word);
+    }
+    for (i = letters; i < entries; i++)
+        if (row[i] != 7)
+            return 0;
+    return strcmp(read, string) == 0;
+}
+
+#define ROOM 6
+
+/* What reading back answers for lines in S -> S, with rows of so many entries. */
+static void expect_read_back(const char *what, const char *text, const char *lines, size_t room, ambiguity_read_back_reply right)
+{
+    uint32_t rows[2][ROOM];
+    size_t i;
+    for (i = 0; i < 2 * ROOM; i++)
+        rows[i / ROOM][i % ROOM] = 7;
+    ambiguity_read_back_reply reply = ambiguity_read_back((const uint8_t *)text, strlen(text), (const uint8_t *)lines, strlen(lines),
+                                                          rows[0], room, rows[1], room);
+    int same = reply.cause == right.cause && reply.at == right.at && reply.part == right.part && reply.left == right.left
+        && reply.right == right.right;
+    int read = reply.cause == AMBIGUITY_NOT_REFUSED;
+    same = same && has_string(rows[0], reply.left, ROOM, read ? "(0 S )0" : "")
+        && has_string(rows[1], reply.right, ROOM, read ? "(0 (1 S )1 )0" : "");
+    printf("%s: %s, cause %llu at %llu of part %llu\n", same ? "ok" : "WRONG", what, (unsigned long long)reply.cause,
+           (unsigned long long)reply.at, (unsigned long long)reply.part);
+    wrong += !same;
 }
 
 int main(void)
@@ -97,7 +149,15 @@ int main(void)
     expect("a left state of Q", check_other(1, 0, 6, 2), AMBIGUITY_WITNESS_WRONG, 1);
     expect("a right state of Q and more, though the index is right", check_other(2, 0, 1, 8), AMBIGUITY_WITNESS_WRONG, 2);
     expect_report("terminals=a\nnonterminals=S\nrule=S: a\n", "states=6\nverdict=unambiguous\nreached=11\n");
-    expect_report("terminals=\nnonterminals=S\nrule=S: S\n", "states=6\nverdict=potential\n");
+    expect_report(CYCLE_TEXT, "states=6\nverdict=potential\nleft=(0 S )0\nright=(0 (1 S )1 )0\n");
     expect_report("", "refused=16\nat=1\n");
+    expect_read_back("its two strings read back", CYCLE_TEXT, CYCLE_LINES, 5, (ambiguity_read_back_reply){0, 0, 0, 3, 5});
+    expect_read_back("rows that are longer", CYCLE_TEXT, CYCLE_LINES, ROOM, (ambiguity_read_back_reply){0, 0, 0, 3, 5});
+    expect_read_back("a row too short", CYCLE_TEXT, CYCLE_LINES, 4, (ambiguity_read_back_reply){14, 0, AMBIGUITY_LINES, 0, 0});
+    expect_read_back("a rule that is not there", CYCLE_TEXT, "left=(2\nright=\n", 0,
+                     (ambiguity_read_back_reply){16, 1, AMBIGUITY_LINES, 0, 0});
+    expect_read_back("a name that is not there", CYCLE_TEXT, "left=\nright=a\n", 0,
+                     (ambiguity_read_back_reply){17, 2, AMBIGUITY_LINES, 0, 0});
+    expect_read_back("a fault of the grammar", "", CYCLE_LINES, 0, (ambiguity_read_back_reply){16, 1, AMBIGUITY_GRAMMAR, 0, 0});
     return wrong != 0;
 }

@@ -13,7 +13,10 @@ fn main() -> Result<(), Box<dyn Error>> {
             grammar.check(&certificate)?;
             println!("verdict=unambiguous\nreached={size}");
         }
-        Searched::Potential { witness } => println!("verdict=potential\nentries={}", witness.len()),
+        Searched::Potential { witness } => {
+            let strings = grammar.strings(&witness).ok_or("the witness is none of this grammar")?;
+            print!("verdict=potential\n{}", grammar.lines(&strings).ok_or("a letter is none of this grammar")?);
+        }
     }
     Ok(())
 }

@@ -1,11 +1,11 @@
 //! The library for Rust: the table check, the step records, the certificate check, the witness check over indices and over records,
-//! the search, the reader and the writer of grammar text, and the report that the program prints. bindings/c/ambiguity.h says of
-//! each what is lent and what comes back; here slices stand for pointers, and enums for numbers. Rows that are written cannot
-//! overlap others: the borrow rules see to that.
+//! the search, the reader and the writer of grammar text, the report that the program prints, and reading back of the two strings
+//! that it prints. bindings/c/ambiguity.h says of each what is lent and what comes back; here slices stand for pointers, and enums for
+//! numbers. Rows that are written cannot overlap others: the borrow rules see to that.
 //!
 //! Every input is taken. A refusal changes no lent row. A written row may be longer than needed: its rest stays as it was.
 //!
-//! [`Grammar`] owns its rows: read a text, search it, check a certificate. The functions below it lend rows.
+//! [`Grammar`] owns its rows: read a text, search it, check a certificate, read two strings back. The functions below it lend rows.
 
 #![warn(missing_docs)]
 
@@ -14,11 +14,15 @@ compile_error!("the archive is for x86-64 with the System V calling convention")
 
 mod cause_text;
 mod grammar;
+mod letters;
 mod raw;
 mod refusal;
+mod strings;
 
 pub use grammar::{Code, Grammar, Rule, Searched, START};
+pub use letters::{Letter, Part, PartRefusal, ReadBack};
 pub use refusal::{Cause, Refusal};
+pub use strings::Strings;
 
 /// Document 01's limit of terminals.
 pub const MAX_TERMINALS: usize = 127;
@@ -40,8 +44,8 @@ pub const MAX_NAMES: usize = MAX_TERMINALS + MAX_NONTERMINALS;
 pub const MAX_REPORT_TEXT_BYTES: usize = 4_096;
 /// The most states of a grammar that the report takes.
 pub const MAX_REPORT_STATES: usize = 48;
-/// An output of so many bytes is never too short for a report.
-pub const MAX_REPORT_BYTES: usize = 64;
+/// An output of so many bytes is never too short for a report: 64, and 16 for each letter of its two strings.
+pub const MAX_REPORT_BYTES: usize = 64 + 2 * 16 * row_entries(MAX_REPORT_STATES);
 
 /// The triples of Q states, so the entries of a row with one for each.
 #[must_use]
@@ -326,10 +330,48 @@ pub fn write_text(table: Table, names: Names, out: &mut [u8]) -> Result<usize, R
     refusal::or_else(reply.cause, reply.at, || reply.length as usize)
 }
 
-/// Writes what the program prints for a text to the front of `out`: states, verdict and size, or a refusal's two lines. Back comes
-/// its length; the only refusal is an output that is too short, and `MAX_REPORT_BYTES` are always enough. Uses up to 332 KiB of
-/// stack.
+/// Writes what the program prints for a text to the front of `out`: states, verdict, and the size or the two strings of the shortest
+/// witness; or a refusal's two lines. Back comes its length; the only refusal is an output that is too short, and `MAX_REPORT_BYTES`
+/// are always enough. Uses up to 520 KiB of stack.
 pub fn report(text: &[u8], out: &mut [u8]) -> Result<usize, Refusal> {
     let reply = unsafe { raw::ambiguity_report(text.as_ptr(), text.len(), out.as_mut_ptr(), out.len()) };
     refusal::or_else(reply.cause, reply.at, || reply.length as usize)
+}
+
+/// Reads two lines `left=` and `right=` back, in the grammar of a text: the letters of the two strings come at the fronts of the lent
+/// rows, an entry each ([`Letter::of_entry`]). Rows of as many entries as the lines have bytes are always enough. Uses up to
+/// 272 KiB of stack.
+///
+/// # Errors
+///
+/// Those of [`read_text`] for the text, without 14; then 16 and 17 for line 1, the same for line 2, and 14.
+///
+/// ```
+/// use ambiguity::{read_back, Letter, ReadBack};
+///
+/// let text = b"terminals=a\nnonterminals=S\nrule=S: a\n";
+/// let (mut left, mut right) = ([0; 3], [0; 3]);
+/// let read = read_back(text, b"left=(1 a\nright=\n", &mut left, &mut right)?;
+/// assert_eq!(read, ReadBack { left: 2, right: 0 });
+/// assert_eq!(left.map(Letter::of_entry), [Some(Letter::Opening(1)), Some(Letter::Symbol(1)), None]);
+/// let refused = read_back(text, b"left=(1 b\nright=\n", &mut left, &mut right).unwrap_err();
+/// assert_eq!(refused.to_string(), "refused=17 at=1 part=lines");
+/// # Ok::<(), ambiguity::PartRefusal>(())
+/// ```
+pub fn read_back(text: &[u8], lines: &[u8], left: &mut [u32], right: &mut [u32]) -> Result<ReadBack, PartRefusal> {
+    let reply = unsafe {
+        raw::ambiguity_read_back(
+            text.as_ptr(),
+            text.len(),
+            lines.as_ptr(),
+            lines.len(),
+            left.as_mut_ptr(),
+            left.len(),
+            right.as_mut_ptr(),
+            right.len(),
+        )
+    };
+    let part = if reply.part == 1 { Part::Grammar } else { Part::Lines };
+    refusal::or_else(reply.cause, reply.at, || ReadBack { left: reply.left as usize, right: reply.right as usize })
+        .map_err(|refusal| PartRefusal { part, refusal })
 }

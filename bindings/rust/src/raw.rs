@@ -65,6 +65,15 @@ pub struct ReportReply {
     pub length: u64,
 }
 
+#[repr(C)]
+pub struct ReadBackReply {
+    pub cause: u64,
+    pub at: u64,
+    pub part: u64,
+    pub left: u64,
+    pub right: u64,
+}
+
 extern "C" {
     pub fn ambiguity_check_table(t: usize, n: usize, table: *const u8, table_entries: usize) -> TableReply;
 
@@ -148,4 +157,15 @@ extern "C" {
     ) -> WriteReply;
 
     pub fn ambiguity_report(text: *const u8, text_bytes: usize, out: *mut u8, out_bytes: usize) -> ReportReply;
+
+    pub fn ambiguity_read_back(
+        text: *const u8,
+        text_bytes: usize,
+        lines: *const u8,
+        lines_bytes: usize,
+        left: *mut u32,
+        left_entries: usize,
+        right: *mut u32,
+        right_entries: usize,
+    ) -> ReadBackReply;
 }

@@ -1,8 +1,8 @@
-//! Document 01's grammar S → a, with every row lent too short, just enough and longer, between guards.
+//! Document 01's grammar S → a, with every row lent too short, just enough and longer, between guards; and two lines read back in it.
 
 mod support;
 
-use ambiguity::{certificate_bytes, row_entries, Cause, Names, Read, Table, Verdict};
+use ambiguity::{certificate_bytes, row_entries, Cause, Names, Part, PartRefusal, Read, ReadBack, Refusal, Table, Verdict};
 use support::{grammar, refused, Lent};
 
 const RULES: [u8; 3] = [128, 1, 1];
@@ -139,4 +139,45 @@ fn outputs_of_every_length_for_the_writer() {
 fn a_text_too_long() {
     let text = vec![b'a'; ambiguity::MAX_TEXT_BYTES + 1];
     assert_eq!(ambiguity::read_text(&text, &mut [], &mut [], &mut []), refused(Cause::Malformed, 0));
+    let refusal = Refusal { cause: Cause::Malformed, at: 0 };
+    assert_eq!(ambiguity::read_back(&text, b"", &mut [], &mut []), Err(PartRefusal { part: Part::Grammar, refusal }));
+}
+
+/// Its strings have two and three letters: opening 1, a; S, closing 0, a.
+const LINES: &[u8] = b"left=(1 a\nright=S )0 a\n";
+const LEFT: [u32; 2] = [0x1_0001, 0x3_0001];
+const RIGHT: [u32; 3] = [0x3_0080, 0x2_0000, 0x3_0001];
+
+#[test]
+fn rows_of_every_length_for_reading_back() {
+    for (left, right) in (0..5).flat_map(|left| (0..6).map(move |right| (left, right))) {
+        let (text, lines) = (Lent::new(TEXT, 0xFF), Lent::new(LINES, 0xFF));
+        let mut left = Lent::new(&vec![7; left], u32::MAX);
+        let mut right = Lent::new(&vec![7; right], u32::MAX);
+        let answer = ambiguity::read_back(text.row(), lines.row(), left.row_mut(), right.row_mut());
+        assert!(text.kept() && lines.kept());
+        if left.row().len() < 2 || right.row().len() < 3 {
+            let refusal = Refusal { cause: Cause::BufferTooShort, at: 0 };
+            assert_eq!(answer, Err(PartRefusal { part: Part::Lines, refusal }));
+            assert!(left.kept() && right.kept());
+        } else {
+            assert_eq!(answer, Ok(ReadBack { left: 2, right: 3 }));
+            assert_eq!((&left.row()[..2], &right.row()[..3]), (&LEFT[..], &RIGHT[..]));
+            assert!(left.kept_past(2) && right.kept_past(3));
+        }
+    }
+}
+
+/// Cut anywhere, the lines are malformed where the cut is.
+#[test]
+fn lines_of_every_length() {
+    let first = LINES.iter().position(|byte| *byte == b'\n').unwrap();
+    for length in 0..LINES.len() {
+        let mut rows = [[7; 5]; 2];
+        let [left, right] = &mut rows;
+        let answer = ambiguity::read_back(TEXT, &LINES[..length], left, right);
+        let refusal = Refusal { cause: Cause::Malformed, at: if length <= first { 1 } else { 2 } };
+        assert_eq!(answer, Err(PartRefusal { part: Part::Lines, refusal }), "{length}");
+        assert_eq!(rows, [[7; 5]; 2]);
+    }
 }

@@ -3,41 +3,46 @@
 mod support;
 
 use ambiguity::{
-    certificate_bytes, row_entries, Cause, Refusal, Table, Verdict, MAX_NAMES, MAX_REPORT_BYTES, MAX_TABLE_ENTRIES,
+    certificate_bytes, row_entries, Cause, Grammar, Refusal, Searched, Table, Verdict, MAX_NAMES, MAX_REPORT_BYTES,
+    MAX_TABLE_ENTRIES,
 };
 use support::{grammar, refused};
 
 /// S→S a; S→a
 const LEFT_RECURSION: [u8; 7] = [128, 2, 128, 1, 128, 1, 1];
 
-/// Terminals, nonterminals, rules, Q, and the size if the verdict is unambiguous.
-type OnFile = (&'static str, &'static str, &'static str, usize, Option<usize>);
+/// Terminals, nonterminals, rules, Q, and the size if the verdict is unambiguous, else the two strings.
+type OnFile = (&'static str, &'static str, &'static str, usize, Result<usize, &'static str>);
 
-/// Document 01's "Grammars on file", with the size of its last row, and the report of each.
+/// Document 01's "Grammars on file", with the size of its last row and the strings of the potential ones, and the report of each.
 #[test]
 fn grammars_on_file() {
     let rows: [OnFile; 10] = [
-        ("", "S", "", 4, Some(5)),
-        ("", "S", "S:", 5, Some(10)),
-        ("a", "S", "S: a", 6, Some(11)),
-        ("a", "S", "S: S a;S: a", 9, Some(24)),
-        ("a,b", "S", "S: a S b;S:", 9, Some(30)),
-        ("", "S", "S: S", 6, None),
-        ("a", "S", "S: S;S: a", 8, None),
-        ("a", "S", "S: a S a;S: a", 10, None),
-        ("", "S,A,B", "S: A;S: B;A:;B:", 10, None),
-        ("a", "S,A,B", "S: A;S: B;A: A a a;A: a;B: a a", 17, Some(82)),
+        ("", "S", "", 4, Ok(5)),
+        ("", "S", "S:", 5, Ok(10)),
+        ("a", "S", "S: a", 6, Ok(11)),
+        ("a", "S", "S: S a;S: a", 9, Ok(24)),
+        ("a,b", "S", "S: a S b;S:", 9, Ok(30)),
+        ("", "S", "S: S", 6, Err("left=(0 S )0\nright=(0 (1 S )1 )0\n")),
+        ("a", "S", "S: S;S: a", 8, Err("left=(0 S )0\nright=(0 (1 S )1 )0\n")),
+        ("a", "S", "S: a S a;S: a", 10, Err("left=(0 (2 a )2 a )1 )0\nright=(0 (1 a (2 a )2 )0\n")),
+        ("", "S,A,B", "S: A;S: B;A:;B:", 10, Err("left=(0 (2 (4 )4 )2 )0\nright=(0 (1 (3 )3 )1 )0\n")),
+        ("a", "S,A,B", "S: A;S: B;A: A a a;A: a;B: a a", 17, Ok(82)),
     ];
-    for (terminals, nonterminals, rules, states, size) in rows {
+    for (terminals, nonterminals, rules, states, found) in rows {
         let rules: String = rules.split_terminator(';').map(|rule| format!("rule={rule}\n")).collect();
         let text = format!("terminals={terminals}\nnonterminals={nonterminals}\n{rules}");
-        let expected = size.map_or(format!("states={states}\nverdict=potential\n"), |size| {
-            format!("states={states}\nverdict=unambiguous\nreached={size}\n")
-        });
-        let mut out = [0; MAX_REPORT_BYTES];
+        let expected = match found {
+            Ok(size) => format!("states={states}\nverdict=unambiguous\nreached={size}\n"),
+            Err(strings) => format!("states={states}\nverdict=potential\n{strings}"),
+        };
+        let mut out = vec![0; MAX_REPORT_BYTES];
         let length = ambiguity::report(text.as_bytes(), &mut out).unwrap();
         assert_eq!(std::str::from_utf8(&out[..length]).unwrap(), expected, "{text}");
-        search_text(text.as_bytes(), states, size);
+        search_text(text.as_bytes(), states, found.ok());
+        if let Err(lines) = found {
+            strings_of(text.as_bytes(), lines);
+        }
     }
 }
 
@@ -61,6 +66,15 @@ fn search_text(text: &[u8], states: usize, size: Option<usize>) {
             assert_eq!(ambiguity::check_witness(table, &witness[..entries]), Ok(()));
         }
     }
+}
+
+/// The strings of the witness that the search writes are those of the lines, and read back they give the same lines.
+fn strings_of(text: &[u8], lines: &str) {
+    let grammar = Grammar::read(text).unwrap();
+    let Searched::Potential { witness } = grammar.search() else { panic!("{lines}") };
+    let strings = grammar.strings(&witness).unwrap();
+    assert_eq!(grammar.lines(&strings).unwrap(), lines);
+    assert_eq!(grammar.read_back(lines.as_bytes()), Ok(strings));
 }
 
 /// The witness that the search writes.

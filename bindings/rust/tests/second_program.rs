@@ -1,9 +1,10 @@
-//! The library's answers on the second program's cases, for each of the nine entries: damaged, short and long inputs, each row lent
-//! between guards; of a search all that it wrote is compared, the witness entry by entry.
+//! The library's answers on the second program's cases, for each of the ten entries: damaged, short and long inputs, each row lent
+//! between guards; of a search all that it wrote is compared, the witness entry by entry, and of lines read back every letter.
 
 mod support;
 
-use ambiguity::{certificate_bytes, row_entries, Names, Refusal, Table, TripleRecord, Verdict};
+use ambiguity::{certificate_bytes, row_entries, Grammar, Letter, Names, Part, PartRefusal, Refusal, Strings, Table};
+use ambiguity::{TripleRecord, Verdict};
 use support::{all_steps, Cases, Comparison, Lent};
 
 /// The causes of a table that is refused.
@@ -193,9 +194,37 @@ fn report_line(cases: &mut Cases, guard: u8) -> String {
     line_of(answer.map(|length| format!("written={length} text={}", hex(&out.row()[..length]))))
 }
 
+/// Lines that are read back are printed again the same.
+fn printed_again(text: &[u8], lines: &[u8], left: &[u32], right: &[u32]) {
+    let grammar = Grammar::read(text).unwrap();
+    let letters = |row: &[u32]| row.iter().map(|entry| Letter::of_entry(*entry).unwrap()).collect();
+    let strings = Strings { left: letters(left), right: letters(right) };
+    assert_eq!(grammar.lines(&strings).unwrap().as_bytes(), lines);
+    assert_eq!(grammar.read_back(lines), Ok(strings));
+}
+
+fn back_line(cases: &mut Cases, guard: u8) -> String {
+    let text = Lent::new(&cases.bytes(), guard);
+    let lines = Lent::new(&cases.bytes(), guard);
+    let mut left = Lent::new(&vec![word(guard ^ 0x5A); cases.number()], word(guard));
+    let mut right = Lent::new(&vec![word(guard ^ 0xA5); cases.number()], word(guard));
+    let answer = ambiguity::read_back(text.row(), lines.row(), left.row_mut(), right.row_mut());
+    let (in_left, in_right) = answer.map_or((0, 0), |read| (read.left, read.right));
+    assert!(text.kept() && lines.kept() && left.kept_past(in_left) && right.kept_past(in_right));
+    let (in_left, in_right) = (&left.row()[..in_left], &right.row()[..in_right]);
+    match answer {
+        Ok(_) => {
+            printed_again(text.row(), lines.row(), in_left, in_right);
+            format!("read left={} right={}", joined(in_left), joined(in_right))
+        }
+        Err(PartRefusal { part: Part::Grammar, refusal }) => format!("grammar-{refusal}"),
+        Err(PartRefusal { part: Part::Lines, refusal }) => refusal.to_string(),
+    }
+}
+
 /// The comparison of a kind that has all of an answer's line.
 fn comparison<'a>(kind: &'a str, script: &'a str, causes: &'a [usize]) -> Comparison<'a> {
-    Comparison { kind, script, verb: "", causes, told: whole }
+    Comparison { kind, script, verb: "", causes, grammar_causes: &[], told: whole }
 }
 
 #[test]
@@ -249,4 +278,10 @@ fn writer() {
 #[test]
 fn report() {
     comparison("reports", "report_cases.py", &[14]).agrees(report_line);
+}
+
+#[test]
+fn reading_back() {
+    let grammar_causes = &[1, 4, 6, 7, 8, 16, 17, 18];
+    Comparison { grammar_causes, ..comparison("backs", "back_cases.py", &[14, 16, 17]) }.agrees(back_line);
 }

@@ -1,8 +1,8 @@
-//! Answers that were worked out by hand: the reader, the writer and the report.
+//! Answers that were worked out by hand: the reader, the writer, the report and reading back.
 
 mod support;
 
-use ambiguity::{Cause, Names, Read, Refusal, Table, MAX_REPORT_BYTES};
+use ambiguity::{Cause, Letter, Names, Part, PartRefusal, Read, ReadBack, Refusal, Table, MAX_REPORT_BYTES};
 use support::{grammar, refused};
 
 const NESTED: &str = "terminals=x,y\nnonterminals=S,A\nrule=S: x A\nrule=S:\nrule=A: y S y\n";
@@ -89,5 +89,93 @@ fn reports_of_refusals() {
         let mut out = vec![7; room];
         let answer = ambiguity::report(text, &mut out);
         assert_eq!(answer.map(|length| &out[..length]), expected);
+    }
+}
+
+/// In NESTED: two lines, and the refusal.
+#[test]
+fn lines_that_are_refused() {
+    let malformed = |at| (Cause::Malformed, at);
+    let unknown = |at| (Cause::NameUnknown, at);
+    let cases = [
+        ("", malformed(1)),
+        ("left=", malformed(1)),
+        ("left=\n", malformed(2)),
+        ("left=\nright=", malformed(2)),
+        ("left=\nright=\n\n", malformed(2)),
+        ("left=\nright=\nx", malformed(2)),
+        ("right=\nleft=\n", malformed(1)),
+        ("left =\nright=\n", malformed(1)),
+        ("Left=\nright=\n", malformed(1)),
+        ("left= x\nright=\n", malformed(1)),
+        ("left=x \nright=\n", malformed(1)),
+        ("left=x  y\nright=\n", malformed(1)),
+        ("left=x,y\nright=\n", malformed(1)),
+        ("left=x\r\nright=\n", malformed(1)),
+        ("left=(\nright=\n", malformed(1)),
+        ("left=)\nright=\n", malformed(1)),
+        ("left=(01\nright=\n", malformed(1)),
+        ("left=(00\nright=\n", malformed(1)),
+        ("left=(4\nright=\n", malformed(1)),
+        ("left=(99999999999999999999\nright=\n", malformed(1)),
+        ("left=(4294967297\nright=\n", malformed(1)),
+        ("left=(18446744073709551617\nright=\n", malformed(1)),
+        ("left=(1x\nright=\n", malformed(1)),
+        ("left=(-1\nright=\n", malformed(1)),
+        ("left=((1\nright=\n", malformed(1)),
+        ("left=sixteen-letters-\nright=\n", malformed(1)),
+        ("left=sixteen-letters\nright=\n", unknown(1)),
+        ("left=z\nright=\n", unknown(1)),
+        ("left=X\nright=\n", unknown(1)),
+        ("left=1\nright=\n", unknown(1)),
+        ("left=left\nright=\n", unknown(1)),
+        // Within a line 16 comes before 17, and line 1 before line 2.
+        ("left=z (4\nright=\n", malformed(1)),
+        ("left=z\nright=(4\n", unknown(1)),
+        ("left=z\n", unknown(1)),
+        ("left=\nright=z (4\n", malformed(2)),
+        ("left=\nright=z\n", unknown(2)),
+        ("left=\nright=z\n\n", malformed(2)),
+        ("left=x\nright=y\n", (Cause::BufferTooShort, 0)),
+    ];
+    for (lines, (cause, at)) in cases {
+        let answer = ambiguity::read_back(NESTED.as_bytes(), lines.as_bytes(), &mut [], &mut []);
+        assert_eq!(answer, Err(PartRefusal { part: Part::Lines, refusal: Refusal { cause, at } }), "{lines:?}");
+        let answer = ambiguity::read_back(NESTED.trim_end().as_bytes(), lines.as_bytes(), &mut [], &mut []);
+        let refusal = Refusal { cause: Cause::Malformed, at: 5 };
+        assert_eq!(answer, Err(PartRefusal { part: Part::Grammar, refusal }), "{lines:?}");
+    }
+}
+
+#[test]
+fn lines_read_back() {
+    let lines = b"left=(0 (3 x S )3 )0\nright=\n";
+    let (mut left, mut right) = ([7; 7], [7; 1]);
+    let answer = ambiguity::read_back(NESTED.as_bytes(), lines, &mut left, &mut right);
+    assert_eq!(answer, Ok(ReadBack { left: 6, right: 0 }));
+    let letters = [
+        Letter::Opening(0),
+        Letter::Opening(3),
+        Letter::Symbol(1),
+        Letter::Symbol(128),
+        Letter::Closing(3),
+        Letter::Closing(0),
+    ];
+    assert_eq!((left[..6].to_vec(), left[6], right), (letters.map(Letter::entry).to_vec(), 7, [7]));
+}
+
+/// A line has no limit: half a million letters on either side.
+#[test]
+fn long_lines() {
+    let words = "(0 x )3 S ".repeat(125_000);
+    let lines = format!("left={}\nright={}\n", words.trim_end(), words.trim_end());
+    let rows = || vec![0; lines.len()];
+    let (mut left, mut right) = (rows(), rows());
+    let answer = ambiguity::read_back(NESTED.as_bytes(), lines.as_bytes(), &mut left, &mut right);
+    assert_eq!(answer, Ok(ReadBack { left: 500_000, right: 500_000 }));
+    let four = [Letter::Opening(0), Letter::Symbol(1), Letter::Closing(3), Letter::Symbol(128)].map(Letter::entry);
+    for row in [left, right] {
+        assert!(row[..500_000].chunks(4).all(|letters| letters == four));
+        assert!(row[500_000..].iter().all(|entry| *entry == 0));
     }
 }

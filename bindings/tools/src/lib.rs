@@ -14,6 +14,7 @@ pub mod parting;
 pub mod readings;
 pub mod refusals;
 pub mod sentences;
+pub mod strings;
 pub mod tree;
 pub mod warnings;
 pub mod words;

@@ -8,7 +8,7 @@ use crate::lines::{self, Form};
 use crate::markup::{escaped, sentence};
 use crate::pairs::Outcome;
 use crate::parting::Next;
-use crate::{drawing, words};
+use crate::{drawing, strings, words};
 
 /// Wider drawings stand one below the other.
 const HALF_PAGE: usize = 400;
@@ -29,6 +29,7 @@ td { padding: 0 2mm; font-size: 9.5pt; vertical-align: top; overflow-wrap: anywh
 td.number { color: #555; text-align: right; user-select: none; overflow-wrap: normal; }
 tr.parting td { background: #fbe3c8; }
 pre { font-size: 7pt; line-height: 1.3; column-width: 57ch; column-gap: 4mm; margin: 0; }
+pre.strings { font-size: 9.5pt; column-width: auto; white-space: pre-wrap; overflow-wrap: anywhere; }
 .trees { display: flex; flex-wrap: wrap; gap: 4mm; align-items: flex-start; }
 figure { margin: 0; flex: 1 1 40%; break-inside: avoid; }
 .stacked figure { flex-basis: 100%; }
@@ -52,6 +53,10 @@ const EMPTY_LEGEND: &str =
     "The sentence is empty: the trees pass no symbol. Framed is the first rule that one of them ends where \
                             the other does not.";
 
+const STRINGS: &str =
+    "In these lines `(1` opens rule 1, which stands on line 3 of the text, and `)1` closes it; a symbol stands by its \
+                       name. Rule 0 leads to the start. ambig-check --lines takes the two lines.";
+
 /// The page of a grammar that was read from a file.
 pub fn of(file: &str, text: &[u8], grammar: &Grammar, searched: &Searched) -> String {
     let parts = match searched {
@@ -61,8 +66,9 @@ pub fn of(file: &str, text: &[u8], grammar: &Grammar, searched: &Searched) -> St
         }
         Searched::Potential { witness } => {
             let explanation = explanation::of(grammar, witness);
+            let strings = strings_part(&strings::printed(text, grammar, witness));
             let text = grammar_part(text, &parting_lines(&explanation));
-            [potential(grammar, &explanation), trees_part(grammar, &explanation), text]
+            [potential(grammar, &explanation), trees_part(grammar, &explanation), text + &strings]
         }
     };
     let (name, parts) = (escaped(file), parts.concat());
@@ -127,6 +133,10 @@ fn grammar_part(text: &[u8], marked: &[usize]) -> String {
 
 fn certificate_part(lines: &str) -> String {
     format!("<h2>Certificate</h2>\n<pre>{}</pre>\n", escaped(lines))
+}
+
+fn strings_part(lines: &str) -> String {
+    format!("<h2>Two readings</h2>\n<pre class=\"strings\">{}</pre>\n<p>{}</p>\n", escaped(lines), sentence(STRINGS))
 }
 
 fn trees_part(grammar: &Grammar, explanation: &Explanation) -> String {

@@ -4,6 +4,7 @@ use ambiguity::{Cause, Grammar, Refusal};
 
 use crate::diagnosis;
 use crate::lines::{Certificate, Malformed};
+use crate::strings::{self, NotParting};
 use crate::words;
 
 /// The lines of a refusal for scripts, as the program `ambig` prints them.
@@ -45,4 +46,15 @@ pub fn of_certificate(file: &str, certificate: &Certificate, refusal: Refusal, g
     };
     let (line, column) = certificate.place(at / 8);
     message(file, line, column, &format!("{words} ({refusal})"))
+}
+
+/// A refusal of the lines of two strings.
+pub fn of_strings(file: &str, grammar: &Grammar, lines: &[u8], refusal: Refusal) -> String {
+    let finding = diagnosis::of_strings(grammar, lines, refusal);
+    message(file, finding.line, finding.column, &format!("{} ({refusal})", finding.message))
+}
+
+/// Two strings that do not part.
+pub fn of_not_parting(file: &str, lines: &[u8], fault: &NotParting) -> String {
+    message(file, fault.line, strings::column(lines, fault.line, fault.place), &fault.message)
 }

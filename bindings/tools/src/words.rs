@@ -71,6 +71,17 @@ pub fn state(grammar: &Grammar, state: usize) -> String {
     unreachable!("state {state} of {}", grammar.states())
 }
 
+/// Names of which one holds: `'a', 'b' or 'c'`. Of many the first ones stand, and how many there are besides.
+pub fn one_of(names: &[String]) -> String {
+    const MOST: usize = 6;
+    match names {
+        [] => String::new(),
+        [name] => name.clone(),
+        [front @ .., last] if names.len() <= MOST => format!("{} or {last}", front.join(", ")),
+        names => format!("{} or {} others", names[..MOST - 1].join(", "), names.len() + 1 - MOST),
+    }
+}
+
 /// Layer, left and right of a triple's index.
 pub fn triple(grammar: &Grammar, index: usize) -> (usize, usize, usize) {
     let states = grammar.states();

@@ -30,6 +30,7 @@ use Rattle.witness_records.specs.declared.TripleRecord.{TripleRecord}
 use Rattle.witness_records.proofs.Ranges.{entries-are, records-alike, records-inside}
 use Rattle.table_check.proofs.Callers.{passed-table, refused-table}
 use Rattle.ambiguity.proofs.Searches.{checked, regular, lists, search-theorems}
+use Rattle.ambiguity.proofs.Readings.{reading-theorems, back-theorems}
 use Rattle.ambiguity.proofs.Reports.{report-theorems}
 use Rattle.ambiguity.proofs.Steps.{step-theorems}
 use Rattle.ambiguity.proofs.Texts.{text-theorems}
@@ -149,5 +150,7 @@ front-page = record {
   searches = search-theorems;
   texts = text-theorems;
   reports = report-theorems;
+  readings = reading-theorems;
+  backs = back-theorems;
   automata = automaton-theorems;
 }

@@ -1,5 +1,6 @@
 pub mod Searches
 pub mod Steps
 pub mod Texts
+pub mod Readings
 pub mod Reports
 pub mod FrontPage

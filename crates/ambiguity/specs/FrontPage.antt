@@ -1,7 +1,7 @@
 -- What holds of the library, whatever the input: theorems over what the public entries promise. A promise is the entry's
 -- `ensures`; it determines the answer and all that was lent. Each promise is one definition: specs/Entries.antt says where.
--- specs/Searches.antt, specs/Texts.antt and specs/Reports.antt have what follows for the search, for texts and for the program,
--- specs/Automata.antt whose moves the promises compute with, proofs/FrontPage.antt the value of the record. Source: document 01 and
+-- specs/Searches.antt, specs/Texts.antt, specs/Reports.antt and specs/Readings.antt have what follows for the search, for texts, for
+-- the program and for the two lines of a witness, specs/Automata.antt whose moves the promises compute with, proofs/FrontPage.antt the value of the record. Source: document 01 and
 -- document 02's requests; README.md has the demands. Of demand 1, that a refusal is the first in document 01's order is in the
 -- definitions that the promises equal.
 -- Assumes nothing.
@@ -34,11 +34,17 @@ use Rattle.steps.specs.declared.StepAnswer.{StepAnswer}
 use Rattle.steps.specs.declared.StepAnswer.the-variants as step
 use Rattle.search.specs.Promise.{Lent, Searches}
 use Rattle.search.specs.declared.SearchVerdict.{SearchVerdict}
+use Rattle.grammar.specs.Refusal.{done}
+use Rattle.text.specs.Read.{Source}
+use Rattle.text.specs.Rules.{checkText}
+use Rattle.readings.specs.Promise.{ReadsBack}
+use Rattle.readings.specs.declared.ReadBack.{ReadBack}
 use Rattle.report.specs.Report.{Reports}
 use Rattle.report.specs.declared.Reported.{Reported}
 use Rattle.ambiguity.specs.Entries.{Usize, Stores, StepAnswers}
 use Rattle.ambiguity.specs.Searches.{SearchTheorems}
 use Rattle.ambiguity.specs.Texts.{TextTheorems}
+use Rattle.ambiguity.specs.Readings.{ReadingTheorems, BackTheorems}
 use Rattle.ambiguity.specs.Reports.{ReportTheorems}
 use Rattle.ambiguity.specs.Automata.{AutomatonTheorems}
 
@@ -103,4 +109,7 @@ pub record FrontPage : Type 1 where
       → SearchTheorems t n table before r after
   pub texts : TextTheorems
   pub reports : (text out : List ℕ) (r : Reported) (out′ : List ℕ) → Reports text out r out′ → ReportTheorems text out r out′
+  pub readings : (text : List ℕ) (s : Source) → checkText limits text ≡ done s → ReadingTheorems s
+  pub backs : (text lines left right : List ℕ) (r : ReadBack) (left′ right′ : List ℕ) → ReadsBack text lines left right r left′ right′
+      → BackTheorems text lines left right r left′ right′
   pub automata : (G : Grammar) → WellFormed limits G → AutomatonTheorems G

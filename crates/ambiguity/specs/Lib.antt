@@ -1,6 +1,7 @@
 pub mod Entries
 pub mod Searches
 pub mod Texts
+pub mod Readings
 pub mod Reports
 pub mod Automata
 pub mod FrontPage

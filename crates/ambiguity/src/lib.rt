@@ -3,6 +3,8 @@ pub use certificate_check::check_certificate;
 pub use grammar::CheckedGrammar;
 pub use grammar::TableChecked;
 pub use grammar::TableVerdict;
+pub use readings::ReadBack;
+pub use readings_read::read_back;
 pub use report::Reported;
 pub use report::report;
 pub use search::SearchVerdict;

@@ -10,7 +10,7 @@ use mathlib.Core.List.{List}
 use mathlib.Core.Logic.{inl, inr}
 use Rattle.grammar.specs.Limits.{limits}
 use Rattle.grammar.specs.Grammar.{Grammar}
-use Rattle.grammar.specs.Refusal.{Answer, done, refused}
+use Rattle.grammar.specs.Refusal.{Answer, done, refused, andThen}
 use Rattle.grammar.specs.TableCheck.{tableChecked}
 use Rattle.grammar.specs.declared.TableVerdict.the-variants.{Passed}
 use Rattle.grammar.proofs.Answers.{and-both}
@@ -20,18 +20,22 @@ use Rattle.triples.specs.Verdict.{checkVerdict}
 use Rattle.triples.specs.declared.CheckVerdict.{CheckVerdict}
 use Rattle.triples.specs.declared.CheckVerdict.the-variants.{Accepted}
 use Rattle.triples.specs.declared.Step.{Step}
+use Rattle.automaton.specs.Strings.{Letter}
+use Rattle.readings.specs.Promise.{stringsInto, readBackInto, readBack}
+use Rattle.readings.specs.declared.ReadBack.the-variants as back
 use Rattle.report.specs.Report.{reported}
 use Rattle.report.specs.declared.Reported.the-variants as report
 use Rattle.search.specs.Promise.{Lent, isPotential, Told, Answers}
 use Rattle.search.specs.declared.SearchVerdict.{SearchVerdict}
 use Rattle.steps.specs.Steps.{stepAnswer}
 use Rattle.text.specs.Read.{Source}
+use Rattle.text.specs.Rules.{checkText}
 use Rattle.text.specs.Promise.{textRead, textWritten}
 use Rattle.text.specs.declared.TextWritten.the-variants.{Written}
 use Rattle.witness_records.specs.Records.{triples}
-use Rattle.ambiguity_c.specs.Replies.{tableReply, stepReply, checkReply, searchReply, readReply, writeReply, reportReply}
+use Rattle.ambiguity_c.specs.Replies.{tableReply, stepReply, checkReply, searchReply, readReply, writeReply, reportReply, readBackReply}
 use Rattle.ambiguity_c.specs.Causes.{Tells, IsRead, IsVerdict, IsStep, CauseTheorems}
-use Rattle.ambiguity_c.proofs.Refusals.{isCause, Caused, cause, check-table, nth-step, check-witness, check-records, check-certificate, search-asked, read-into, write-into, report-into}
+use Rattle.ambiguity_c.proofs.Refusals.{isCause, Caused, cause, check-table, nth-step, check-witness, check-records, check-certificate, search-asked, check-text, read-into, write-into, report-into, strings-into}
 
 -- nothing is refused
 tells-done : {X : Type 0} → X → Tells 0 X
@@ -88,6 +92,23 @@ report-tells : (o : Answer (List ℕ)) → Caused o
 report-tells (done s) h = tells-done refl
 report-tells (refused c p) (cause h) = tells-refused c h
 
+strings-tell : (o : Answer (List Letter × List Letter)) → Caused o
+    → Tells (readBackReply (readBack (done o)) .cause)
+    (readBack (done o) ≡ back.Read (readBackReply (readBack (done o)) .left) (readBackReply (readBack (done o)) .right))
+strings-tell (done p) h = tells-done refl
+strings-tell (refused c p) (cause h) = tells-refused c h
+
+back-tells : (a b : ℕ) (lines : List ℕ) (o : Answer Source) → Caused o → let w = readBack (andThen o (λ s. done (stringsInto limits a b lines s))) in
+    Tells (readBackReply w .cause) (w ≡ back.Read (readBackReply w .left) (readBackReply w .right))
+unfolding andThen
+back-tells a b lines (done s) h = strings-tell (stringsInto limits a b lines s) (strings-into limits a b lines s)
+back-tells a b lines (refused c p) (cause h) = tells-refused c h
+
+back-promised : (a b : ℕ) (text lines : List ℕ) → let w = readBack (readBackInto limits a b text lines) in
+    Tells (readBackReply w .cause) (w ≡ back.Read (readBackReply w .left) (readBackReply w .right))
+unfolding readBackInto
+back-promised a b text lines = back-tells a b lines (checkText limits text) (check-text limits text)
+
 pub cause-theorems : CauseTheorems
 cause-theorems = record {
   tables = λ t n table r a.
@@ -106,4 +127,7 @@ cause-theorems = record {
   reports = λ text out v out′ a.
       subst (λ v. Tells (reportReply v .cause) (v ≡ report.Written (reportReply v .length))) (sym (a .answer))
       (report-tells _ (report-into _ text));
+  backs = λ text lines left right v left′ right′ a.
+      subst (λ v. Tells (readBackReply v .cause) (v ≡ back.Read (readBackReply v .left) (readBackReply v .right))) (sym (a .answer))
+      (back-promised _ _ text lines);
 }

@@ -19,7 +19,9 @@ use Rattle.triples.specs.Witness.{checkOn, checkRow, checkWitness, checkWitness
 use Rattle.report.specs.Report.{reportInto}
 use Rattle.search.specs.Promise.{Lent, searchable}
 use Rattle.steps.specs.Steps.{nthStep}
-use Rattle.text.specs.Read.{refuseNone, declaration, ruleLine, ruleLines, wholeLine, readLines, readText}
+use Rattle.readings.specs.Readings.{readWords, readStrings}
+use Rattle.readings.specs.Promise.{stringsInto}
+use Rattle.text.specs.Read.{Source, refuseNone, declaration, ruleLine, ruleLines, wholeLine, readLines, readText}
 use Rattle.text.specs.Rules.{admit, checkText, readInto}
 use Rattle.text.specs.Print.{gather, writeInto}
 
@@ -162,12 +164,14 @@ admits L (suc m) earlier at (r ∷ rs) =
     unless ruleRepeated _ _ _ refl
     (unless tooManyStates _ _ _ refl (admits L m (earlier ++ (r ∷ [])) (at + 2 + length (r .right)) rs))
 
+pub check-text : (L : Limits) (text : List ℕ) → Caused (checkText L text)
+unfolding checkText readText
+check-text L text =
+    next _ _ (unless malformed _ _ _ refl (read-lines L _)) (λ source. next _ _ (admits L (L .maxRules) [] 0 (source .rules)) (λ rules. result))
+
 pub read-into : (L : Limits) (e s l : ℕ) (text : List ℕ) → Caused (readInto L e s l text)
-unfolding readInto checkText readText
-read-into L e s l text =
-    next _ _
-    (next _ _ (unless malformed _ _ _ refl (read-lines L _)) (λ source. next _ _ (admits L (L .maxRules) [] 0 (source .rules)) (λ rules. result)))
-    (λ source. unless bufferTooShort _ _ _ refl result)
+unfolding readInto
+read-into L e s l text = next _ _ (check-text L text) (λ source. unless bufferTooShort _ _ _ refl result)
 
 gathers : (bytes starts lengths : List ℕ) (i m : ℕ) → Caused (gather bytes starts lengths i m)
 unfolding gather
@@ -186,3 +190,20 @@ write-into L t n table bytes starts lengths room =
 pub report-into : (room : ℕ) (text : List ℕ) → Caused (reportInto room text)
 unfolding reportInto
 report-into room text = unless bufferTooShort _ _ _ refl result
+
+read-words : (L : Limits) (t count : ℕ) (names : List (List ℕ)) (at : ℕ) (value : List ℕ) → Caused (readWords L t count names at value)
+unfolding readWords
+read-words L t count names at value = or-none malformed _ _ _ refl (λ ws. unless nameUnknown _ _ _ refl result)
+
+read-strings : (L : Limits) (t count : ℕ) (names : List (List ℕ)) (lines : List ℕ) → Caused (readStrings L t count names lines)
+unfolding readStrings
+read-strings L t count names lines =
+    whole-line 1 _ _ (λ first more.
+    or-none malformed _ _ _ refl (λ l. next _ _ (read-words L t count names 1 l) (λ u.
+    whole-line 2 more _ (λ second rest.
+    unless malformed _ _ _ refl (or-none malformed _ _ _ refl (λ r. next _ _ (read-words L t count names 2 r) (λ v. result)))))))
+
+-- the lines, and 14
+pub strings-into : (L : Limits) (a b : ℕ) (lines : List ℕ) (s : Source) → Caused (stringsInto L a b lines s)
+unfolding stringsInto
+strings-into L a b lines s = next _ _ (read-strings L _ _ _ lines) (λ p. unless bufferTooShort _ _ _ refl result)

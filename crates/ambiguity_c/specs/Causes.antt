@@ -11,6 +11,9 @@ use Rattle.triples.specs.declared.CheckVerdict.{CheckVerdict}
 use Rattle.triples.specs.declared.CheckVerdict.the-variants.{Accepted}
 use Rattle.triples.specs.declared.Step.{Step}
 use Rattle.triples.specs.Verdict.{WitnessAnswer, CertificateAnswer}
+use Rattle.readings.specs.Promise.{ReadsBack}
+use Rattle.readings.specs.declared.ReadBack.{ReadBack}
+use Rattle.readings.specs.declared.ReadBack.the-variants as back
 use Rattle.report.specs.Report.{Reports}
 use Rattle.report.specs.declared.Reported.{Reported}
 use Rattle.report.specs.declared.Reported.the-variants as report
@@ -27,7 +30,7 @@ use Rattle.text.specs.declared.TextWritten.the-variants.{Written}
 use Rattle.witness_records.specs.Records.{RecordsAnswer}
 use Rattle.witness_records.specs.declared.TripleRecord.{TripleRecord}
 use Rattle.ambiguity.specs.Entries.{Usize, StepAnswers}
-use Rattle.ambiguity_c.specs.Replies.{tableReply, stepReply, checkReply, searchReply, readReply, writeReply, reportReply}
+use Rattle.ambiguity_c.specs.Replies.{tableReply, stepReply, checkReply, searchReply, readReply, writeReply, reportReply, readBackReply}
 
 -- the cause is none that document 01 does not have, and 0 tells that something is answered
 pub record Tells (cause : ℕ) (Answered : Type 0) : Type 0 where
@@ -68,3 +71,5 @@ pub record CauseTheorems : Type 0 where
       → WritesText t n table bytes starts lengths out v out′ → Tells (writeReply v .cause) (v ≡ Written (writeReply v .length))
   pub reports : (text out : List ℕ) (v : Reported) (out′ : List ℕ) → Reports text out v out′
       → Tells (reportReply v .cause) (v ≡ report.Written (reportReply v .length))
+  pub backs : (text lines left right : List ℕ) (v : ReadBack) (left′ right′ : List ℕ) → ReadsBack text lines left right v left′ right′
+      → Tells (readBackReply v .cause) (v ≡ back.Read (readBackReply v .left) (readBackReply v .right))

@@ -3,14 +3,16 @@
 use Prim.Native.Nat.{ℕ}
 use mathlib.Core.Path.{_≡_}
 use mathlib.Core.List.{List}
+use Rattle.readings.specs.Promise.{ReadsBack}
 use Rattle.report.specs.Report.{Reports}
 use Rattle.search.specs.Promise.{Lent, Searches}
 use Rattle.text.specs.Promise.{ReadsText, WritesText}
-use Rattle.ambiguity_c.specs.Replies.{searchReply, readReply, writeReply, reportReply}
+use Rattle.ambiguity_c.specs.Replies.{searchReply, readReply, writeReply, reportReply, readBackReply}
 use Rattle.ambiguity_c.specs.declared.SearchReply.{SearchReply}
 use Rattle.ambiguity_c.specs.declared.ReadReply.{ReadReply}
 use Rattle.ambiguity_c.specs.declared.WriteReply.{WriteReply}
 use Rattle.ambiguity_c.specs.declared.ReportReply.{ReportReply}
+use Rattle.ambiguity_c.specs.declared.ReadBackReply.{ReadBackReply}
 
 -- r is the C form of an answer of which the promise holds
 pub record Replies {Verdict Reply : Type 0} (Promised : Verdict → Type 0) (reply : Verdict → Reply) (r : Reply) : Type 0 where
@@ -30,3 +32,6 @@ RepliesWritten t n table bytes starts lengths out r out′ = Replies (λ v. Writ
 
 abbrev pub RepliesReport : List ℕ → List ℕ → ReportReply → List ℕ → Type 0
 RepliesReport text out r out′ = Replies (λ v. Reports text out v out′) reportReply r
+
+abbrev pub RepliesBack : List ℕ → List ℕ → List ℕ → List ℕ → ReadBackReply → List ℕ → List ℕ → Type 0
+RepliesBack text lines left right r left′ right′ = Replies (λ v. ReadsBack text lines left right v left′ right′) readBackReply r

@@ -1,9 +1,11 @@
 -- The entries' answers as C has them: for each case of an enum document 01's number and values. `cause` 0 says that nothing is
--- refused; fields that a case does not have are 0. Source: document 01, "Causes of refusal". Assumes nothing.
+-- refused; fields that a case does not have are 0. Source: document 01, "Causes of refusal"; document 02, [2]. Assumes nothing.
 use Prim.Native.Nat.{ℕ}
 use Rattle.grammar.specs.declared.TableChecked.{TableChecked}
 use Rattle.grammar.specs.declared.TableVerdict.{TableVerdict}
 use Rattle.grammar.specs.declared.TableVerdict.the-variants as table
+use Rattle.readings.specs.declared.ReadBack.{ReadBack}
+use Rattle.readings.specs.declared.ReadBack.the-variants as back
 use Rattle.report.specs.declared.Reported.{Reported}
 use Rattle.report.specs.declared.Reported.the-variants as report
 use Rattle.search.specs.declared.SearchVerdict.{SearchVerdict}
@@ -27,6 +29,7 @@ use Rattle.ambiguity_c.specs.declared.SearchReply.{SearchReply}
 use Rattle.ambiguity_c.specs.declared.ReadReply.{ReadReply}
 use Rattle.ambiguity_c.specs.declared.WriteReply.{WriteReply}
 use Rattle.ambiguity_c.specs.declared.ReportReply.{ReportReply}
+use Rattle.ambiguity_c.specs.declared.ReadBackReply.{ReadBackReply}
 
 -- the table check: passed with Q, or refused
 abbrev pub verdictReply : TableVerdict → ℕ → TableReply
@@ -82,3 +85,9 @@ writeReply (writer.Refused cause at) = record { cause = cause; at = at; length =
 abbrev pub reportReply : Reported → ReportReply
 reportReply (report.Written m) = record { cause = 0; at = 0; length = m }
 reportReply (report.Refused cause at) = record { cause = cause; at = at; length = 0 }
+
+-- reading back: how many letters either string has; `part` is 1 with a refusal of the grammar's text, 2 with one of the lines or a row
+abbrev pub readBackReply : ReadBack → ReadBackReply
+readBackReply (back.Read l r) = record { cause = 0; at = 0; part = 0; left = l; right = r }
+readBackReply (back.GrammarRefused cause at) = record { cause = cause; at = at; part = 1; left = 0; right = 0 }
+readBackReply (back.Refused cause at) = record { cause = cause; at = at; part = 2; left = 0; right = 0 }

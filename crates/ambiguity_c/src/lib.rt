@@ -8,7 +8,7 @@ ghost use Rattle.steps.specs.Steps.{NthAnswer};
 ghost use Rattle.triples.specs.Verdict.{CertificateAnswer, WitnessAnswer};
 ghost use Rattle.witness_records.specs.Records.{RecordsAnswer};
 ghost use Rattle.ambiguity_c.specs.Replies.{tableReply, stepReply, checkReply};
-ghost use Rattle.ambiguity_c.specs.Lent.{Replies, RepliesSearch, RepliesRead, RepliesWritten, RepliesReport};
+ghost use Rattle.ambiguity_c.specs.Lent.{Replies, RepliesSearch, RepliesRead, RepliesWritten, RepliesReport, RepliesBack};
 use ambiguity::TripleRecord;
 
 // In every reply `cause` is 0, or document 01's number with its position `at`; what a case does not have is 0.
@@ -76,6 +76,16 @@ pub struct ReportReply {
     pub cause: u64,
     pub at: u64,
     pub length: u64,
+}
+
+// Whose fault it is: 0 nothing is refused, 1 the grammar's text is, 2 the lines are or a row is too short; how many letters.
+#[repr(C)]
+pub struct ReadBackReply {
+    pub cause: u64,
+    pub at: u64,
+    pub part: u64,
+    pub left: u64,
+    pub right: u64,
 }
 
 #[no_mangle]
@@ -195,4 +205,17 @@ pub extern "C" fn ambiguity_report(text: &[u8], out: &mut [u8]) -> ReportReply
 {
     let answer = ambiguity::report(text, out);
     replies::report_told(answer)
+}
+
+#[no_mangle]
+pub extern "C" fn ambiguity_read_back(
+    text: &[u8],
+    lines: &[u8],
+    left: &mut [u32],
+    right: &mut [u32],
+) -> ReadBackReply
+    ensures { λ r. ⌜ RepliesBack (now (text .entry)) (now (lines .entry)) (now (left .entry)) (now (right .entry)) r (now (left .exit)) (now (right .exit)) ⌝ }
+{
+    let answer = ambiguity::read_back(text, lines, left, right);
+    replies::back_told(answer)
 }

@@ -1,8 +1,9 @@
 // The answers of the entries, told in numbers: an arm for each case of specs/Replies.antt.
 ghost use mathlib.Core.Path.{_≡_};
-ghost use Rattle.ambiguity_c.specs.Replies.{verdictReply, moveReply, recordReply, noRecord, stepReply, checkReply, searchReply, readReply, writeReply, reportReply};
+ghost use Rattle.ambiguity_c.specs.Replies.{verdictReply, moveReply, recordReply, noRecord, stepReply, checkReply, searchReply, readReply, writeReply, reportReply, readBackReply};
 use super::CheckReply;
 use super::MoveReply;
+use super::ReadBackReply;
 use super::ReadReply;
 use super::ReportReply;
 use super::SearchReply;
@@ -11,6 +12,7 @@ use super::TableReply;
 use super::WriteReply;
 use ambiguity::CheckVerdict;
 use ambiguity::Move;
+use ambiguity::ReadBack;
 use ambiguity::Reported;
 use ambiguity::SearchVerdict;
 use ambiguity::Step;
@@ -204,6 +206,34 @@ pub fn report_told(answer: Reported) -> ReportReply
             cause: cause as u64,
             at: at as u64,
             length: 0,
+        },
+    }
+}
+
+pub fn back_told(answer: ReadBack) -> ReadBackReply
+    ensures { λ r. ⌜ r ≡ readBackReply answer ⌝ }
+{
+    match answer {
+        ReadBack::Read { left, right } => ReadBackReply {
+            cause: 0,
+            at: 0,
+            part: 0,
+            left: left as u64,
+            right: right as u64,
+        },
+        ReadBack::GrammarRefused(cause, at) => ReadBackReply {
+            cause: cause as u64,
+            at: at as u64,
+            part: 1,
+            left: 0,
+            right: 0,
+        },
+        ReadBack::Refused(cause, at) => ReadBackReply {
+            cause: cause as u64,
+            at: at as u64,
+            part: 2,
+            left: 0,
+            right: 0,
         },
     }
 }

@@ -91,7 +91,7 @@ module _ (M : Moves) where
       unless-holds 15 0 _ (checkOn M 0 1 w) (eq-eqb 0 (index (M .states) 0 0 0) (sym (index-zero (M .states)))) ∙ leads-on w 0 1 h
 
 module _ (M : Moves) (R : Regular M) where
-  some-triples : 0 < tripleCount (M .states)
+  pub some-triples : 0 < tripleCount (M .states)
   some-triples = omega (arith, mul-le-mul {n₁ = 1} {m₁ = 1} {n₂ = M .states} {m₂ = M .states} (omega (arith, R .four)) (omega (arith, R .four)))
 
   -- the row that leads on from 0 and comes before every other is that of `shortest`
@@ -144,7 +144,7 @@ leads-more successors i j m (x ∷ w) k h = (h .0, leads-more successors i j m w
 
 module _ (M : Moves) (R : Regular M) where
   -- what the smallest set holds is reached by a row
-  leads-to : (i : ℕ) → Mem i (smallest M) → (w : List ℕ) × Leads (successors M) i 0 w
+  pub leads-to : (i : ℕ) → Mem i (smallest M) → (w : List ℕ) × Leads (successors M) i 0 w
   unfolding smallest
   leads-to = explore-least (successors M) (tripleCount (M .states)) (some-triples M R) (successors-below M R)
       (λ i. (w : List ℕ) × Leads (successors M) i 0 w) ([], refl) (λ i j h m. (h .0 ++ (j ∷ []), leads-more (successors M) i j m (h .0) 0 (h .1)))

@@ -1,5 +1,7 @@
 pub mod Pins
-pub mod Decimal
+pub mod Strings
 pub mod Sizes
 pub mod Told
+pub mod Lines
+pub mod Read
 pub mod Written

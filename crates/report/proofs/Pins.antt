@@ -1,4 +1,4 @@
--- Small closed cases of the definitions: document 01's example, the three kinds of answer, 48 states and 49, and a fault of the
+-- Small closed cases of the definitions: document 01's example, the two readings of a witness, the three kinds of answer, 48 states and 49, and a fault of the
 -- text before the states. An edit of a definition in specs/ fails here. Assumes nothing.
 use mathlib.Core.Path.{_≡_, refl}
 use mathlib.Core.List.{List, [], _∷_}
@@ -6,7 +6,7 @@ use Prim.Native.Nat.{ℕ}
 use Prim.Native.Char.{code}
 use Prim.Native.String.{String, [] as empty, _∷_ as _then_}
 use lib.ListN.{replicate}
-use Rattle.grammar.specs.Grammar.{Grammar, stateCount}
+use Rattle.grammar.specs.Grammar.{stateCount}
 use Rattle.grammar.specs.Refusal.{Answer, done, refused, refuseUnless, andThen}
 use Rattle.grammar.specs.TableCheck.{sameCodes, isAmong}
 use Rattle.grammar.specs.Basics.{each}
@@ -16,10 +16,17 @@ use Rattle.triples.specs.Smallest.{isElement, push, pushAll, explore, successor
 use Rattle.text.specs.Pieces.{splitOn}
 use Rattle.text.specs.Names.{isNameByte, all, any, isName, folded, sameName, hasDouble, place}
 use Rattle.text.specs.Keys.{keyTable, keyLengths, key, valueOf}
-use Rattle.text.specs.Read.{refuseNone, namesOf, declaration, bodyOf, sidesOf, numberOf, isKnown}
+use Rattle.text.specs.Read.{Source, refuseNone, namesOf, declaration, bodyOf, sidesOf, numberOf, isKnown}
 use Rattle.text.specs.Read.{codeOf, ruleOf, ruleLine, ruleLines, wholeLine, readLines, readText}
 use Rattle.text.specs.Rules.{admit, checkText}
-use Rattle.report.specs.Report.{judge, decimalTo, reportOf}
+use Rattle.text.specs.Pieces.{join, ledBy, endedBy}
+use Rattle.text.specs.Numbers.{decimalTo}
+use Rattle.text.specs.Read.{symbolOf}
+use Rattle.text.specs.Print.{nameOf}
+use Rattle.triples.specs.Shortest.{firstRow, rowOf, fewest, shortest}
+use Rattle.triples.specs.Sides.{recordsTo, sideOf}
+use Rattle.readings.specs.Readings.{words, readingLines}
+use Rattle.report.specs.Report.{judge, witnessLines, reportOf}
 
 -- the bytes of an ASCII text
 bytes : String → List ℕ
@@ -27,7 +34,7 @@ bytes empty = []
 bytes (c then s) = code c ∷ bytes s
 
 -- to unfold one of these is to unfold all that it uses
-judged : String → Answer Grammar
+judged : String → Answer Source
 unfolding bytes judge checkText admit isAmong sameCodes stateCount readText readLines wholeLine ruleLines ruleLine ruleOf codeOf
     isKnown numberOf place sidesOf bodyOf declaration namesOf refuseNone valueOf key keyTable keyLengths hasDouble sameName folded
     isName any all isNameByte splitOn refuseUnless andThen
@@ -35,7 +42,8 @@ judged text = judge (bytes text)
 
 shown : String → List ℕ
 unfolding judged reportOf decimalTo each aheads rulesOf completed past aheadRow openings closings leftAlone rightAlone bothShift
-    bothClose choices insert ordered records isElement push pushAll explore successors smallest
+    bothClose choices insert ordered records isElement push pushAll explore successors smallest witnessLines firstRow rowOf fewest
+    shortest recordsTo sideOf words readingLines nameOf symbolOf join ledBy endedBy
 shown text = reportOf (bytes text)
 
 -- document 01's example
@@ -43,10 +51,10 @@ example : shown "terminals=a\nnonterminals=S\nrule=S: a\n" ≡ bytes "states=6\n
 unfolding shown
 example = refl
 
--- a potential verdict prints two lines
-two-lines : shown "terminals=a\nnonterminals=S\nrule=S: S\n" ≡ bytes "states=6\nverdict=potential\n"
+-- a potential verdict prints the two sides of the shortest witness
+two-readings : shown "terminals=a\nnonterminals=S\nrule=S: S\n" ≡ bytes "states=6\nverdict=potential\nleft=(0 S )0\nright=(0 (1 S )1 )0\n"
 unfolding shown
-two-lines = refl
+two-readings = refl
 
 -- a refusal
 refusal : shown "terminals=a\nnonterminals=S\nrule=S: b\n" ≡ bytes "refused=17\nat=3\n"
@@ -54,8 +62,8 @@ unfolding shown
 refusal = refl
 
 -- the cause, or 0
-abbrev cause : Answer Grammar → ℕ
-cause (done G) = 0
+abbrev cause : Answer Source → ℕ
+cause (done s) = 0
 cause (refused c p) = c
 
 -- 48 states pass, 49 do not, and a rule that stands twice comes before them

@@ -1,6 +1,6 @@
 -- How much the program prints at most: a refusal's number and position are small, and so are Q and the size. Assumes nothing.
 use Prim.Native.Nat.{ℕ, zero, suc, _+_, _*_, _≤_}
-use mathlib.Core.Path.{_≡_, refl, sym, subst}
+use mathlib.Core.Path.{_≡_, refl, ap, subst, _∙_}
 use mathlib.Core.Bool.{Bool, true, false, not, _&&_}
 use mathlib.Core.List.{List, [], _∷_, _++_}
 use mathlib.Core.Option.{Option, none, some}
@@ -25,15 +25,20 @@ use Rattle.triple_laws.proofs.Laws.{smallest-distinct, smallest-below}
 use Rattle.text.specs.Pieces.{onto, splitOn}
 use Rattle.text.specs.Names.{isName, all, hasDouble, within}
 use Rattle.text.specs.Keys.{key, valueOf}
-use Rattle.text.specs.Read.{Source, refuseNone, namesOf, declaration, sidesOf, isKnown, ruleLine, ruleLines, wholeLine, readLines, readText}
+use Rattle.text.specs.Read.{Source, symbolNames, refuseNone, namesOf, declaration, sidesOf, isKnown, ruleLine, ruleLines, wholeLine, readLines, readText}
 use Rattle.text.specs.Rules.{admit, checkText}
 use Rattle.text.proofs.PrintRead.{read-well}
 use Rattle.text.proofs.Admit.{text-checked}
 use Rattle.text.proofs.RoundTrip.{apart}
 use Rattle.triple_laws.proofs.Position.{position-regular}
 use Rattle.search.specs.Promise.{isPotential}
-use Rattle.report.specs.Report.{programText, judge, grammarOf, decimal, line, statesIs, verdictIs, reachedIs, refusedIs, atIs, unambiguous, potential, verdictLines, printed, reportOf, reportSize}
-use Rattle.report.proofs.Decimal.{decimal-most}
+use Rattle.report.specs.Report.{programText, programStates, judge, grammarOf, line, statesIs, verdictIs, reachedIs, refusedIs, atIs, unambiguous, potential, witnessLines, verdictLines, grammarLines, printed, reportOf, reportSize}
+use Rattle.report.specs.Contracts.{refusedLines}
+use Rattle.report.proofs.Strings.{witness-most}
+use Rattle.readings_write.proofs.Decimal.{decimal-most}
+use Rattle.text.specs.Numbers.{decimal}
+use Rattle.text.proofs.WellNamed.{WellNamedSource}
+use Rattle.automaton.specs.Moves.{Moves}
 
 -- ---- refusals
 
@@ -148,30 +153,27 @@ small-judge text =
     small-then 5000 (checkText limits text) _ (small-text text (leb-true (length text) 4096 e)) (λ s f.
     small-unless 5000 14 0 (leb (stateCount (s .rules)) 48) _ (omega arith) (omega arith) tt))
 
--- the grammar of a text that is judged
-pub record JudgedText (text : List ℕ) (G : Grammar) : Type 0 where
-  pub source : Source
-  pub checked : checkText limits text ≡ done source
-  pub grammar : G ≡ grammarOf source
-  pub wellFormed : WellFormed limits G
-  pub few : states G ≤ 48
+-- what is known of a text that is judged
+pub record JudgedText (text : List ℕ) (s : Source) : Type 0 where
+  pub checked : checkText limits text ≡ done s
+  pub well : WellNamedSource limits s
+  pub wellFormed : WellFormed limits (grammarOf s)
+  pub few : states (grammarOf s) ≤ programStates
 
-pub judged-text : (text : List ℕ) (G : Grammar) → judge text ≡ done G → JudgedText text G
+pub judged-text : (text : List ℕ) (s : Source) → judge text ≡ done s → JudgedText text s
 unfolding judge
-judged-text text G e =
-    let a = unless-done 14 0 (leb (length text) 4096) _ G e in
-    let b = then-done (checkText limits text) _ G (a .1) in
-    let s = b .0 in
-    let c = unless-done 14 0 (leb (stateCount (s .rules)) 48) (done (grammarOf s)) G (b .2) in
-    let g : G ≡ grammarOf s = sym (done-inj (c .1)) in
-    let k = text-checked limits apart text s (b .1) in
-    let w = takes-only limits room (length (s .terminals)) (length (s .nonterminals)) (encode (s .rules)) (grammarOf s) (k .table) .wellFormed in
+judged-text text s e =
+    let a = unless-done 14 0 (leb (length text) programText) _ s e in
+    let b = then-done (checkText limits text) _ s (a .1) in
+    let c = unless-done 14 0 (leb (stateCount (b .0 .rules)) programStates) (done (b .0)) s (b .2) in
+    let g : b .0 ≡ s = done-inj (c .1) in
+    let d : checkText limits text ≡ done s = b .1 ∙ ap (λ (s : Source). done s) g in
+    let k = text-checked limits apart text s d in
     record {
-      source = s;
-      checked = b .1;
-      grammar = g;
-      wellFormed = subst (WellFormed limits) (sym g) w;
-      few = subst (λ (G : Grammar). states G ≤ 48) (sym g) (leb-true (stateCount (s .rules)) 48 (c .0));
+      checked = d;
+      well = k .well;
+      wellFormed = takes-only limits room (length (s .terminals)) (length (s .nonterminals)) (encode (s .rules)) (grammarOf s) (k .table) .wellFormed;
+      few = subst (λ (s : Source). states (grammarOf s) ≤ programStates) g (leb-true (stateCount (b .0 .rules)) programStates (c .0));
     }
 
 -- the size is at most 2Q²
@@ -186,40 +188,62 @@ size-most G w =
 line-size : (k v : List ℕ) → length (line k v) ≡ length k + length v + 1
 line-size k v = omega (arith, length-append k (v ++ (10 ∷ [])), length-append v (10 ∷ []))
 
-printed-most : (o : Answer Grammar) → Small 5000 o → ((G : Grammar) → o ≡ done G → (states G ≤ 48) × (size (movesOf limits G) ≤ 4608))
-    → length (printed o) ≤ reportSize
-printed-most (done G) s f = go (isPotential (movesOf limits G))
-  where
-    first : length (line statesIs (decimal (states G))) ≤ 10
-    first = let d = f G refl .0 in omega (arith, line-size statesIs (decimal (states G)), decimal-most 1 (states G) (omega (arith, d)))
+-- Q's line
+pub states-line : (G : Grammar) → states G ≤ programStates → length (line statesIs (decimal (states G))) ≤ 10
+states-line G h = omega (arith, line-size statesIs (decimal (states G)), decimal-most 1 (states G) (omega (arith, h)))
 
-    go : (b : Bool) → length (line statesIs (decimal (states G)) ++ verdictLines b (size (movesOf limits G))) ≤ 64
-    go true = omega (arith, first, length-append (line statesIs (decimal (states G))) (line verdictIs potential))
-    go false =
-        let d = f G refl .1 in
+-- what is printed for a grammar that is not too large, with names for its symbols
+pub grammar-most : (G : Grammar) → WellFormed limits G → states G ≤ programStates → (names : List (List ℕ)) → all isName names ≡ true
+    → length names ≡ G .terminals + G .nonterminals → length (grammarLines G names) ≤ reportSize
+grammar-most G W few names named many = go (isPotential M) refl
+  where
+    M : Moves
+    M = movesOf limits G
+
+    square : tripleCount (states G) ≤ tripleCount programStates
+    square = let m = mul-le-mul {n₂ = programStates} {m₂ = programStates} few few in omega (arith, m)
+
+    go : (b : Bool) → isPotential (movesOf limits G) ≡ b
+        → length (line statesIs (decimal (states G)) ++ verdictLines b (size (movesOf limits G)) (witnessLines G names)) ≤ reportSize
+    go true e =
         omega (
           arith,
-          first,
-          length-append (line statesIs (decimal (states G))) (line verdictIs unambiguous ++ line reachedIs (decimal (size (movesOf limits G)))),
-          length-append (line verdictIs unambiguous) (line reachedIs (decimal (size (movesOf limits G)))),
-          line-size reachedIs (decimal (size (movesOf limits G))),
-          decimal-most 3 (size (movesOf limits G)) (omega (arith, d)),
+          states-line G few,
+          square,
+          length-append (line statesIs (decimal (states G))) (line verdictIs potential ++ witnessLines G names),
+          length-append (line verdictIs potential) (witnessLines G names),
+          witness-most G W e names named many,
         )
-printed-most (refused cause at) s f =
+    go false e =
+        let n = size (movesOf limits G) in
+        omega (
+          arith,
+          states-line G few,
+          length-append (line statesIs (decimal (states G))) (line verdictIs unambiguous ++ line reachedIs (decimal n)),
+          length-append (line verdictIs unambiguous) (line reachedIs (decimal n)),
+          line-size reachedIs (decimal n),
+          decimal-most 3 n (omega (arith, size-most G W, square)),
+        )
+
+-- a refusal
+pub refused-most : (cause at : ℕ) → cause ≤ 18 → at ≤ 5000 → length (refusedLines cause at) ≤ reportSize
+refused-most cause at h k =
     omega (
       arith,
       length-append (line refusedIs (decimal cause)) (line atIs (decimal at)),
       line-size refusedIs (decimal cause),
       line-size atIs (decimal at),
-      decimal-most 1 cause (omega (arith, s .0)),
-      decimal-most 3 at (omega (arith, s .1)),
+      decimal-most 1 cause (omega (arith, h)),
+      decimal-most 3 at (omega (arith, k)),
     )
 
 -- an output of reportSize bytes is never too short
 pub never-short : (text : List ℕ) → length (reportOf text) ≤ reportSize
 unfolding reportOf
-never-short text =
-    printed-most (judge text) (small-judge text) (λ G e.
-    let j = judged-text text G e in
-    let m = mul-le-mul {n₂ = 48} {m₂ = 48} (j .few) (j .few) in
-    (j .few, omega (arith, size-most G (j .wellFormed), m)))
+never-short text = go (judge text) refl (small-judge text)
+  where
+    go : (o : Answer Source) → judge text ≡ o → Small 5000 o → length (printed o) ≤ reportSize
+    go (done s) e k =
+        let j = judged-text text s e in
+        grammar-most (grammarOf s) (j .wellFormed) (j .few) (symbolNames s) (j .well .named) (length-append (s .terminals) (s .nonterminals))
+    go (refused cause at) e k = refused-most cause at (k .0) (k .1)

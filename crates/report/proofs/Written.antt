@@ -1,7 +1,6 @@
--- The lines are what the definition prints, and the output is what it promises. Assumes nothing.
+-- The output is what the report promises. Assumes nothing.
 use Prim.Native.Nat.{ℕ, _+_, _≤_, _<_}
 use mathlib.Core.Path.{_≡_, refl, ap, ap₂, sym, _∙_}
-use mathlib.Core.Bool.{Bool, true, false}
 use mathlib.Core.List.{List, _++_}
 use native.Mathlib.Omega.{arith}
 use borrow.Author.Tests.{le-leb, lt-leb, leb-true}
@@ -9,34 +8,13 @@ use lib.Dec.{leb}
 use lib.ListN.{length, take, drop}
 use lib.Seq.{take-append-seam}
 use Rattle.grammar.specs.Basics.{over}
-use Rattle.grammar.specs.Limits.{limits}
-use Rattle.grammar.specs.Grammar.{Grammar}
 use Rattle.grammar.specs.Refusal.{Answer, done, refused}
 use Rattle.grammar.proofs.Answers.{unless-holds, unless-fails, unless-done, done-inj}
-use Rattle.automaton.specs.Items.{states}
-use Rattle.automaton.specs.PositionMoves.{movesOf}
-use Rattle.triples.specs.Smallest.{size}
 use Rattle.text.specs.Promise.{afterwards}
 use Rattle.text_write.specs.Contracts.{Wrote}
-use Rattle.search.specs.Promise.{isPotential}
-use Rattle.report.specs.Report.{judge, decimal, line, statesIs, verdictLines, printed, reportOf, reportInto, reported, Reports}
-use Rattle.report.specs.Contracts.{verdictOf, judgedOf, linesOf}
-use Rattle.report.specs.declared.Judged.{Judged}
+use Rattle.report.specs.Report.{reportOf, reportInto, reported, Reports}
 use Rattle.report.specs.declared.Reported.{Reported}
 use Rattle.report.specs.declared.Reported.the-variants.{Written, Refused}
-
--- the lines of a judgement
-lines-printed : (o : Answer Grammar) → linesOf (judgedOf o) ≡ printed o
-lines-printed (done G) = go (isPotential (movesOf limits G))
-  where
-    go : (b : Bool) → linesOf (verdictOf b (states G) (size (movesOf limits G))) ≡ line statesIs (decimal (states G)) ++ verdictLines b (size (movesOf limits G))
-    go true = refl
-    go false = refl
-lines-printed (refused cause at) = refl
-
-pub lines-of : (text : List ℕ) (j : Judged) → j ≡ judgedOf (judge text) → linesOf j ≡ reportOf text
-unfolding reportOf
-lines-of text j e = ap linesOf e ∙ lines-printed (judge text)
 
 -- what is written from place 0 on is the front
 pub front-written : (x old : List ℕ) (r : ℕ) (new : List ℕ) → Wrote 0 x old r new → (r ≡ length x) × (take r new ≡ x)

@@ -1,21 +1,26 @@
 -- What the program prints for a text.
--- Source: document 01, "Grammars on file", from "The program reads text from standard input" on. Assumes nothing.
-use Prim.Native.Nat.{ℕ, zero, suc, _+_, _/_, _%_}
+-- Source: document 01, "Grammars on file", from "The program reads text from standard input" on; document 02, [2], which adds the
+-- lines of the two readings where 01 prints two lines only. Assumes nothing.
+use Prim.Native.Nat.{ℕ, _+_, _*_}
 use mathlib.Core.Path.{_≡_}
 use mathlib.Core.Bool.{Bool, true, false}
 use mathlib.Core.List.{List, [], _∷_, _++_}
-use lib.Dec.{leb, ltb}
+use lib.Dec.{leb}
 use lib.ListN.{length}
-use Rattle.grammar.specs.Basics.{choose}
 use Rattle.grammar.specs.Limits.{limits}
 use Rattle.grammar.specs.Grammar.{Grammar, stateCount}
 use Rattle.grammar.specs.Refusal.{Answer, done, refused, refuseUnless, andThen, bufferTooShort}
 use Rattle.automaton.specs.Items.{states}
 use Rattle.automaton.specs.PositionMoves.{movesOf}
+use Rattle.triples.specs.Index.{tripleCount}
 use Rattle.triples.specs.Smallest.{size}
-use Rattle.text.specs.Read.{Source}
+use Rattle.triples.specs.Shortest.{shortest}
+use Rattle.triples.specs.Sides.{leftSide, rightSide}
+use Rattle.text.specs.Numbers.{decimal}
+use Rattle.text.specs.Read.{Source, symbolNames}
 use Rattle.text.specs.Rules.{checkText}
 use Rattle.text.specs.Promise.{afterwards}
+use Rattle.readings.specs.Readings.{readingLines}
 use Rattle.search.specs.Promise.{isPotential}
 use Rattle.report.specs.declared.Reported.{Reported}
 use Rattle.report.specs.declared.Reported.the-variants.{Written, Refused}
@@ -32,21 +37,12 @@ abbrev pub grammarOf : Source → Grammar
 grammarOf s = record { terminals = length (s .terminals); nonterminals = length (s .nonterminals); rules = s .rules }
 
 -- a longer text is 14 before any other fault; more states are 14 after all faults of the text
-unfoldable pub judge : List ℕ → Answer Grammar
+unfoldable pub judge : List ℕ → Answer Source
 judge text =
     refuseUnless bufferTooShort 0 (leb (length text) programText)
     (andThen (checkText limits text) (λ s.
     refuseUnless bufferTooShort 0 (leb (stateCount (s .rules)) programStates)
-    (done (grammarOf s))))
-
--- a number in decimal, with m digits at most
-unfoldable pub decimalTo : ℕ → ℕ → List ℕ
-decimalTo zero x = []
-decimalTo (suc m) x = choose (ltb x 10) ((48 + x) ∷ []) (decimalTo m (x / 10) ++ ((48 + x % 10) ∷ []))
-
--- a number in decimal: x has no more than x + 1 digits
-abbrev pub decimal : ℕ → List ℕ
-decimal x = decimalTo (suc x) x
+    (done s)))
 
 -- states=
 abbrev pub statesIs : List ℕ
@@ -80,22 +76,34 @@ potential = 112 ∷ 111 ∷ 116 ∷ 101 ∷ 110 ∷ 116 ∷ 105 ∷ 97 ∷ 108 �
 abbrev pub line : List ℕ → List ℕ → List ℕ
 line key value = key ++ (value ++ (10 ∷ []))
 
--- the verdict, and the size with unambiguous only
-abbrev pub verdictLines : Bool → ℕ → List ℕ
-verdictLines true reached = line verdictIs potential
-verdictLines false reached = line verdictIs unambiguous ++ line reachedIs (decimal reached)
+-- the two sides of the shortest witness, by these names
+unfoldable pub witnessLines : Grammar → List (List ℕ) → List ℕ
+witnessLines G names =
+    let M = movesOf limits G in
+    readingLines limits (G .terminals) names (leftSide M (shortest M)) (rightSide M (shortest M))
 
--- Q, verdict, size; or a refusal's number and position
-abbrev pub printed : Answer Grammar → List ℕ
-printed (done G) = line statesIs (decimal (states G)) ++ verdictLines (isPotential (movesOf limits G)) (size (movesOf limits G))
+-- the verdict: with potential the two lines, with unambiguous the size
+abbrev pub verdictLines : Bool → ℕ → List ℕ → List ℕ
+verdictLines true reached lines = line verdictIs potential ++ lines
+verdictLines false reached lines = line verdictIs unambiguous ++ line reachedIs (decimal reached)
+
+-- Q, then the verdict, for a grammar with these names
+abbrev pub grammarLines : Grammar → List (List ℕ) → List ℕ
+grammarLines G names =
+    line statesIs (decimal (states G))
+    ++ verdictLines (isPotential (movesOf limits G)) (size (movesOf limits G)) (witnessLines G names)
+
+-- for a text: the lines of its grammar, or its refusal's number and position
+abbrev pub printed : Answer Source → List ℕ
+printed (done s) = grammarLines (grammarOf s) (symbolNames s)
 printed (refused cause at) = line refusedIs (decimal cause) ++ line atIs (decimal at)
 
 unfoldable pub reportOf : List ℕ → List ℕ
 reportOf text = printed (judge text)
 
--- so long an output, which the program lends, is never too short
+-- an output of this many bytes, which the program lends, is never too short: 16 bytes for each letter of the two sides, 64 for the rest
 abbrev pub reportSize : ℕ
-reportSize = 64
+reportSize = 2 * (16 * tripleCount programStates) + 64
 
 -- an output too short is 14 at 0
 unfoldable pub reportInto : ℕ → List ℕ → Answer (List ℕ)
@@ -105,7 +113,7 @@ abbrev pub reported : Answer (List ℕ) → Reported
 reported (done l) = Written (length l)
 reported (refused cause at) = Refused cause at
 
--- the promise: the output's front is what the program prints, the rest is unchanged; a refusal changes nothing
+-- the promise: the output's front is what the program prints, the rest is unchanged; where the output is too short, all of it is
 pub record Reports (text out : List ℕ) (r : Reported) (out′ : List ℕ) : Type 0 where
   pub answer : r ≡ reported (reportInto (length out) text)
   pub out-after : out′ ≡ afterwards (reportInto (length out) text) (λ l. l) out

@@ -1,6 +1,6 @@
 // What the program prints for a text: the reader, then the search, then their answer as lines.
-mod judging;
 mod put;
+mod telling;
 
 ghost use Rattle.report.specs.Report.{Reports};
 use grammar::BUFFER_TOO_SHORT;
@@ -10,7 +10,7 @@ pub const PROGRAM_TEXT: usize = 4096;
 
 pub const PROGRAM_STATES: usize = 48;
 
-pub const REPORT_SIZE: usize = 64;
+pub const REPORT_SIZE: usize = 147520;
 
 // How many bytes were written; or the refusal with document 01's number and position.
 pub enum Reported {
@@ -18,23 +18,15 @@ pub enum Reported {
     Refused(u8, usize),
 }
 
-// What reader and search say of a text: Q and the size, Q, or the refusal.
-pub enum Judged {
-    Unambiguous { states: usize, reached: usize },
-    Potential { states: usize },
-    Refused(u8, usize),
-}
-
 // Writes what the program prints for a text to the front of the output, if there is room.
 pub fn report(text: &[u8], out: &mut [u8]) -> Reported
     ensures { λ r. ⌜ Reports (now (text .entry)) (now (out .entry)) r (now (out .exit)) ⌝ }
 {
-    let judged = judging::judge_text(text);
     let mut lines = [0u8; REPORT_SIZE];
-    let end = put::put_judged(&mut lines, judged);
+    let end = telling::put_report(&mut lines, text);
     if out.len() < end {
         return Reported::Refused(BUFFER_TOO_SHORT, 0);
     }
-    put::put_bytes(out, 0, &lines[..end]);
+    text_write::put_bytes(out, 0, &lines[..end]);
     Reported::Written(end)
 }

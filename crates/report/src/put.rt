@@ -2,23 +2,11 @@
 ghost use Prim.Native.Nat.{_+_, _≤_};
 ghost use lib.ListN.{length};
 ghost use Rattle.text_write.specs.Contracts.{Wrote};
-ghost use Rattle.report.specs.Report.{decimal, line};
-ghost use Rattle.report.specs.Contracts.{linesOf, unambiguousLines, potentialLines, refusedLines};
-use super::Judged;
-
-// Bytes as they are.
-pub fn put_bytes(out: &mut [u8], at: usize, src: &[u8]) -> usize
-    requires { ⌜ at + length (now src) ≤ length (now out) ⌝ }
-    ensures { λ r. ⌜ Wrote at (now (src .entry)) (now (out .entry)) r (now (out .exit)) ⌝ }
-{
-    let n = src.len();
-    let mut i = 0;
-    while i < n {
-        out[at + i] = src[i];
-        i += 1;
-    }
-    at + n
-}
+ghost use Rattle.text.specs.Numbers.{decimal};
+ghost use Rattle.report.specs.Report.{line};
+ghost use Rattle.report.specs.Contracts.{unambiguousLines, potentialLines, refusedLines};
+use readings_write::put_number;
+use text_write::put_bytes;
 
 // A key, a value and byte 10.
 fn put_line(out: &mut [u8], at: usize, key: &[u8], value: &[u8]) -> usize
@@ -35,13 +23,13 @@ fn put_count(out: &mut [u8], at: usize, key: &[u8], x: usize) -> usize
     requires { ⌜ at + length (line (now key) (decimal x)) ≤ length (now out) ⌝ }
     ensures { λ r. ⌜ Wrote at (line (now (key .entry)) (decimal x)) (now (out .entry)) r (now (out .exit)) ⌝ }
 {
-    let mut digits = [0u8; 20];
-    let k = io::decimal(x as u64, &mut digits);
-    put_line(out, at, key, &digits[..k])
+    let a = put_bytes(out, at, key);
+    let b = put_number(out, a, x);
+    put_bytes(out, b, b"\n")
 }
 
 // Q, verdict, size.
-fn put_unambiguous(out: &mut [u8], states: usize, reached: usize) -> usize
+pub fn put_unambiguous(out: &mut [u8], states: usize, reached: usize) -> usize
     requires { ⌜ length (unambiguousLines states reached) ≤ length (now out) ⌝ }
     ensures { λ r. ⌜ Wrote 0 (unambiguousLines states reached) (now (out .entry)) r (now (out .exit)) ⌝ }
 {
@@ -51,7 +39,7 @@ fn put_unambiguous(out: &mut [u8], states: usize, reached: usize) -> usize
 }
 
 // Q, verdict.
-fn put_potential(out: &mut [u8], states: usize) -> usize
+pub fn put_potential(out: &mut [u8], states: usize) -> usize
     requires { ⌜ length (potentialLines states) ≤ length (now out) ⌝ }
     ensures { λ r. ⌜ Wrote 0 (potentialLines states) (now (out .entry)) r (now (out .exit)) ⌝ }
 {
@@ -60,22 +48,10 @@ fn put_potential(out: &mut [u8], states: usize) -> usize
 }
 
 // A refusal's number and position.
-fn put_refused(out: &mut [u8], cause: u8, at: usize) -> usize
+pub fn put_refused(out: &mut [u8], cause: u8, at: usize) -> usize
     requires { ⌜ length (refusedLines cause at) ≤ length (now out) ⌝ }
     ensures { λ r. ⌜ Wrote 0 (refusedLines cause at) (now (out .entry)) r (now (out .exit)) ⌝ }
 {
     let a = put_count(out, 0, b"refused=", cause as usize);
     put_count(out, a, b"at=", at)
-}
-
-// What is printed of a text that is judged so.
-pub fn put_judged(out: &mut [u8], judged: Judged) -> usize
-    requires { ⌜ length (linesOf judged) ≤ length (now out) ⌝ }
-    ensures { λ r. ⌜ Wrote 0 (linesOf judged) (now (out .entry)) r (now (out .exit)) ⌝ }
-{
-    match judged {
-        Judged::Unambiguous { states, reached } => put_unambiguous(out, states, reached),
-        Judged::Potential { states } => put_potential(out, states),
-        Judged::Refused(cause, at) => put_refused(out, cause, at),
-    }
 }

@@ -1,5 +1,6 @@
 pub mod Pieces
 pub mod Names
+pub mod Numbers
 pub mod Keys
 pub mod Read
 pub mod Rules

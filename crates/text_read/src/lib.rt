@@ -5,6 +5,8 @@ mod rules;
 mod symbols;
 mod value;
 
+pub use symbols::code_of;
+pub use symbols::lookup;
 ghost use mathlib.Core.Path.{_≡_};
 ghost use Prim.Native.Nat.{_≤_};
 ghost use lib.ListN.{length, take};

@@ -5,6 +5,10 @@ mod lines;
 mod put;
 mod size;
 
+pub use put::put_byte;
+pub use put::put_bytes;
+pub use put::put_name;
+pub use size::symbol;
 ghost use lib.ListN.{length};
 ghost use Rattle.grammar.specs.Table.{decode};
 ghost use Rattle.text.specs.Promise.{WritesText};

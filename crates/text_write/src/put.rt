@@ -12,7 +12,7 @@ use names::COMMA;
 use names::EQUALS;
 
 // Bytes as they are. Every byte of a text is stored here.
-fn put_bytes(out: &mut [u8], at: usize, src: &[u8]) -> usize
+pub fn put_bytes(out: &mut [u8], at: usize, src: &[u8]) -> usize
     requires { ⌜ at + length (now src) ≤ length (now out) ⌝ }
     ensures { λ r. ⌜ Wrote at (now (src .entry)) (now (out .entry)) r (now (out .exit)) ⌝ }
 {

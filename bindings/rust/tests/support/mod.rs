@@ -3,6 +3,7 @@
 #![allow(dead_code)]
 
 use ambiguity::{Cause, Move, Refusal, Step, Table, TripleRecord};
+use std::collections::BTreeMap;
 use std::fmt::Debug;
 use std::fs;
 use std::io::{self, Write};
@@ -143,19 +144,22 @@ fn made(file: &Path, script: &str, arguments: &[&Path], verb: &str) {
     }
 }
 
-/// The number of the refusal that a line tells; 0 where nothing is refused.
-fn cause_of(line: &str) -> usize {
-    let refused = line.strip_prefix("refused=").map(|rest| rest.split(' ').next().unwrap());
-    refused.map_or(0, |cause| cause.parse().unwrap())
+/// The refusal that a line tells, without its position; where nothing is refused, that.
+fn cause_of(line: &str) -> &str {
+    line.split(' ').next().filter(|word| word.contains(REFUSED)).unwrap_or(NOT_REFUSED)
 }
 
+const REFUSED: &str = "refused=";
+const NOT_REFUSED: &str = "not refused";
+
 /// What is compared: the kind of the cases, the script that makes them, and what stands before its verbs; the causes that such a
-/// case can be refused for; and what the library has of an answer's line.
+/// case can be refused for, and those that are told of its grammar apart; and what the library has of an answer's line.
 pub struct Comparison<'a> {
     pub kind: &'a str,
     pub script: &'a str,
     pub verb: &'a str,
     pub causes: &'a [usize],
+    pub grammar_causes: &'a [usize],
     pub told: fn(&str) -> &str,
 }
 
@@ -169,26 +173,27 @@ impl Comparison<'_> {
         made(&answers, script, &[&cases, &answers, &counts], &format!("{verb}answers"));
         let mut cases = Cases { data: fs::read(cases).unwrap(), at: 0 };
         let answers = fs::read_to_string(answers).unwrap();
-        let mut found = [0; 19];
+        let mut found = BTreeMap::new();
         for (i, line) in answers.lines().enumerate() {
             let start = cases.at;
             let answer = ask(&mut cases, 0x00);
             assert_eq!(answer, (self.told)(line), "case {i} of {kind}");
             cases.at = start;
             assert_eq!(ask(&mut cases, 0xFF), answer, "case {i} of {kind}, other guards");
-            found[cause_of(&answer)] += 1;
+            *found.entry(cause_of(&answer).to_string()).or_default() += 1;
         }
         assert_eq!(cases.at, cases.data.len(), "every case of {kind} has its answer");
         self.counted(&found);
     }
 
-    fn counted(&self, found: &[usize; 19]) {
-        let causes: String = self.causes.iter().map(|cause| format!(", cause {cause}: {}", found[*cause])).collect();
-        let (kind, all) = (self.kind, found.iter().sum::<usize>());
-        println!("{kind}: {all} cases twice, not refused: {}{causes}", found[0]);
-        for (cause, count) in found.iter().enumerate() {
-            let expected = cause == 0 || self.causes.contains(&cause);
-            assert_eq!(*count > 0, expected, "{kind} with {count} answers of cause {cause}");
-        }
+    fn counted(&self, found: &BTreeMap<String, usize>) {
+        let causes = self.causes.iter().map(|cause| format!("{REFUSED}{cause}"));
+        let of_grammar = self.grammar_causes.iter().map(|cause| format!("grammar-{REFUSED}{cause}"));
+        let expected: Vec<String> = [NOT_REFUSED.to_string()].into_iter().chain(causes).chain(of_grammar).collect();
+        let count = |name: &String| found.get(name).copied().unwrap_or(0);
+        let counts: Vec<String> = expected.iter().map(|name| format!("{name}: {}", count(name))).collect();
+        println!("{}: {} cases twice, {}", self.kind, found.values().sum::<usize>(), counts.join(", "));
+        assert!(expected.iter().all(|name| count(name) > 0), "{} lacks an answer", self.kind);
+        assert!(found.keys().all(|name| expected.contains(name)), "{} with {found:?}", self.kind);
     }
 }

@@ -5,7 +5,7 @@ use std::process::ExitCode;
 
 use ambig_tools::command::{self, Answer, Request, Status, Tool};
 use ambig_tools::lines::{self, Form};
-use ambig_tools::{explanation, page, refusals, warnings};
+use ambig_tools::{explanation, page, refusals, strings, warnings};
 use ambiguity::{Grammar, Searched, MAX_TEXT_BYTES};
 
 const TOOL: Tool = Tool {
@@ -14,9 +14,10 @@ const TOOL: Tool = Tool {
     help: "
 Reads grammar text from each FILE, standard input for -. If the verdict is
 unambiguous, no sentence has two derivation trees: prints the certificate as
-lines that ambig-check reads. If the verdict is potential: prints where two
-readings part, and looks for a sentence with two trees. What is refused, and
-warnings about rules and names that no sentence uses, go to standard error.
+lines that ambig-check reads. If the verdict is potential: prints two strings
+as ambig does, tells where two readings part, and looks for a sentence with two
+trees. What is refused, and warnings about rules and names that no sentence
+uses, go to standard error.
 
   --steps        print the witness too, entry by entry
   --html         write one page in HTML, with the trees as drawings (one FILE)
@@ -35,19 +36,20 @@ cannot be read; of several files the worst.
 };
 
 /// The lines that the program `ambig` prints for a verdict.
-fn verdict_lines(grammar: &Grammar, searched: &Searched) -> String {
+fn verdict_lines(text: &[u8], grammar: &Grammar, searched: &Searched) -> String {
     let states = grammar.states();
     match searched {
         Searched::Unambiguous { size, .. } => format!("states={states}\nverdict=unambiguous\nreached={size}\n"),
-        Searched::Potential { .. } => format!("states={states}\nverdict=potential\n"),
+        Searched::Potential { witness } => {
+            format!("states={states}\nverdict=potential\n{}", strings::printed(text, grammar, witness))
+        }
     }
 }
 
 /// What standard output gets: the certificate, or the explanation.
 fn explained(request: &Request, file: &str, text: &[u8], grammar: &Grammar, searched: &Searched) -> String {
-    let verdict = verdict_lines(grammar, searched);
     match searched {
-        _ if request.has("--quiet") => verdict,
+        _ if request.has("--quiet") => verdict_lines(text, grammar, searched),
         _ if request.has("--html") => page::of(file, text, grammar, searched),
         Searched::Unambiguous { certificate, size } => {
             let form = if request.has("--form=1") { Form::Plain } else { Form::Checked };
@@ -56,7 +58,7 @@ fn explained(request: &Request, file: &str, text: &[u8], grammar: &Grammar, sear
         Searched::Potential { witness } => {
             let explanation = explanation::of(grammar, witness);
             let steps = if request.has("--steps") { format!("\n{}", explanation.steps) } else { String::new() };
-            format!("{verdict}{}{steps}", explanation.told(grammar))
+            format!("{}{}{steps}", verdict_lines(text, grammar, searched), explanation.told(grammar))
         }
     }
 }

@@ -1,9 +1,10 @@
-//! Checks certificates that stand in lines against grammars.
+//! Checks certificates that stand in lines against grammars, and pairs of strings that stand in lines.
 
 use std::ffi::OsString;
 use std::process::ExitCode;
 
 use ambig_tools::command::{self, Answer, Request, Status, Tool};
+use ambig_tools::strings::{self, Wrong};
 use ambig_tools::{lines, refusals};
 use ambiguity::{Grammar, MAX_TEXT_BYTES};
 
@@ -16,14 +17,20 @@ one of the files may be -, standard input. Says 'accepted' if the certificate is
 acceptable: then no sentence of the grammar has two derivation trees. Otherwise
 says on standard error what is wrong, in which file, line and column.
 
-  -q, --quiet    print only 'accepted', or the lines refused= and at=
+With --lines the second file has the lines left= and right=, as ambig prints
+them. Says 'accepted' if their strings part in the grammar: then its verdict is
+potential.
+
+  --lines        check the lines left= and right=, not a certificate
+  -q, --quiet    print only 'accepted', or the lines refused= and at=, or
+                 'malformed' (a certificate), or 'not-parting' (two strings)
   -h, --help     print this help
   -V, --version  print the version
 
 Exit status: 0 accepted, 1 refused, 2 bad use, or a file that cannot be read; of
 several pairs the worst.
 ",
-    options: &["--quiet"],
+    options: &["--lines", "--quiet"],
     files: 2,
 };
 
@@ -33,32 +40,55 @@ fn refused(request: &Request, numbers: String, message: String) -> Answer {
     Answer { status: Status::No, out, err }
 }
 
-fn judged(request: &Request, [grammar_file, file]: [&str; 2], text: &[u8], certificate: &[u8]) -> Answer {
-    let grammar = match Grammar::read(text) {
-        Ok(grammar) => grammar,
-        Err(refusal) => return refused(request, refusals::numbers(refusal), refusals::of_text(grammar_file, text, refusal)),
-    };
-    let certificate = match lines::read(&grammar, certificate) {
+fn accepted() -> Answer {
+    Answer { status: Status::Yes, out: "accepted\n".to_string(), err: String::new() }
+}
+
+fn judged_certificate(request: &Request, file: &str, grammar: &Grammar, certificate: &[u8]) -> Answer {
+    let certificate = match lines::read(grammar, certificate) {
         Ok(certificate) => certificate,
         Err(malformed) => return refused(request, "malformed\n".to_string(), refusals::of_lines(file, &malformed)),
     };
     match grammar.check(&certificate.bytes) {
-        Ok(()) => Answer { status: Status::Yes, out: "accepted\n".to_string(), err: String::new() },
+        Ok(()) => accepted(),
         Err(refusal) => {
-            let message = refusals::of_certificate(file, &certificate, refusal, &grammar);
+            let message = refusals::of_certificate(file, &certificate, refusal, grammar);
             refused(request, refusals::numbers(refusal), message)
         }
     }
 }
 
-fn answer(request: &Request, files: &[OsString]) -> Answer {
-    let text = command::bytes(&files[0], MAX_TEXT_BYTES);
-    let certificate = command::bytes(&files[1], lines::MOST_BYTES);
-    match (text, certificate) {
-        (Ok(text), Ok(certificate)) => {
-            judged(request, [&command::shown(&files[0]), &command::shown(&files[1])], &text, &certificate)
+fn judged_strings(request: &Request, file: &str, grammar: &Grammar, lines: &[u8]) -> Answer {
+    if lines.len() > strings::MOST_BYTES {
+        return Answer::misuse(&format!("{file}: more than {} bytes; that is the limit", strings::MOST_BYTES));
+    }
+    let strings = match grammar.read_back(lines) {
+        Ok(strings) => strings,
+        Err(refusal) => {
+            let message = refusals::of_strings(file, grammar, lines, refusal);
+            return refused(request, refusals::numbers(refusal), message);
         }
-        (Err(misuse), _) | (_, Err(misuse)) => misuse,
+    };
+    match strings::check(grammar, &strings) {
+        Ok(()) => accepted(),
+        Err(Wrong::NotParting(fault)) => {
+            refused(request, "not-parting\n".to_string(), refusals::of_not_parting(file, lines, &fault))
+        }
+        Err(Wrong::Row(refusal)) => refused(request, refusals::numbers(refusal), format!("{file}: {refusal:#}\n")),
+    }
+}
+
+fn answer(request: &Request, files: &[OsString]) -> Answer {
+    let most = if request.has("--lines") { strings::MOST_BYTES } else { lines::MOST_BYTES };
+    let (text, lines) = match (command::bytes(&files[0], MAX_TEXT_BYTES), command::bytes(&files[1], most)) {
+        (Ok(text), Ok(lines)) => (text, lines),
+        (Err(misuse), _) | (_, Err(misuse)) => return misuse,
+    };
+    let [grammar_file, file] = [&files[0], &files[1]].map(|file| command::shown(file));
+    match Grammar::read(&text) {
+        Ok(grammar) if request.has("--lines") => judged_strings(request, &file, &grammar, &lines),
+        Ok(grammar) => judged_certificate(request, &file, &grammar, &lines),
+        Err(refusal) => refused(request, refusals::numbers(refusal), refusals::of_text(&grammar_file, &text, refusal)),
     }
 }
 

@@ -3,7 +3,7 @@
 use super::{words, Found, Word};
 use crate::words::{key, LISTS};
 
-const MAX_NAME: usize = 15;
+pub const MAX_NAME: usize = 15;
 const NAME: &str = "a name has letters, digits and hyphens";
 const EXAMPLE: &str = "a rule is written 'rule=S: a b'";
 
@@ -26,7 +26,7 @@ pub fn found(text: &[u8], number: usize) -> Found {
 }
 
 /// A byte as it is shown.
-fn shown(byte: u8) -> String {
+pub fn shown(byte: u8) -> String {
     if byte.is_ascii_graphic() {
         format!("'{}'", byte as char)
     } else {
@@ -35,7 +35,7 @@ fn shown(byte: u8) -> String {
 }
 
 /// Signs of another encoding than ASCII, or of other line ends.
-fn of_encoding(line: &[u8], number: usize) -> Option<Found> {
+pub fn of_encoding(line: &[u8], number: usize) -> Option<Found> {
     if number == 1 && line.starts_with(b"\xEF\xBB\xBF") {
         return Some((0, "a byte-order mark is found, bytes 239 187 191; save the text without it, as ASCII".to_string()));
     }

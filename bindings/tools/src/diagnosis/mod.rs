@@ -1,15 +1,21 @@
-//! What is wrong with a grammar's text, where, and what to do. The library's refusal decides; the text is looked at only to put it
-//! into words.
+//! What is wrong with a grammar's text or with the lines of two strings, where, and what to do. The library's refusal decides; the
+//! text is looked at only to put it into words.
 
 mod malformed;
 mod nearest;
+mod strings;
 
 use ambiguity::{Cause, Refusal, MAX_NONTERMINALS, MAX_RULES, MAX_STATES, MAX_TERMINALS, MAX_TEXT_BYTES};
 
 use crate::words::{key, LISTS};
 
+pub use strings::of_strings;
+
 /// Symbols that a right side may have.
 const MAX_RIGHT: usize = 12;
+
+/// Bytes of a word that are shown.
+const MAX_SHOWN: usize = 40;
 
 /// What is wrong at a place; lines and columns count from 1, columns in bytes.
 #[derive(Debug, PartialEq, Eq)]
@@ -27,9 +33,12 @@ struct Word<'a> {
 }
 
 impl Word<'_> {
-    /// The word in quotes; bytes that do not print are escaped.
+    /// The word in quotes; bytes that do not print are escaped, and a long word is cut.
     fn quoted(&self) -> String {
-        format!("'{}'", self.bytes.escape_ascii())
+        match self.bytes.get(..MAX_SHOWN) {
+            Some(front) if front.len() < self.bytes.len() => format!("'{}...'", front.escape_ascii()),
+            _ => format!("'{}'", self.bytes.escape_ascii()),
+        }
     }
 }
 

@@ -62,7 +62,8 @@ fn several_files() {
     let missing = format!("{good}-that-is-not-there");
     let quiet = |files: &[&str]| run(CERTIFY, &[&["-q", "--"], files].concat(), one_a().as_bytes());
     let lines = |file: &str, lines: &str| format!("file={file}\n{lines}");
-    let (yes, potential) = ("states=6\nverdict=unambiguous\nreached=11\n", "states=8\nverdict=potential\n");
+    let yes = "states=6\nverdict=unambiguous\nreached=11\n";
+    let potential = "states=8\nverdict=potential\nleft=(0 S )0\nright=(0 (1 S )1 )0\n";
     assert_eq!(quiet(&[&good, "-"]), said(0, &(lines(&good, yes) + &lines("<stdin>", yes))));
     assert_eq!(quiet(&[&cycle, &good]), said(1, &(lines(&cycle, potential) + &lines(&good, yes))));
     assert_eq!(quiet(&[&good, &wrong]), said(1, &(lines(&good, yes) + &lines(&wrong, "refused=17\nat=3\n"))));
@@ -107,7 +108,8 @@ fn the_corpus_as_the_program_prints_it() {
         let mut lines = ran.out.lines();
         assert!(lines.next().unwrap().starts_with("states="));
         assert_eq!(lines.next(), Some(format!("verdict={verdict}").as_str()));
-        assert_eq!(lines.next().is_some_and(|line| line.starts_with("reached=")), verdict == "unambiguous");
+        let keys = if verdict == "unambiguous" { &["reached="][..] } else { &["left=(0 ", "right=(0 "] };
+        assert!(keys.iter().all(|key| lines.next().is_some_and(|line| line.starts_with(key))), "{}", ran.out);
         assert_eq!((lines.next(), ran.err.as_str(), ran.status), (None, "", i32::from(verdict == "potential")));
     }
 }

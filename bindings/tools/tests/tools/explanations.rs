@@ -7,6 +7,8 @@ use ambiguity::{Code, Grammar};
 
 const DANGLING: &str = "states=14
 verdict=potential
+left=(0 (2 if S else (3 x )3 )0
+right=(0 (1 if S )1 else (3 x )3 )0
 after `if if S`: left ends `S: if S`, line 3, right goes on with `else`
 ambiguous: `if if S else S` has two trees, for example `if if x else x`
 left tree:                  right tree:
@@ -18,6 +20,8 @@ S: if S else S  (line 4)    S: if S  (line 3)
 
 const CYCLE: &str = "states=8
 verdict=potential
+left=(0 S )0
+right=(0 (1 S )1 )0
 after `a`: left ends the sentence, right ends `S: S`, line 3
 ambiguous: `a` has two trees
 left tree:        right tree:
@@ -43,6 +47,9 @@ close S': S  S
              close S: S
              close S': S
 ";
+
+/// Lines of the program before those that explain: states, verdict, two strings.
+const VERDICT: usize = 4;
 
 fn dangling() -> String {
     text("if,else,x", "S", &["S: if S", "S: if S else S", "S: x"])
@@ -80,7 +87,7 @@ fn the_table_beside_bison() {
     for row in rows {
         let name = row[0].trim_start_matches("| ");
         let path = folder("bindings/tools/tests/beside-bison").join(format!("{name}.grammar"));
-        let explained = run(CERTIFY, &[path.to_str().unwrap()], b"").out.lines().skip(2).count();
+        let explained = run(CERTIFY, &[path.to_str().unwrap()], b"").out.lines().skip(VERDICT).count();
         assert_eq!(explained.to_string(), row[1], "{name}");
         assert!(explained <= row[2].parse().unwrap(), "{name}");
     }
@@ -104,13 +111,13 @@ fn the_corpus() {
     assert_eq!(ambiguous, 35);
 }
 
-/// What is printed for the corpus fits on a page, and is the same when it is printed again.
+/// What is said of the corpus fits on a page, and is the same when it is printed again.
 #[test]
 fn pages_of_the_corpus() {
     for entry in corpus().iter().filter(|entry| entry.truth != "unambiguous") {
         let Ran { status, out, .. } = certify(&entry.text);
         assert_eq!(status, 1);
-        assert!(out.lines().all(|line| line.len() <= 80), "{out}");
+        assert!(out.lines().skip(VERDICT).all(|line| line.len() <= 80), "{out}");
         assert_eq!(out.contains("\nambiguous: "), entry.truth == "ambiguous", "{out}");
         assert_eq!(out.contains("\nno sentence with two trees was found: "), entry.truth == "false-alarm", "{out}");
         assert_eq!(certify(&entry.text).out, out);

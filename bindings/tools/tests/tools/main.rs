@@ -5,4 +5,6 @@ mod commands;
 mod explanations;
 mod messages;
 mod pages;
+mod parting_strings;
+mod strings;
 mod support;

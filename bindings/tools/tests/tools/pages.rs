@@ -35,7 +35,8 @@ fn a_certificate_on_a_page() {
 
 #[test]
 fn two_trees_on_a_page() {
-    let page = page(&text("if,else,x", "S", &["S: if S", "S: if S else S", "S: x"]));
+    let grammar = text("if,else,x", "S", &["S: if S", "S: if S else S", "S: x"]);
+    let page = page(&grammar);
     well_formed(&page);
     assert!(page.contains("<strong>Ambiguous</strong>\n<br/><code>if if S else S</code> has two trees"));
     assert_eq!((page.matches("<svg ").count(), page.matches("</svg>").count()), (2, 2));
@@ -44,6 +45,9 @@ fn two_trees_on_a_page() {
     assert_eq!(page.matches("<text class=\"leaf\"").count() + page.matches("<text class=\"open\"").count(), 10);
     assert_eq!((page.matches(">line 3</text>").count(), page.matches(">line 4</text>").count()), (2, 2));
     assert!(page.contains("<tr class=\"parting\"><td class=\"number\">3</td>"));
+    let quiet = run(CERTIFY, &["--quiet", "-"], grammar.as_bytes()).out;
+    let lines: String = quiet.split_inclusive('\n').skip(2).collect();
+    assert!(lines.starts_with("left=(0 ") && page.contains(&format!("<pre class=\"strings\">{lines}</pre>")));
 }
 
 #[test]

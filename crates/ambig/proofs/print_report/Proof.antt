@@ -5,15 +5,16 @@ use mathlib.Core.Path.{sym}
 use Prim.Native.Nat.{ℕ, _≤_}
 use lib.ListN.{replicate, length-replicate}
 use lib.Seq.{length-take-le}
+use Rattle.report.specs.Report.{reportSize}
 use Rattle.report.proofs.Written.{written-fits}
 use Rattle.ambig.proofs.print_report.Statement.{statement}
 use Rattle.ambig.proofs.print_report.Tie as tie
 
 -- what is written fits
-fits : (c : tie.After-known-told) → c .before .reported .given .0 .0 ≤ 64
+fits : (c : tie.After-known-told) → c .before .reported .given .0 .0 ≤ reportSize
 fits c =
     let k = c .before .before .before .before .report in
-    omega (arith, written-fits (c .before .before .before .before .before .before .before .args .text .now) (replicate 64 0) (k .result) (c .before .reported .given .0 .0) (k .last .1 .0) (k .ensures) (c .before .reported .given .1), length-replicate {A = ℕ} 64 0)
+    omega (arith, written-fits (c .before .before .before .before .before .before .before .args .text .now) (replicate reportSize 0) (k .result) (c .before .reported .given .0 .0) (k .last .1 .0) (k .ensures) (c .before .reported .given .1), length-replicate {A = ℕ} reportSize 0)
 
 slice-aggregate-report : tie.Need-slice-aggregate-report
 slice-aggregate-report c = search needs
@@ -34,7 +35,7 @@ array-share-prefix-out : tie.Need-array-share-prefix-out
 array-share-prefix-out c = omega (arith, fits c)
 
 slice-aggregate-write-all : tie.Need-slice-aggregate-write-all
-slice-aggregate-write-all c = sym (length-take-le _ _ (omega (arith, fits (c .before), c .before .before .before .before .before .report .kept .1 .0, length-replicate {A = ℕ} 64 0)))
+slice-aggregate-write-all c = sym (length-take-le _ _ (omega (arith, fits (c .before), c .before .before .before .before .before .report .kept .1 .0, length-replicate {A = ℕ} reportSize 0)))
 
 write-all-requires : tie.Need-write-all-requires
 write-all-requires c κs = search needs

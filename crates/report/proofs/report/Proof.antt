@@ -1,66 +1,67 @@
--- `report::report` meets its contract: the text is judged, its lines are put, and copied if there is room. Assumes nothing.
+-- `report::report` meets its contract: the lines of the text are put into a local row, and copied if there is room. Assumes nothing.
 use borrow.Author.Needs.{needs}
 use native.Mathlib.Omega.{arith}
-use mathlib.Core.Path.{_≡_, ap, sym, _∙_}
+use mathlib.Core.Path.{_≡_, sym}
 use Prim.Native.Nat.{ℕ, _≤_}
 use lib.ListN.{length, take, length-replicate}
 use lib.Seq.{length-take-le}
-use Rattle.report.specs.Report.{reportOf}
-use Rattle.report.specs.Contracts.{linesOf}
+use Rattle.report.specs.Report.{reportSize, reportOf}
 use Rattle.report.proofs.Sizes.{never-short}
-use Rattle.report.proofs.Written.{lines-of, front-written, report-short, report-all}
+use Rattle.report.proofs.Written.{front-written, report-short, report-all}
 use Rattle.report.proofs.report.Statement.{statement}
 use Rattle.report.proofs.report.Tie as tie
 
--- the lines are those of the text
-lines : (k : tie.After-judge-text) → linesOf (k .judge-text .result) ≡ reportOf (k .before .before .before .args .text .now)
-lines k = lines-of (k .before .before .before .args .text .now) (k .judge-text .result) (k .judge-text .ensures)
+abbrev start : tie.After-put-report → tie.Start
+start k = k .before .before .before .before
 
-size : (k : tie.After-put-judged) → k .put-judged .result ≡ length (reportOf (k .before .before .before .before .before .args .text .now))
-size k = front-written _ _ _ _ (k .put-judged .ensures) .0 ∙ ap length (lines (k .before .before))
+size : (k : tie.After-put-report) → k .put-report .result ≡ length (reportOf (start k .args .text .now))
+size k = front-written _ _ _ _ (k .put-report .ensures) .0
 
-front : (k : tie.After-put-judged) → take (k .put-judged .result) (k .put-judged .last .0) ≡ reportOf (k .before .before .before .before .before .args .text .now)
-front k = front-written _ _ _ _ (k .put-judged .ensures) .1 ∙ lines (k .before .before)
+front : (k : tie.After-put-report) → take (k .put-report .result) (k .put-report .last .0) ≡ reportOf (start k .args .text .now)
+front k = front-written _ _ _ _ (k .put-report .ensures) .1
 
-inside : (k : tie.After-put-judged) → k .put-judged .result ≤ length (k .put-judged .last .0)
-inside k = omega (arith, size k, never-short (k .before .before .before .before .before .args .text .now), k .put-judged .kept .0, length-replicate {A = ℕ} 64 0)
+inside : (k : tie.After-put-report) → k .put-report .result ≤ length (k .put-report .last .0)
+inside k = omega (arith, size k, never-short (start k .args .text .now), k .put-report .kept .0, length-replicate {A = ℕ} reportSize 0)
 
-judge-text-requires : tie.Need-judge-text-requires
-judge-text-requires c κs = search needs
+slice-aggregate-put-report : tie.Need-slice-aggregate-put-report
+slice-aggregate-put-report c = search needs
 
-slice-aggregate-put-judged : tie.Need-slice-aggregate-put-judged
-slice-aggregate-put-judged c = search needs
-
-put-judged-requires : tie.Need-put-judged-requires
-put-judged-requires c κs = omega (arith, ap length (lines (c .before)), never-short (c .before .before .before .before .args .text .now), length-replicate {A = ℕ} 64 0)
+put-report-requires : tie.Need-put-report-requires
+put-report-requires c κs = omega (arith, length-replicate {A = ℕ} reportSize 0)
 
 returns : tie.Need-returns
-returns c = report-short (c .before .before .before .before .before .before .before .args .text .now) (c .before .before .before .before .before .before .before .args .out .now) (c .before .before .put-judged .result) (size (c .before .before)) (omega (arith, c .if1 .taken))
+returns c =
+    let k = c .before .before in
+    report-short (start k .args .text .now) (start k .args .out .now) (k .put-report .result) (size k) (omega (arith, c .if1 .taken))
 
 array-share-prefix-lines : tie.Need-array-share-prefix-lines
-array-share-prefix-lines c = omega (arith, inside (c .before .before .before), c .before .before .before .put-judged .kept .0, length-replicate {A = ℕ} 64 0)
+array-share-prefix-lines c =
+    let k = c .before .before .before in
+    omega (arith, inside k, k .put-report .kept .0, length-replicate {A = ℕ} reportSize 0)
 
 slice-aggregate-put-bytes : tie.Need-slice-aggregate-put-bytes
 slice-aggregate-put-bytes c = sym (length-take-le _ _ (inside (c .before .before .before .before)))
 
 put-bytes-requires : tie.Need-put-bytes-requires
-put-bytes-requires c κs = omega (arith, length-take-le (c .before .before .before .before .put-judged .result) (c .before .before .before .before .put-judged .last .0) (inside (c .before .before .before .before)), c .before .before .if1 .left)
+put-bytes-requires c κs =
+    let k = c .before .before .before .before in
+    omega (arith, length-take-le (k .put-report .result) (k .put-report .last .0) (inside k), c .before .before .if1 .left)
 
 same-length : tie.Need-same-length
 same-length c = search needs
 
 returns-2 : tie.Need-returns-2
 returns-2 c =
-    let k = c .before .before .before .before .before .before .before in
-    report-all (c .before .before .before .before .before .before .before .before .before .before .before .before .args .text .now) (c .before .before .before .before .before .before .before .before .before .before .before .before .args .out .now) (k .put-judged .result) _ _ _ (size k) (front k) (c .before .before .before .before .before .if1 .left) (c .before .before .put-bytes .ensures)
+    let b = c .before .before in
+    let k = b .before .before .before .before .before in
+    report-all (start k .args .text .now) (start k .args .out .now) (k .put-report .result) _ _ _ (size k) (front k) (b .before .before .before .if1 .left) (b .put-bytes .ensures)
 
 pub report-spec : {M : Type 1} → statement M
 report-spec =
     tie.close
     (tie.spec
-    judge-text-requires
-    slice-aggregate-put-judged
-    put-judged-requires
+    slice-aggregate-put-report
+    put-report-requires
     returns
     array-share-prefix-lines
     slice-aggregate-put-bytes

@@ -1,45 +1,61 @@
--- `report::put::put_count` meets its contract: the library's digits are the number in decimal. Assumes nothing.
+-- `report::put::put_count` meets its contract: the key, the number, the end. Assumes nothing.
 use borrow.Author.Needs.{needs}
-use mathlib.Core.Path.{_≡_, ap, sym, subst, _∙_}
-use mathlib.Core.List.{List}
-use Prim.Native.Nat.{ℕ, _+_, _≤_}
-use lib.ListN.{length, take}
-use Rattle.text_write.proofs.Filling.{wrote-as}
-use Rattle.report.specs.Report.{decimal, line}
-use Rattle.report.proofs.Decimal.{decimal-digits}
+use mathlib.Core.Path.{refl}
+use mathlib.Core.List.{List, [], _∷_, _++_}
+use Prim.Native.Nat.{ℕ}
+use Rattle.text.specs.Numbers.{decimal}
+use Rattle.text_write.proofs.Filling.{Filling, filling-start, filling-room, filling-ran, filling-last, filling-all}
+use Rattle.report.specs.Report.{line}
 use Rattle.report.proofs.put.put_count.Statement.{statement}
 use Rattle.report.proofs.put.put_count.Tie as tie
 
-spelled : (d : tie.After-decimal) → take (d .decimal .result) (d .decimal .last .1 .0) ≡ decimal (d .before .before .before .before .args .x)
-spelled d = d .decimal .ensures .1 .1 ∙ decimal-digits (d .before .before .before .before .args .x) (d .decimal .result) (d .decimal .ensures .1 .0)
+abbrev first : tie.After-put-bytes → tie.Start
+first c = c .before .before .before .before
 
-decimal-requires : tie.Need-decimal-requires
-decimal-requires c κs = search needs
+abbrev second : tie.After-put-number → tie.After-put-bytes
+second c = c .before .before .before .before
 
-array-share-prefix-digits : tie.Need-array-share-prefix-digits
-array-share-prefix-digits c = search needs
+-- this is still to come
+abbrev Still : tie.Start → ℕ → List ℕ → List ℕ → Type 0
+Still s j now rest = Filling (s .args .at) (s .args .out .now) (line (s .args .key .now) (decimal (s .args .x))) j now rest
 
-slice-aggregate-put-line : tie.Need-slice-aggregate-put-line
-slice-aggregate-put-line c = search needs
+after-key : (c : tie.After-put-bytes) → Still (first c) (c .put-bytes .result) (c .put-bytes .last .0) (decimal (first c .args .x) ++ (10 ∷ []))
+after-key c = filling-ran (first c .args .key .now) _ refl (c .put-bytes .ensures) (filling-start _ _ _ (first c .pre))
 
-put-line-requires : tie.Need-put-line-requires
-put-line-requires c κs =
-    let s = c .before .before .before .before .before .before in
-    subst (λ (v : List ℕ). s .args .at + length (line (s .args .key .now) v) ≤ length (s .args .out .now)) (sym (spelled (c .before .before))) (s .pre)
+after-number : (c : tie.After-put-number) → Still (first (second c)) (c .put-number .result) (c .put-number .last .0) (10 ∷ [])
+after-number c = filling-ran (decimal (first (second c) .args .x)) _ refl (c .put-number .ensures) (after-key (second c))
+
+put-bytes-requires : tie.Need-put-bytes-requires
+put-bytes-requires c κs =
+    let s = c .before .before .before in
+    filling-room (s .args .key .now) _ refl (filling-start (s .args .at) (s .args .out .now) _ (s .pre))
+
+put-number-requires : tie.Need-put-number-requires
+put-number-requires c κs =
+    let k = c .before .before .before in
+    filling-room (decimal (first k .args .x)) _ refl (after-key k)
+
+slice-aggregate-put-bytes : tie.Need-slice-aggregate-put-bytes
+slice-aggregate-put-bytes c = search needs
+
+put-bytes-requires-2 : tie.Need-put-bytes-requires-2
+put-bytes-requires-2 c κs = filling-all (after-number (c .before .before .before .before))
 
 same-length : tie.Need-same-length
 same-length c = search needs
 
 returns : tie.Need-returns
-returns c = wrote-as (ap (line (c .before .before .before .before .before .before .before .before .before .args .key .now)) (spelled (c .before .before .before .before .before))) (c .before .before .put-line .ensures)
+returns c =
+    let k = c .before .before in
+    filling-last (k .put-bytes2 .ensures) (after-number (k .before .before .before .before .before))
 
 pub put-count-spec : {M : Type 1} → statement M
 put-count-spec =
     tie.close
     (tie.spec
-    decimal-requires
-    array-share-prefix-digits
-    slice-aggregate-put-line
-    put-line-requires
+    put-bytes-requires
+    put-number-requires
+    slice-aggregate-put-bytes
+    put-bytes-requires-2
     same-length
     returns)

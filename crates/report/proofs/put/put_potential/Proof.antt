@@ -3,7 +3,8 @@ use borrow.Author.Needs.{needs}
 use native.Mathlib.Omega.{arith}
 use mathlib.Core.Path.{refl}
 use Rattle.text_write.proofs.Filling.{Filling, filling-start, filling-room, filling-ran, filling-last, filling-all}
-use Rattle.report.specs.Report.{decimal, line, statesIs, verdictIs, potential}
+use Rattle.text.specs.Numbers.{decimal}
+use Rattle.report.specs.Report.{line, statesIs, verdictIs, potential}
 use Rattle.report.specs.Contracts.{potentialLines}
 use Rattle.report.proofs.put.put_potential.Statement.{statement}
 use Rattle.report.proofs.put.put_potential.Tie as tie

@@ -5,7 +5,8 @@ use mathlib.Core.Path.{refl}
 use mathlib.Core.List.{List, _++_}
 use Prim.Native.Nat.{ℕ}
 use Rattle.text_write.proofs.Filling.{Filling, filling-start, filling-room, filling-ran, filling-last, filling-all}
-use Rattle.report.specs.Report.{decimal, line, statesIs, verdictIs, reachedIs, unambiguous}
+use Rattle.text.specs.Numbers.{decimal}
+use Rattle.report.specs.Report.{line, statesIs, verdictIs, reachedIs, unambiguous}
 use Rattle.report.specs.Contracts.{unambiguousLines}
 use Rattle.report.proofs.put.put_unambiguous.Statement.{statement}
 use Rattle.report.proofs.put.put_unambiguous.Tie as tie

@@ -1,0 +1,5 @@
+pub mod Again
+pub mod Sides
+pub mod Letters
+pub mod Said
+pub mod Pins

@@ -1,0 +1,96 @@
+// Reads two lines back: a grammar's text and the lines to the two strings, or to the first refusal.
+// Lines and strings may be of any length, so nothing of them is kept: both values are checked and their letters counted, and
+// a second pass writes.
+mod pieces;
+mod reading;
+mod values;
+
+ghost use Rattle.readings.specs.Promise.{ReadsBack};
+use readings::ReadBack;
+use text::TextRead;
+
+// Room for every table of a grammar, which has 352 entries at most, and for all names.
+const ENTRIES: usize = 512;
+
+const NAMES: usize = 254;
+
+// The states of a grammar without rules. Each rule has two entries more than codes, and one state more, so the entries and
+// these, less the states, are the rules.
+const NO_RULES: usize = 4;
+
+// What stands between two spaces: a letter as an entry of a row, a name that is not known, or no word.
+pub enum Piece {
+    Entry(u32),
+    Unknown,
+    Malformed,
+}
+
+// Of what form words are: all known, or one unknown, or one malformed, which counts first.
+pub enum Form {
+    Known,
+    Unknown,
+    Malformed,
+}
+
+// The form of a value's words, and how many they are.
+pub struct Value {
+    pub form: Form,
+    pub count: usize,
+}
+
+// Where a value starts in its line.
+pub enum Start {
+    At(usize),
+    Malformed,
+}
+
+// A line: where its value starts, and how many letters it has.
+pub enum Line {
+    Said { start: usize, count: usize },
+    Fault(u8, usize),
+}
+
+// Both lines: where their values stand, and how many letters they have.
+pub enum Lines {
+    Said {
+        first: usize,
+        first_end: usize,
+        left: usize,
+        second: usize,
+        second_end: usize,
+        right: usize,
+    },
+    Fault(u8, usize),
+}
+
+// Reading back: a grammar's text and the two lines to the two strings, at the fronts of the lent rows; or the first refusal,
+// which changes nothing.
+pub fn read_back(text: &[u8], lines: &[u8], left: &mut [u32], right: &mut [u32]) -> ReadBack
+    ensures { λ r. ⌜ ReadsBack (now (text .entry)) (now (lines .entry)) (now (left .entry)) (now (right .entry)) r (now (left .exit)) (now (right .exit)) ⌝ }
+{
+    let mut table = [0u8; ENTRIES];
+    let mut starts = [0u32; NAMES];
+    let mut lengths = [0u32; NAMES];
+    match text_read::read_text(text, &mut table, &mut starts, &mut lengths) {
+        TextRead::Refused(cause, at) => ReadBack::GrammarRefused(cause, at),
+        TextRead::Read {
+            terminals,
+            nonterminals,
+            entries,
+            states,
+        } => {
+            let m = terminals + nonterminals;
+            let rules = entries + NO_RULES - states;
+            reading::read_lines(
+                text,
+                &starts[..m],
+                &lengths[..m],
+                terminals,
+                rules,
+                lines,
+                left,
+                right,
+            )
+        }
+    }
+}
