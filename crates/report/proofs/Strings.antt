@@ -29,8 +29,8 @@ use Rattle.figures.proofs.SidesLaws.{sides-few, ShortestSteps, shortest-steps}
 use Rattle.text.specs.Names.{all, isName}
 use Rattle.text.proofs.RoundTrip.{apart}
 use Rattle.text.proofs.Spans.{spelled}
-use Rattle.sides.specs.Sides.{Walkable, TwoSides, Walks}
-use Rattle.sides.specs.declared.Lengths.{Lengths}
+use Rattle.witness_sides.specs.Sides.{Walkable, TwoSides, Walks}
+use Rattle.witness_sides.specs.declared.Lengths.{Lengths}
 use Rattle.readings.specs.Readings.{Valid, AllValid, readingLines}
 use Rattle.readings.specs.Letters.{letterNumber, letterFrom}
 use Rattle.readings.proofs.Sides.{sides-valid}

@@ -47,7 +47,7 @@ fn put_sides(
 {
     let mut left = [0u32; TRIPLES];
     let mut right = [0u32; TRIPLES];
-    let size = sides::two_sides(t, n, table, row, &mut left, &mut right);
+    let size = witness_sides::two_sides(t, n, table, row, &mut left, &mut right);
     let a = size.left;
     let b = size.right;
     readings_write::put_readings(out, at, &left[..a], &right[..b], t, text, starts, lengths)

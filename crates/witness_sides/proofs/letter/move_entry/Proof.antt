@@ -1,9 +1,9 @@
 -- move_entry meets its contract: each arm is a case of the definition.
 use borrow.Author.Needs.{needs}
 use mathlib.Core.Path.{ap, sym}
-use Rattle.sides.specs.Contracts.{moveEntry}
-use Rattle.sides.proofs.letter.move_entry.Statement.{statement}
-use Rattle.sides.proofs.letter.move_entry.Tie as tie
+use Rattle.witness_sides.specs.Contracts.{moveEntry}
+use Rattle.witness_sides.proofs.letter.move_entry.Statement.{statement}
+use Rattle.witness_sides.proofs.letter.move_entry.Tie as tie
 
 enum-known-m : tie.Need-enum-known-m
 enum-known-m c = search needs

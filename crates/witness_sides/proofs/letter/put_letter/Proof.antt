@@ -2,9 +2,9 @@
 use borrow.Author.Needs.{needs}
 use native.Mathlib.Omega.{arith}
 use mathlib.Core.Path.{sym, _∙_}
-use Rattle.sides.proofs.LetterLaws.{stays-put, puts-one}
-use Rattle.sides.proofs.letter.put_letter.Statement.{statement}
-use Rattle.sides.proofs.letter.put_letter.Tie as tie
+use Rattle.witness_sides.proofs.LetterLaws.{stays-put, puts-one}
+use Rattle.witness_sides.proofs.letter.put_letter.Statement.{statement}
+use Rattle.witness_sides.proofs.letter.put_letter.Tie as tie
 
 move-entry-requires : tie.Need-move-entry-requires
 move-entry-requires c κs = search needs

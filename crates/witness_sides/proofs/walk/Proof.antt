@@ -8,10 +8,10 @@ use lib.ListN.{length, take, getD}
 use Rattle.automaton.specs.Moves.{Moves}
 use Rattle.triples.specs.Sides.{OneEach, leftSide, rightSide}
 use Rattle.steps.specs.Plan.{Rows, rowsOf}
-use Rattle.sides.specs.Contracts.{FrontLetters, stepFound, GivesRecords}
-use Rattle.sides.proofs.WalkLaws.{letters-none, letters-more, letters-all}
-use Rattle.sides.proofs.walk.Statement.{statement}
-use Rattle.sides.proofs.walk.Tie as tie
+use Rattle.witness_sides.specs.Contracts.{FrontLetters, stepFound, GivesRecords}
+use Rattle.witness_sides.proofs.WalkLaws.{letters-none, letters-more, letters-all}
+use Rattle.witness_sides.proofs.walk.Statement.{statement}
+use Rattle.witness_sides.proofs.walk.Tie as tie
 
 -- the letters of the first x steps stand at the fronts
 abbrev Fronts : Rows → ℕ → List ℕ → ℕ → ℕ → List ℕ → ℕ → List ℕ → Type 0

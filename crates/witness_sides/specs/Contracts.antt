@@ -16,8 +16,8 @@ use Rattle.triples.specs.declared.Move.the-variants.{Opening, Closing, Symbol, 
 use Rattle.triples.specs.declared.Step.{Step}
 use Rattle.readings.specs.Letters.{letterNumber}
 use Rattle.steps.specs.Plan.{Rows, Laid, planned}
-use Rattle.sides.specs.declared.Lengths.{Lengths}
-use Rattle.sides.specs.Sides.{TwoSides}
+use Rattle.witness_sides.specs.declared.Lengths.{Lengths}
+use Rattle.witness_sides.specs.Sides.{TwoSides}
 
 -- ---- letters
 

@@ -11,7 +11,7 @@ use Rattle.triples.specs.Sides.{letters}
 use Rattle.triples.specs.declared.Move.{Move}
 use Rattle.triples.specs.declared.Move.the-variants.{Opening, Closing, Symbol, Still}
 use Rattle.readings.specs.Letters.{letterNumber}
-use Rattle.sides.specs.Contracts.{moveEntry, Appended}
+use Rattle.witness_sides.specs.Contracts.{moveEntry, Appended}
 
 -- no letter, or one
 none-put : (m : Move) → moveEntry m ≡ 0 → letters m ≡ []

@@ -11,7 +11,7 @@ use Rattle.steps.specs.Plan.{rowsOf}
 use Rattle.steps.proofs.Answers.{laid-in}
 use Rattle.steps.proofs.Planned.{planned-is}
 use Rattle.steps.proofs.Says.{shown-says}
-use Rattle.sides.specs.Contracts.{Searchable, GivesRecords}
+use Rattle.witness_sides.specs.Contracts.{Searchable, GivesRecords}
 
 module _ (M : Moves) (S : Regular M) (t m Q : ℕ) (size : Q ≡ M .states) (new : Tables) (X : Shows M t m new) where
   pub searchable-of : length (new .targets) ≡ limits .maxStates → Searchable Q (new .member) (new .first) (new .targets)

@@ -4,7 +4,7 @@ ghost use Prim.Native.Nat.{_≤_};
 ghost use Rattle.grammar.specs.Limits.{limits};
 ghost use Rattle.triples.specs.Index.{index};
 ghost use Rattle.steps.specs.Plan.{rowsOf};
-ghost use Rattle.sides.specs.Contracts.{noStep, stepFound, Searchable};
+ghost use Rattle.witness_sides.specs.Contracts.{noStep, stepFound, Searchable};
 use grammar::MAX_STATES;
 use moves::CLASSES;
 use steps::StepAnswer;

@@ -9,11 +9,11 @@ use lib.ListN.{drop}
 use Rattle.grammar.specs.Limits.{limits}
 use Rattle.triples.specs.declared.Step.{Step}
 use Rattle.steps.specs.Plan.{rowsOf}
-use Rattle.sides.specs.Contracts.{stepsTo, recordsAt}
-use Rattle.sides.proofs.FewRecords.{few-planned}
-use Rattle.sides.proofs.SearchLaws.{leads-there, passed-over, ends-none, past-none, not-refused}
-use Rattle.sides.proofs.leading.step_to.Statement.{statement}
-use Rattle.sides.proofs.leading.step_to.Tie as tie
+use Rattle.witness_sides.specs.Contracts.{stepsTo, recordsAt}
+use Rattle.witness_sides.proofs.FewRecords.{few-planned}
+use Rattle.witness_sides.proofs.SearchLaws.{leads-there, passed-over, ends-none, past-none, not-refused}
+use Rattle.witness_sides.proofs.leading.step_to.Statement.{statement}
+use Rattle.witness_sides.proofs.leading.step_to.Tie as tie
 
 abbrev Inv-loop : tie.InvT-loop
 Inv-loop ahead number member first targets t m q i j layer left right k₀ k =

@@ -15,7 +15,7 @@ use Rattle.triples.specs.Sides.{letters, recordsTo, sideOf, OneEach}
 use Rattle.triples.specs.declared.Move.{Move}
 use Rattle.triples.specs.declared.Step.{Step}
 use Rattle.steps.specs.Plan.{Rows}
-use Rattle.sides.specs.Contracts.{FrontLetters, Appended, stepsTo, firstOf, stepFound, GivesRecords}
+use Rattle.witness_sides.specs.Contracts.{FrontLetters, Appended, stepsTo, firstOf, stepFound, GivesRecords}
 
 module _ (M : Moves) where
   -- the one record between neighbours

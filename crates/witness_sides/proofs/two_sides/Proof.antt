@@ -8,11 +8,11 @@ use Rattle.grammar.specs.Grammar.{Grammar}
 use Rattle.grammar.proofs.Answers.{no-answer, done-inj}
 use Rattle.automaton.specs.PositionMoves.{movesOf}
 use Rattle.triples.specs.Sides.{OneEach}
-use Rattle.sides.specs.Sides.{TwoSides}
-use Rattle.sides.specs.declared.Lengths.{Lengths}
-use Rattle.sides.proofs.RowLaws.{searchable-of, gives-of}
-use Rattle.sides.proofs.two_sides.Statement.{statement}
-use Rattle.sides.proofs.two_sides.Tie as tie
+use Rattle.witness_sides.specs.Sides.{TwoSides}
+use Rattle.witness_sides.specs.declared.Lengths.{Lengths}
+use Rattle.witness_sides.proofs.RowLaws.{searchable-of, gives-of}
+use Rattle.witness_sides.proofs.two_sides.Statement.{statement}
+use Rattle.witness_sides.proofs.two_sides.Tie as tie
 
 -- from the prepared rows back to the function's entry; from a table that passed to its rows, and from their being lent on to there
 abbrev start : tie.After-prepare → tie.Start

@@ -11,7 +11,7 @@ use Rattle.automaton.specs.Moves.{Moves}
 use Rattle.automaton.specs.PositionMoves.{movesOf}
 use Rattle.triples.specs.Sides.{OneEach, leftSide, rightSide}
 use Rattle.readings.specs.Letters.{letterNumber}
-use Rattle.sides.specs.declared.Lengths.{Lengths}
+use Rattle.witness_sides.specs.declared.Lengths.{Lengths}
 
 -- a table that passes, a row of indices each of which has one record that leads to the next, and room for a letter of each step
 pub record Walkable (t n : ℕ) (table row left right : List ℕ) : Type 0 where

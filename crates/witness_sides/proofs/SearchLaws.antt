@@ -15,7 +15,7 @@ use Rattle.triples.specs.Index.{index}
 use Rattle.triples.specs.declared.Step.{Step}
 use Rattle.steps.specs.declared.StepAnswer.the-variants.{Record, NoMore, Refused}
 use Rattle.steps.specs.Steps.{nth, recordAnswer}
-use Rattle.sides.specs.Contracts.{stepsTo, firstOf, noStep}
+use Rattle.witness_sides.specs.Contracts.{stepsTo, firstOf, noStep}
 
 -- the rest of a list from the record that was answered; no rest where none was
 from-record : (l : List Step) (k : ℕ) (s : Step) → Record s ≡ recordAnswer (nth l k) → drop k l ≡ s ∷ drop (suc k) l

@@ -2,7 +2,7 @@
 ghost use mathlib.Core.Path.{_≡_};
 ghost use Prim.Native.Nat.{_+_, _≤_, _<_};
 ghost use lib.ListN.{length};
-ghost use Rattle.sides.specs.Contracts.{moveEntry, Appended};
+ghost use Rattle.witness_sides.specs.Contracts.{moveEntry, Appended};
 use readings::CLOSING;
 use readings::KIND_UNIT;
 use readings::OPENING;

@@ -4,8 +4,8 @@ use native.Mathlib.Omega.{arith}
 use native.Mathlib.Nat.{mul-le-mul}
 use Prim.Native.Nat.{ℕ, _*_, _≤_}
 use Rattle.grammar.specs.Limits.{limits}
-use Rattle.sides.proofs.leading.next_index.Statement.{statement}
-use Rattle.sides.proofs.leading.next_index.Tie as tie
+use Rattle.witness_sides.proofs.leading.next_index.Statement.{statement}
+use Rattle.witness_sides.proofs.leading.next_index.Tie as tie
 
 -- the products of a layer and a state of a record
 products : (Q f p : ℕ) → Q ≤ limits .maxStates → f ≤ 255 → p ≤ 65535 → (Q * Q ≤ 65536) × (f * (Q * Q) ≤ 16711680) × (p * Q ≤ 16776960)
