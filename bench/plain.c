@@ -20,14 +20,19 @@ struct moves {
     uint16_t targets[MAX_STATES];
 };
 
-/* Counting sort: the openings of each nonterminal, its dot-0 items; then its closings, the items just past it. */
+/* Counting sort: the openings of each nonterminal, its dot-0 items; then its closings, the items just past it. Rules that no
+ * sentence uses have no moves, and nothing leads to them. */
 static void build(const struct grammar *g, struct moves *m)
 {
     uint16_t opens[MAX_NONTERMINALS + 1] = {0}, closes[MAX_NONTERMINALS + 1] = {0};
     uint16_t opens_at[MAX_NONTERMINALS + 1] = {0}, closes_at[MAX_NONTERMINALS + 1] = {0};
+    uint8_t live[MAX_RULES + 1];
 
+    find_live(g, live);
     for (unsigned i = 0; i < g->rules; i++) {
         const uint8_t *rule = g->rule[i];
+        if (!live[i + 1])
+            continue;
         opens[rule[0] - START]++;
         for (unsigned d = 0; d < rule[1]; d++)
             if (rule[2 + d] >= START)
@@ -52,6 +57,11 @@ static void build(const struct grammar *g, struct moves *m)
     unsigned p = 4;
     for (unsigned i = 0; i < g->rules; i++) {
         const uint8_t *rule = g->rule[i];
+        if (!live[i + 1]) {
+            for (unsigned end = p + rule[1]; p <= end; p++)
+                m->state[p] = (struct state){0, 0, 0, STAYS, (uint8_t)(i + 1)};
+            continue;
+        }
         m->targets[opens_at[rule[0] - START]++] = (uint16_t)p;
         for (unsigned d = 0; d < rule[1]; d++, p++) {
             unsigned x = rule[2 + d];
@@ -69,6 +79,8 @@ static void build(const struct grammar *g, struct moves *m)
     m->state[1] = (struct state){0, 0, 0, STAYS, 0};
     m->state[2] = (struct state){opens[0], closes[0], START, OPENS, 0};
     m->state[3] = (struct state){1, 2, 0, CLOSES, 0};
+    if (!live[0])
+        m->state[0] = m->state[2] = m->state[3] = m->state[1];
 }
 
 static inline int is_seen(const uint64_t *seen, size_t index)

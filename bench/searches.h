@@ -1,5 +1,5 @@
 /* What the searches and certificate checks of this folder answer, and what they share: document 01's limits, the causes of
- * refusal that they meet, and the table check. */
+ * refusal that they meet, the table check, and which rules some sentence uses. */
 #ifndef SEARCHES_H
 #define SEARCHES_H
 
@@ -99,6 +99,44 @@ static inline check_reply check_table(size_t t, size_t n, const uint8_t *table, 
         at += 2 + k;
     }
     return (check_reply){0, 0};
+}
+
+/* Is every nonterminal of a right side marked? */
+static inline int all_marked(const uint8_t *marks, const uint8_t *rule)
+{
+    for (unsigned d = 0; d < rule[1]; d++)
+        if (rule[2 + d] >= START && !marks[rule[2 + d] - START])
+            return 0;
+    return 1;
+}
+
+/* By number whether some sentence uses a rule; for rule 0, whether there is a sentence. Passes over the rules mark what has a tree,
+ * from the last rule to the first, then what S reaches through rules that can stand in one, from the first to the last. */
+static inline void find_live(const struct grammar *g, uint8_t *live)
+{
+    uint8_t has_tree[MAX_NONTERMINALS] = {0}, is_reached[MAX_NONTERMINALS] = {1};
+    for (int fresh = 1; fresh;) {
+        fresh = 0;
+        for (unsigned i = g->rules; i-- > 0;) {
+            const uint8_t *rule = g->rule[i];
+            if (!has_tree[rule[0] - START] && all_marked(has_tree, rule))
+                fresh = has_tree[rule[0] - START] = 1;
+        }
+    }
+    for (int fresh = 1; fresh;) {
+        fresh = 0;
+        for (unsigned i = 0; i < g->rules; i++) {
+            const uint8_t *rule = g->rule[i];
+            if (!is_reached[rule[0] - START] || !all_marked(has_tree, rule))
+                continue;
+            for (unsigned d = 0; d < rule[1]; d++)
+                if (rule[2 + d] >= START && !is_reached[rule[2 + d] - START])
+                    fresh = is_reached[rule[2 + d] - START] = 1;
+        }
+    }
+    live[0] = has_tree[0];
+    for (unsigned i = 0; i < g->rules; i++)
+        live[i + 1] = is_reached[g->rule[i][0] - START] && all_marked(has_tree, g->rule[i]);
 }
 
 #endif

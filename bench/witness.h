@@ -1,10 +1,12 @@
-/* A witness is judged by document 01's words, rule by rule and with no tables: slow, and only for this benchmark's own check. */
+/* A witness is judged by the words of documents 01 and 02, rule by rule and with no tables: slow, and only for this benchmark's own
+ * check. */
 #ifndef WITNESS_H
 #define WITNESS_H
 
 #include "searches.h"
 
-/* An item: rule 0 is S' -> S. States 0 and 1 have no item. */
+/* An item: rule 0 is S' -> S. States 0 and 1 have no item. The items of a rule that no sentence uses have no moves, and no move
+ * leads to them: they are taken for none, too. */
 struct item {
     int rule;
     unsigned left, k, dot;
@@ -13,7 +15,7 @@ struct item {
 
 static const uint8_t START_CODE[1] = {START};
 
-static struct item item_of(const struct grammar *g, unsigned p)
+static struct item any_item(const struct grammar *g, unsigned p)
 {
     if (p < 2)
         return (struct item){-1, 0, 0, 0, START_CODE};
@@ -23,6 +25,14 @@ static struct item item_of(const struct grammar *g, unsigned p)
     while (p > base + g->rule[i][1])
         base += g->rule[i++][1] + 1;
     return (struct item){(int)i + 1, g->rule[i][0], g->rule[i][1], p - base, g->rule[i] + 2};
+}
+
+static struct item item_of(const struct grammar *g, unsigned p)
+{
+    uint8_t live[MAX_RULES + 1];
+    struct item x = any_item(g, p);
+    find_live(g, live);
+    return x.rule >= 0 && live[x.rule] ? x : any_item(g, 0);
 }
 
 /* The symbol ahead, or 0. */
@@ -40,7 +50,7 @@ static int is_terminal(unsigned code)
 static int opens(const struct grammar *g, unsigned p, unsigned r)
 {
     if (p == 0 || r < 4)
-        return p == 0 && r == 2;
+        return p == 0 && r == 2 && item_of(g, r).rule == 0;
     struct item y = item_of(g, r);
     return ahead_of(g, p) >= START && y.dot == 0 && y.left == ahead_of(g, p);
 }
@@ -48,7 +58,7 @@ static int opens(const struct grammar *g, unsigned p, unsigned r)
 static int closes(const struct grammar *g, unsigned p, unsigned r)
 {
     if (p == 3 || r < 2)
-        return p == 3 && r == 1;
+        return p == 3 && r == 1 && item_of(g, p).rule == 0;
     struct item x = item_of(g, p), y = item_of(g, r);
     return x.rule > 0 && x.dot == x.k && y.dot > 0 && y.codes[y.dot - 1] == x.left;
 }

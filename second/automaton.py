@@ -1,11 +1,15 @@
-"""The automaton of a checked grammar: document 01, "States and moves".
+"""The automaton of a checked grammar: document 01, "States and moves", document 02, [3].
 
 `automaton_of` takes a Grammar and gives, by state, its openings, closings and
-shift. "Every rule is taken, also one that no sentence uses."
+shift, and whether it stands before a terminal. Every rule has its states, but
+only live ones are taken: "Items of other rules keep their numbers but have no
+moves, stand before no terminal, and no move leads to them." An item that is not
+taken is None, so that nothing below finds it.
 """
 
 from typing import List, NamedTuple, Optional, Sequence, Tuple
 
+from live import live_rules
 from tables import START, Grammar
 
 BEGIN = 0                 # "State 0 is the start"
@@ -34,6 +38,7 @@ class Automaton(NamedTuple):
     openings: Tuple[Tuple[Arrow, ...], ...]
     closings: Tuple[Tuple[Arrow, ...], ...]
     shifts: Tuple[Optional[Arrow], ...]
+    before_terminal: Tuple[bool, ...]
 
 
 def items_of(grammar: Grammar) -> List[Optional[Item]]:
@@ -49,6 +54,12 @@ def items_of(grammar: Grammar) -> List[Optional[Item]]:
         items += [Item(number, left, right, dot) for dot in range(len(right) + 1)]
     assert len(items) == grammar.states, "Q is 4 plus the sum of (k+1)"
     return items
+
+
+def taken_items(grammar: Grammar, taken: Sequence[bool]) -> List[Optional[Item]]:
+    """By state its item if its rule is taken; `taken` is by number, rule 0 first."""
+    return [item if item is not None and taken[item.rule] else None
+            for item in items_of(grammar)]
 
 
 def after_dot(item: Optional[Item]) -> Optional[int]:
@@ -67,10 +78,10 @@ def openings_from(items: Sequence[Optional[Item]], state: int) -> List[Arrow]:
     """The openings of a state.
 
     "a state with the dot before B moves to dot 0 of each rule i of B. State 0
-    opens 0 to state 2."
+    opens 0 to state 2." "State 0 opens rule 0 only if it is live."
     """
     if state == BEGIN:
-        return [(NEW_RULE, BEFORE_START)]
+        return [] if items[BEFORE_START] is None else [(NEW_RULE, BEFORE_START)]
     code = after_dot(items[state])
     if code is None:
         return []
@@ -84,11 +95,11 @@ def closings_from(items: Sequence[Optional[Item]], state: int) -> List[Arrow]:
     "a rule i of B with the dot at its end moves to every item just past a B.
     State 3 closes 0 to state 1."
     """
-    if state == AFTER_START:
-        return [(NEW_RULE, END)]
     closed = items[state]
     if closed is None or closed.dot < len(closed.right):
         return []
+    if state == AFTER_START:
+        return [(NEW_RULE, END)]
     return [(closed.rule, to) for to, item in enumerate(items)
             if before_dot(item) == closed.left]
 
@@ -99,16 +110,28 @@ def shift_from(items: Sequence[Optional[Item]], state: int) -> Optional[Arrow]:
     return None if code is None else (code, state + 1)
 
 
-def automaton_of(grammar: Grammar) -> Automaton:
-    """All moves of a checked grammar."""
-    items = items_of(grammar)
+def stands_before_terminal(item: Optional[Item]) -> bool:
+    """Whether an item "stands before a terminal"."""
+    code = after_dot(item)
+    return code is not None and code < START
+
+
+def automaton_with(grammar: Grammar, taken: Sequence[bool]) -> Automaton:
+    """The moves of a checked grammar when these rules are taken, rule 0 first."""
+    items = taken_items(grammar, taken)
     states = range(len(items))
     return Automaton(
         len(items),
         tuple(tuple(openings_from(items, state)) for state in states),
         tuple(tuple(closings_from(items, state)) for state in states),
         tuple(shift_from(items, state) for state in states),
+        tuple(map(stands_before_terminal, items)),
     )
+
+
+def automaton_of(grammar: Grammar) -> Automaton:
+    """All moves of a checked grammar: its live rules are taken."""
+    return automaton_with(grammar, live_rules(grammar))
 
 
 def move_count(automaton: Automaton) -> int:

@@ -6,8 +6,9 @@ the order hides are found too. The first of them must be the refusal.
 
 import re
 from functools import lru_cache
-from typing import List, NamedTuple, Optional, Sequence, Tuple
+from typing import FrozenSet, List, NamedTuple, Optional, Sequence, Tuple
 
+from dead_rules import rule_kinds
 from readings import (
     GRAMMAR, LentStrings, NamedGrammar, Pair, Refused, named_in, read_back, reading_lines,
 )
@@ -39,6 +40,8 @@ READ_REASONS = [
     "read-the-last-rule",
     "read-rule-100",
     "read-a-rule-of-two-digits",
+    "read-a-dead-rule",
+    "read-rule-0-without-a-sentence",
     "read-a-terminal",
     "read-a-nonterminal",
     "read-terminal-127",
@@ -192,6 +195,15 @@ def known_in(text: bytes) -> Known:
     return Known(len(rules), [name for names in lists if names for name in names.split(b",")])
 
 
+@lru_cache(maxsize=4096)
+def dead_in(text: bytes) -> FrozenSet[int]:
+    """The numbers of the rules that no sentence of a good text uses."""
+    named = named_in(text)
+    assert isinstance(named, NamedGrammar)
+    kinds = enumerate(rule_kinds(named.grammar))
+    return frozenset(number for number, kind in kinds if kind is not None)
+
+
 def lines_in(lines: bytes) -> List[Line]:
     """Lines 1 and 2; the second is missing where nothing follows the first."""
     first, end, after = lines.partition(b"\n")
@@ -284,6 +296,8 @@ def read_reasons(text: bytes, lines: bytes, pair: Pair, lent: LentStrings) -> Li
         ("read-the-last-rule", known.rules in rules - {0}),
         ("read-rule-100", MAX_RULES in rules),
         ("read-a-rule-of-two-digits", any(10 <= rule < 100 for rule in rules)),
+        ("read-a-dead-rule", not dead_in(text).isdisjoint(rules - {0})),
+        ("read-rule-0-without-a-sentence", 0 in rules & dead_in(text)),
         ("read-a-terminal", any(code < START for code in codes)),
         ("read-a-nonterminal", any(code >= START for code in codes)),
         ("read-terminal-127", MAX_TERMINALS in codes),

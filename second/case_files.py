@@ -10,7 +10,9 @@ import hashlib
 import random
 import struct
 import sys
-from typing import Callable, Iterator, List, NamedTuple, Optional, Sequence, Tuple, TypeVar
+from typing import (
+    Callable, Iterator, List, Mapping, NamedTuple, Optional, Sequence, Tuple, TypeVar,
+)
 
 from tables import Refusal
 
@@ -35,7 +37,8 @@ class Kind(NamedTuple):
 
     `all` gives the cases, `encode` and `decode` are their bytes, `answer` is
     a case's line and `reasons_of` those of `reasons` that it meets. `prefix`
-    stands before the verbs.
+    stands before the verbs. `fewest` is the number of cases that each reason
+    must have, but for those reasons that `enough` has another number for.
     """
 
     all: Callable
@@ -46,6 +49,7 @@ class Kind(NamedTuple):
     reasons_of: Callable
     prefix: str = ""
     fewest: int = FEWEST
+    enough: Mapping[str, int] = {}
 
 
 # Bytes.
@@ -174,7 +178,7 @@ def digest(kind: Kind) -> str:
 def write_answers(
     kind: Kind, cases_path: str, out_path: str, counts_path: str
 ) -> List[str]:
-    """The verb `answers`; gives the reasons that too few cases meet."""
+    """The verb `answers`; gives a line for each reason that too few cases meet."""
     answers: List[str] = []
     counts = {name: 0 for name in kind.reasons}
     for case in read_cases(kind, cases_path):
@@ -184,7 +188,9 @@ def write_answers(
     write_lines(out_path, answers)
     lines = ["%s %d" % pair for pair in counts.items()]
     write_lines(counts_path, lines + ["cases %d" % len(answers)])
-    return [name for name, count in counts.items() if count < kind.fewest]
+    needed = {name: kind.enough.get(name, kind.fewest) for name in counts}
+    return ["fewer than %d cases: %s" % (needed[name], name)
+            for name, count in counts.items() if count < needed[name]]
 
 
 def main(usage: str, words: Sequence[str], *kinds: Kind) -> int:
@@ -195,8 +201,8 @@ def main(usage: str, words: Sequence[str], *kinds: Kind) -> int:
             return 0
         if len(words) == 4 and words[0] == kind.prefix + "answers":
             rare = write_answers(kind, *words[1:])
-            for name in rare:
-                print("fewer than %d cases: %s" % (kind.fewest, name), file=sys.stderr)
+            for line in rare:
+                print(line, file=sys.stderr)
             return 1 if rare else 0
     print(usage, file=sys.stderr)
     return 2

@@ -7,13 +7,14 @@ from functools import lru_cache
 from typing import Callable, Dict, List, Tuple
 
 from case_files import LAST, Rng
+from derivations import used_rules
 from random_tables import (
     FIGURES, Rule, base_grammar, encode, faulty_rule, random_code, random_lengths,
     random_rules,
 )
 from table_reasons import rule_start
 from tables import (
-    FIXED_STATES, MAX_LENGTH, OUT_OF_RANGE, START, Grammar, Refusal, check_table,
+    FIXED_STATES, MAX_LENGTH, MAX_STATES, OUT_OF_RANGE, START, Grammar, Refusal, check_table,
 )
 from triples import Triples, triples_of
 
@@ -24,7 +25,8 @@ ROWS: List[Table] = [(t, n, encode(rules)) for t, n, rules in FIGURES]
 ONE_A = ROWS[2]                # S→a
 ONE_A_BYTES = bytes.fromhex("15 50 21 15 08 00 00 00 00")    # its certificate
 LEFT_LIST, NESTED = ROWS[3:5]  # the two rows with Q = 9
-CYCLE = ROWS[5]                # S→S, Q = 6, potential
+ENDLESS = ROWS[5]              # S→S, Q = 6, without a sentence
+CYCLE = ROWS[6]                # S→S; S→a, Q = 8, potential
 
 
 def spelled(*lines: str) -> Table:
@@ -82,6 +84,10 @@ CLASSICS: Dict[str, Table] = {
     "hidden-left": spelled("S: N S x | y", "N: n |"),
     "never-opened": spelled("S: a S |", "U: S b | U a"),
     "no-finite-tree": spelled("S: a | b W", "W: a W | W"),
+    "left-in-a-course": spelled("S: a | A", "A: A"),
+    "behind-an-endless-one": spelled("S: a S b | | W V", "W: W a", "V: S | V V b"),
+    "dead-rules-of-all-kinds": spelled(
+        "S: S a | W V | b", "W: a W | W S", "V: S | S b", "U: S a | U U"),
     "no-start-rule": (1, 2, encode([(START + 1, bytes([1])), (START + 1, b"")])),
     "json": spelled(
         "V: str | num | true | false | null | { } | { M } | [ ] | [ E ]",
@@ -99,6 +105,8 @@ CLASSICS: Dict[str, Table] = {
         "S: S C |", "C: set H V end | read H end",
         "H: h0 | h1 | h2 | h3 | h4 | h5 | h6 | h7", "V: on | off"),
 }
+
+COURSE = CLASSICS["left-in-a-course"]      # document 02, [3]
 
 
 def operators(levels: int) -> Table:
@@ -123,8 +131,16 @@ def keywords(rng: Rng, count: int, states: int) -> Table:
     """`count` rules, each begun by a terminal of its own; Q = `states`.
 
     After a terminal both sides stand on the same rule, so that nothing parts:
-    unambiguous.
+    unambiguous. All rules are live.
     """
+    while True:
+        table = any_keywords(rng, count, states)
+        if all(used_rules(good(table))):
+            return table
+
+
+def any_keywords(rng: Rng, count: int, states: int) -> Table:
+    """The same, though rules may be dead."""
     t, n = count + rng.randrange(3), 2 + rng.randrange(count // 3)
     lengths = [1] * count
     while FIXED_STATES + sum(lengths) + count < states:
@@ -141,19 +157,50 @@ def keywords(rng: Rng, count: int, states: int) -> Table:
 # Random grammars.
 
 def small_random(rng: Rng) -> Table:
-    """1 to 3 nonterminals, 0 to 3 terminals, 0 to 6 rules of length 0 to 4."""
-    t, n = rng.randrange(4), 1 + rng.randrange(3)
-    lengths = [rng.randrange(5) for _ in range(rng.randrange(7))]
-    return t, n, encode(random_rules(rng, t, n, lengths))
+    """1 to 3 nonterminals, 0 to 3 terminals, 0 to 6 rules of length 0 to 4.
+
+    Of those without a sentence one in eight is taken.
+    """
+    while True:
+        t, n = rng.randrange(4), 1 + rng.randrange(3)
+        lengths = [rng.randrange(5) for _ in range(rng.randrange(7))]
+        table = t, n, encode(random_rules(rng, t, n, lengths))
+        if any(used_rules(good(table))) or rng.randrange(8) == 0:
+            return table
+
+
+def live_small(rng: Rng) -> Table:
+    """A small random grammar all of whose rules are live, of at most 16 states."""
+    while True:
+        table = small_random(rng)
+        used = used_rules(good(table))
+        if used and all(used) and states_of(table) <= 16:
+            return table
 
 
 def larger_random(rng: Rng, states: int) -> Table:
-    """Q of about `states`; few symbols for so many rules, each nonterminal with one."""
+    """Q of about `states`; few symbols for so many rules, all of them live."""
+    while True:
+        table = any_larger(rng, states)
+        if all(used_rules(good(table))):
+            return table
+
+
+def any_larger(rng: Rng, states: int) -> Table:
+    """The same, each nonterminal with a rule, though rules may be dead."""
     t, n = 6 + rng.randrange(20), 3 + rng.randrange(12)
     lengths = random_lengths(rng, states // 4, states)
     rules = random_rules(rng, t, n, lengths)
     rules[:n] = [(START + place, right) for place, (_, right) in enumerate(rules[:n])]
     return t, n, encode(list(dict.fromkeys(rules)))
+
+
+def largest_random(rng: Rng) -> Table:
+    """Q of 256, all rules live."""
+    while True:
+        table = larger_random(rng, MAX_STATES)
+        if states_of(table) == MAX_STATES:
+            return table
 
 
 @lru_cache(maxsize=1024)

@@ -13,16 +13,19 @@ from case_files import (
     Kind, Reader, Rng, accepted_or_refused, cases_of, encode_bytes, encode_table, main,
 )
 from case_grammars import (
-    CLASSICS, LEFT_LIST, NESTED, ONE_A, ROWS, STATEMENTS, Table, faulty_tables, keywords,
+    CLASSICS, LEFT_LIST, NESTED, ONE_A, ROWS, STATEMENTS, Table, faulty_tables, good, keywords,
     larger_random, operators, rules_before_the_fault, some, states_of, triples_in,
 )
 from certificate_reasons import REASONS, reasons_of
 from certificates import check_certificate
+from dead_grammars import chains, dead_larger, dead_tables
+from dead_rules import ENOUGH, KINDS, dead_states
+from live_misreadings import former_triples
 from random_tables import random_bytes
-from tables import MAX_STATES
+from tables import MAX_STATES, Grammar
 from triples import (
     BYTE, Triples, certificate_length, certificate_of, closure, held_indices,
-    is_potential, reached,
+    index_of, is_potential, reached, triple_at, triples_of,
 )
 from ways import largest_set
 
@@ -60,8 +63,25 @@ def flipped(certificate: bytes, *indices: int) -> bytes:
     return bytes(changed)
 
 
+def former_smallest(table: Table) -> bytes:
+    """The smallest closed set of the automaton before document 02's [3]."""
+    former = former_triples(good(table))
+    return certificate_of(former.states, reached(former))
+
+
 def unambiguous(triples: Triples) -> bool:
     return not is_potential(triples)
+
+
+def had_another(grammar: Grammar) -> bool:
+    """Unambiguous before [3], but with another smallest certificate."""
+    former = former_triples(grammar)
+    return unambiguous(former) and reached(former) != reached(triples_of(grammar))
+
+
+def was_potential(grammar: Grammar) -> bool:
+    """Unambiguous since [3]."""
+    return is_potential(former_triples(grammar)) and unambiguous(triples_of(grammar))
 
 
 def unambiguous_and_varied(triples: Triples) -> bool:
@@ -276,9 +296,80 @@ def largest_grammar(rng: Rng) -> Iterator[Case]:
             yield Case(*table, flipped(certificate, held_indices(certificate)[-1]))
 
 
+def former(rng: Rng) -> Iterator[Case]:
+    """Certificates of the former automaton: accepted before [3], so still accepted.
+
+    Also with a bit flipped, which not all of them were.
+    """
+    for table in dead_tables(rng, 56, had_another):
+        triples = former_triples(good(table))
+        right = former_smallest(table)
+        yield Case(*table, right)
+        yield Case(*table, certificate_of(triples.states, largest_set(triples)))
+        yield Case(*table, closed_superset(rng, triples, 3) or right)
+        for _ in range(3):
+            yield Case(*table, flipped(right, rng.choice(held_indices(right))))
+            yield Case(*table, flipped(right, rng.randrange(triples.count)))
+
+
+def dead(rng: Rng) -> Iterator[Case]:
+    """Grammars with dead rules: the smallest set, larger ones, each with a bit flipped."""
+    tables = list(dead_tables(rng, 30)) + list(chains(rng, (2, 9)))
+    for table in tables:
+        triples = triples_in(table)
+        right = smallest(table)
+        yield Case(*table, right)
+        yield Case(*table, former_smallest(table))
+        yield Case(*table, flipped(right, rng.choice(held_indices(right))))
+        for adding in (1, 6):
+            larger = closed_superset(rng, triples, adding)
+            if larger is not None:
+                yield Case(*table, larger)
+                yield Case(*table, flipped(larger, rng.choice(held_indices(larger))))
+                yield Case(*table, flipped(larger, a_dead_triple(rng, table)))
+
+
+def a_dead_triple(rng: Rng, table: Table) -> int:
+    """The index of a triple with an item of a dead rule, if there is one."""
+    states = states_of(table)
+    triple = triple_at(states, rng.randrange(2 * states * states))
+    items = sorted(dead_states(good(table)))
+    if items and rng.randrange(2) == 0:
+        triple = triple._replace(left=rng.choice(items))
+    elif items:
+        triple = triple._replace(right=rng.choice(items))
+    return index_of(states, triple)
+
+
+def unambiguous_since(rng: Rng) -> Iterator[Case]:
+    """Grammars that had no certificate before [3]: the smallest set, the largest, and flipped."""
+    for table in dead_tables(rng, 14, was_potential):
+        triples = triples_in(table)
+        right = smallest(table)
+        yield Case(*table, right)
+        yield Case(*table, former_smallest(table))
+        yield Case(*table, flipped(former_smallest(table), triples.last))
+        yield Case(*table, certificate_of(triples.states, largest_set(triples)))
+        yield Case(*table, flipped(right, a_dead_triple(rng, table)))
+
+
+def dead_and_larger(rng: Rng) -> Iterator[Case]:
+    """Dead rules in grammars of Q from 60 to 256."""
+    tables = [dead_larger(rng, kind, states) for kind in KINDS for states in (90, 120)]
+    tables += [dead_larger(rng, kind, MAX_STATES) for kind in KINDS] + list(chains(rng, (97,)))
+    for table in tables:
+        right = smallest(table)
+        yield Case(*table, right)
+        yield Case(*table, flipped(right, a_dead_triple(rng, table)))
+        yield Case(*table, flipped(right, rng.choice(held_indices(right))))
+        if unambiguous(former_triples(good(table))):
+            yield Case(*table, former_smallest(table))
+
+
 GROUPS = [
     document, every_bit, every_bit_of_larger_sets, some_bits, lengths, spare_bits,
     closed_sets, extremes, potential, of_other_grammars, faulty, larger, largest_grammar,
+    former, dead, unambiguous_since, dead_and_larger,
 ]
 
 
@@ -303,7 +394,7 @@ def decode_case(reader: Reader) -> Case:
 
 
 KIND = Kind(lambda: cases_of(GROUPS), encode_case, decode_case, answer,
-            REASONS, lambda case: reasons_of(*case))
+            REASONS, lambda case: reasons_of(*case), enough=ENOUGH)
 
 if __name__ == "__main__":
     sys.exit(main(__doc__, sys.argv[1:], KIND))

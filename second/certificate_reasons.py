@@ -4,15 +4,21 @@ The counts of these reasons show that a file of cases tries every fault, every
 way in which a successor is missing, and every place where the order shows.
 """
 
-from typing import List, Set, Tuple
+from typing import List, Optional, Set, Tuple
 
+import dead_rules
 from case_files import TABLE_REASONS
+from case_grammars import good
 from certificates import (
     FIRST_MISSING, LAST_PRESENT, SPARE_BIT, SUCCESSOR_MISSING, WRONG_LENGTH,
     certificate_fault, checked_triples, successor_fault,
 )
-from tables import MAX_STATES, Refusal
-from triples import Triples, certificate_length, held_indices, is_potential, reached
+from dead_rules import KINDS, dead_states, kind_of
+from live_misreadings import MISREAD, TOLD, former_triples, told
+from tables import MAX_STATES, Grammar, Refusal
+from triples import (
+    Triples, certificate_length, certificate_of, held_indices, is_potential, reached, triple_at,
+)
 from ways import largest_set
 
 REASONS = [
@@ -49,7 +55,16 @@ REASONS = [
     "order-11-before-13",
     "order-12-before-13",
     "256-states",
-]
+] + dead_rules.REASONS + ["former-certificate-" + kind for kind in KINDS] + [
+    "accepted-and-formerly-too",
+    "accepted-though-formerly-refused",
+    "accepted-though-formerly-potential",
+    "accepted-with-a-dead-item",
+    "accepted-dead-rules-over-60-states",
+    "12-of-a-potential-grammar-with-dead-rules",
+    "13-with-a-dead-item",
+    "13-elsewhere-than-formerly",
+] + list(TOLD.values())
 
 
 def reasons_of(t: int, n: int, table: bytes, certificate: bytes) -> List[str]:
@@ -60,6 +75,10 @@ def reasons_of(t: int, n: int, table: bytes, certificate: bytes) -> List[str]:
         return [str(triples.cause)] + empty
     fault = certificate_fault(triples, certificate)
     names = ["256-states"] if triples.states == MAX_STATES else []
+    grammar = good((t, n, table))
+    if kind_of(grammar) is not None:
+        names += dead_reasons(grammar, triples, certificate, fault)
+    names += told(grammar, MISREAD, lambda other: certificate_fault(other, certificate))
     if fault is None:
         return names + accepted_reasons(triples, certificate)
     if fault.cause == WRONG_LENGTH:
@@ -80,6 +99,43 @@ def accepted_reasons(triples: Triples, certificate: bytes) -> List[str]:
         ("accepted-over-60-states", triples.states > 60),
     ]
     return [name for name, holds in met if holds]
+
+
+def dead_reasons(
+    grammar: Grammar, triples: Triples, certificate: bytes, fault: Optional[Refusal]
+) -> List[str]:
+    """What dead rules are there, and what the check said before document 02's [3]."""
+    former, items = former_triples(grammar), dead_states(grammar)
+    before = certificate_fault(former, certificate)
+    assert fault is None or before is not None, "Certificates accepted so far are still accepted."
+    accepted, cause = fault is None, 0 if fault is None else fault.cause
+    held = held_indices(certificate) if accepted else []
+    holder = triple_at(triples.states, fault.position if fault else 0)
+    met = [
+        ("accepted-and-formerly-too", before is None),
+        ("accepted-though-formerly-refused", accepted and before is not None),
+        ("accepted-though-formerly-potential", accepted and is_potential(former)),
+        ("accepted-with-a-dead-item", any(
+            state in items for index in held for state in triple_at(triples.states, index)[1:])),
+        ("accepted-dead-rules-over-60-states", accepted and triples.states > 60),
+        ("12-of-a-potential-grammar-with-dead-rules",
+         cause == LAST_PRESENT and is_potential(triples)),
+        ("13-with-a-dead-item", cause == SUCCESSOR_MISSING
+         and (holder.left in items or holder.right in items)),
+        ("13-elsewhere-than-formerly", cause == SUCCESSOR_MISSING and before != fault),
+    ]
+    names = dead_rules.reasons_of(grammar) + [name for name, holds in met if holds]
+    if is_former_certificate(triples, former, certificate):
+        names.append("former-certificate-%s" % kind_of(grammar))
+    return names
+
+
+def is_former_certificate(triples: Triples, former: Triples, certificate: bytes) -> bool:
+    """Whether it is the smallest one before [3], of an unambiguous grammar, and is not so now."""
+    smallest = reached(former)
+    if is_potential(former) or smallest == reached(triples):
+        return False
+    return certificate == certificate_of(former.states, smallest)
 
 
 def length_reasons(triples: Triples, certificate: bytes) -> List[str]:

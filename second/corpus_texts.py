@@ -1,24 +1,31 @@
 """The texts that the program is tried with, in groups; they depend on the seed alone.
 
 The corpus, grown grammars, both damaged in one byte or cut, texts with one fault
-of each cause, texts of too many bytes or states, and texts with long readings.
+of each cause, texts of too many bytes or states, texts with long readings, and
+texts with rules that no sentence uses.
 """
 
 from functools import lru_cache
 from math import gcd
 from typing import Callable, Dict, Iterator, List, NamedTuple, Optional, Sequence, Tuple
 
+import dead_rules
 from case_files import Rng
+from case_grammars import good as good_grammar
 from corpus import entries, text_in
-from named_grammars import Named, join_lines, lines_of, long_names, text_of
+from dead_grammars import Rules, dead_named, dead_small, rules_of, telling_tables
+from dead_rules import KINDS, kind_of
+from live_misreadings import TOLD_BY_SEARCH, former_triples, found_by_search, told_by_search
+from named_grammars import Named, join_lines, lines_of, long_names, text_of, with_names
 from program import MAX_BYTES, MAX_STATES
 from random_tables import A, B, S, Rule, a
-from robot_grammars import grown, states_of
+from robot_grammars import grown, states_of, table_of
 from tables import (
     FIXED_STATES, MAX_LENGTH, MAX_NONTERMINALS, MAX_RULES, MAX_TERMINALS, Refusal,
 )
 from tables import MAX_STATES as MOST_STATES
 from text import MAX_NAME, Text, read_lines
+from triples import is_potential, triples_of
 
 SEED = 5
 MARKS = b"\x00\t\n\r ,-:=_aSz09\x7f\xff"    # bytes that part something, or seem to
@@ -279,6 +286,31 @@ def long_readings(rng: Rng) -> Iterator[bytes]:
         yield text_of(counting(rng))
 
 
+# Dead rules.
+
+def grown_live(rng: Rng) -> Named:
+    """A grown grammar all of whose rules are live, with room for some more."""
+    while True:
+        grammar = grown(rng, 4, MAX_STATES - 18)
+        if kind_of(good_grammar(table_of(grammar))) is None:
+            return grammar
+
+
+def text_with_names(rng: Rng, rules: Rules) -> bytes:
+    return text_of(with_names(rng, rules.t, rules.n, list(rules.rules)))
+
+
+def with_dead_rules(rng: Rng) -> Iterator[bytes]:
+    """Rules that no sentence uses, of each kind: in random grammars, and put into grown ones."""
+    for kind in KINDS:
+        for _ in range(24):
+            yield text_with_names(rng, dead_small(rng, kind))
+        for _ in range(16):
+            yield text_of(dead_named(rng, grown_live(rng), kind, MAX_STATES))
+    for table in telling_tables(rng, 8):
+        yield text_with_names(rng, rules_of(table))
+
+
 GROUPS: Dict[str, Callable[[Rng], Iterator[bytes]]] = {
     "corpus": of_the_corpus,
     "grown": grown_small,
@@ -292,6 +324,7 @@ GROUPS: Dict[str, Callable[[Rng], Iterator[bytes]]] = {
     "too-long": too_long,
     "faulty-large": faulty_large,
     "long-readings": long_readings,
+    "dead-rules": with_dead_rules,
 }
 
 
@@ -320,7 +353,11 @@ REASONS = ["unambiguous", "potential"] + ["refused-%d" % cause for cause in CAUS
     "of-4097-bytes",
     "of-48-states",
     "of-49-states",
-]
+] + dead_rules.REASONS + [
+    "unambiguous-formerly-potential",
+    "unambiguous-formerly-of-another-size",
+    "potential-formerly-with-other-readings",
+] + TOLD_BY_SEARCH
 
 
 def items_in(lines: Sequence[bytes]) -> int:
@@ -347,6 +384,23 @@ def reading_reasons(text: bytes, printed: bytes) -> List[str]:
     return [name for name, holds in met if holds]
 
 
+def dead_reasons(result: Text) -> List[str]:
+    """What dead rules a text with a verdict has, and what was printed before document 02's [3]."""
+    grammar = good_grammar((result.terminals, result.nonterminals, result.table))
+    told = list(told_by_search(grammar))
+    if kind_of(grammar) is None:
+        return told
+    former, triples = former_triples(grammar), triples_of(grammar)
+    potential, was_potential = is_potential(triples), is_potential(former)
+    same = found_by_search(former) == found_by_search(triples)
+    met = [
+        ("unambiguous-formerly-potential", was_potential and not potential),
+        ("unambiguous-formerly-of-another-size", not was_potential and not same),
+        ("potential-formerly-with-other-readings", potential and not same),
+    ]
+    return told + dead_rules.reasons_of(grammar) + [name for name, holds in met if holds]
+
+
 def reasons_of(text: bytes, printed: bytes) -> List[str]:
     """Every reason of REASONS that a text meets for which this is printed."""
     result = read_lines(text)
@@ -370,4 +424,7 @@ def reasons_of(text: bytes, printed: bytes) -> List[str]:
         ("of-49-states", states == MAX_STATES + 1),
     ] + [("refused-%d" % number, cause == number) for number in CAUSES]
     found = [name for name, holds in met if holds]
+    if not refused:
+        assert isinstance(result, Text)
+        found += dead_reasons(result)
     return found + (reading_reasons(text, printed) if "potential" in found else [])

@@ -5,7 +5,7 @@ from case_files import decode_all, digest
 TABLE = 1, 1, b"\x80\x00"
 TABLE_BYTES = b"\x01" + bytes(7) + b"\x01" + bytes(7) + b"\x02\0\0\0" + b"\x80\x00"
 
-WAY = 0, 2, 14, 16, 23, 45, 43      # a witness of S→S, Q = 6
+WAY = 0, 2, 18, 20, 29, 75, 73      # a witness of S→S; S→a, Q = 8
 
 
 class FileTests:

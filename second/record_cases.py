@@ -9,11 +9,12 @@ README.md beside this file has the layout of a case.
 import sys
 from typing import Iterator, List, NamedTuple, Sequence, Tuple
 
+import dead_rules
 from case_files import (
     LARGEST, TABLE_REASONS, Kind, Reader, Rng, accepted_or_refused, cases_of,
     encode_number, encode_table, main,
 )
-from case_grammars import triples_in
+from case_grammars import good, triples_in
 from certificates import Record, check_records, checked_triples, records_fault
 from tables import Refusal
 from triples import Triple, Triples
@@ -117,7 +118,7 @@ REASONS = ["accepted"] + TABLE_REASONS + [
     "15-first-record",
     "15-last-record",
     "15-inner-record",
-]
+] + dead_rules.REASONS
 
 
 def reasons_of(t: int, n: int, table: bytes, records: Sequence[Record]) -> List[str]:
@@ -126,14 +127,15 @@ def reasons_of(t: int, n: int, table: bytes, records: Sequence[Record]) -> List[
     if isinstance(triples, Refusal):
         return [str(triples.cause)]
     fault = records_fault(triples, [Triple(*record) for record in records])
+    dead = dead_rules.reasons_of(good((t, n, table)))
     if fault is None:
-        return ["accepted"]
+        return ["accepted"] + dead
     if len(records) == 0:
-        return ["15-no-records"]
+        return ["15-no-records"] + dead
     if fault.position == len(records):
-        return ["15-only-the-end-fails"]
+        return ["15-only-the-end-fails"] + dead
     met = refused_reasons(triples, records, fault.position)
-    return [name for name, holds in met if holds]
+    return [name for name, holds in met if holds] + dead
 
 
 def refused_reasons(
@@ -189,7 +191,7 @@ def decode_case(reader: Reader) -> Case:
 
 
 KIND = Kind(lambda: cases_of(GROUPS), encode_case, decode_case, answer,
-            REASONS, lambda case: reasons_of(*case))
+            REASONS, lambda case: reasons_of(*case), enough=dead_rules.ENOUGH)
 
 if __name__ == "__main__":
     sys.exit(main(__doc__, sys.argv[1:], KIND))

@@ -18,6 +18,7 @@ from case_files import (
 from corpus_texts import REASONS as TEXT_REASONS
 from corpus_texts import reasons_of as text_reasons_of
 from corpus_texts import samples, small
+from dead_rules import ENOUGH as ENOUGH_DEAD
 from program import TOO_MUCH, printed
 
 MAX_BYTES = 100000         # of a text
@@ -128,7 +129,7 @@ def decode_case(reader: Reader) -> Case:
 
 
 KIND = Kind(lambda: cases_of(GROUPS), encode_case, decode_case, answer, REASONS, reasons_of,
-            fewest=FEWEST)
+            fewest=FEWEST, enough=ENOUGH_DEAD)
 
 if __name__ == "__main__":
     sys.exit(main(__doc__, sys.argv[1:], KIND))

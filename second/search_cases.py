@@ -10,20 +10,26 @@ README.md beside this file has the layout of a case and of FOUND.
 import sys
 from typing import Iterator, List, NamedTuple, Optional, Sequence, Tuple
 
+import dead_rules
 from case_files import (
     TABLE_REASONS, Kind, Reader, Rng, cases_of, encode_number, encode_table, main,
     numbers, read_cases, refused,
 )
 from case_grammars import (
-    CLASSICS, ROWS, STATEMENTS, Table, faulty_tables, keywords, larger_random, operators,
-    rules_before_the_fault, small_random, some, states_of,
+    CLASSICS, ROWS, STATEMENTS, Table, faulty_tables, keywords, larger_random, largest_random,
+    operators, rules_before_the_fault, small_random, some, states_of,
 )
 from certificates import check_witness, checked_triples
+from dead_grammars import chains, dead_larger, dead_tables, telling_tables
+from dead_rules import KINDS, NO_SENTENCE, kind_of
 from derivations import used_rules
+from live_misreadings import (
+    MOST_STATES, TOLD_BY_SEARCH, former_triples, found_by_search, told_by_search,
+)
 from random_tables import encode
 from searches import Lent, Potential, Unambiguous, needed, search
 from tables import MAX_STATES, START, Grammar, Refusal, check_table
-from triples import is_potential, reached
+from triples import is_potential, reached, triples_of
 
 NAMES = Lent._fields      # certificate, queue, parents, witness
 
@@ -118,7 +124,7 @@ def larger(rng: Rng) -> Iterator[Case]:
 def largest(rng: Rng) -> Iterator[Case]:
     """Q = 256, the most that passes."""
     tables = [keywords(rng, count, MAX_STATES) for count in (22, 30, 50)]
-    for table in tables + [larger_random(rng, MAX_STATES)]:
+    for table in tables + [largest_random(rng)]:
         yield from exact_and_longer(rng, table)
         yield from too_short(rng, table)
 
@@ -132,23 +138,54 @@ def faulty(rng: Rng) -> Iterator[Case]:
 
 
 def many_ways(rng: Rng) -> Iterator[Case]:
-    """Triples whose successors are those of others too, on one side but not on the other."""
-    for table in [
-        (2, 2, encode([(128, bytes([129, 2, 128, 129])), (129, bytes([129, 128])),
-                       (129, bytes([128, 128, 128]))])),
-        (3, 3, encode([(129, bytes([3, 130])), (128, bytes([129, 129, 128, 128])), (128, b""),
-                       (129, bytes([130, 129, 129, 1]))])),
-        (2, 2, encode([(128, bytes([2, 129])), (128, bytes([128, 129, 129])),
-                       (128, bytes([128, 128])), (129, bytes([129, 128, 128, 129]))])),
-        (2, 3, encode([(128, bytes([1, 1, 130, 128])), (128, b""),
-                       (129, bytes([1, 2, 129, 128])), (129, bytes([1, 128, 130, 128]))])),
+    """Triples whose successors are those of others too, on one side but not on the other.
+
+    Each has dead rules, and once more with rules by which all are live.
+    """
+    for (t, n, rules), more in [
+        ((2, 2, [(128, bytes([129, 2, 128, 129])), (129, bytes([129, 128])),
+                 (129, bytes([128, 128, 128]))]), [(128, b"")]),
+        ((3, 3, [(129, bytes([3, 130])), (128, bytes([129, 129, 128, 128])), (128, b""),
+                 (129, bytes([130, 129, 129, 1]))]), [(130, b"")]),
+        ((2, 2, [(128, bytes([2, 129])), (128, bytes([128, 129, 129])),
+                 (128, bytes([128, 128])), (129, bytes([129, 128, 128, 129]))]), [(129, b"")]),
+        ((2, 3, [(128, bytes([1, 1, 130, 128])), (128, b""), (129, bytes([1, 2, 129, 128])),
+                 (129, bytes([1, 128, 130, 128]))]), [(130, b""), (128, bytes([129]))]),
     ]:
-        yield from exact_and_longer(rng, table)
+        for row in (rules, rules + more, more + rules):
+            yield from exact_and_longer(rng, (t, n, encode(row)))
+
+
+def dead(rng: Rng) -> Iterator[Case]:
+    """Small grammars with dead rules, and chains, lent exactly enough or more."""
+    for table in list(dead_tables(rng, 70)) + list(chains(rng, (2, 9))):
+        yield rng.choice(list(exact_and_longer(rng, table)))
+
+
+def telling(rng: Rng) -> Iterator[Case]:
+    """Small grammars of which each misreading of [3] has another verdict, set or witness."""
+    for table in telling_tables(rng, 25):
+        yield rng.choice(list(exact_and_longer(rng, table)))
+
+
+def dead_short(rng: Rng) -> Iterator[Case]:
+    """The same, lent too little."""
+    for table in dead_tables(rng, 8):
+        yield from too_short(rng, table)
+        yield rng.choice(list(short_and_empty(rng, table)))
+
+
+def dead_and_larger(rng: Rng) -> Iterator[Case]:
+    """Dead rules in grammars of Q from 60 to 256."""
+    tables = [dead_larger(rng, kind, states)
+              for kind in KINDS for states in (88, 97, 106, 115, 124, MAX_STATES)]
+    for table in tables + list(chains(rng, (97,))):
+        yield rng.choice(list(exact_and_longer(rng, table)))
 
 
 GROUPS = [
     rows_and_classics, random_grammars, random_short, much_longer, larger, largest, faulty,
-    many_ways,
+    many_ways, dead, telling, dead_short, dead_and_larger,
 ]
 
 
@@ -182,7 +219,19 @@ REASONS = TABLE_REASONS + [
     "unambiguous-without-a-rule-of-S",
     "unambiguous-with-layer-1",
     "256-states",
-]
+] + dead_rules.REASONS + [
+    "unambiguous-dead-" + kind for kind in KINDS
+] + [
+    "potential-dead-" + kind for kind in KINDS if kind != NO_SENTENCE
+] + [
+    "14-with-dead-rules",
+    "unambiguous-formerly-potential",
+    "unambiguous-formerly-of-another-size",
+    "unambiguous-formerly-of-the-same-set",
+    "potential-formerly-with-another-witness",
+    "potential-formerly-with-the-same-witness",
+    "over-60-states-with-dead-rules",
+] + TOLD_BY_SEARCH
 
 
 def reasons_of(case: Case) -> List[str]:
@@ -197,7 +246,10 @@ def reasons_of(case: Case) -> List[str]:
     else:
         met = found_reasons(case, grammar, result)
     met.append(("256-states", grammar.states == MAX_STATES))
-    return [name for name, holds in met if holds]
+    if kind_of(grammar) is not None:
+        met += dead_reasons(grammar, result)
+    found = [name for name, holds in met if holds]
+    return found if isinstance(result, Refusal) else found + list(told_by_search(grammar))
 
 
 def short_reasons(case: Case, grammar: Grammar) -> List[Tuple[str, bool]]:
@@ -235,6 +287,36 @@ def found_reasons(case: Case, grammar: Grammar, result) -> List[Tuple[str, bool]
     return [(verdict + name, holds) for name, holds in met] + [
         ("unambiguous-without-a-rule-of-S", unambiguous and not opens(grammar)),
         ("unambiguous-with-layer-1", unambiguous and has_layer_1(grammar, result)),
+    ]
+
+
+def dead_reasons(grammar: Grammar, result) -> List[Tuple[str, bool]]:
+    """What dead rules are there, and what the verdict is."""
+    kind = kind_of(grammar)
+    if isinstance(result, Refusal):
+        return [("dead-%s" % kind, True), ("14-with-dead-rules", True)]
+    unambiguous = isinstance(result, Unambiguous)
+    met = [
+        ("dead-%s" % kind, True),
+        ("%s-dead-%s" % ("unambiguous" if unambiguous else "potential", kind), True),
+        ("over-60-states-with-dead-rules", grammar.states > 60),
+    ]
+    return met + former_reasons(grammar, unambiguous)
+
+
+def former_reasons(grammar: Grammar, unambiguous: bool) -> List[Tuple[str, bool]]:
+    """What the search said of a small grammar before document 02's [3]."""
+    if grammar.states > MOST_STATES:
+        return []
+    former = former_triples(grammar)
+    was_potential = is_potential(former)
+    same = found_by_search(former) == found_by_search(triples_of(grammar))
+    return [
+        ("unambiguous-formerly-potential", unambiguous and was_potential),
+        ("unambiguous-formerly-of-another-size", unambiguous and not was_potential and not same),
+        ("unambiguous-formerly-of-the-same-set", unambiguous and same),
+        ("potential-formerly-with-another-witness", not unambiguous and not same),
+        ("potential-formerly-with-the-same-witness", not unambiguous and same),
     ]
 
 
@@ -303,7 +385,8 @@ def decode_case(reader: Reader) -> Case:
     return Case(t, n, table, Lent(*reader.numbers(len(NAMES))), reader.take(1)[0])
 
 
-KIND = Kind(lambda: cases_of(GROUPS), encode_case, decode_case, answer, REASONS, reasons_of)
+KIND = Kind(lambda: cases_of(GROUPS), encode_case, decode_case, answer, REASONS, reasons_of,
+            enough=dead_rules.ENOUGH)
 
 
 def run(words: Sequence[str]) -> int:

@@ -7,22 +7,26 @@ README.md beside this file has the layout of a case.
 """
 
 import sys
-from typing import Iterator, List, NamedTuple, Tuple
+from typing import Iterator, List, NamedTuple, Sequence, Tuple
 
+import dead_rules
 from case_files import (
     LARGEST, TABLE_REASONS, Kind, Reader, Rng, cases_of, encode_number, encode_table,
     main, refused,
 )
 from case_grammars import (
-    CLASSICS, ONE_A, ROWS, STATEMENTS, Table, faulty_tables, keywords, larger_random,
+    CLASSICS, ONE_A, ROWS, STATEMENTS, Table, faulty_tables, good, keywords, larger_random,
     operators, some, triples_in,
 )
 from certificates import checked_triples
+from dead_grammars import chains, dead_larger, dead_tables
+from dead_rules import KINDS, dead_states
+from live_misreadings import MISREAD, TOLD, WRONG_STEPS, former_triples, told, wrong_steps
 from random_tables import encode
-from tables import MAX_STATES, START, Refusal
+from tables import MAX_STATES, START, Grammar, Refusal
 from triples import (
     CLOSING, OPENING, STILL, SYMBOL, Move, Step, Triple, Triples, in_range,
-    reached, steps, triple_at,
+    index_of, reached, steps, triple_at, triples_of,
 )
 
 LETTERS = {OPENING: "o", CLOSING: "c", SYMBOL: "s"}
@@ -87,6 +91,38 @@ def busy_triple(rng: Rng, triples: Triples) -> Triple:
     return max(found, key=lambda triple: len(steps(triples.automaton, triple)))
 
 
+def dead_small(rng: Rng) -> Iterator[Case]:
+    """Every triple of small grammars with dead rules."""
+    for table in dead_tables(rng, 3, lambda grammar: grammar.states <= 11):
+        yield from all_of(table)
+
+
+def dead(rng: Rng) -> Iterator[Case]:
+    """Triples with items of dead rules on one side or both, and others, of larger grammars."""
+    tables = list(dead_tables(rng, 18)) + list(chains(rng, (2, 9, 97)))
+    tables += [dead_larger(rng, kind, states) for kind in KINDS for states in (90, MAX_STATES)]
+    for table in tables:
+        items, others = sorted(dead_states(good(table))), live_states(good(table))
+        for _ in range(3):
+            for left, right in ((items, others), (others, items), (items, items), (others, others)):
+                yield Case(*table, changed_triple(rng, table, left or others, right or others))
+
+
+def live_states(grammar: Grammar) -> List[int]:
+    """The states that are no items of dead rules."""
+    return [state for state in range(grammar.states) if state not in dead_states(grammar)]
+
+
+def changed_triple(
+    rng: Rng, table: Table, lefts: Sequence[int], rights: Sequence[int]
+) -> Triple:
+    """Of some triples of such states the one that lost the most records by [3]."""
+    triples, former = triples_in(table), former_triples(good(table))
+    found = [Triple(rng.randrange(2), rng.choice(lefts), rng.choice(rights)) for _ in range(6)]
+    return max(found, key=lambda triple: len(steps(former.automaton, triple))
+               - len(steps(triples.automaton, triple)))
+
+
 def many_closings(rng: Rng) -> Iterator[Case]:
     """Ends of A→ and A→A, which close to every item just past an A, 6 to 39 of them."""
     for past in range(5, 39, 3):
@@ -131,7 +167,7 @@ def faulty(rng: Rng) -> Iterator[Case]:
     yield Case(128, *ONE_A[1:], Triple(LARGEST, LARGEST, LARGEST))
 
 
-GROUPS = [rows, small, larger, many_closings, out_of_range, faulty]
+GROUPS = [rows, small, larger, many_closings, out_of_range, faulty, dead_small, dead]
 
 
 # Answers.
@@ -192,7 +228,16 @@ REASONS = TABLE_REASONS + sorted(SHOWN.values()) + [
     "out-of-range-left",
     "out-of-range-right",
     "out-of-range-though-its-index-is-below-2QQ",
-]
+] + dead_rules.REASONS + ["no-" + name for name in WRONG_STEPS] + [
+    "dead-item-left-only",
+    "dead-item-right-only",
+    "dead-items-on-both-sides",
+    "a-dead-item-beside-one-that-moves",
+    "a-dead-item-does-not-open",
+    "a-dead-item-does-not-close",
+    "a-dead-item-does-not-shift",
+    "no-parting-beside-a-dead-item-before-a-terminal",
+] + list(TOLD.values())
 
 
 def reasons_of(case: Case) -> List[str]:
@@ -205,7 +250,10 @@ def reasons_of(case: Case) -> List[str]:
         return [name for name, holds in met if holds]
     met += record_reasons(triples, case.triple)
     met += quiet_reasons(triples, case.triple)
-    return [name for name, holds in met if holds]
+    grammar = good((case.t, case.n, case.table))
+    met += dead_reasons(grammar, case.triple)
+    return [name for name, holds in met if holds] + dead_rules.reasons_of(grammar) + told(
+        grammar, MISREAD, lambda other: steps(other.automaton, case.triple))
 
 
 def range_reasons(triples: Triples, triple: Triple) -> List[Tuple[str, bool]]:
@@ -267,6 +315,32 @@ def quiet_reasons(triples: Triples, triple: Triple) -> List[Tuple[str, bool]]:
     ]
 
 
+def dead_reasons(grammar: Grammar, triple: Triple) -> List[Tuple[str, bool]]:
+    """On which sides the items of dead rules are, and what they no longer do."""
+    former, items = former_triples(grammar), dead_states(grammar)
+    left, right = (state in items for state in triple[1:])
+    lost = [move for step in steps(former.automaton, triple)
+            for state, move in zip(triple[1:], step[1:]) if state in items]
+    index = index_of(former.states, triple)
+    wrong = {name for after in former.successors(index)
+             for name in wrong_steps(grammar, index, after)}
+    automaton = triples_of(grammar).automaton
+    sides = (triple.left, triple.right), (triple.right, triple.left)
+    beside = any(automaton.closings[one] and other in items
+                 and former.automaton.before_terminal[other] for one, other in sides)
+    return [("no-" + name, True) for name in sorted(wrong)] + [
+        ("dead-item-left-only", left and not right),
+        ("dead-item-right-only", right and not left),
+        ("dead-items-on-both-sides", left and right),
+        ("a-dead-item-beside-one-that-moves",
+         (left or right) and bool(steps(automaton, triple))),
+        ("a-dead-item-does-not-open", OPENING in (move[0] for move in lost)),
+        ("a-dead-item-does-not-close", CLOSING in (move[0] for move in lost)),
+        ("a-dead-item-does-not-shift", SYMBOL in (move[0] for move in lost)),
+        ("no-parting-beside-a-dead-item-before-a-terminal", triple.layer == 0 and beside),
+    ]
+
+
 # Files.
 
 def encode_case(case: Case) -> bytes:
@@ -279,7 +353,8 @@ def decode_case(reader: Reader) -> Case:
     return Case(*reader.table(), Triple(*reader.numbers(3)))
 
 
-KIND = Kind(lambda: cases_of(GROUPS), encode_case, decode_case, answer, REASONS, reasons_of)
+KIND = Kind(lambda: cases_of(GROUPS), encode_case, decode_case, answer, REASONS, reasons_of,
+            enough=dead_rules.ENOUGH)
 
 if __name__ == "__main__":
     sys.exit(main(__doc__, sys.argv[1:], KIND))

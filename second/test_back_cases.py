@@ -12,7 +12,8 @@ from text import MAX_TEXT
 
 FRONT = b"terminals=a,b\nnonterminals=S,Ab\n"
 TEXT = FRONT + b"rule=S: a Ab\nrule=Ab:\n"      # rules 0, 1 and 2
-CYCLE = b"terminals=\nnonterminals=S\nrule=S: S\n"
+CYCLE = b"terminals=a\nnonterminals=S\nrule=S: S\nrule=S: a\n"
+ENDLESS = b"terminals=\nnonterminals=S\nrule=S: S\n"
 AMPLE = LentStrings(99, 99)
 NONE = LentStrings(0, 0)
 
@@ -24,7 +25,7 @@ def two(left, right=b""):
 
 class FileTest(FileTests, unittest.TestCase):
     KIND = KIND
-    DIGEST = "11da37fc8534c4fb8797ccc31051404a8251a747e726b6a09111a8f8289ee569"
+    DIGEST = "03c73f199a5de491b124e96f74ef701a973d20f77fd16b695128d02191b48187"
     CASE = Case(b"ab", b"left=\n", LentStrings(258, 3))
     BYTES = b"\2\0\0\0ab" + b"\6\0\0\0left=\n" + b"\2\1\0\0" + b"\3\0\0\0"
 
@@ -87,11 +88,18 @@ class ReasonsTest(unittest.TestCase):
         self.reasons(two(b"", b"b (2"), "read-only-left-empty", "read-the-last-rule",
                      "read-a-terminal", "read-not-opened-first", *longer)
         self.reasons(two(b"(0 S )0", b"(0 (1 S )1 )0"), "read", "read-what-the-program-adds",
-                     "read-rule-0", "read-the-last-rule", "read-a-nonterminal",
-                     "read-rows-exactly-enough", text=CYCLE, lent=LentStrings(3, 5))
+                     "read-rule-0", "read-a-nonterminal", "read-rows-exactly-enough",
+                     text=CYCLE, lent=LentStrings(3, 5))
+        self.reasons(two(b"(0 S )0", b"(0 (1 S )1 )0"), "read", "read-rule-0",
+                     "read-the-last-rule", "read-a-nonterminal", "read-rows-exactly-enough",
+                     "read-a-dead-rule", "read-rule-0-without-a-sentence",
+                     text=ENDLESS, lent=LentStrings(3, 5))
+        self.reasons(two(b"(0 (3", b""), "read-only-right-empty", "read-rule-0",
+                     "read-the-last-rule", "read-a-dead-rule", *longer,
+                     text=b"terminals=\nnonterminals=S,U\nrule=S:\nrule=S: S\nrule=U:\n")
         self.reasons(two(b" ".join([b"S"] * 72), b""), "read-only-right-empty",
                      "read-a-nonterminal", "read-more-letters-than-a-witness-has",
-                     "read-not-opened-first", *longer, text=CYCLE)
+                     "read-not-opened-first", *longer, text=ENDLESS)
         self.reasons(two(b"0 " + b"x" * 15, b""), "read-only-right-empty", "read-a-terminal",
                      "read-a-nonterminal", "read-a-name-of-15", "read-a-name-of-digits",
                      "read-not-opened-first", *longer,

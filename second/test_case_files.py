@@ -13,12 +13,12 @@ from case_files import (
 from tables import Refusal
 
 
-def kind(count):
+def kind(count, **enough):
     """Cases 0, 1, ... of which each says whether it is even."""
     return Kind(
         lambda: cases_of([lambda rng: iter(range(count)), lambda rng: iter([0, 1])]),
         encode_number, lambda reader: reader.number(), str, ["even", "odd"],
-        lambda case: ["odd" if case % 2 else "even"])
+        lambda case: ["odd" if case % 2 else "even"], enough=enough)
 
 
 class BytesTest(unittest.TestCase):
@@ -47,14 +47,14 @@ class BytesTest(unittest.TestCase):
 
 
 class VerbsTest(unittest.TestCase):
-    def run_verbs(self, count):
+    def run_verbs(self, count, **enough):
         """Exit code, what it complains of, the answers and the counts."""
         with tempfile.TemporaryDirectory() as folder:
             cases, out, counts = (os.path.join(folder, name) for name in "abc")
             errors = StringIO()
             with redirect_stderr(errors):
-                self.assertEqual(main("usage", ["cases", cases], kind(count)), 0)
-                code = main("usage", ["answers", cases, out, counts], kind(count))
+                self.assertEqual(main("usage", ["cases", cases], kind(count, **enough)), 0)
+                code = main("usage", ["answers", cases, out, counts], kind(count, **enough))
             with open(out, "rb") as file, open(counts, "rb") as other:
                 return code, errors.getvalue(), file.read(), other.read()
 
@@ -68,6 +68,11 @@ class VerbsTest(unittest.TestCase):
         code, errors, _, counts = self.run_verbs(39)
         self.assertEqual((code, errors), (1, "fewer than 20 cases: odd\n"))
         self.assertEqual(counts, b"even 20\nodd 19\ncases 39\n")
+
+    def test_more_for_one_reason(self):
+        self.assertEqual(self.run_verbs(40, even=20)[:2], (0, ""))
+        self.assertEqual(self.run_verbs(40, even=21)[:2], (1, "fewer than 21 cases: even\n"))
+        self.assertEqual(self.run_verbs(38, odd=19)[:2], (1, "fewer than 20 cases: even\n"))
 
     def test_other_words(self):
         with redirect_stderr(StringIO()) as errors:

@@ -2,10 +2,10 @@
 
 import unittest
 
-from case_files import Rng
-from case_grammars import CYCLE, ONE_A, ROWS, triples_in
+from case_files import Rng, cases_of
+from case_grammars import COURSE, CYCLE, ENDLESS, ONE_A, ROWS, spelled, triples_in
 from certificate_cases import (
-    KIND, Case, answer, closed_superset, flipped, smallest,
+    KIND, Case, answer, closed_superset, flipped, former, former_smallest, smallest,
 )
 from certificate_reasons import REASONS, reasons_of
 from file_tests import TABLE, TABLE_BYTES, FileTests
@@ -17,7 +17,7 @@ EMPTY = ROWS[1]           # S→, Q = 5: bits 50 to 55 are spare
 
 class FileTest(FileTests, unittest.TestCase):
     KIND = KIND
-    DIGEST = "96b0c5b6fb65a22c40575fac286374f8d12d90f3aa7c136a62e5f8199de51b53"
+    DIGEST = "9e221d5def2ed9fbfdd0f498cd25e78fd1d4faa400e0af1a663538671340a3a3"
     CASE = Case(*TABLE, b"\x15\x50\x21")
     BYTES = TABLE_BYTES + b"\x03\0\0\0" + b"\x15\x50\x21"
 
@@ -100,6 +100,41 @@ class ReasonsTest(unittest.TestCase):
                      "13-missing-index-below-its-holder")
         self.reasons(ONE_A, flipped(smallest(ONE_A), 33, 67), "13-parting-missing",
                      "13-missing-index-above-its-holder", "13-lowest-of-several")
+
+    def test_dead_rules(self):
+        taken = ["told-from-every-rule-is-taken", "told-from-unproductive-rules-are-taken"]
+        self.reasons(COURSE, smallest(COURSE), "accepted-smallest", "dead-unproductive",
+                     "accepted-though-formerly-refused", "accepted-though-formerly-potential",
+                     "told-from-dead-items-are-entered", *taken)
+        # (1,9,9) is A→A· on both sides.
+        self.reasons(COURSE, flipped(smallest(COURSE), 199), "accepted-larger",
+                     "dead-unproductive", "accepted-with-a-dead-item",
+                     "accepted-though-formerly-refused", "accepted-though-formerly-potential",
+                     "told-from-dead-items-are-entered", "told-from-dead-items-move", *taken)
+        # (0,2,6) opens rule 1 on its left.
+        self.reasons(COURSE, flipped(smallest(COURSE), 26), "13-with-a-dead-item",
+                     "13-opening-or-shift-of-layer-0-missing", "dead-unproductive",
+                     "13-missing-index-above-its-holder", "13-elsewhere-than-formerly",
+                     "told-from-dead-items-are-entered", *taken)
+        self.reasons(COURSE, former_smallest(COURSE), "12", "dead-unproductive")
+
+    def test_former_certificates(self):
+        unreachable = spelled("S: a S |", "U: S")
+        self.reasons(unreachable, former_smallest(unreachable), "accepted-larger",
+                     "dead-unreachable", "former-certificate-unreachable",
+                     "accepted-and-formerly-too", "accepted-with-a-dead-item")
+        self.reasons(ROWS[0], former_smallest(ROWS[0]), "accepted-larger", "dead-no-sentence",
+                     "former-certificate-no-sentence", "accepted-and-formerly-too",
+                     "accepted-with-a-dead-item")
+        self.reasons(ENDLESS, former_smallest(ENDLESS), "12", "dead-no-sentence")
+
+    def test_every_former_certificate_is_accepted(self):
+        count = 0
+        for case in cases_of([former]):
+            if any(name.startswith("former-certificate-") for name in reasons_of(*case)):
+                count += 1
+                self.assertEqual(answer(case), "accepted")
+        self.assertGreater(count, 250)
 
 
 if __name__ == "__main__":

@@ -1,17 +1,22 @@
 """Tests of certificates.py: document 01's five cases, each refusal, both witness checks."""
 
+import random
 import unittest
 
 from case_files import cases_of
 from case_grammars import (
-    CLASSICS, CYCLE, LEFT_LIST, NESTED, ONE_A, ONE_A_BYTES, ROWS, spelled, triples_in,
+    CLASSICS, COURSE, CYCLE, ENDLESS, LEFT_LIST, NESTED, ONE_A, ONE_A_BYTES, ROWS, good,
+    spelled, triples_in,
 )
-from certificate_cases import flipped, smallest
-from certificates import check_certificate, check_records, check_witness
+from certificate_cases import closed_superset, flipped, former_smallest, had_another, smallest
+from certificates import certificate_fault, check_certificate, check_records, check_witness
+from dead_grammars import dead_tables
+from live_misreadings import former_triples
 from misreadings import NAMES, misread_indices
+from small_grammars import every_table
 from tables import Refusal
-from triples import certificate_of, reached, triple_at
-from ways import largest_set, shortest
+from triples import certificate_of, held_indices, is_potential, reached, triple_at
+from ways import largest_set, shortest, way_to
 from witness_cases import cut, extended, first_entries, wrong_entries
 
 TWO_WAYS = ROWS[8]        # S→A; S→B; A→; B→, Q = 10
@@ -50,9 +55,9 @@ class DocumentTest(CertificateTest):
             self.refused(table, flipped(right, 162), 10, 162)
 
     def test_smallest_sets_of_the_rows(self):
-        for row in ROWS[:5] + ROWS[9:]:
+        for row in ROWS[:6] + ROWS[9:]:
             self.accepted(row, smallest(row))
-        for row in ROWS[5:9]:
+        for row in ROWS[6:9]:
             self.refused(row, smallest(row), 12, triples_in(row).last)
 
 
@@ -98,16 +103,101 @@ class FaultsTest(CertificateTest):
 
     def test_larger_closed_sets_are_accepted(self):
         self.accepted(ONE_A, flipped(ONE_A_BYTES, 7))   # (0,1,1), no successors
-        for row in ROWS[:5]:
+        for row in ROWS[:6]:
             triples = triples_in(row)
             self.accepted(row, certificate_of(triples.states, largest_set(triples)))
 
     def test_nothing_is_accepted_for_a_potential_grammar(self):
         triples = triples_in(CYCLE)
         without = reached(triples) - {triples.last}
-        fault = check_certificate(*CYCLE, certificate_of(6, without))
+        fault = check_certificate(*CYCLE, certificate_of(triples.states, without))
         self.assertEqual(fault.cause, 13)
         self.assertIn(triples.last, triples.successors(fault.position))
+
+
+class LiveTest(CertificateTest):
+    """Document 02, [3]."""
+
+    def test_the_course(self):
+        # Q = 10: (0,0,0) (0,0,2) (0,0,4) (0,2,0) and so on, those of S→a
+        held = [0, 2, 4, 20, 22, 24, 33, 40, 42, 44, 55]
+        self.accepted(COURSE, certificate_of(10, held))
+        self.assertEqual(smallest(COURSE), certificate_of(10, held))
+
+    def test_without_a_sentence(self):
+        for table in (ROWS[0], ENDLESS):
+            right = smallest(table)
+            self.assertEqual(held_indices(right), [0])
+            self.accepted(table, right)
+            for index in range(1, triples_in(table).count):
+                if index != triples_in(table).last:
+                    self.accepted(table, flipped(right, index))
+            self.refused(table, flipped(right, 0), 11, 0)
+            self.refused(table, flipped(right, triples_in(table).last), 12, triples_in(table).last)
+
+    def test_items_of_dead_rules_need_no_successors(self):
+        # 4 and 5 S→a, 6 to 8 S→a W, 9 and 10 W→W; Q = 11
+        table = spelled("S: a | a W", "W: W")
+        right = smallest(table)
+        for triple in ((0, 6, 6), (0, 5, 6), (0, 6, 5), (1, 9, 9), (0, 8, 6)):
+            layer, left, p = triple
+            self.accepted(table, flipped(right, (layer * 11 + left) * 11 + p))
+        # (0,2,6) opens rule 1 on its left: (0,4,6); (1,5,6) closes it: (1,3,6), (1,1,6).
+        self.refused(table, flipped(right, 2 * 11 + 6), 13, 28)
+        self.accepted(table, flipped(right, 2 * 11 + 6, 4 * 11 + 6))
+        self.refused(table, flipped(right, 121 + 61), 13, 182)
+        self.accepted(table, flipped(right, 121 + 61, 121 + 39, 121 + 17))
+
+
+class FormerTest(CertificateTest):
+    """"Certificates accepted so far are still accepted." """
+
+    def test_smallest_and_larger_ones(self):
+        rng = random.Random(1)
+        for table in dead_tables(rng, 30, had_another):
+            former = former_triples(good(table))
+            self.assertNotEqual(former_smallest(table), smallest(table))
+            self.accepted(table, former_smallest(table))
+            self.accepted(table, certificate_of(former.states, largest_set(former)))
+            for adding in (1, 2, 5, 20):
+                self.accepted(table, closed_superset(rng, former, adding))
+
+    def test_document_01s_certificate_without_rules(self):
+        self.assertEqual(held_indices(former_smallest(ROWS[0])), [0, 2, 8, 10, 15])
+        self.accepted(ROWS[0], former_smallest(ROWS[0]))
+
+    def test_every_certificate_without_rules(self):
+        """Q = 4: every set of triples of layer 0 with (0,0,0) in it."""
+        triples, former = triples_in(ROWS[0]), former_triples(good(ROWS[0]))
+        count = 0
+        for bits in range(1, 1 << 16, 2):
+            certificate = bits.to_bytes(4, "little")
+            if certificate_fault(former, certificate) is None:
+                count += 1
+                self.assertIsNone(certificate_fault(triples, certificate))
+        self.assertEqual(count, 648)
+
+    def test_random_sets(self):
+        rng = random.Random(2)
+        formerly = now = 0
+        for table in list(every_table(1, 2, 9))[::5] + list(dead_tables(rng, 10)):
+            triples, former = triples_in(table), former_triples(good(table))
+            for _ in range(6):
+                base = rng.choice([smallest(table), former_smallest(table)])
+                held = [rng.randrange(triples.count) for _ in range(rng.randrange(3))]
+                certificate = flipped(base, *set(held) - {triples.last})
+                now += certificate_fault(triples, certificate) is None
+                if certificate_fault(former, certificate) is None:
+                    formerly += 1
+                    self.accepted(table, certificate)
+        self.assertGreater(formerly, 150)
+        self.assertGreater(now, formerly + 150)
+
+    def test_accepted_for_what_was_potential(self):
+        for table in (COURSE, ENDLESS):
+            self.assertTrue(is_potential(former_triples(good(table))))
+            self.accepted(table, smallest(table))
+            self.refused(table, former_smallest(table), 12, triples_in(table).last)
 
 
 class WitnessTest(unittest.TestCase):
@@ -133,7 +223,7 @@ class WitnessTest(unittest.TestCase):
     def test_accepted(self):
         self.accepted(TWO_WAYS, self.WAY)
         self.assertEqual(len(shortest(triples_in(TWO_WAYS))), len(self.WAY))
-        for row in ROWS[5:9]:
+        for row in ROWS[6:9]:
             self.accepted(row, shortest(triples_in(row)))
 
     def test_only_the_end_fails(self):
@@ -166,18 +256,35 @@ class WitnessTest(unittest.TestCase):
         self.refused(TWO_WAYS, self.WAY[:7] + [187] + self.WAY[8:], 7)
 
     def test_repeated_triples(self):
-        # S→S, 4 and 5 S→·S, S→S·: (0,2,4), index 16, opens to itself and
-        # (1,1,5), index 47, closes to itself; (0,0,2), index 2, does not.
-        self.accepted(CYCLE, [0, 2, 14, 16, 23, 45, 43])
-        self.accepted(CYCLE, [0, 2, 14, 16, 16, 16, 23, 47, 47, 45, 43])
-        self.refused(CYCLE, [0, 2, 2, 14, 16, 23, 45, 43], 2)
-        self.refused(CYCLE, [0, 2, 14, 16, 23, 45, 45, 43], 6)
+        # S→S; S→a, 4 and 5 S→·S, S→S·: (0,2,4), index 20, opens to itself and
+        # (1,1,5), index 77, closes to itself; (0,0,2), index 2, does not.
+        self.accepted(CYCLE, [0, 2, 18, 20, 29, 75, 73])
+        self.accepted(CYCLE, [0, 2, 18, 20, 20, 20, 29, 77, 77, 75, 73])
+        self.refused(CYCLE, [0, 2, 2, 18, 20, 29, 75, 73], 2)
+        self.refused(CYCLE, [0, 2, 18, 20, 29, 75, 75, 73], 6)
 
     def test_unambiguous(self):
         self.refused(ONE_A, [], 0)
         self.refused(ONE_A, [0], 1)
         self.refused(ONE_A, [0, 2, 14, 21], 4)
         self.refused(ONE_A, [0, 2, 14, 21, 43], 4)
+
+    def test_without_a_sentence(self):
+        # What was the shortest witness of S→S, and its front.
+        self.refused(ENDLESS, [0, 2, 4, 16, 23, 45, 43], 1)
+        self.refused(ENDLESS, [0, 12], 1)
+        self.refused(ENDLESS, [0], 1)
+        self.refused(ENDLESS, [], 0)
+
+    def test_steps_to_items_of_dead_rules(self):
+        # Q = 10: S→A is 6 and 7; (0,2,2), index 22, to (0,2,6) and (0,6,2).
+        self.refused(COURSE, [0, 2, 22, 26], 3)
+        self.refused(COURSE, [0, 2, 22, 62], 3)
+        self.refused(COURSE, [0, 2, 6], 2)
+        former = former_triples(good(COURSE))
+        way = shortest(former)
+        self.assertEqual(way, way_to(former, former.last))
+        self.assertEqual(check_witness(*COURSE, way).cause, 15)
 
     def test_table_faults_come_first(self):
         for entries in ([], [0], self.WAY):
@@ -221,8 +328,8 @@ class MisreadingsTest(unittest.TestCase):
         self.refused(["S: a S | b S |"], [0, 2, 24, 32, 120, 121 + 66 + 9], 5)
 
     def test_layer_1_without_the_closing_move(self):
-        # S→S: (0,5,3), index 33, closes 1 and 0; (1,5,3) has not moved.
-        self.refused(["S: S"], [0, 2, 14, 26, 33, 36 + 33], 5)
+        # S→S; S→a: (0,5,3), index 43, closes 1 and 0; (1,5,3) has not moved.
+        self.refused(["S: S | a"], [0, 2, 18, 34, 43, 64 + 43], 5)
 
     def test_an_opening_is_no_parting(self):
         # S→S a | a: Q = 9; (0,2,2), index 20, to (1,2,4), not to (0,2,4).

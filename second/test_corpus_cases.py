@@ -16,6 +16,7 @@ from corpus import (
 )
 from corpus_cases import FEWEST, KIND, REASONS, compare_program, difference, reasons_of, run
 from corpus_texts import Sample, padded, padding, samples
+from dead_rules import kind_of
 from named_grammars import text_of
 from program import printed
 from robot_grammars import CHANGES, grow, grown, named, states_of, table_of
@@ -28,10 +29,10 @@ from text_read_inputs import EXAMPLE
 
 # SHA-256 of the file of cases, and of the program's texts, each after its length.
 DIGEST = "3f6f7857b7fd5a41260f8e5274a9bec9ab54a9aa77be4e1863daa207b3af88d9"
-TEXTS = "098f52fd11466533239f7ea91d7ca9d31b4f5b244e7086efb5aff98996fcfe8c"
+TEXTS = "17263f9ce7da594de0458cb4384e7296691533182e1877c27f40ca2618b134de"
 
 RIGHT = b"states=6\nverdict=unambiguous\nreached=11\n"
-CYCLE = b"states=6\nverdict=potential\nleft=(0 S )0\nright=(0 (1 S )1 )0\n"
+CYCLE = b"states=8\nverdict=potential\nleft=(0 S )0\nright=(0 (1 S )1 )0\n"
 
 
 class IndexTest(unittest.TestCase):
@@ -55,7 +56,17 @@ class IndexTest(unittest.TestCase):
         self.assertEqual([table_in(entry.name) for entry in rows], ROWS)
         self.assertEqual([entry.states for entry in rows], STATES)
         self.assertEqual([entry.size for entry in rows],
-                         [5, 10, 11, 24, 30, None, None, None, None, 82])
+                         [1, 10, 11, 24, 30, 1, None, None, None, 82])
+
+    def test_rules_that_no_sentence_uses(self):
+        """All of the corpus that have such rules, with their kind and size."""
+        found = [(entry.name, kind_of(good(table_in(entry.name))), entry.size)
+                 for entry in entries()]
+        self.assertEqual([one for one in found if one[1] is not None], [
+            ("row-none", "no-sentence", 1), ("row-cycle", "no-sentence", 1),
+            ("useless-unreached", "unreachable", 29), ("useless-endless", "unproductive", 11),
+            ("useless-alarm", "unproductive", 11), ("no-language", "no-sentence", 1),
+            ("no-language-both", "no-sentence", 1), ("no-start-rule", "no-sentence", 1)])
 
     def test_the_program_takes_some_and_not_others(self):
         outputs = [printed(text_in(entry.name)) for entry in entries()]
@@ -170,9 +181,16 @@ class GrownTest(unittest.TestCase):
 class PrintedTest(unittest.TestCase):
     def test_document_01(self):
         self.assertEqual(printed(EXAMPLE), RIGHT)
-        self.assertEqual(printed(text_in("row-cycle")), CYCLE)
+        self.assertEqual(printed(text_in("row-cycle-a")), CYCLE)
         self.assertEqual(printed(EXAMPLE[:-1]), b"refused=16\nat=3\n")
         self.assertEqual(printed(b""), b"refused=16\nat=1\n")
+
+    def test_rules_that_no_sentence_uses(self):
+        for name, states in [("row-none", 4), ("row-cycle", 6), ("no-start-rule", 7)]:
+            self.assertEqual(printed(text_in(name)),
+                             b"states=%d\nverdict=unambiguous\nreached=1\n" % states)
+        course = b"terminals=a\nnonterminals=S,A\nrule=S: a\nrule=S: A\nrule=A: A\n"
+        self.assertEqual(printed(course), b"states=10\nverdict=unambiguous\nreached=11\n")
 
     def test_too_many_states(self):
         self.assertTrue(printed(text_in("robot-48")).startswith(b"states=48\n"))
@@ -213,8 +231,13 @@ class TextsTest(unittest.TestCase):
     def test_reasons(self):
         for text, expected in [
             (EXAMPLE, ["unambiguous"]),
-            (text_in("row-cycle"), ["potential", "readings-with-a-nonterminal",
-                                    "readings-of-unequal-length"]),
+            (text_in("row-cycle-a"), ["potential", "readings-with-a-nonterminal",
+                                      "readings-of-unequal-length"]),
+            (text_in("row-cycle"), [
+                "unambiguous", "told-from-every-rule-is-taken",
+                "told-from-unproductive-rules-are-taken", "told-from-rule-0-is-always-taken",
+                "told-from-dead-items-are-entered", "dead-no-sentence",
+                "unambiguous-formerly-potential"]),
             (text_in("row-odd-a"), ["potential", "readings-with-a-terminal"]),
             (text_in("robot-48"), ["unambiguous", "of-48-states"]),
             (text_in("robot-49"), ["refused-14-states", "of-49-states"]),
@@ -258,7 +281,7 @@ class ProgramTest(unittest.TestCase):
             self.assertTrue(self.differs())
 
     def test_readings(self):
-        text = text_in("row-cycle")
+        text = text_in("row-cycle-a")
         right = CYCLE.decode("ascii").replace("\n", "\\n")
         self.script("printf '%s'" % right)
         self.assertFalse(self.differs(text))

@@ -12,6 +12,7 @@ from io import StringIO
 from case_grammars import ONE_A_BYTES
 from corpus import entries, found_in, text_in
 from judge import checked, run, verdict
+from live_misreadings import former_triples
 from places import place_of
 from printed import CHECKED, FORMS, PLAIN, Malformed, certificate_in, lines_of
 from program import printed
@@ -19,6 +20,7 @@ from searches import Unambiguous, needed, search
 from tables import Refusal
 from text import AMPLE, read_text
 from text_read_inputs import EXAMPLE
+from triples import certificate_of, reached
 
 # What bindings/README.md shows for document 01's example.
 LINES = (b"certificate-form=1\nstates=6\nrules=1\nsize=11\n"
@@ -51,6 +53,19 @@ class CertificateTest(unittest.TestCase):
         for text, found, certificate in certified():
             for form in FORMS:
                 self.assertEqual(checked(text, lines_of(found, certificate, form))[0], "accepted\n")
+
+    def test_certificates_from_before_dead_rules_lost_their_moves(self):
+        """Printed then for grammars of the corpus, with another size than now."""
+        sizes = {}
+        for name in ("row-none", "useless-unreached", "no-language", "no-language-both",
+                     "no-start-rule"):
+            found = found_in(text_in(name))
+            held = reached(former_triples(found.grammar))
+            sizes[name] = len(held)
+            for form in FORMS:
+                lines = lines_of(found, certificate_of(found.grammar.states, held), form)
+                self.assertEqual(checked(text_in(name), lines)[0], "accepted\n")
+        self.assertEqual(list(sizes.values()), [5, 31, 14, 22, 5])
 
     def test_lenient(self):
         found = found_in(EXAMPLE)
@@ -148,8 +163,11 @@ class RunTest(unittest.TestCase):
 
     def test_verdicts(self):
         self.assertEqual(self.run_with(EXAMPLE), (0, printed(EXAMPLE).decode(), ""))
-        cycle = text_in("row-cycle")
+        cycle = text_in("row-cycle-a")
         self.assertEqual(self.run_with(cycle), (1, printed(cycle).decode(), ""))
+        endless = text_in("row-cycle")
+        self.assertEqual(self.run_with(endless),
+                         (0, "states=6\nverdict=unambiguous\nreached=1\n", ""))
         fault = "0:1:1: the text ends here; line 1 begins with 'terminals='\n"
         self.assertEqual(self.run_with(b""), (1, "refused=16\nat=1\n", fault))
         self.assertEqual(self.run_with(b"", words=["--quiet"]), (1, "refused=16\nat=1\n", ""))

@@ -5,7 +5,10 @@ import re
 import unittest
 from itertools import product
 
-from case_grammars import CYCLE, ROWS, small_random, triples_in
+from case_grammars import CYCLE, ROWS, good, small_random, triples_in
+from dead_grammars import dead_small
+from dead_rules import KINDS
+from live import live_rules
 from named_grammars import figures_named, small_named, text_of, with_names
 from program import printed
 from random_tables import FIGURES, S, a, encode
@@ -83,7 +86,7 @@ class SidesTest(unittest.TestCase):
 
     def test_each_pair_has_one_record_and_both_strings_are_accepted(self):
         rng = random.Random(1)
-        tables = list(every_table(1, 2, 9)) + [small_random(rng) for _ in range(300)]
+        tables = list(every_table(1, 2, 10)) + [small_random(rng) for _ in range(300)]
         tried = 0
         for triples in map(triples_in, tables):
             witness = shortest_witness(triples)
@@ -99,7 +102,7 @@ class SidesTest(unittest.TestCase):
 
     def test_a_pair_without_one_record(self):
         triples = triples_in(CYCLE)
-        for entries in ([0, 1], [4 * 6 + 4] * 2):
+        for entries in ([0, 1], [4 * 8 + 4] * 2):
             with self.assertRaises(ValueError):
                 sides(triples, entries)
 
@@ -112,7 +115,7 @@ class LinesTest(unittest.TestCase):
     def test_the_other_potential_rows(self):
         lines = [lines_of(text_of(grammar)) for grammar in figures_named()]
         short = b"left=(0 S )0\nright=(0 (1 S )1 )0\n"
-        self.assertEqual(lines[5:7], [short, short])
+        self.assertEqual(lines[5:7], [b"", short])
         self.assertEqual(
             lines[8], b"left=(0 (2 (4 )4 )2 )0\nright=(0 (1 (3 )3 )1 )0\n")
 
@@ -130,6 +133,13 @@ class LinesTest(unittest.TestCase):
         lengths = b"".join(b"rule=S:%s\n" % (b" a" * k) for k in range(1, 11))
         text = FRONT + lengths + b"rule=S: S\n"
         self.assertEqual(lines_of(text), b"left=(0 S )0\nright=(0 (11 S )11 )0\n")
+
+    def test_dead_rules(self):
+        course = FRONT + b"rule=S: a\nrule=S: A\nrule=A: A\n"
+        self.assertEqual(lines_of(course), b"")
+        self.assertEqual(printed(course), b"states=10\nverdict=unambiguous\nreached=11\n")
+        cycle = FRONT + b"rule=S: S A\nrule=A: A\nrule=S: S\nrule=S: a\n"
+        self.assertEqual(lines_of(cycle), b"left=(0 S )0\nright=(0 (3 S )3 )0\n")
 
     def test_a_refused_text(self):
         self.assertEqual(named_in(b""), Refusal(16, 1))
@@ -153,6 +163,15 @@ class ReadBackTest(unittest.TestCase):
 
     def test_strings_that_the_automaton_does_not_accept(self):
         self.read(two(b")2 )2", b"(1"), [closing(2), closing(2)], [opening(1)])
+
+    def test_dead_rules_are_rules_of_the_grammar(self):
+        text = FRONT + b"rule=S: a\nrule=A: A\n"
+        self.assertEqual(read_back(text, two(b"(2 )2", b""), AMPLE),
+                         Pair((opening(2), closing(2)), ()))
+        self.refused(two(b"(3"), 16, 1, text)
+        endless = b"terminals=\nnonterminals=S\nrule=S: S\n"
+        self.assertEqual(read_back(endless, two(b"(0 (1", b"S )0"), AMPLE),
+                         Pair((opening(0), opening(1)), (symbol(S), closing(0))))
 
     def test_malformed_values(self):
         for value in (b" ", b" a", b"a ", b"a  b", b"(", b")", b"(01", b"(00", b")02", b"(3",
@@ -247,6 +266,10 @@ class RoundTripTest(unittest.TestCase):
         yield from figures_named()
         for _ in range(300):
             yield small_named(rng)
+        for kind in KINDS:
+            for _ in range(15):
+                rules = dead_small(rng, kind)
+                yield with_names(rng, rules.t, rules.n, list(rules.rules))
         for _ in range(40):
             yield grown(rng, 4, 48)
 
@@ -258,8 +281,12 @@ class RoundTripTest(unittest.TestCase):
             if lines:
                 tried += 1
                 self.assertTrue(printed(text).endswith(b"verdict=potential\n" + lines))
-                triples = triples_in((grammar.t, grammar.n, encode(grammar.rules)))
-                self.back(text, sides(triples, shortest_witness(triples)), lines)
+                table = grammar.t, grammar.n, encode(grammar.rules)
+                triples, live = triples_in(table), live_rules(good(table))
+                pair = sides(triples, shortest_witness(triples))
+                self.back(text, pair, lines)
+                self.assertTrue(all(live[number] for string in pair for kind, number in string
+                                    if kind != "symbol"))
         self.assertGreater(tried, 100)
 
     def test_random_strings(self):
@@ -327,7 +354,7 @@ class InjectivityTest(unittest.TestCase):
 
     def test_other_names_give_other_lines_of_the_same_grammar(self):
         rng = random.Random(5)
-        for t, n, rules in FIGURES[5:9]:
+        for t, n, rules in FIGURES[6:9]:
             one, other = (text_of(with_names(rng, t, n, rules)) for _ in range(2))
             pair = read_back(one, lines_of(one), AMPLE)
             self.assertIsInstance(pair, Pair)

@@ -8,12 +8,12 @@ from case_grammars import CYCLE
 from file_tests import TABLE, TABLE_BYTES, FileTests
 from record_cases import KIND, REASONS, Case, answer, reasons_of, records_of
 
-WAY = records_of(6, file_tests.WAY)
+WAY = records_of(8, file_tests.WAY)
 
 
 class FileTest(FileTests, unittest.TestCase):
     KIND = KIND
-    DIGEST = "d1d0593b91ced2bfa9c2e9305ab1fc875872b8b2336e8f4f70002665b27c4f83"
+    DIGEST = "22056057d82dc71d3c5da5b6d109b88e7a76b9d6d1d40ae08d7e1a2dd696ebfe"
     CASE = Case(*TABLE, ((2, 258, LARGEST),))
     BYTES = TABLE_BYTES + b"\x01\0\0\0" + b"\x02\0\0\0" + b"\x02\x01\0\0" + b"\xff" * 4
 
@@ -24,7 +24,7 @@ class FileTest(FileTests, unittest.TestCase):
         self.assertEqual(answer(Case(0, 0, b"", WAY)), "refused=1 at=0")
 
     def test_records_outside_the_ranges(self):
-        for record in ((2, 0, 2), (0, 6, 2), (0, 0, 6), (LARGEST, 0, 2)):
+        for record in ((2, 0, 2), (0, 8, 2), (0, 0, 8), (LARGEST, 0, 2)):
             self.assertEqual(answer(Case(*CYCLE, WAY[:1] + (record,) + WAY[2:])),
                              "refused=15 at=1")
 
@@ -41,10 +41,10 @@ class ReasonsTest(unittest.TestCase):
         self.reasons(WAY[:4], "15-only-the-end-fails")
         self.reasons(WAY[:1] + WAY[2:], "15-in-range", "15-inner-record")
         self.reasons(((2, 0, 0),), "15-layer-of-2", "15-first-record", "15-last-record")
-        # WAY goes on with (0,2,2): its index is also that of (0,1,8)
-        self.reasons(WAY[:2] + ((0, 1, 8),) + WAY[3:], "15-right-above-Q",
+        # WAY goes on with (0,2,2): its index is also that of (0,1,10)
+        self.reasons(WAY[:2] + ((0, 1, 10),) + WAY[3:], "15-right-above-Q",
                      "15-right-index-though-outside", "15-inner-record")
-        self.reasons(WAY[:2] + ((0, 6, LARGEST),), "15-left-of-Q", "15-right-above-Q",
+        self.reasons(WAY[:2] + ((0, 8, LARGEST),), "15-left-of-Q", "15-right-above-Q",
                      "15-of-32-ones", "15-last-record")
 
 

@@ -7,14 +7,16 @@ from report_cases import ENOUGH, KIND, REASONS, Case, answer, expected, reasons_
 
 TEXT = b"terminals=a\nnonterminals=S\nrule=S: a\n"
 REPORT = b"states=6\nverdict=unambiguous\nreached=11\n"
-CYCLE = b"terminals=\nnonterminals=S\nrule=S: S\n"
-READINGS = b"states=6\nverdict=potential\nleft=(0 S )0\nright=(0 (1 S )1 )0\n"
+CYCLE = b"terminals=a\nnonterminals=S\nrule=S: S\nrule=S: a\n"
+READINGS = b"states=8\nverdict=potential\nleft=(0 S )0\nright=(0 (1 S )1 )0\n"
+ENDLESS = b"terminals=\nnonterminals=S\nrule=S: S\n"
+NOTHING = b"states=6\nverdict=unambiguous\nreached=1\n"
 SHORT = "refused=14 at=0"
 
 
 class FileTest(FileTests, unittest.TestCase):
     KIND = KIND
-    DIGEST = "763f7caf81b90198dd410f6f07c172c91871b55a790d90606b74fd41e08de591"
+    DIGEST = "8ddb1f88fe383b463a94c1152559e0703d71fef9dd6ad1a0c01eda210874a9b4"
     CASE = Case(b"ab", 258)
     BYTES = b"\x02\0\0\0" + b"ab" + b"\x02\x01\0\0"
 
@@ -30,6 +32,8 @@ class FileTest(FileTests, unittest.TestCase):
         self.assertEqual(answer(Case(CYCLE, len(READINGS))), line)
         for room in (27, 40, len(READINGS) - 1):
             self.assertEqual(answer(Case(CYCLE, room)), SHORT)
+        line = "written=%d text=%s" % (len(NOTHING), NOTHING.hex())
+        self.assertEqual(answer(Case(ENDLESS, len(NOTHING))), line)
 
     def test_so_much_is_always_enough(self):
         self.assertLessEqual(max(len(expected(case.text)) for case in KIND.all()), ENOUGH)
@@ -59,6 +63,15 @@ class ReasonsTest(unittest.TestCase):
                            (40, "14-room-for-the-verdict-and-left")]:
             self.reasons(CYCLE, room, "14-shorter", name)
         self.reasons(CYCLE, 26, "14-shorter")
+
+    def test_dead_rules(self):
+        self.reasons(ENDLESS, len(NOTHING), "unambiguous", "exactly-enough", "dead-no-sentence",
+                     "unambiguous-formerly-potential", "told-from-every-rule-is-taken",
+                     "told-from-unproductive-rules-are-taken", "told-from-rule-0-is-always-taken",
+                     "told-from-dead-items-are-entered")
+        self.reasons(ENDLESS, len(NOTHING) - 1, "14-one-byte-short")
+        unused = b"terminals=a\nnonterminals=S,U\nrule=S: a\nrule=U: a\n"
+        self.reasons(unused, ENOUGH, "unambiguous", "longer", "dead-unreachable")
 
 
 if __name__ == "__main__":

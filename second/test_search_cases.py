@@ -7,17 +7,18 @@ from contextlib import redirect_stderr, redirect_stdout
 from io import StringIO
 
 from case_files import encode_entries
-from case_grammars import CYCLE, ONE_A, ROWS
+from case_grammars import COURSE, CYCLE, ENDLESS, ONE_A, ROWS, spelled
 from file_tests import TABLE, TABLE_BYTES, WAY, FileTests
 from search_cases import KIND, REASONS, Case, answer, encode_case, reasons_of, run
 from searches import Lent
 
-ENOUGH = Lent(9, 72, 72, 72)
+ENOUGH = Lent(9, 72, 72, 72)           # of S→a
+CYCLE_ENOUGH = Lent(16, 128, 128, 128)
 
 
 class FileTest(FileTests, unittest.TestCase):
     KIND = KIND
-    DIGEST = "f71a4a670a95dccac11ce8c4444fe2377e0381dad2097ec1ea495fc644ee05ec"
+    DIGEST = "5e38b96ad623daea2aa4d98ae377f4f022764dba2d6452a15e7ae3c28a3663b0"
     CASE = Case(*TABLE, Lent(258, 3, 4, 5), 255)
     BYTES = (TABLE_BYTES + b"\x02\x01\0\0" + b"\x03\0\0\0" + b"\x04\0\0\0" + b"\x05\0\0\0"
              + b"\xff")
@@ -25,11 +26,13 @@ class FileTest(FileTests, unittest.TestCase):
     def test_answer_lines(self):
         self.assertEqual(answer(Case(*ONE_A, ENOUGH, 7)),
                          "unambiguous size=11 certificate=155021150800000000")
-        self.assertEqual(answer(Case(*CYCLE, ENOUGH, 7)),
-                         "potential witness=0,2,4,16,23,45,43")
+        self.assertEqual(answer(Case(*CYCLE, CYCLE_ENOUGH, 7)),
+                         "potential witness=0,2,4,20,29,75,73")
         for short in ENOUGH._fields:
-            lent = ENOUGH._replace(**{short: getattr(ENOUGH, short) - 1})
+            lent = CYCLE_ENOUGH._replace(**{short: getattr(CYCLE_ENOUGH, short) - 1})
             self.assertEqual(answer(Case(*CYCLE, lent, 7)), "refused=14 at=0")
+        self.assertEqual(answer(Case(*ENDLESS, ENOUGH, 7)),
+                         "unambiguous size=1 certificate=010000000000000000")
         self.assertEqual(answer(Case(0, 1, ONE_A[2], Lent(0, 0, 0, 0), 7)), "refused=5 at=2")
 
 
@@ -42,18 +45,45 @@ class ReasonsTest(unittest.TestCase):
     def test_verdicts(self):
         self.reasons(ONE_A, ENOUGH, "unambiguous-exactly-enough",
                      "unambiguous-every-rule-used", "unambiguous-even-states")
-        self.reasons(CYCLE, ENOUGH._replace(queue=73), "potential-longer",
-                     "potential-a-rule-no-sentence-uses", "potential-even-states")
+        self.reasons(CYCLE, CYCLE_ENOUGH._replace(queue=129), "potential-longer",
+                     "potential-every-rule-used", "potential-even-states")
         self.reasons(ROWS[4], Lent(21, 162, 162, 162), "unambiguous-exactly-enough",
                      "unambiguous-every-rule-used", "unambiguous-odd-states",
                      "unambiguous-with-layer-1")
         self.reasons(ROWS[0], ENOUGH, "unambiguous-longer", "unambiguous-every-rule-used",
-                     "unambiguous-even-states", "unambiguous-without-a-rule-of-S")
+                     "unambiguous-even-states", "unambiguous-without-a-rule-of-S",
+                     "dead-no-sentence", "unambiguous-dead-no-sentence",
+                     "unambiguous-formerly-of-another-size", "told-from-every-rule-is-taken",
+                     "told-from-unproductive-rules-are-taken", "told-from-rule-0-is-always-taken",
+                     "told-from-dead-items-are-entered")
+
+    def test_dead_rules(self):
+        self.reasons(COURSE, Lent(25, 200, 200, 200), "unambiguous-exactly-enough",
+                     "unambiguous-a-rule-no-sentence-uses", "unambiguous-even-states",
+                     "dead-unproductive", "unambiguous-dead-unproductive",
+                     "unambiguous-formerly-potential", "told-from-every-rule-is-taken",
+                     "told-from-unproductive-rules-are-taken", "told-from-dead-items-are-entered")
+        self.reasons(COURSE, ENOUGH, "14-several", "14-of-an-unambiguous-grammar",
+                     "dead-unproductive", "14-with-dead-rules")
+        unused = 1, 2, ONE_A[2] + bytes([129, 0])             # S→a; A→
+        self.reasons(unused, ENOUGH._replace(certificate=13, queue=98, parents=98, witness=98),
+                     "unambiguous-exactly-enough", "unambiguous-a-rule-no-sentence-uses",
+                     "unambiguous-odd-states", "dead-unreachable", "unambiguous-dead-unreachable",
+                     "unambiguous-formerly-of-the-same-set")
+        unused = 1, 2, bytes([129, 0]) + CYCLE[2]             # A→; S→S; S→a
+        self.reasons(unused, Lent(21, 162, 162, 162), "potential-exactly-enough",
+                     "potential-a-rule-no-sentence-uses", "potential-odd-states",
+                     "dead-unreachable", "potential-dead-unreachable",
+                     "potential-formerly-with-the-same-witness")
+        later = spelled("S: A | S", "A: a")
+        self.reasons(later, Lent(25, 200, 200, 200), "potential-exactly-enough",
+                     "potential-every-rule-used", "potential-even-states",
+                     "told-from-live-rules-are-found-in-one-round")
 
     def test_14(self):
         self.reasons(ONE_A, ENOUGH._replace(queue=71), "14-queue-one-too-short",
                      "14-of-an-unambiguous-grammar")
-        self.reasons(CYCLE, ENOUGH._replace(witness=0), "14-one-empty",
+        self.reasons(CYCLE, CYCLE_ENOUGH._replace(witness=0), "14-one-empty",
                      "14-of-a-potential-grammar")
         self.reasons(ONE_A, Lent(0, 0, 0, 0), "14-several", "14-nothing-lent",
                      "14-of-an-unambiguous-grammar")
@@ -64,8 +94,9 @@ class ReasonsTest(unittest.TestCase):
 
 
 class WitnessOkTest(unittest.TestCase):
-    CASES = [Case(*ONE_A, ENOUGH, 0), Case(*CYCLE, ENOUGH, 0), Case(128, 1, b"", ENOUGH, 0),
-             Case(*CYCLE, Lent(0, 0, 0, 0), 0), Case(*CYCLE, ENOUGH, 1)]
+    CASES = [Case(*ONE_A, ENOUGH, 0), Case(*CYCLE, CYCLE_ENOUGH, 0),
+             Case(128, 1, b"", ENOUGH, 0), Case(*CYCLE, Lent(0, 0, 0, 0), 0),
+             Case(*CYCLE, CYCLE_ENOUGH, 1)]
 
     def found(self, *rows):
         return b"".join(map(encode_entries, rows))
@@ -98,8 +129,8 @@ class WitnessOkTest(unittest.TestCase):
             self.assertEqual(self.verb(found[:end])[0], 1)
         self.assertEqual(self.verb(found + b"\0")[0], 1)
         self.assertEqual(self.verb(self.found(WAY, WAY, WAY))[0], 1)
-        self.assertEqual(self.verb(self.found(WAY, WAY[:3] + (16,) * 66 + WAY[4:]))[0], 0)
-        self.assertEqual(self.verb(self.found(WAY, WAY[:3] + (16,) * 67 + WAY[4:]))[0], 1)
+        self.assertEqual(self.verb(self.found(WAY, WAY[:3] + (20,) * 122 + WAY[4:]))[0], 0)
+        self.assertEqual(self.verb(self.found(WAY, WAY[:3] + (20,) * 123 + WAY[4:]))[0], 1)
 
 
 if __name__ == "__main__":

@@ -2,7 +2,7 @@
 
 import unittest
 
-from case_grammars import CLASSICS, ONE_A, ONE_A_BYTES, ROWS, states_of
+from case_grammars import CLASSICS, COURSE, ONE_A, ONE_A_BYTES, ROWS, states_of
 from certificates import check_certificate
 from searches import Lent, Potential, Unambiguous, needed, search
 from tables import Refusal
@@ -42,10 +42,21 @@ class VerdictTest(unittest.TestCase):
 
     def test_rows(self):
         results = [search(*row, PLENTY) for row in ROWS]
-        self.assertEqual([result.size for result in results[:5] + results[9:]],
-                         [5, 10, 11, 24, 30, 82])
-        self.assertEqual([type(result) for result in results[5:9]], [Potential] * 4)
-        self.assertEqual(results[5].witness, (0, 2, 4, 16, 23, 45, 43))
+        self.assertEqual([result.size for result in results[:6] + results[9:]],
+                         [1, 10, 11, 24, 30, 1, 82])
+        self.assertEqual([type(result) for result in results[6:9]], [Potential] * 3)
+        self.assertEqual(results[6].witness, (0, 2, 4, 20, 29, 75, 73))
+
+    def test_the_course(self):
+        result = search(*COURSE, PLENTY)
+        self.assertEqual((result.size, len(result.certificate)), (11, 25))
+
+    def test_without_a_sentence(self):
+        for table in (ROWS[0], ROWS[5], CLASSICS["no-start-rule"]):
+            length = needed(states_of(table)).certificate
+            self.assertEqual(search(*table, PLENTY),
+                             Unambiguous(1, b"\x01" + bytes(length - 1)))
+            self.assertEqual(search(*table, Lent(0, 0, 0, 0)), Refusal(14, 0))
 
     def test_the_certificate_is_accepted(self):
         for table in ROWS + list(CLASSICS.values()):
@@ -67,7 +78,9 @@ class ClassicsTest(unittest.TestCase):
     def test_unambiguous(self):
         for name in ("expressions-stratified", "expressions-right", "expressions-prefix",
                      "closed-else", "palindromes-marked", "list-left", "list-right",
-                     "brackets-one", "json", "robot", "robot-channels"):
+                     "brackets-one", "json", "robot", "robot-channels", "never-opened",
+                     "no-finite-tree", "left-in-a-course", "behind-an-endless-one",
+                     "dead-rules-of-all-kinds"):
             self.assertIs(self.verdict(name), Unambiguous, name)
 
     def test_potential_though_truly_unambiguous(self):

@@ -2,7 +2,7 @@
 
 import unittest
 
-from case_grammars import CYCLE, ONE_A, spelled
+from case_grammars import COURSE, CYCLE, ENDLESS, ONE_A, spelled
 from file_tests import TABLE, TABLE_BYTES, FileTests
 from step_cases import KIND, REASONS, Case, answer, reasons_of
 from triples import Triple
@@ -10,7 +10,7 @@ from triples import Triple
 
 class FileTest(FileTests, unittest.TestCase):
     KIND = KIND
-    DIGEST = "0e322c7729409df869ef1399d5c1d18e81945eea52b8b693565294fa93061697"
+    DIGEST = "070fb7f5436ae56d58ade0d52963d39243a4a621ce6b03e8c5cf29c1ae95022c"
     CASE = Case(*TABLE, Triple(1, 2, 258))
     BYTES = TABLE_BYTES + b"\x01\0\0\0" + b"\x02\0\0\0" + b"\x02\x01\0\0"
 
@@ -25,13 +25,18 @@ class AnswerTest(unittest.TestCase):
         self.line(ONE_A, (0, 5, 4), "records=1 1,3,4,c1,-")
         self.line(ONE_A, (0, 3, 5), "records=1 1,1,3,c0,c1")
         self.line(ONE_A, (1, 4, 4), "records=1 1,5,5,s1,s1")
-        self.line(CYCLE, (0, 4, 4), "records=3 0,4,4,o1,- 0,4,4,-,o1 0,5,5,s128,s128")
+        self.line(CYCLE, (0, 4, 4), "records=5 0,4,4,o1,- 0,4,4,-,o1 0,4,6,-,o2"
+                                    " 0,5,5,s128,s128 0,6,4,o2,-")
+        self.line(COURSE, (0, 2, 6), "records=1 0,4,6,o1,-")
 
     def test_no_records(self):
         self.line(ONE_A, (1, 1, 1), "records=0")
         self.line(ONE_A, (2, 0, 0), "records=0")
         self.line(ONE_A, (0, 6, 0), "records=0")
         self.line(ONE_A, (0, 0, 2 ** 32 - 1), "records=0")
+        self.line(COURSE, (0, 6, 6), "records=0")
+        self.line(ENDLESS, (0, 0, 0), "records=0")
+        self.line((0, 1, b""), (1, 3, 3), "records=0")
 
     def test_refused(self):
         self.line((0, 1, ONE_A[2]), (0, 0, 0), "refused=5 at=2")
@@ -86,7 +91,52 @@ class ReasonsTest(unittest.TestCase):
     def test_many_records(self):
         table = spelled("S: " + " ".join("A" * 12), "A: | A")
         # 17 is A→·, 18 and 19 A→·A and A→A·: both close to 13 items each.
-        self.reasons(table, (0, 17, 19), "parting-both-close", "many-records")
+        self.reasons(table, (0, 17, 19), "parting-both-close", "many-records",
+                     "told-from-live-rules-are-found-in-one-round")
+
+    def test_dead_rules(self):
+        # 4 and 5 S→a, 6 and 7 S→A, 8 and 9 A→A
+        taken = ["told-from-every-rule-is-taken", "told-from-unproductive-rules-are-taken"]
+        self.reasons(COURSE, (0, 0, 0), "layer-0-left-opens", "layer-0-right-opens",
+                     "rule-0-opens", "dead-unproductive")
+        self.reasons(COURSE, (0, 2, 6), "layer-0-left-opens", "dead-unproductive",
+                     "dead-item-right-only", "a-dead-item-beside-one-that-moves",
+                     "a-dead-item-does-not-open", "no-opening-of-an-unproductive-rule",
+                     "told-from-dead-items-move", "told-from-dead-items-are-entered", *taken)
+        self.reasons(COURSE, (0, 8, 8), "no-records-in-range", "dead-unproductive",
+                     "dead-items-on-both-sides", "a-dead-item-does-not-open",
+                     "a-dead-item-does-not-shift", "told-from-dead-items-move", *taken)
+        self.reasons(COURSE, (1, 7, 1), "no-records-in-range", "dead-unproductive",
+                     "dead-item-left-only", "a-dead-item-does-not-close",
+                     "told-from-dead-items-move", *taken)
+
+    def test_a_dead_item_before_a_terminal(self):
+        # 4 and 5 S→a, 6 and 7 U→a
+        self.reasons(spelled("S: a", "U: a"), (0, 5, 6), "no-records-in-range",
+                     "dead-unreachable", "dead-item-right-only",
+                     "no-parting-beside-a-dead-item-before-a-terminal",
+                     "told-from-every-rule-is-taken", "told-from-unreachable-rules-are-taken",
+                     "told-from-dead-items-stand-before-terminals")
+
+    def test_closings_into_dead_rules(self):
+        # 4 and 5 S→a, 6 to 8 S→W V, 9 and 10 W→W, 11 and 12 V→S, 13 and 14 U→S
+        table = spelled("S: a | W V", "W: W", "V: S", "U: S")
+        taken = [name for name in REASONS if name.startswith("told-from-") and "-taken" in name
+                 and "rule-0" not in name]
+        self.reasons(table, (1, 5, 1), "layer-1-left-closes", "dead-mixed",
+                     "no-closing-into-an-unreachable-rule",
+                     "no-closing-into-a-rule-behind-unproductive-ones",
+                     "told-from-dead-items-are-entered", *taken)
+
+    def test_without_a_sentence(self):
+        self.reasons(ENDLESS, (0, 0, 0), "no-records-in-range", "dead-no-sentence",
+                     "no-opening-of-rule-0-without-a-sentence", "told-from-every-rule-is-taken",
+                     "told-from-unproductive-rules-are-taken", "told-from-rule-0-is-always-taken",
+                     "told-from-dead-items-are-entered")
+        self.reasons(ENDLESS, (1, 3, 3), "no-records-in-range", "dead-no-sentence",
+                     "dead-items-on-both-sides", "a-dead-item-does-not-close",
+                     "told-from-every-rule-is-taken", "told-from-unproductive-rules-are-taken",
+                     "told-from-rule-0-is-always-taken", "told-from-dead-items-move")
 
 
 if __name__ == "__main__":

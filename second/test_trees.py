@@ -7,6 +7,7 @@ from itertools import product
 from math import prod
 
 from case_grammars import CLASSICS, ROWS, good, small_random, triples_in
+from dead_grammars import dead_tables
 from tables import START
 from trees import random_row, some_sentences, tree_count
 from triples import is_potential
@@ -57,8 +58,8 @@ class CountTest(unittest.TestCase):
     def test_against_trees_written_out(self):
         rng = random.Random(6)
         single = double = 0
-        for _ in range(300):
-            table = small_random(rng)
+        tables = [small_random(rng) for _ in range(300)] + list(dead_tables(rng, 25))
+        for table in tables:
             rows = written_out(good(table), 4) or []
             for row, count in list(Counter(rows).items())[:20]:
                 if len(row) > 20:

@@ -5,10 +5,12 @@ import unittest
 
 from automaton import after_dot, automaton_of, items_of, move_count
 from case_grammars import (
-    CLASSICS, ONE_A, ONE_A_BYTES, ROWS, small_random, spelled, triples_in,
+    CLASSICS, COURSE, ENDLESS, ONE_A, ONE_A_BYTES, ROWS, small_random, spelled, triples_in,
 )
+from dead_grammars import dead_tables
 from random_tables import S, a
 from tables import START, check_table
+from test_live import by_definition
 from triples import (
     STILL, Step, Triple, Triples, certificate_length, certificate_of, choice_count,
     held_indices, index_of, is_potential, reached, steps, triple_at,
@@ -28,15 +30,26 @@ def symbol(code):
 
 
 class FiguresTest(unittest.TestCase):
-    """Document 01, "Grammars on file"."""
+    """Document 01, "Grammars on file", with what document 02's [3] replaces."""
 
     def test_verdicts(self):
         verdicts = [is_potential(triples_in(row)) for row in ROWS]
-        self.assertEqual(verdicts, [False] * 5 + [True] * 4 + [False])
+        self.assertEqual(verdicts, [False] * 6 + [True] * 3 + [False])
 
     def test_sizes(self):
-        sizes = [len(reached(triples_in(row))) for row in ROWS[:5]]
-        self.assertEqual(sizes, [5, 10, 11, 24, 30])
+        sizes = [len(reached(triples_in(row))) for row in ROWS[:6]]
+        self.assertEqual(sizes, [1, 10, 11, 24, 30, 1])
+
+    def test_the_course(self):
+        triples = triples_in(COURSE)
+        self.assertEqual((triples.states, is_potential(triples), len(reached(triples))),
+                         (10, False, 11))
+
+    def test_certificate_without_a_sentence(self):
+        for table in (ROWS[0], ENDLESS, spelled("S: a S | S S"), spelled("S: A a", "A: S")):
+            triples = triples_in(table)
+            self.assertEqual(reached(triples), {triples.first})
+            self.assertEqual((is_potential(triples), choice_count(triples)), (False, 0))
 
     def test_size_of_the_row_with_17_states(self):
         triples = triples_in(ROWS[9])
@@ -53,7 +66,7 @@ class FiguresTest(unittest.TestCase):
         self.assertEqual(certificate, ONE_A_BYTES)
 
     def test_a_nonterminal_shift_is_not_forgotten(self):
-        self.assertIn(3 * 4 + 3, reached(triples_in(ROWS[0])))
+        self.assertIn(3 * 6 + 3, reached(triples_in(ONE_A)))
 
 
 class IndexTest(unittest.TestCase):
@@ -138,17 +151,38 @@ class StepsTest(unittest.TestCase):
             self.steps(["S: a"], triple)
 
     def test_back_to_itself_by_openings(self):
-        self.steps(["S: S"], (0, 4, 4),
+        # 4 and 5 S→S, 6 and 7 S→a
+        self.steps(["S: S | a"], (0, 4, 4),
                    ((0, 4, 4), opening(1), STILL), ((0, 4, 4), STILL, opening(1)),
-                   ((0, 5, 5), symbol(S), symbol(S)))
+                   ((0, 4, 6), STILL, opening(2)), ((0, 5, 5), symbol(S), symbol(S)),
+                   ((0, 6, 4), opening(2), STILL))
 
     def test_back_to_itself_stands_before_a_lower_index(self):
-        self.steps(["S: S"], (1, 5, 5),
+        self.steps(["S: S | a"], (1, 5, 5),
                    ((1, 5, 5), closing(1), STILL), ((1, 5, 5), STILL, closing(1)),
                    ((1, 3, 5), closing(1), STILL), ((1, 5, 3), STILL, closing(1)))
-        self.steps(["S: S"], (1, 0, 5),
+        self.steps(["S: S | a"], (1, 0, 5),
                    ((1, 0, 5), STILL, closing(1)), ((1, 0, 3), STILL, closing(1)),
                    ((1, 2, 5), opening(0), STILL))
+
+    def test_items_of_dead_rules_stay_and_part_nothing(self):
+        # 4 and 5 S→a, 6 and 7 S→A, 8 and 9 A→A
+        course = ["S: a | A", "A: A"]
+        self.steps(course, (0, 2, 6), ((0, 4, 6), opening(1), STILL))
+        self.steps(course, (0, 2, 2), ((0, 2, 4), STILL, opening(1)),
+                   ((0, 3, 3), symbol(S), symbol(S)), ((0, 4, 2), opening(1), STILL))
+        self.steps(course, (1, 5, 9), ((1, 3, 9), closing(1), STILL))
+        for triple in ((0, 5, 9), (0, 6, 6), (0, 9, 8), (1, 8, 8)):
+            self.steps(course, triple)
+        # 4 and 5 S→a, 6 to 8 S→a W, 9 and 10 W→W
+        endless = ["S: a | a W", "W: W"]
+        self.steps(endless, (0, 4, 6))
+        self.steps(endless, (0, 5, 6))
+        self.steps(endless, (1, 6, 5), ((1, 6, 3), STILL, closing(1)))
+
+    def test_without_a_sentence_there_are_none(self):
+        for triple in ((0, 0, 0), (0, 2, 2), (0, 3, 5), (1, 3, 3), (1, 5, 4)):
+            self.steps(["S: S"], triple)
 
     def test_out_of_range_has_none(self):
         for triple in ((2, 0, 0), (0, 6, 0), (0, 0, 6), (0, 0, 36), (2 ** 32 - 1,) * 3):
@@ -175,7 +209,11 @@ class OrderTest(unittest.TestCase):
 
 
 class DefinitionTest(unittest.TestCase):
-    """Successors, found by asking of every pair of triples what document 01 says."""
+    """Successors, found by asking of every pair of triples what the documents say.
+
+    An item of a rule that is not live is None here: it has no moves, stands before
+    no terminal, and no move leads to it.
+    """
 
     def follows(self, items, one, other):
         if one.layer == 0 and other.layer == 0:
@@ -226,11 +264,15 @@ class DefinitionTest(unittest.TestCase):
     def test_all_pairs_of_small_grammars(self):
         rng = random.Random(7)
         tables = ROWS[:9] + [small_random(rng) for _ in range(60)]
+        tables += dead_tables(rng, 5, lambda grammar: grammar.states <= 10)
         for table in tables:
             grammar = check_table(*table)
             if grammar.states > 10:
                 continue
-            items, triples = items_of(grammar), triples_in(table)
+            live = by_definition(grammar)
+            items = [item if item is not None and live[item.rule] else None
+                     for item in items_of(grammar)]
+            triples = triples_in(table)
             every = [triple_at(grammar.states, index) for index in range(triples.count)]
             for index, one in enumerate(every):
                 following = [place for place, other in enumerate(every)

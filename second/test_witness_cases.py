@@ -3,7 +3,7 @@
 import unittest
 
 from case_files import LARGEST, Rng
-from case_grammars import CYCLE, ONE_A, ROWS, triples_in
+from case_grammars import COURSE, CYCLE, ENDLESS, ONE_A, ROWS, triples_in
 from certificates import witness_fault
 from file_tests import TABLE, TABLE_BYTES, WAY, FileTests
 from ways import longer, shortest, wander
@@ -13,7 +13,7 @@ from witness_reasons import REASONS, reasons_of
 
 class FileTest(FileTests, unittest.TestCase):
     KIND = KIND
-    DIGEST = "b76fa821ff1e82b7a413aaf851016a2375eba4aecb62dc4cf7720284a34f45ec"
+    DIGEST = "2ee472d1a825569314db486cdb1146ca8453052433953a0136446eda65059f05"
     CASE = Case(*TABLE, (258, LARGEST))
     BYTES = TABLE_BYTES + b"\x02\0\0\0" + b"\x02\x01\0\0" + b"\xff" * 4
 
@@ -26,7 +26,7 @@ class FileTest(FileTests, unittest.TestCase):
 
 class WaysTest(unittest.TestCase):
     def test_shortest_and_longer_are_witnesses(self):
-        for row in ROWS[5:9]:
+        for row in ROWS[6:9]:
             triples = triples_in(row)
             least = len(shortest(triples))
             for more in range(30):
@@ -52,7 +52,7 @@ class ReasonsTest(unittest.TestCase):
         self.reasons(CYCLE, WAY[:4] + WAY[3:], "accepted-longer",
                      "accepted-with-a-triple-repeated",
                      "accepted-with-a-triple-repeated-at-once")
-        self.reasons(CYCLE, WAY[:5] + (47,) + WAY[5:], "accepted-longer")
+        self.reasons(CYCLE, WAY[:5] + (77,) + WAY[5:], "accepted-longer")
 
     def test_table_faults(self):
         self.reasons((0, 0, b""), WAY, "1")
@@ -66,25 +66,42 @@ class ReasonsTest(unittest.TestCase):
     def test_first_entry(self):
         self.reasons(CYCLE, (1,) + WAY[1:], "15-first-entry", "15-first-of-several",
                      "15-first-entry-though-the-rest-is-right")
-        self.reasons(CYCLE, (43,), "15-first-entry", "15-last-entry")
+        self.reasons(CYCLE, (73,), "15-first-entry", "15-last-entry")
 
     def test_after_the_end(self):
-        self.reasons(CYCLE, WAY + (43,), "15-after-the-end", "15-last-entry")
+        self.reasons(CYCLE, WAY + (73,), "15-after-the-end", "15-last-entry")
 
     def test_large_entries(self):
-        self.reasons(CYCLE, WAY[:-1] + (72,), "15-entry-of-2QQ", "15-last-entry")
-        self.reasons(CYCLE, WAY[:-1] + (73,), "15-entry-above-2QQ", "15-last-entry")
+        self.reasons(CYCLE, WAY[:-1] + (128,), "15-entry-of-2QQ", "15-last-entry")
+        self.reasons(CYCLE, WAY[:-1] + (129,), "15-entry-above-2QQ", "15-last-entry")
         self.reasons(CYCLE, WAY[:2] + (LARGEST,) + WAY[3:], "15-entry-above-2QQ",
                      "15-entry-of-32-ones", "15-inner-entry", "15-first-of-several")
 
     def test_misreadings(self):
         # (0,3,5) to (1,3,5), not moved; (0,2,4) to (1,2,4) by an opening.
-        self.reasons(CYCLE, WAY[:5] + (36 + 23,), "15-no-successor-and-not-reached",
+        self.reasons(CYCLE, WAY[:5] + (64 + 29,), "15-no-successor-and-not-reached",
                      "15-last-entry", "15-parting-without-the-closing-move")
-        self.reasons(CYCLE, WAY[:4] + (36 + 16,), "15-no-successor-and-not-reached",
+        self.reasons(CYCLE, WAY[:4] + (64 + 20,), "15-no-successor-and-not-reached",
                      "15-last-entry", "15-parting-on-an-opening")
-        self.reasons(CYCLE, WAY[:3] + (28,), "15-no-successor-though-reached",
+        self.reasons(CYCLE, WAY[:3] + (36,), "15-no-successor-though-reached",
                      "15-last-entry", "15-both-open-at-once")
+
+    def test_dead_rules(self):
+        # (0,2,2), index 22, to (0,2,6): S→·A is 6.
+        told = ["told-from-every-rule-is-taken", "told-from-unproductive-rules-are-taken",
+                "told-from-dead-items-are-entered"]
+        self.reasons(COURSE, (0, 2, 22, 26), "15-no-successor-and-not-reached", "15-last-entry",
+                     "15-of-an-unambiguous-grammar", "15-opening-of-an-unproductive-rule",
+                     "dead-unproductive", *told)
+        # What was the shortest witness of S→S.
+        self.reasons(ENDLESS, (0, 2, 4, 16, 23, 45, 43), "15-no-successor-and-not-reached",
+                     "15-inner-entry", "15-first-of-several", "15-of-an-unambiguous-grammar",
+                     "15-though-formerly-accepted", "15-opening-of-rule-0-without-a-sentence",
+                     "dead-no-sentence", "told-from-rule-0-is-always-taken", *told)
+        table = 1, 2, CYCLE[2] + bytes([128, 1, 129])         # S→A put behind
+        way = 0, 2, 22, 24, 35, 113, 111
+        self.reasons(table, way, "accepted-shortest", "dead-unproductive",
+                     "accepted-dead-unproductive")
 
 
 if __name__ == "__main__":

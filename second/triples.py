@@ -1,12 +1,12 @@
 """Triples, their steps and the smallest closed set: document 01, "Triples".
 
-`steps` gives a triple's step records in order, `Triples` the successors by
+They are those of automaton.py, so of live rules alone. `steps` gives a triple's step records in order, `Triples` the successors by
 index, `reached` the smallest set that holds (0,0,0) and every successor of
 what it holds.
 """
 
 from functools import lru_cache
-from typing import Dict, FrozenSet, Iterable, List, NamedTuple, Optional, Sequence, Tuple
+from typing import Dict, FrozenSet, Iterable, List, NamedTuple, Sequence, Tuple
 
 from automaton import BEGIN, END, Arrow, Automaton, automaton_of
 from tables import START, Grammar
@@ -84,11 +84,6 @@ def both_shift(automaton: Automaton, triple: Triple) -> List[Step]:
     return [Step(Triple(triple.layer, left[1], right[1]), move, move)]
 
 
-def before_terminal(shift: Optional[Arrow]) -> bool:
-    """Whether a state with this shift "stands before a terminal"."""
-    return shift is not None and shift[0] < START
-
-
 def partings(automaton: Automaton, triple: Triple) -> List[Step]:
     """The steps "f=0 to 1".
 
@@ -100,9 +95,9 @@ def partings(automaton: Automaton, triple: Triple) -> List[Step]:
         return []
     found = [Step(Triple(1, p, q), (CLOSING, i), (CLOSING, j))
              for i, p in lefts for j, q in rights if i != j]
-    if not before_terminal(automaton.shifts[triple.right]):
+    if not automaton.before_terminal[triple.right]:
         lefts = ()
-    if not before_terminal(automaton.shifts[triple.left]):
+    if not automaton.before_terminal[triple.left]:
         rights = ()
     return found + alone(triple, CLOSING, lefts, rights, 1)
 

@@ -14,13 +14,16 @@ from case_files import (
     encode_table, main,
 )
 from case_grammars import (
-    CLASSICS, CYCLE, ONE_A, ROWS, STATEMENTS, Table, faulty_tables, keywords, larger_random,
+    CLASSICS, CYCLE, ONE_A, ROWS, STATEMENTS, Table, faulty_tables, good, keywords, larger_random,
     operators, rules_before_the_fault, some, states_of, triples_in,
 )
 from certificates import check_witness
+from dead_grammars import chains, dead_larger, dead_tables
+from dead_rules import ENOUGH, KINDS
+from live_misreadings import WRONG_STEPS, former_triples, wrong_steps
 from misreadings import NAMES, misread_indices
 from tables import MAX_STATES
-from triples import is_potential, reached
+from triples import Triples, is_potential, reached
 from ways import longer, shortest, wander, way_from, way_to
 from witness_reasons import REASONS, reasons_of
 
@@ -170,9 +173,51 @@ def faulty(rng: Rng) -> Iterator[Case]:
     yield Case(*ONE_A, way)
 
 
+def lost_steps(table: Table) -> Dict[str, List[Tuple[int, int]]]:
+    """By name the steps from reached triples that [3] took away."""
+    grammar, triples, former = good(table), triples_in(table), former_triples(good(table))
+    found: Dict[str, List[Tuple[int, int]]] = {name: [] for name in WRONG_STEPS}
+    for index in sorted(reached(triples)):
+        for other in sorted(set(former.successors(index)) - set(triples.successors(index))):
+            for name in wrong_steps(grammar, index, other):
+                found[name].append((index, other))
+    return found
+
+
+def dead(rng: Rng) -> Iterator[Case]:
+    """Grammars with dead rules: right witnesses, and steps to items of dead rules."""
+    for table in list(dead_tables(rng, 30)) + list(chains(rng, (2, 9))):
+        triples, former = triples_in(table), former_triples(good(table))
+        for row in lost_steps(table).values():
+            for index, other in rng.sample(row, min(2, len(row))):
+                way = way_to(triples, index)
+                yield Case(*table, tuple(way + [other]))
+                yield Case(*table, tuple(way + way_from(former, other)))
+        yield from of_either(rng, table, former)
+        yield from of_either(rng, table, triples)
+
+
+def of_either(rng: Rng, table: Table, triples: Triples) -> Iterator[Case]:
+    """Right witnesses of an automaton, or ways that do not end."""
+    walk = longer if is_potential(triples) else wander
+    for more in (0, 3, 9):
+        way = walk(rng, triples, more)
+        yield Case(*table, tuple(way))
+        place = rng.randrange(len(way))
+        yield Case(*table, tuple(way[:place] + [rng.randrange(triples.count)] + way[place + 1:]))
+
+
+def dead_and_larger(rng: Rng) -> Iterator[Case]:
+    """Dead rules in grammars of Q from 60 to 256."""
+    tables = [dead_larger(rng, kind, states) for kind in KINDS for states in (90, 120)]
+    for table in tables + list(chains(rng, (97,))):
+        yield from of_either(rng, table, former_triples(good(table)))
+        yield from of_either(rng, table, triples_in(table))
+
+
 GROUPS = [
     right, cut, extended, wrong_entries, first_entries, misread_entries, unambiguous,
-    larger, faulty,
+    larger, faulty, dead, dead_and_larger,
 ]
 
 
@@ -196,7 +241,7 @@ def decode_case(reader: Reader) -> Case:
 
 
 KIND = Kind(lambda: cases_of(GROUPS), encode_case, decode_case, answer,
-            REASONS, lambda case: reasons_of(*case))
+            REASONS, lambda case: reasons_of(*case), enough=ENOUGH)
 
 if __name__ == "__main__":
     sys.exit(main(__doc__, sys.argv[1:], KIND))

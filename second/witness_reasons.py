@@ -4,12 +4,18 @@ The counts of these reasons show that a file of cases tries every way in which
 a row is wrong, also as a misreading would have it.
 """
 
-from typing import List, Sequence, Tuple
+from typing import List, Optional, Sequence, Tuple
 
+import dead_rules
 from case_files import LARGEST, TABLE_REASONS
+from case_grammars import good
 from certificates import checked_triples, witness_fault
+from dead_rules import KINDS, NO_SENTENCE, kind_of
+from live_misreadings import (
+    REACHED, TOLD_BY_SEARCH, WRONG_STEPS, former_triples, told, wrong_steps,
+)
 from misreadings import NAMES, misread_indices
-from tables import Refusal
+from tables import Grammar, Refusal
 from triples import Triples, is_potential, reached
 from ways import shortest
 
@@ -36,7 +42,12 @@ REASONS = [
     "15-first-of-several",
     "15-of-an-unambiguous-grammar",
     "15-over-60-states",
-] + ["15-" + name for name in NAMES]
+] + ["15-" + name for name in NAMES] + dead_rules.REASONS + [
+    "accepted-dead-" + kind for kind in KINDS if kind != NO_SENTENCE
+] + [
+    "15-though-formerly-accepted",
+    "15-though-formerly-accepted-and-potential-still",
+] + ["15-" + name for name in WRONG_STEPS] + TOLD_BY_SEARCH
 
 
 def reasons_of(t: int, n: int, table: bytes, entries: Sequence[int]) -> List[str]:
@@ -50,7 +61,11 @@ def reasons_of(t: int, n: int, table: bytes, entries: Sequence[int]) -> List[str
         met = accepted_reasons(triples, entries)
     else:
         met = refused_reasons(triples, entries, fault.position)
-    return [name for name, holds in met if holds]
+    grammar = good((t, n, table))
+    if kind_of(grammar) is not None:
+        met += dead_reasons(grammar, triples, entries, fault)
+    return [name for name, holds in met if holds] + told(
+        grammar, REACHED, lambda other: witness_fault(other, entries))
 
 
 def accepted_reasons(triples: Triples, entries: Sequence[int]) -> List[Tuple[str, bool]]:
@@ -64,6 +79,25 @@ def accepted_reasons(triples: Triples, entries: Sequence[int]) -> List[Tuple[str
         ("accepted-with-a-triple-repeated-at-once", at_once),
         ("accepted-over-60-states", triples.states > 60),
     ]
+
+
+def dead_reasons(
+    grammar: Grammar, triples: Triples, entries: Sequence[int], fault: Optional[Refusal]
+) -> List[Tuple[str, bool]]:
+    """What dead rules are there, and what the check said before document 02's [3]."""
+    kind = kind_of(grammar)
+    met = [("dead-%s" % kind, True)]
+    if fault is None:
+        return met + [("accepted-dead-%s" % kind, True)]
+    before = witness_fault(former_triples(grammar), entries) is None
+    met += [
+        ("15-though-formerly-accepted", before),
+        ("15-though-formerly-accepted-and-potential-still", before and is_potential(triples)),
+    ]
+    if 0 < fault.position < len(entries):
+        step = entries[fault.position - 1], entries[fault.position]
+        met += [("15-" + name, True) for name in sorted(set(wrong_steps(grammar, *step)))]
+    return met
 
 
 def refused_reasons(

@@ -53,10 +53,10 @@
 #define AMBIGUITY_LETTER_NUMBER(entry) ((entry) % 65536)
 
 /* The stack that a call may use, below the caller's frame: bindings/c/stack.c measures it on a painted stack, at Q = 256. The
- * reader has a tree of names there (267,383 bytes measured), the search its marks (73,879 bytes, for few states too), the report
+ * reader has a tree of names there (267,383 bytes measured), the search its marks (74,775 bytes, for few states too), the report
  * calls both and lends them their rows (513,495 bytes), reading back calls the reader (270,343 bytes); of the others the
- * witness check over records goes deepest (11,767 bytes). */
-#define AMBIGUITY_STACK_BYTES 12288
+ * witness check over records goes deepest (12,663 bytes). */
+#define AMBIGUITY_STACK_BYTES 13312
 #define AMBIGUITY_READ_TEXT_STACK_BYTES 274432
 #define AMBIGUITY_SEARCH_STACK_BYTES 81920
 #define AMBIGUITY_REPORT_STACK_BYTES 532480
@@ -173,7 +173,8 @@ extern "C" {
 ambiguity_table_reply ambiguity_check_table(size_t t, size_t n, const uint8_t *table, size_t table_entries);
 
 /* The step record of the triple (layer, left, right) at place nth, counted from 0: those back to the triple itself first, left
- * before right, then ascending by the next triple's index. AMBIGUITY_NO_MORE past the last, and for a triple out of range. */
+ * before right, then ascending by the next triple's index. AMBIGUITY_NO_MORE past the last, and for a triple out of range. An item
+ * of a rule that no sentence uses has no moves, and no move leads to it. */
 ambiguity_step_reply ambiguity_nth_step(size_t t, size_t n, const uint8_t *table, size_t table_entries, size_t layer, size_t left,
                                         size_t right, size_t nth);
 

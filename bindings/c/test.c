@@ -1,5 +1,5 @@
-/* The certificate check on document 01's cases of S -> a, the witness check over records on those of S -> S, the report, and reading
- * its two strings back. Exits with 0 if every answer is document 01's and document 02's. */
+/* The certificate check on document 01's cases of S -> a, the witness check over records on those of S -> S; S -> a, the report,
+ * and reading its two strings back. Exits with 0 if every answer is document 01's and document 02's. */
 #include <stdio.h>
 #include <string.h>
 
@@ -13,15 +13,15 @@ static const uint8_t TABLE[] = {128, 1, 1};
 
 static const uint8_t CERTIFICATE[] = {0x15, 0x50, 0x21, 0x15, 0x08, 0x00, 0x00, 0x00, 0x00};
 
-/* S -> S, and a witness of its six states. */
-static const uint8_t CYCLE[] = {128, 1, 128};
+/* S -> S; S -> a, and a witness of its eight states. */
+static const uint8_t CYCLE[] = {128, 1, 128, 128, 1, 1};
 
 static const ambiguity_triple_record WITNESS[] = {{0, 0, 0}, {0, 0, 2}, {0, 2, 2}, {0, 2, 4}, {0, 3, 5}, {1, 1, 3}, {1, 1, 1}};
 
 #define WITNESS_ENTRIES (sizeof WITNESS / sizeof WITNESS[0])
 
-/* S -> S as text, and the two strings of its shortest witness. */
-static const char CYCLE_TEXT[] = "terminals=\nnonterminals=S\nrule=S: S\n";
+/* The same as text, and the two strings of its shortest witness. */
+static const char CYCLE_TEXT[] = "terminals=a\nnonterminals=S\nrule=S: S\nrule=S: a\n";
 static const char CYCLE_LINES[] = "left=(0 S )0\nright=(0 (1 S )1 )0\n";
 
 _Static_assert(sizeof(ambiguity_triple_record) == 12, "a record is three numbers of 32 bits");
@@ -53,7 +53,7 @@ static ambiguity_check_reply check_filled(uint8_t first, uint8_t others)
 
 static ambiguity_check_reply check_records(size_t records_entries)
 {
-    return ambiguity_check_witness_records(0, 1, CYCLE, sizeof CYCLE, WITNESS, records_entries);
+    return ambiguity_check_witness_records(1, 1, CYCLE, sizeof CYCLE, WITNESS, records_entries);
 }
 
 /* The witness with another record at a place. */
@@ -62,7 +62,7 @@ static ambiguity_check_reply check_other(size_t place, uint32_t layer, uint32_t 
     ambiguity_triple_record records[WITNESS_ENTRIES];
     memcpy(records, WITNESS, sizeof WITNESS);
     records[place] = (ambiguity_triple_record){layer, left, right};
-    return ambiguity_check_witness_records(0, 1, CYCLE, sizeof CYCLE, records, WITNESS_ENTRIES);
+    return ambiguity_check_witness_records(1, 1, CYCLE, sizeof CYCLE, records, WITNESS_ENTRIES);
 }
 
 /* The report of a text is these lines, at the front of what is lent; one byte less is refused and stays as it was. */
@@ -111,7 +111,7 @@ static int has_string(const uint32_t *row, size_t letters, size_t entries, const
 
 #define ROOM 6
 
-/* What reading back answers for lines in S -> S, with rows of so many entries. */
+/* What reading back answers for lines in S -> S; S -> a, with rows of so many entries. */
 static void expect_read_back(const char *what, const char *text, const char *lines, size_t room, ambiguity_read_back_reply right)
 {
     uint32_t rows[2][ROOM];
@@ -146,17 +146,19 @@ int main(void)
     expect("its first four records", check_records(4), AMBIGUITY_WITNESS_WRONG, 4);
     expect("no record", check_records(0), AMBIGUITY_WITNESS_WRONG, 0);
     expect("a layer of 2", check_other(1, 2, 0, 2), AMBIGUITY_WITNESS_WRONG, 1);
-    expect("a left state of Q", check_other(1, 0, 6, 2), AMBIGUITY_WITNESS_WRONG, 1);
-    expect("a right state of Q and more, though the index is right", check_other(2, 0, 1, 8), AMBIGUITY_WITNESS_WRONG, 2);
+    expect("a left state of Q", check_other(1, 0, 8, 2), AMBIGUITY_WITNESS_WRONG, 1);
+    expect("a right state of Q and more, though the index is right", check_other(2, 0, 1, 10), AMBIGUITY_WITNESS_WRONG, 2);
     expect_report("terminals=a\nnonterminals=S\nrule=S: a\n", "states=6\nverdict=unambiguous\nreached=11\n");
-    expect_report(CYCLE_TEXT, "states=6\nverdict=potential\nleft=(0 S )0\nright=(0 (1 S )1 )0\n");
+    expect_report(CYCLE_TEXT, "states=8\nverdict=potential\nleft=(0 S )0\nright=(0 (1 S )1 )0\n");
+    expect_report("terminals=a\nnonterminals=S,A\nrule=S: a\nrule=S: A\nrule=A: A\n",
+                  "states=10\nverdict=unambiguous\nreached=11\n");
     expect_report("", "refused=16\nat=1\n");
     expect_read_back("its two strings read back", CYCLE_TEXT, CYCLE_LINES, 5, (ambiguity_read_back_reply){0, 0, 0, 3, 5});
     expect_read_back("rows that are longer", CYCLE_TEXT, CYCLE_LINES, ROOM, (ambiguity_read_back_reply){0, 0, 0, 3, 5});
     expect_read_back("a row too short", CYCLE_TEXT, CYCLE_LINES, 4, (ambiguity_read_back_reply){14, 0, AMBIGUITY_LINES, 0, 0});
-    expect_read_back("a rule that is not there", CYCLE_TEXT, "left=(2\nright=\n", 0,
+    expect_read_back("a rule that is not there", CYCLE_TEXT, "left=(3\nright=\n", 0,
                      (ambiguity_read_back_reply){16, 1, AMBIGUITY_LINES, 0, 0});
-    expect_read_back("a name that is not there", CYCLE_TEXT, "left=\nright=a\n", 0,
+    expect_read_back("a name that is not there", CYCLE_TEXT, "left=\nright=b\n", 0,
                      (ambiguity_read_back_reply){17, 2, AMBIGUITY_LINES, 0, 0});
     expect_read_back("a fault of the grammar", "", CYCLE_LINES, 0, (ambiguity_read_back_reply){16, 1, AMBIGUITY_GRAMMAR, 0, 0});
     return wrong != 0;

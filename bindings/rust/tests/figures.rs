@@ -14,20 +14,22 @@ const LEFT_RECURSION: [u8; 7] = [128, 2, 128, 1, 128, 1, 1];
 /// Terminals, nonterminals, rules, Q, and the size if the verdict is unambiguous, else the two strings.
 type OnFile = (&'static str, &'static str, &'static str, usize, Result<usize, &'static str>);
 
-/// Document 01's "Grammars on file", with the size of its last row and the strings of the potential ones, and the report of each.
+/// Document 01's "Grammars on file" and document 02's, with the size of the row of 17 states and the strings of the potential ones,
+/// and the report of each.
 #[test]
 fn grammars_on_file() {
-    let rows: [OnFile; 10] = [
-        ("", "S", "", 4, Ok(5)),
+    let rows: [OnFile; 11] = [
+        ("", "S", "", 4, Ok(1)),
         ("", "S", "S:", 5, Ok(10)),
         ("a", "S", "S: a", 6, Ok(11)),
         ("a", "S", "S: S a;S: a", 9, Ok(24)),
         ("a,b", "S", "S: a S b;S:", 9, Ok(30)),
-        ("", "S", "S: S", 6, Err("left=(0 S )0\nright=(0 (1 S )1 )0\n")),
+        ("", "S", "S: S", 6, Ok(1)),
         ("a", "S", "S: S;S: a", 8, Err("left=(0 S )0\nright=(0 (1 S )1 )0\n")),
         ("a", "S", "S: a S a;S: a", 10, Err("left=(0 (2 a )2 a )1 )0\nright=(0 (1 a (2 a )2 )0\n")),
         ("", "S,A,B", "S: A;S: B;A:;B:", 10, Err("left=(0 (2 (4 )4 )2 )0\nright=(0 (1 (3 )3 )1 )0\n")),
         ("a", "S,A,B", "S: A;S: B;A: A a a;A: a;B: a a", 17, Ok(82)),
+        ("a", "S,A", "S: a;S: A;A: A", 10, Ok(11)),
     ];
     for (terminals, nonterminals, rules, states, found) in rows {
         let rules: String = rules.split_terminator(';').map(|rule| format!("rule={rule}\n")).collect();
@@ -89,8 +91,8 @@ fn witness_of(table: Table, states: usize) -> Vec<u32> {
 
 #[test]
 fn shortest_witnesses() {
-    // S→S; S→S and S→a; S→a S a and S→a; S→A, S→B, A→ and B→.
-    assert_eq!(witness_of(grammar(0, 1, &[128, 1, 128]), 6), [0, 2, 4, 16, 23, 45, 43]);
+    // S→S and S→; S→S and S→a; S→a S a and S→a; S→A, S→B, A→ and B→.
+    assert_eq!(witness_of(grammar(0, 1, &[128, 1, 128, 128, 0]), 7), [0, 2, 4, 18, 26, 59, 57]);
     assert_eq!(witness_of(grammar(1, 1, &[128, 1, 128, 128, 1, 1]), 8), [0, 2, 4, 20, 29, 75, 73]);
     let palindromes = witness_of(grammar(1, 1, &[128, 3, 1, 128, 1, 128, 1, 1]), 10);
     assert_eq!(palindromes, [0, 2, 4, 24, 84, 95, 98, 168, 179, 139, 119, 113, 111]);
@@ -164,6 +166,9 @@ const CERTIFICATE_OF_82: &str = concat!(
     "000018020000600800000020000000040000280052040800000000000000002a02000800"
 );
 
+const UNREACHED_OF_31: &str =
+    "95000050092000b5002c0004d4020000000000000000000000004000000004a00401001000000000000000000000010000";
+
 /// Searches with rows of these lengths: certificate, queue, parents, witness. Back come the answer and the certificate's row.
 fn search_in(table: Table, lengths: [usize; 4]) -> (Result<Verdict, Refusal>, Vec<u8>) {
     let mut certificate = vec![0xAA; lengths[0]];
@@ -177,7 +182,7 @@ fn search_in(table: Table, lengths: [usize; 4]) -> (Result<Verdict, Refusal>, Ve
 fn certificates_that_are_found() {
     let last = [128, 1, 129, 128, 1, 130, 129, 3, 129, 1, 1, 129, 1, 1, 130, 2, 1, 1];
     let cases = [
-        (grammar(0, 1, &[]), [4, 32, 32, 32], 5, "05850000"),
+        (grammar(0, 1, &[]), [4, 32, 32, 32], 1, "01000000"),
         (grammar(1, 1, &[128, 1, 1]), [9, 72, 72, 72], 11, "155021150800000000"),
         (grammar(1, 3, &last), [76, 582, 583, 584], 82, CERTIFICATE_OF_82),
     ];
@@ -187,6 +192,22 @@ fn certificates_that_are_found() {
         let hex: String = certificate.iter().map(|byte| format!("{byte:02x}")).collect();
         // All that is lent past the certificate is 0xAA still.
         assert_eq!(hex, format!("{expected:a<0$}", 2 * lengths[0]));
+    }
+}
+
+/// Certificates that are acceptable if every rule has moves are accepted: of no rule, of A→a and A→, of corpus/useless-unreached.
+#[test]
+fn certificates_over_every_rule() {
+    let unreached = [128, 2, 1, 128, 128, 0, 129, 2, 129, 129, 129, 2, 128, 2];
+    let cases = [
+        (grammar(0, 1, &[]), "05850000"),
+        (grammar(1, 2, &[129, 1, 1, 129, 0]), "05400101000000000000000000"),
+        (grammar(2, 2, &unreached), UNREACHED_OF_31),
+    ];
+    for (table, certificate) in cases {
+        let digit = |place: usize| u8::from_str_radix(&certificate[place..place + 2], 16).unwrap();
+        let bytes: Vec<u8> = (0..certificate.len()).step_by(2).map(digit).collect();
+        assert_eq!(ambiguity::check_certificate(table, &bytes), Ok(()), "{table:?}");
     }
 }
 

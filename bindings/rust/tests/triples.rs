@@ -15,12 +15,13 @@ const CYCLE: [u8; 6] = [128, 1, 128, 128, 1, 1];
 
 #[test]
 fn steps() {
-    let cases: [(usize, &[u8], [usize; 3], &str); 9] = [
+    let cases: [(usize, &[u8], [usize; 3], &str); 10] = [
         (1, LEFT_RECURSION, [1, 3, 4], "records=3 1,3,4,-,o1 1,1,4,c0,- 1,3,7,-,o2"),
         (1, LEFT_RECURSION, [0, 4, 0], "records=3 0,4,0,o1,- 0,4,2,-,o0 0,7,0,o2,-"),
         (1, LEFT_RECURSION, [1, 4, 4], "records=4 1,4,4,o1,- 1,4,4,-,o1 1,4,7,-,o2 1,7,4,o2,-"),
-        (0, &[], [0, 2, 2], "records=1 0,3,3,s128,s128"),
-        (0, &[], [1, 0, 3], "records=2 1,0,1,-,c0 1,2,3,o0,-"),
+        (0, &[], [0, 0, 0], "records=0"),
+        (0, &[128, 0], [0, 2, 2], "records=3 0,2,4,-,o1 0,3,3,s128,s128 0,4,2,o1,-"),
+        (0, &[128, 0], [1, 0, 3], "records=2 1,0,1,-,c0 1,2,3,o0,-"),
         (0, &[128, 0], [0, 3, 4], "records=1 1,1,3,c0,c1"),
         (1, &[128, 1, 1], [0, 3, 4], "records=1 1,1,4,c0,-"),
         (1, &[128, 1, 1], [1, 4, 4], "records=1 1,5,5,s1,s1"),
@@ -30,6 +31,25 @@ fn steps() {
         assert_eq!(all_steps(grammar(terminals, 1, rules), layer, left, right), Ok(expected.to_string()));
     }
     assert_eq!(all_steps(grammar(1, 1, &[128, 1, 1, 128]), 0, 0, 0), refused(Cause::Truncated, 3));
+}
+
+/// S→a; S→A; A→A: the items from 6 on are of rules that no sentence uses.
+#[test]
+fn steps_without_dead_rules() {
+    let rules = [128, 1, 1, 128, 1, 129, 129, 1, 129];
+    for (triple, expected) in [
+        ([0, 0, 0], "records=2 0,0,2,-,o0 0,2,0,o0,-"),
+        ([0, 2, 2], "records=3 0,2,4,-,o1 0,3,3,s128,s128 0,4,2,o1,-"),
+        ([1, 2, 2], "records=2 1,2,4,-,o1 1,4,2,o1,-"),
+        ([1, 5, 5], "records=2 1,3,5,c1,- 1,5,3,-,c1"),
+        ([0, 6, 6], "records=0"),
+        ([0, 7, 5], "records=0"),
+        ([1, 7, 1], "records=0"),
+        ([1, 9, 1], "records=0"),
+    ] {
+        let [layer, left, right] = triple;
+        assert_eq!(all_steps(grammar(1, 2, &rules), layer, left, right), Ok(expected.to_string()), "{triple:?}");
+    }
 }
 
 #[test]
@@ -48,7 +68,7 @@ fn witnesses() {
     }
 }
 
-/// Witnesses of S→S as records. (0,1,8) would have the index of (0,2,2), were it formed without a look at the ranges.
+/// Witnesses of S→S; S→a as records. (0,1,10) would have the index of (0,2,2), were it formed without a look at the ranges.
 #[test]
 fn records() {
     let way = [[0, 0, 0], [0, 0, 2], [0, 2, 2], [0, 2, 4], [0, 3, 5], [1, 1, 3], [1, 1, 1]];
@@ -62,15 +82,15 @@ fn records() {
         (1, way[..4].to_vec(), refused(Cause::WitnessWrong, 4)),
         (1, vec![], refused(Cause::WitnessWrong, 0)),
         (1, with(1, [2, 0, 2]), refused(Cause::WitnessWrong, 1)),
-        (1, with(1, [0, 6, 2]), refused(Cause::WitnessWrong, 1)),
-        (1, with(1, [0, 0, 6]), refused(Cause::WitnessWrong, 1)),
-        (1, with(2, [0, 1, 8]), refused(Cause::WitnessWrong, 2)),
+        (1, with(1, [0, 8, 2]), refused(Cause::WitnessWrong, 1)),
+        (1, with(1, [0, 0, 8]), refused(Cause::WitnessWrong, 1)),
+        (1, with(2, [0, 1, 10]), refused(Cause::WitnessWrong, 2)),
         (1, vec![[u32::MAX; 3]], refused(Cause::WitnessWrong, 0)),
         (0, way.to_vec(), refused(Cause::OutOfRange, 0)),
     ];
     for (nonterminals, records, expected) in cases {
         let lent: Vec<_> = records.iter().map(|&[layer, left, right]| TripleRecord { layer, left, right }).collect();
-        let answer = ambiguity::check_witness_records(grammar(0, nonterminals, &[128, 1, 128]), &lent);
+        let answer = ambiguity::check_witness_records(grammar(1, nonterminals, &CYCLE), &lent);
         assert_eq!(answer, expected, "{records:?}");
     }
 }

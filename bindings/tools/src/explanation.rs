@@ -43,10 +43,6 @@ pub fn ambiguous(grammar: &Grammar, row: &[Code]) -> String {
 /// What is said where no two trees were found.
 pub fn not_found(extent: &Extent) -> String {
     let how_far = match extent {
-        Extent::NoSentence => "the grammar has no sentence at all".to_string(),
-        Extent::NoParting => {
-            "the rules that some sentence uses have no parting. Take the other rules out and run again".to_string()
-        }
         Extent::Unconfirmed => "two trees were found, but could not be confirmed".to_string(),
         Extent::All { pairs } => format!("all pairs of unfinished trees, {pairs}, were tried"),
         Extent::Limit { pairs, moves } => {

@@ -1,4 +1,5 @@
-//! Holes of a grammar: what no sentence uses. They change no verdict here; a half-finished grammar shows in them.
+//! Holes of a grammar: what no sentence uses. It has no moves, so that verdict and size are those of the grammar without it; a
+//! half-finished grammar shows in it.
 
 use ambiguity::{Code, Grammar, START};
 

@@ -10,6 +10,7 @@ use Rattle.grammar.specs.Refusal.{Answer, done, refused, andThen}
 use Rattle.grammar.specs.TableCheck.{checkTable, tableChecked, TableAnswer}
 use Rattle.grammar.specs.declared.TableChecked.{TableChecked}
 use Rattle.grammar.specs.declared.TableVerdict.the-variants.{Refused}
+use Rattle.grammar.proofs.Live.{is-live}
 use Rattle.grammar.proofs.Answers.{then-goes, then-stops}
 use Rattle.grammar.proofs.WellFormed.{takes-only, room}
 use Rattle.automaton.specs.Items.{states}
@@ -23,6 +24,7 @@ use Rattle.triples.specs.declared.CheckVerdict.{CheckVerdict}
 use Rattle.triples.specs.declared.CheckVerdict.the-variants as check
 use Rattle.triples.proofs.Reached.{end-not-reached}
 use Rattle.triple_laws.proofs.Laws.{witness-exactly, smallest-distinct, smallest-below, certificates-of, witnesses-of, reached-of}
+use Rattle.parting.proofs.Former.{still-accepted}
 use Rattle.parting.proofs.Position.{potential-reached}
 use Rattle.soundness.proofs.Position.{one-tree}
 use Rattle.witness_records.specs.Records.{triples, RecordsAnswer}
@@ -127,12 +129,14 @@ module _ (t n : ℕ) (table : List ℕ) where
       one-tree = λ G s x. one-tree limits G (s .wellFormed) (omega arith) _ (accepts-certificate G s .0 x .acceptable);
       unambiguous = λ G s x p. end-not-reached (position limits G) (accepts-certificate G s .0 x .acceptable)
           (potential-reached limits G (s .wellFormed) (omega arith) .0 p);
+      former = λ G s c. accepts-certificate G s .1 (still-accepted limits G bytes c);
     }
 
 automaton-theorems : (G : Grammar) → WellFormed limits G → AutomatonTheorems G
 automaton-theorems G W =
     let M = movesOf limits G in
     record {
+      live = is-live limits G W (omega arith);
       listed = lists G W;
       regular = regular G W;
       reached = λ f p q h j k. reached-of (position limits G) M (regular G W) (lists G W) h j k;

@@ -1,11 +1,16 @@
 -- What is computed from the lists of moves, and whose moves they are: with this a reader of the promises need not believe the lists
--- (automaton/specs/PositionMoves.antt). Source: document 01, "States and moves", "Triples, certificate, witness".
+-- (automaton/specs/PositionMoves.antt). Source: document 01, "States and moves", "Triples, certificate, witness"; document 02,
+-- [3].
 -- Assumes nothing.
-use Prim.Native.Nat.{ℕ, _<_}
+use Prim.Native.Nat.{ℕ, _≤_, _<_}
+use mathlib.Core.Path.{_≡_}
+use mathlib.Core.Bool.{true}
 use mathlib.Core.Logic.{_↔_}
+use lib.ListN.{length}
 use Rattle.grammar.specs.Basics.{Mem, Distinct}
 use Rattle.grammar.specs.Limits.{limits}
 use Rattle.grammar.specs.Grammar.{Grammar}
+use Rattle.grammar.specs.Live.{Live, isLive}
 use Rattle.automaton.specs.Items.{states}
 use Rattle.automaton.specs.Moves.{Regular, Lists}
 use Rattle.automaton.specs.Position.{position}
@@ -16,6 +21,8 @@ use Rattle.triples.specs.Smallest.{smallest}
 
 -- of a well-formed grammar
 pub record AutomatonTheorems (G : Grammar) : Type 0 where
+  -- document 02, [3]: the test of a rule finds exactly those that some sentence uses, and rule 0 if there is a sentence
+  pub live : (i : ℕ) → i ≤ length (G .rules) → (isLive limits G i ≡ true) ↔ Live limits G i
   -- the lists are the moves of the position automaton, and lead to its states
   pub listed : Lists (position limits G) (movesOf limits G)
   pub regular : Regular (movesOf limits G)

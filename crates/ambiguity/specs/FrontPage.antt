@@ -19,7 +19,7 @@ use Rattle.grammar.specs.declared.TableVerdict.the-variants.{Passed, Refused}
 use Rattle.grammar.specs.TableCheck.{TableAnswer}
 use Rattle.automaton.specs.Strings.{Potential, Unambiguous}
 use Rattle.automaton.specs.Items.{states}
-use Rattle.automaton.specs.Position.{position}
+use Rattle.automaton.specs.Position.{positionOf, position, every}
 use Rattle.triples.specs.Index.{tripleCount}
 use Rattle.triples.specs.Successor.{StepTo}
 use Rattle.triples.specs.Certificate.{AcceptableCertificate}
@@ -96,6 +96,8 @@ module _ (t n : ℕ) (table : List ℕ) where
     pub one-tree : (G : Grammar) → Stores t n table G → v ≡ check.Accepted → (sentence : List ℕ) → ¬ HasTwoTrees limits G sentence
     -- demand 2: nor do two strings part
     pub unambiguous : (G : Grammar) → Stores t n table G → v ≡ check.Accepted → Unambiguous (position limits G)
+    -- document 02, [3]: what was an acceptable certificate while every rule had moves, document 01's automaton, is still accepted
+    pub former : (G : Grammar) → Stores t n table G → AcceptableCertificate (positionOf limits G every) bytes → v ≡ check.Accepted
 
 -- whatever answers as the entries promise; and the automaton with which they are computed
 pub record FrontPage : Type 1 where

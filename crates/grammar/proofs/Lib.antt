@@ -11,3 +11,6 @@ pub mod WellFormed
 pub mod Trees
 pub mod Derives
 pub mod Palindromes
+pub mod Closure
+pub mod Live
+pub mod LivePins

@@ -10,11 +10,12 @@ use lib.Dec.{eqb}
 use borrow.Author.Tests.{eqb-true, not-true}
 use Rattle.grammar.specs.Basics.{Mem, here, there, each}
 use Rattle.grammar.specs.Limits.{limits}
-use Rattle.grammar.specs.Grammar.{Grammar, stateCount, WellFormed}
+use Rattle.grammar.specs.Grammar.{Grammar, rule, stateCount, WellFormed}
 use Rattle.grammar.specs.Table.{encode, decodeUpTo, decode}
 use Rattle.grammar.specs.Refusal.{Answer, done, refused, refuseUnless, andThen}
 use Rattle.grammar.specs.TableCheck.{sameCodes, isAmong, declaredFront, readRule, nextRule, checkFrom, checkTable}
 use Rattle.grammar.specs.Tree.{HasTwoTrees}
+use Rattle.grammar.specs.Live.{has, hasAll, concluded, waiting, rounds, nonterminalsOf, productive, usable, reachable, hasSentence, isLive}
 use Rattle.grammar.proofs.Answers.{no-bool, and-both}
 use Rattle.grammar.proofs.Plain.{same-codes}
 use Rattle.grammar.proofs.Rules.{decode-encode}
@@ -25,7 +26,7 @@ use Rattle.automaton.specs.Items.{states}
 use Rattle.automaton.specs.Position.{position}
 use Rattle.automaton.specs.Strings.{Potential, Unambiguous}
 use Rattle.automaton.specs.Moves.{Regular, Lists}
-use Rattle.automaton.specs.PositionMoves.{movesOf, aheads, rulesOf, completed, past, aheadRow, openings, closings}
+use Rattle.automaton.specs.PositionMoves.{movesOf, shown, aheads, rulesOf, completed, past, aheadRow, openings, closings}
 use Rattle.triples.specs.Index.{index}
 use Rattle.triples.specs.Records.{leftAlone, rightAlone, bothShift, bothClose, choices, insert, ordered, records}
 use Rattle.triples.specs.Smallest.{isElement, push, pushAll, explore, successors, smallest, size}
@@ -141,7 +142,8 @@ every-says (s ∷ rs) e (there m) = every-says rs (and-both (rowTest s) (everyTe
 
 computed : everyTest rows ≡ true
 unfolding everyTest rowTest claimTest passes rows checkTable checkFrom nextRule readRule declaredFront isAmong sameCodes refuseUnless andThen decodeUpTo stateCount encode
-    each aheads rulesOf completed past aheadRow openings closings leftAlone rightAlone bothShift bothClose choices insert ordered records
+    rule each has hasAll concluded waiting rounds nonterminalsOf productive usable reachable hasSentence isLive
+    shown aheads rulesOf completed past aheadRow openings closings leftAlone rightAlone bothShift bothClose choices insert ordered records
     isElement push pushAll explore successors smallest bitsFrom bytesFrom
 computed = refl
 

@@ -1,6 +1,7 @@
 -- The grammars on file: one table of rows, each with a claim. proofs/Rows.antt has the one theorem, that every row says true.
--- Source: document 01, "Grammars on file", the rows marked P and the certificate of S → a. The claims are about the table check's
--- definition, parting strings, the smallest set and trees. Assumes nothing.
+-- Source: document 01, "Grammars on file", the rows marked P and the certificate of S → a; document 02, [3], by which no rules and
+-- S → S have size 1, and its grammar S → a; S → A; A → A. The claims are about the table check's definition, parting strings, the
+-- smallest set and trees. Assumes nothing.
 use Prim.Native.Nat.{ℕ}
 use mathlib.Core.Path.{_≡_}
 use mathlib.Core.List.{List, [], _∷_}
@@ -48,11 +49,11 @@ pub record Says (r : Row) : Type 0 where
   pub count : states grammar ≡ r .states
   pub claimed : Claimed grammar (r .claim)
 
--- the rows marked P, in their order; a is 1, b is 2, S is 128, A is 129, B is 130
+-- the rows marked P, in their order, then document 02's; a is 1, b is 2, S is 128, A is 129, B is 130
 unfoldable pub rows : List Row
 rows =
     -- none
-    record { terminals = 0; nonterminals = 1; table = []; states = 4; claim = unambiguous 5 }
+    record { terminals = 0; nonterminals = 1; table = []; states = 4; claim = unambiguous 1 }
     -- S → (empty)
     ∷ record { terminals = 0; nonterminals = 1; table = 128 ∷ 0 ∷ []; states = 5; claim = unambiguous 10 }
     -- S → a
@@ -68,7 +69,7 @@ rows =
     -- S → a S b; S → (empty)
     ∷ record { terminals = 2; nonterminals = 1; table = 128 ∷ 3 ∷ 1 ∷ 128 ∷ 2 ∷ 128 ∷ 0 ∷ []; states = 9; claim = unambiguous 30 }
     -- S → S
-    ∷ record { terminals = 0; nonterminals = 1; table = 128 ∷ 1 ∷ 128 ∷ []; states = 6; claim = potential }
+    ∷ record { terminals = 0; nonterminals = 1; table = 128 ∷ 1 ∷ 128 ∷ []; states = 6; claim = unambiguous 1 }
     -- S → S; S → a
     ∷ record { terminals = 1; nonterminals = 1; table = 128 ∷ 1 ∷ 128 ∷ 128 ∷ 1 ∷ 1 ∷ []; states = 8; claim = potential }
     -- S → a S a; S → a
@@ -80,5 +81,13 @@ rows =
       table = 128 ∷ 1 ∷ 129 ∷ 128 ∷ 1 ∷ 130 ∷ 129 ∷ 0 ∷ 130 ∷ 0 ∷ [];
       states = 10;
       claim = potential;
+    }
+    -- S → a; S → A; A → A
+    ∷ record {
+      terminals = 1;
+      nonterminals = 2;
+      table = 128 ∷ 1 ∷ 1 ∷ 128 ∷ 1 ∷ 129 ∷ 129 ∷ 1 ∷ 129 ∷ [];
+      states = 10;
+      claim = unambiguous 11;
     }
     ∷ []

@@ -4,11 +4,11 @@ use mathlib.Core.Path.{_≡_, sym, subst₂}
 use native.Mathlib.Omega.{arith}
 use Rattle.grammar.specs.Limits.{limits}
 use Rattle.grammar.specs.Grammar.{Grammar, WellFormed}
-use Rattle.grammar.specs.Record.{recordOf}
+use Rattle.grammar.specs.Record.{recordOf, IsRecord}
 use Rattle.grammar.specs.declared.CheckedGrammar.{CheckedGrammar}
 use Rattle.automaton.specs.PositionMoves.{movesOf}
 use Rattle.automaton.proofs.Items.{states-four}
-use Rattle.moves.specs.Tables.{Tables, Built, IsRecord}
+use Rattle.moves.specs.Tables.{Tables, Built}
 use Rattle.moves.specs.Shows.{Shows}
 use Rattle.moves.proofs.Columns.{read}
 use Rattle.moves.proofs.Shows.{built-shows}

@@ -8,6 +8,7 @@ use lib.ListN.{length, getD}
 use Rattle.grammar.specs.Basics.{each, Mem, here, there}
 use Rattle.grammar.specs.Limits.{Limits}
 use Rattle.grammar.specs.Grammar.{Terminal, Nonterminal, Grammar, rule, WellFormed}
+use Rattle.grammar.specs.Live.{Live}
 use Rattle.grammar.proofs.Derives.{rule-listed}
 use Rattle.grammar.proofs.Lists.{place-mem}
 use Rattle.automaton.specs.Items.{states, Before}
@@ -37,15 +38,15 @@ module _ (L : Limits) (G : Grammar) (W : WellFormed L G) (apart : L .maxTerminal
   Good u = AllValid L (G .terminals) (G .nonterminals) (length (G .rules)) u
 
   -- the rules and symbols of moves are the grammar's
-  opens-rules : {i p q : ℕ} → Opens L G i p q → i ≤ length (G .rules)
-  opens-rules (opens-start e f g) = omega arith
-  opens-rules (opens-rule r b e) = r .1
+  opens-rules : {i p q : ℕ} → Opens L G (Live L G) i p q → i ≤ length (G .rules)
+  opens-rules (opens-start l e f g) = omega arith
+  opens-rules (opens-rule r l b e) = r .1
 
-  closes-rules : {i p q : ℕ} → Closes L G i p q → i ≤ length (G .rules)
-  closes-rules (closes-start e f g) = omega arith
-  closes-rules (closes-rule r e b f) = r .1
+  closes-rules : {i p q : ℕ} → Closes L G (Live L G) i p q → i ≤ length (G .rules)
+  closes-rules (closes-start l e f g) = omega arith
+  closes-rules (closes-rule r l e b f) = r .1
 
-  declared : {x p : ℕ} → Before L G x p → Terminal (G .terminals) x ⊎ Nonterminal L (G .nonterminals) x
+  declared : {x p : ℕ} → Before L G (Live L G) x p → Terminal (G .terminals) x ⊎ Nonterminal L (G .nonterminals) x
   unfolding rule
   declared {x} b = go (b .number) (b .place) (b .item .rule) (b .inside) (b .symbol)
     where

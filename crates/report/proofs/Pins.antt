@@ -10,7 +10,9 @@ use Rattle.grammar.specs.Grammar.{stateCount}
 use Rattle.grammar.specs.Refusal.{Answer, done, refused, refuseUnless, andThen}
 use Rattle.grammar.specs.TableCheck.{sameCodes, isAmong}
 use Rattle.grammar.specs.Basics.{each}
-use Rattle.automaton.specs.PositionMoves.{aheads, rulesOf, completed, past, aheadRow, openings, closings}
+use Rattle.grammar.specs.Grammar.{rule}
+use Rattle.grammar.specs.Live.{has, hasAll, concluded, waiting, rounds, nonterminalsOf, productive, usable, reachable, hasSentence, isLive}
+use Rattle.automaton.specs.PositionMoves.{shown as codesOf, aheads, rulesOf, completed, past, aheadRow, openings, closings}
 use Rattle.triples.specs.Records.{leftAlone, rightAlone, bothShift, bothClose, choices, insert, ordered, records}
 use Rattle.triples.specs.Smallest.{isElement, push, pushAll, explore, successors, smallest}
 use Rattle.text.specs.Pieces.{splitOn}
@@ -40,11 +42,15 @@ unfolding bytes judge checkText admit isAmong sameCodes stateCount readText read
     isName any all isNameByte splitOn refuseUnless andThen
 judged text = judge (bytes text)
 
+lived : String → List ℕ
+unfolding judged reportOf rule each has hasAll concluded waiting rounds nonterminalsOf productive usable reachable hasSentence isLive
+lived text = reportOf (bytes text)
+
 shown : String → List ℕ
-unfolding judged reportOf decimalTo each aheads rulesOf completed past aheadRow openings closings leftAlone rightAlone bothShift
+unfolding lived decimalTo each codesOf aheads rulesOf completed past aheadRow openings closings leftAlone rightAlone bothShift
     bothClose choices insert ordered records isElement push pushAll explore successors smallest witnessLines firstRow rowOf fewest
     shortest recordsTo sideOf words readingLines nameOf symbolOf join ledBy endedBy
-shown text = reportOf (bytes text)
+shown text = lived text
 
 -- document 01's example
 example : shown "terminals=a\nnonterminals=S\nrule=S: a\n" ≡ bytes "states=6\nverdict=unambiguous\nreached=11\n"
@@ -52,7 +58,7 @@ unfolding shown
 example = refl
 
 -- a potential verdict prints the two sides of the shortest witness
-two-readings : shown "terminals=a\nnonterminals=S\nrule=S: S\n" ≡ bytes "states=6\nverdict=potential\nleft=(0 S )0\nright=(0 (1 S )1 )0\n"
+two-readings : shown "terminals=a\nnonterminals=S\nrule=S: S\nrule=S:\n" ≡ bytes "states=7\nverdict=potential\nleft=(0 S )0\nright=(0 (1 S )1 )0\n"
 unfolding shown
 two-readings = refl
 

@@ -1,4 +1,4 @@
--- Small closed cases of the definitions at document 01's limits: the grammars on file and five others with their sizes, step
+-- Small closed cases of the definitions at document 01's limits: the grammars on file and others with their sizes, step
 -- records written out, bits, certificates and witnesses with each refusal.
 -- An edit of a move, of the order of the records, of a bit or of a check in specs/ fails here.
 -- Assumes nothing.
@@ -8,13 +8,14 @@ use mathlib.Core.List.{List, [], _∷_, _++_}
 use Prim.Native.Nat.{ℕ}
 use lib.ListN.{length, replicate}
 use Rattle.grammar.specs.Limits.{limits}
-use Rattle.grammar.specs.Grammar.{Grammar, stateCount}
+use Rattle.grammar.specs.Grammar.{Grammar, rule, stateCount}
 use Rattle.grammar.specs.Table.{decodeUpTo, decode}
 use Rattle.grammar.specs.Refusal.{Answer, done, refused, refuseUnless, andThen}
 use Rattle.grammar.specs.TableCheck.{sameCodes, isAmong, declaredFront, readRule, nextRule, checkFrom, checkTable}
 use Rattle.grammar.specs.Basics.{each}
+use Rattle.grammar.specs.Live.{has, hasAll, concluded, waiting, rounds, nonterminalsOf, productive, usable, reachable, hasSentence, isLive}
 use Rattle.automaton.specs.Items.{states}
-use Rattle.automaton.specs.PositionMoves.{movesOf, aheads, rulesOf, completed, past, aheadRow, openings, closings}
+use Rattle.automaton.specs.PositionMoves.{movesOf, shown, aheads, rulesOf, completed, past, aheadRow, openings, closings}
 use Rattle.triples.specs.declared.Move.the-variants.{Opening, Closing, Symbol, Still}
 use Rattle.triples.specs.declared.Step.{Step}
 use Rattle.triples.specs.Index.{index, tripleCount, layerOf, leftOf, rightOf}
@@ -38,13 +39,17 @@ abbrev grammar : Tables → Grammar
 grammar s = record { terminals = s .terminals; nonterminals = s .nonterminals; rules = decode (s .table) }
 
 -- to unfold one of these is to unfold all that it uses
+lived : Tables → ℕ → Bool
+unfolding decodeUpTo rule each has hasAll concluded waiting rounds nonterminalsOf productive usable reachable hasSentence isLive
+lived s i = isLive limits (grammar s) i
+
 opened : Tables → ℕ → List (ℕ × ℕ)
-unfolding decodeUpTo aheads rulesOf aheadRow openings
-opened s p = openings limits (grammar s) p
+unfolding lived shown aheads rulesOf aheadRow openings
+opened s p = openings limits (grammar s) (isLive limits (grammar s)) p
 
 closed : Tables → ℕ → List (ℕ × ℕ)
-unfolding decodeUpTo each aheads completed past aheadRow closings
-closed s p = closings limits (grammar s) p
+unfolding lived shown aheads completed past aheadRow closings
+closed s p = closings limits (grammar s) (isLive limits (grammar s)) p
 
 steps : Tables → ℕ → ℕ → ℕ → List Step
 unfolding opened closed stateCount leftAlone rightAlone bothShift bothClose choices insert ordered records
@@ -107,6 +112,10 @@ nested = tables 2 1 (128 ∷ 3 ∷ 1 ∷ 128 ∷ 2 ∷ 128 ∷ 0 ∷ [])
 abbrev circle : Tables
 circle = tables 0 1 (128 ∷ 1 ∷ 128 ∷ [])
 
+-- S → S; S →
+abbrev looped : Tables
+looped = tables 0 1 (128 ∷ 1 ∷ 128 ∷ 128 ∷ 0 ∷ [])
+
 -- S → S; S → a
 abbrev circular : Tables
 circular = tables 1 1 (128 ∷ 1 ∷ 128 ∷ 128 ∷ 1 ∷ 1 ∷ [])
@@ -123,15 +132,21 @@ twice = tables 0 3 (128 ∷ 1 ∷ 129 ∷ 128 ∷ 1 ∷ 130 ∷ 129 ∷ 0 ∷ 13
 abbrev counted : Tables
 counted = tables 1 3 (128 ∷ 1 ∷ 129 ∷ 128 ∷ 1 ∷ 130 ∷ 129 ∷ 3 ∷ 129 ∷ 1 ∷ 1 ∷ 129 ∷ 1 ∷ 1 ∷ 130 ∷ 2 ∷ 1 ∷ 1 ∷ [])
 
--- without a sentence: S → a S, S → S S; S → A a, A → S; S → S S
-abbrev endless : Tables
-endless = tables 1 1 (128 ∷ 2 ∷ 1 ∷ 128 ∷ 128 ∷ 2 ∷ 128 ∷ 128 ∷ [])
+-- S → a S; S → S S; S →
+abbrev spreading : Tables
+spreading = tables 1 1 (128 ∷ 2 ∷ 1 ∷ 128 ∷ 128 ∷ 2 ∷ 128 ∷ 128 ∷ 128 ∷ 0 ∷ [])
 
-abbrev mutually : Tables
-mutually = tables 1 2 (128 ∷ 2 ∷ 129 ∷ 1 ∷ 129 ∷ 1 ∷ 128 ∷ [])
+-- S → ; S → A a; A →
+abbrev ended : Tables
+ended = tables 1 2 (128 ∷ 0 ∷ 128 ∷ 2 ∷ 129 ∷ 1 ∷ 129 ∷ 0 ∷ [])
 
-abbrev doubled : Tables
-doubled = tables 0 1 (128 ∷ 2 ∷ 128 ∷ 128 ∷ [])
+-- S → ; S → a S a
+abbrev framed : Tables
+framed = tables 1 1 (128 ∷ 0 ∷ 128 ∷ 3 ∷ 1 ∷ 128 ∷ 1 ∷ [])
+
+-- S → ; S → S S
+abbrev squared : Tables
+squared = tables 0 1 (128 ∷ 0 ∷ 128 ∷ 2 ∷ 128 ∷ 128 ∷ [])
 
 -- S → a; S → S S
 abbrev pairs : Tables
@@ -141,17 +156,27 @@ pairs = tables 1 1 (128 ∷ 1 ∷ 1 ∷ 128 ∷ 2 ∷ 128 ∷ 128 ∷ [])
 abbrev either : Tables
 either = tables 2 3 (128 ∷ 2 ∷ 129 ∷ 2 ∷ 128 ∷ 2 ∷ 129 ∷ 130 ∷ 129 ∷ 1 ∷ 1 ∷ 130 ∷ 1 ∷ 2 ∷ [])
 
+-- S → a; S → A; A → A: no sentence uses the last two
+abbrev course : Tables
+course = tables 1 2 (128 ∷ 1 ∷ 1 ∷ 128 ∷ 1 ∷ 129 ∷ 129 ∷ 1 ∷ 129 ∷ [])
+
+-- S → a; S → A B; A → a; B → B: no sentence uses the last three
+abbrev barren : Tables
+barren = tables 1 3 (128 ∷ 1 ∷ 1 ∷ 128 ∷ 2 ∷ 129 ∷ 130 ∷ 129 ∷ 1 ∷ 1 ∷ 130 ∷ 1 ∷ 130 ∷ [])
+
 -- all pass the table check, with the grammar that is taken here
 all-pass : (checkRules bare ≡ done (grammar bare)) × (checkRules empty ≡ done (grammar empty))
     × (checkRules single ≡ done (grammar single)) × (checkRules leftward ≡ done (grammar leftward))
     × (checkRules nested ≡ done (grammar nested)) × (checkRules circle ≡ done (grammar circle))
-    × (checkRules circular ≡ done (grammar circular)) × (checkRules palindromes ≡ done (grammar palindromes))
-    × (checkRules twice ≡ done (grammar twice)) × (checkRules counted ≡ done (grammar counted))
-    × (checkRules endless ≡ done (grammar endless)) × (checkRules mutually ≡ done (grammar mutually))
-    × (checkRules doubled ≡ done (grammar doubled)) × (checkRules pairs ≡ done (grammar pairs))
-    × (checkRules either ≡ done (grammar either))
+    × (checkRules looped ≡ done (grammar looped)) × (checkRules circular ≡ done (grammar circular))
+    × (checkRules palindromes ≡ done (grammar palindromes)) × (checkRules twice ≡ done (grammar twice))
+    × (checkRules counted ≡ done (grammar counted)) × (checkRules spreading ≡ done (grammar spreading))
+    × (checkRules ended ≡ done (grammar ended)) × (checkRules framed ≡ done (grammar framed))
+    × (checkRules squared ≡ done (grammar squared)) × (checkRules pairs ≡ done (grammar pairs))
+    × (checkRules either ≡ done (grammar either)) × (checkRules course ≡ done (grammar course))
+    × (checkRules barren ≡ done (grammar barren))
 unfolding checkRules
-all-pass = (refl, refl, refl, refl, refl, refl, refl, refl, refl, refl, refl, refl, refl, refl, refl)
+all-pass = (refl, refl, refl, refl, refl, refl, refl, refl, refl, refl, refl, refl, refl, refl, refl, refl, refl, refl, refl)
 
 -- a state opens each rule of the nonterminal ahead; a rule's end closes to every item past its nonterminal
 moves : (opened either 0 ≡ (0, 2) ∷ [])
@@ -171,30 +196,59 @@ moves : (opened either 0 ≡ (0, 2) ∷ [])
 unfolding opened closed
 moves = (refl, refl, refl, refl, refl, refl, refl, refl, refl, refl, refl, refl, refl, refl)
 
--- (0,0,0): each side opens 0; (1,1,1): nothing
-ends : (steps circle 0 0 0 ≡ step 0 0 2 Still (Opening 0) ∷ step 0 2 0 (Opening 0) Still ∷ []) × (steps circle 1 1 1 ≡ [])
+-- items of rules that are not live have no moves, and no move leads to them: of S → a; S → A; A → A state 2 opens only S → a, which
+-- closes; S → ·A opens nothing, and the ends of the other rules do not close
+dead-moves : (opened course 0 ≡ (0, 2) ∷ [])
+    × (opened course 2 ≡ (1, 4) ∷ [])
+    × (opened course 6 ≡ [])
+    × (opened course 8 ≡ [])
+    × (closed course 3 ≡ (0, 1) ∷ [])
+    × (closed course 5 ≡ (1, 3) ∷ [])
+    × (closed course 7 ≡ [])
+    × (closed course 9 ≡ [])
+    × (steps course 0 6 6 ≡ [])
 unfolding steps
-ends = (refl, refl)
+dead-moves = (refl, refl, refl, refl, refl, refl, refl, refl, refl)
+
+-- of S → a; S → A B; A → a; B → B the rule A → a, which S reaches only through a rule that is in no tree, closes to no state and
+-- stands before no terminal; without a sentence states 0 and 3 do not move
+barren-moves : (opened barren 6 ≡ [])
+    × (closed barren 10 ≡ [])
+    × (steps barren 0 9 9 ≡ [])
+    × (opened bare 0 ≡ [])
+    × (closed bare 3 ≡ [])
+    × (opened circle 0 ≡ [])
+    × (opened circle 2 ≡ [])
+    × (closed circle 5 ≡ [])
+unfolding steps
+barren-moves = (refl, refl, refl, refl, refl, refl, refl, refl)
+
+-- (0,0,0): each side opens 0, if there is a sentence; (1,1,1): nothing
+ends : (steps looped 0 0 0 ≡ step 0 0 2 Still (Opening 0) ∷ step 0 2 0 (Opening 0) Still ∷ []) × (steps looped 1 1 1 ≡ [])
+    × (steps circle 0 0 0 ≡ [])
+unfolding steps
+ends = (refl, refl, refl)
 
 -- out of range: a state of Q, a layer above 1
-out-of-range : (steps circle 0 6 0 ≡ []) × (steps circle 0 0 6 ≡ []) × (steps circle 2 0 0 ≡ []) × (steps circle 2 5 4 ≡ [])
+out-of-range : (steps looped 0 7 0 ≡ []) × (steps looped 0 0 7 ≡ []) × (steps looped 2 0 0 ≡ []) × (steps looped 2 5 4 ≡ [])
 unfolding steps
 out-of-range = (refl, refl, refl, refl)
 
 -- records that lead back come first, left before right: two openings; a closing and an opening; two closings
-back-first : (steps circle 0 4 4
-    ≡ step 0 4 4 (Opening 1) Still ∷ step 0 4 4 Still (Opening 1) ∷ step 0 5 5 (Symbol 128) (Symbol 128) ∷ [])
-    × (steps circle 1 5 4
-    ≡ step 1 5 4 (Closing 1) Still ∷ step 1 5 4 Still (Opening 1) ∷ step 1 3 4 (Closing 1) Still ∷ [])
-    × (steps circle 1 5 5
+back-first : (steps looped 0 4 4
+    ≡ step 0 4 4 (Opening 1) Still ∷ step 0 4 4 Still (Opening 1) ∷ step 0 4 6 Still (Opening 2)
+    ∷ step 0 5 5 (Symbol 128) (Symbol 128) ∷ step 0 6 4 (Opening 2) Still ∷ [])
+    × (steps looped 1 5 4
+    ≡ step 1 5 4 (Closing 1) Still ∷ step 1 5 4 Still (Opening 1) ∷ step 1 3 4 (Closing 1) Still ∷ step 1 5 6 Still (Opening 2) ∷ [])
+    × (steps looped 1 5 5
     ≡ step 1 5 5 (Closing 1) Still ∷ step 1 5 5 Still (Closing 1)
     ∷ step 1 3 5 (Closing 1) Still ∷ step 1 5 3 Still (Closing 1) ∷ [])
 unfolding steps
 back-first = (refl, refl, refl)
 
 -- equal closings do not part; unequal ones do, both moving
-closings-part : (steps circle 0 5 5 ≡ [])
-    × (steps circle 0 5 3 ≡ step 1 3 1 (Closing 1) (Closing 0) ∷ step 1 5 1 (Closing 1) (Closing 0) ∷ [])
+closings-part : (steps looped 0 5 5 ≡ [])
+    × (steps looped 0 5 3 ≡ step 1 3 1 (Closing 1) (Closing 0) ∷ step 1 5 1 (Closing 1) (Closing 0) ∷ [])
     × (steps twice 0 8 9 ≡ step 1 5 7 (Closing 3) (Closing 4) ∷ [])
 unfolding steps
 closings-part = (refl, refl, refl)
@@ -203,7 +257,7 @@ closings-part = (refl, refl, refl)
 closing-beside : (steps leftward 0 3 5 ≡ step 1 1 5 (Closing 0) Still ∷ [])
     × (steps leftward 0 5 3 ≡ step 1 5 1 Still (Closing 0) ∷ [])
     × (steps leftward 0 8 7 ≡ step 1 3 7 (Closing 2) Still ∷ step 1 5 7 (Closing 2) Still ∷ [])
-    × (steps endless 0 6 8 ≡ step 0 6 4 Still (Opening 1) ∷ step 0 6 7 Still (Opening 2) ∷ [])
+    × (steps spreading 0 6 8 ≡ step 0 6 4 Still (Opening 1) ∷ step 0 6 7 Still (Opening 2) ∷ step 0 6 10 Still (Opening 3) ∷ [])
 unfolding steps
 closing-beside = (refl, refl, refl, refl)
 
@@ -214,12 +268,12 @@ unfolding steps
 opening-beside = (refl, refl)
 
 -- before one nonterminal: both shift it in layer 0, neither in layer 1
-nonterminal-shifts : (steps endless 0 5 8
-    ≡ step 0 4 8 (Opening 1) Still ∷ step 0 5 4 Still (Opening 1) ∷ step 0 5 7 Still (Opening 2)
-    ∷ step 0 6 9 (Symbol 128) (Symbol 128) ∷ step 0 7 8 (Opening 2) Still ∷ [])
-    × (steps endless 1 5 8
-    ≡ step 1 4 8 (Opening 1) Still ∷ step 1 5 4 Still (Opening 1) ∷ step 1 5 7 Still (Opening 2)
-    ∷ step 1 7 8 (Opening 2) Still ∷ [])
+nonterminal-shifts : (steps spreading 0 5 8
+    ≡ step 0 4 8 (Opening 1) Still ∷ step 0 5 4 Still (Opening 1) ∷ step 0 5 7 Still (Opening 2) ∷ step 0 5 10 Still (Opening 3)
+    ∷ step 0 6 9 (Symbol 128) (Symbol 128) ∷ step 0 7 8 (Opening 2) Still ∷ step 0 10 8 (Opening 3) Still ∷ [])
+    × (steps spreading 1 5 8
+    ≡ step 1 4 8 (Opening 1) Still ∷ step 1 5 4 Still (Opening 1) ∷ step 1 5 7 Still (Opening 2) ∷ step 1 5 10 Still (Opening 3)
+    ∷ step 1 7 8 (Opening 2) Still ∷ step 1 10 8 (Opening 3) Still ∷ [])
 unfolding steps
 nonterminal-shifts = (refl, refl)
 
@@ -231,32 +285,38 @@ terminal-shifts : (steps leftward 0 5 7 ≡ step 0 6 8 (Symbol 1) (Symbol 1) ∷
 unfolding steps
 terminal-shifts = (refl, refl, refl, refl)
 
--- document 01's rows that are unambiguous
-unambiguous-rows : (figures bare ≡ (4, 5, false))
+-- document 01's rows that are unambiguous, and S → S
+unambiguous-rows : (figures bare ≡ (4, 1, false))
     × (figures empty ≡ (5, 10, false))
     × (figures single ≡ (6, 11, false))
     × (figures leftward ≡ (9, 24, false))
     × (figures nested ≡ (9, 30, false))
     × (figures counted ≡ (17, 82, false))
+    × (figures circle ≡ (6, 1, false))
 unfolding figures
-unambiguous-rows = (refl, refl, refl, refl, refl, refl)
+unambiguous-rows = (refl, refl, refl, refl, refl, refl, refl)
 
 -- its rows that are potential
-potential-rows : (figures circle ≡ (6, 18, true))
-    × (figures circular ≡ (8, 26, true))
+potential-rows : (figures circular ≡ (8, 26, true))
     × (figures palindromes ≡ (10, 79, true))
     × (figures twice ≡ (10, 53, true))
 unfolding figures
-potential-rows = (refl, refl, refl, refl)
+potential-rows = (refl, refl, refl)
 
--- other grammars
-other-rows : (figures endless ≡ (10, 66, false))
-    × (figures mutually ≡ (9, 24, false))
-    × (figures doubled ≡ (7, 22, false))
+-- with rules that no sentence uses: S → a with states more
+unused-rows : (figures course ≡ (10, 11, false)) × (figures barren ≡ (13, 11, false))
+unfolding figures
+unused-rows = (refl, refl)
+
+-- other grammars: the first has size 38 if only one of two closings moves, the second is unambiguous if layer 1 forgets openings
+other-rows : (figures ended ≡ (9, 32, false))
+    × (figures framed ≡ (9, 64, true))
+    × (figures looped ≡ (7, 25, true))
+    × (figures squared ≡ (8, 71, true))
     × (figures pairs ≡ (9, 85, true))
     × (figures either ≡ (14, 49, true))
 unfolding figures
-other-rows = (refl, refl, refl, refl, refl)
+other-rows = (refl, refl, refl, refl, refl, refl)
 
 -- indices, their number and their bytes
 indices : (index 6 1 1 1 ≡ 43) × (index 6 0 5 4 ≡ 34) × (index 256 1 255 255 ≡ 131071)
@@ -294,10 +354,17 @@ smallest-cases : (checkBits bare (certificate bare) ≡ done tt)
     × (checkBits empty (certificate empty) ≡ done tt)
     × (checkBits nested (certificate nested) ≡ done tt)
     × (checkBits counted (certificate counted) ≡ done tt)
-    × (checkBits circle (certificate circle) ≡ refused 12 43)
+    × (checkBits circle (certificate circle) ≡ done tt)
+    × (checkBits course (certificate course) ≡ done tt)
+    × (checkBits looped (certificate looped) ≡ refused 12 57)
     × (checkBits twice (certificate twice) ≡ refused 12 111)
 unfolding checkBits
-smallest-cases = (refl, refl, refl, refl, refl, refl)
+smallest-cases = (refl, refl, refl, refl, refl, refl, refl, refl)
+
+-- without rules only (0,0,0) is needed; the certificate over all rules is accepted too
+bare-cases : (checkBits bare (1 ∷ 0 ∷ 0 ∷ 0 ∷ []) ≡ done tt) × (checkBits bare (0x05 ∷ 0x85 ∷ 0 ∷ 0 ∷ []) ≡ done tt)
+unfolding checkBits
+bare-cases = (refl, refl)
 
 -- document 01's cases for S → a: the right one; its first eight bytes, one byte more, no byte; all 0; all 0xFF; only bit 0
 single-cases : (checkBits single single-bytes ≡ done tt)
@@ -341,37 +408,38 @@ certificate-order : (checkBits (tables 128 1 []) [] ≡ refused 1 0)
 unfolding checkBits
 certificate-order = (refl, refl, refl, refl, refl, refl)
 
--- of S → S: (0,0,0), (0,2,0), (0,2,2), (0,4,2), (0,5,3), (1,3,1), (1,1,1); with (0,4,2) twice
-right-paths : (checkPath circle (0 ∷ 12 ∷ 14 ∷ 26 ∷ 33 ∷ 55 ∷ 43 ∷ []) ≡ done tt)
-    × (checkPath circle (0 ∷ 12 ∷ 14 ∷ 26 ∷ 26 ∷ 33 ∷ 55 ∷ 43 ∷ []) ≡ done tt)
+-- of S → S; S → : (0,0,0), (0,2,0), (0,2,2), (0,4,2), (0,5,3), (1,3,1), (1,1,1); with (0,4,2) twice
+right-paths : (checkPath looped (0 ∷ 14 ∷ 16 ∷ 30 ∷ 38 ∷ 71 ∷ 57 ∷ []) ≡ done tt)
+    × (checkPath looped (0 ∷ 14 ∷ 16 ∷ 30 ∷ 30 ∷ 38 ∷ 71 ∷ 57 ∷ []) ≡ done tt)
 unfolding checkPath
 right-paths = (refl, refl)
 
 -- no entry; another first entry, alone and before a right rest; another entry in the middle, one of 2Q²; the end cut off, all
--- but the first cut off; an entry after (1,1,1); a table fault first
-wrong-paths : (checkPath circle [] ≡ refused 15 0)
-    × (checkPath circle (43 ∷ []) ≡ refused 15 0)
-    × (checkPath circle (12 ∷ 14 ∷ 26 ∷ 33 ∷ 55 ∷ 43 ∷ []) ≡ refused 15 0)
-    × (checkPath circle (0 ∷ 12 ∷ 14 ∷ 33 ∷ 55 ∷ 43 ∷ []) ≡ refused 15 3)
-    × (checkPath circle (0 ∷ 12 ∷ 72 ∷ 26 ∷ 33 ∷ 55 ∷ 43 ∷ []) ≡ refused 15 2)
-    × (checkPath circle (0 ∷ 12 ∷ 14 ∷ 26 ∷ 33 ∷ 55 ∷ []) ≡ refused 15 6)
-    × (checkPath circle (0 ∷ []) ≡ refused 15 1)
-    × (checkPath circle (0 ∷ 12 ∷ 14 ∷ 26 ∷ 33 ∷ 55 ∷ 43 ∷ 43 ∷ []) ≡ refused 15 7)
+-- but the first cut off; an entry after (1,1,1); a table fault first; of S → S, which has no sentence, nothing leads on from (0,0,0)
+wrong-paths : (checkPath looped [] ≡ refused 15 0)
+    × (checkPath looped (57 ∷ []) ≡ refused 15 0)
+    × (checkPath looped (14 ∷ 16 ∷ 30 ∷ 38 ∷ 71 ∷ 57 ∷ []) ≡ refused 15 0)
+    × (checkPath looped (0 ∷ 14 ∷ 16 ∷ 38 ∷ 71 ∷ 57 ∷ []) ≡ refused 15 3)
+    × (checkPath looped (0 ∷ 14 ∷ 98 ∷ 30 ∷ 38 ∷ 71 ∷ 57 ∷ []) ≡ refused 15 2)
+    × (checkPath looped (0 ∷ 14 ∷ 16 ∷ 30 ∷ 38 ∷ 71 ∷ []) ≡ refused 15 6)
+    × (checkPath looped (0 ∷ []) ≡ refused 15 1)
+    × (checkPath looped (0 ∷ 14 ∷ 16 ∷ 30 ∷ 38 ∷ 71 ∷ 57 ∷ 57 ∷ []) ≡ refused 15 7)
     × (checkPath (tables 0 0 []) [] ≡ refused 1 0)
+    × (checkPath circle (0 ∷ 12 ∷ 14 ∷ 26 ∷ 33 ∷ 55 ∷ 43 ∷ []) ≡ refused 15 1)
 unfolding checkPath
-wrong-paths = (refl, refl, refl, refl, refl, refl, refl, refl, refl)
+wrong-paths = (refl, refl, refl, refl, refl, refl, refl, refl, refl, refl)
 
 -- a record's index; 72, that is 2Q², for a layer above 1 and a state of Q or more
 entries : (entryOf 6 (0, 5, 4) ≡ 34) × (entryOf 6 (1, 1, 1) ≡ 43)
     × (entryOf 6 (2, 0, 0) ≡ 72) × (entryOf 6 (3, 1, 0) ≡ 72) × (entryOf 6 (0, 6, 0) ≡ 72) × (entryOf 6 (1, 0, 7) ≡ 72)
 entries = (refl, refl, refl, refl, refl, refl)
 
--- the same of records: a right row; for (0,2,0) the record (0,1,6), for (1,1,1) the record (0,7,1), of equal index; a layer of 2
+-- the same of records: a right row; for (0,2,0) the record (0,1,7), for (1,1,1) the record (0,8,1), of equal index; a layer of 2
 record-paths :
-    (checkEntries circle ((0, 0, 0) ∷ (0, 2, 0) ∷ (0, 2, 2) ∷ (0, 4, 2) ∷ (0, 5, 3) ∷ (1, 3, 1) ∷ (1, 1, 1) ∷ []) ≡ done tt)
-    × (checkEntries circle ((0, 0, 0) ∷ (0, 1, 6) ∷ (0, 2, 2) ∷ (0, 4, 2) ∷ (0, 5, 3) ∷ (1, 3, 1) ∷ (1, 1, 1) ∷ []) ≡ refused 15 1)
-    × (checkEntries circle ((0, 0, 0) ∷ (0, 2, 0) ∷ (0, 2, 2) ∷ (0, 4, 2) ∷ (0, 5, 3) ∷ (1, 3, 1) ∷ (0, 7, 1) ∷ []) ≡ refused 15 6)
-    × (checkEntries circle ((0, 0, 0) ∷ (2, 2, 0) ∷ []) ≡ refused 15 1)
-    × (checkEntries circle [] ≡ refused 15 0)
+    (checkEntries looped ((0, 0, 0) ∷ (0, 2, 0) ∷ (0, 2, 2) ∷ (0, 4, 2) ∷ (0, 5, 3) ∷ (1, 3, 1) ∷ (1, 1, 1) ∷ []) ≡ done tt)
+    × (checkEntries looped ((0, 0, 0) ∷ (0, 1, 7) ∷ (0, 2, 2) ∷ (0, 4, 2) ∷ (0, 5, 3) ∷ (1, 3, 1) ∷ (1, 1, 1) ∷ []) ≡ refused 15 1)
+    × (checkEntries looped ((0, 0, 0) ∷ (0, 2, 0) ∷ (0, 2, 2) ∷ (0, 4, 2) ∷ (0, 5, 3) ∷ (1, 3, 1) ∷ (0, 8, 1) ∷ []) ≡ refused 15 6)
+    × (checkEntries looped ((0, 0, 0) ∷ (2, 2, 0) ∷ []) ≡ refused 15 1)
+    × (checkEntries looped [] ≡ refused 15 0)
 unfolding checkEntries
 record-paths = (refl, refl, refl, refl, refl)

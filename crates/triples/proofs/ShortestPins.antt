@@ -8,10 +8,11 @@ use Prim.Native.Nat.{ℕ}
 use native.Mathlib.Omega.{arith}
 use Rattle.grammar.specs.Basics.{each}
 use Rattle.grammar.specs.Limits.{limits}
-use Rattle.grammar.specs.Grammar.{stateCount}
+use Rattle.grammar.specs.Grammar.{rule, stateCount}
 use Rattle.grammar.specs.Table.{decodeUpTo, decode}
+use Rattle.grammar.specs.Live.{has, hasAll, concluded, waiting, rounds, nonterminalsOf, productive, usable, reachable, hasSentence, isLive}
 use Rattle.automaton.specs.Moves.{Moves}
-use Rattle.automaton.specs.PositionMoves.{movesOf, aheads, rulesOf, completed, past, aheadRow, openings, closings}
+use Rattle.automaton.specs.PositionMoves.{movesOf, shown, aheads, rulesOf, completed, past, aheadRow, openings, closings}
 use Rattle.triples.specs.Records.{leftAlone, rightAlone, bothShift, bothClose, choices, insert, ordered, records}
 use Rattle.triples.specs.Smallest.{successors}
 use Rattle.triples.specs.Shortest.{ComesBefore, firstRow, rowOf, fewest, shortest}
@@ -36,12 +37,17 @@ not-itself h = elim h [
 abbrev moves : ℕ → ℕ → List ℕ → Moves
 moves t n table = movesOf limits (record { terminals = t; nonterminals = n; rules = decode table })
 
+-- to unfold one of these is to unfold all that it uses
+live : ℕ → ℕ → List ℕ → Moves
+unfolding decodeUpTo rule each has hasAll concluded waiting rounds nonterminalsOf productive usable reachable hasSentence isLive shown aheads rulesOf completed past aheadRow openings closings
+live t n table = moves t n table
+
 row : ℕ → ℕ → List ℕ → List ℕ
-unfolding decodeUpTo stateCount each aheads rulesOf completed past aheadRow openings closings leftAlone rightAlone bothShift bothClose choices insert ordered records successors firstRow rowOf fewest shortest
+unfolding live stateCount leftAlone rightAlone bothShift bothClose choices insert ordered records successors firstRow rowOf fewest shortest
 row t n table = shortest (moves t n table)
 
--- S→S
-unit-row : row 0 1 (128 ∷ 1 ∷ 128 ∷ []) ≡ 0 ∷ 2 ∷ 4 ∷ 16 ∷ 23 ∷ 45 ∷ 43 ∷ []
+-- S→S |
+unit-row : row 0 1 (128 ∷ 1 ∷ 128 ∷ 128 ∷ 0 ∷ []) ≡ 0 ∷ 2 ∷ 4 ∷ 18 ∷ 26 ∷ 59 ∷ 57 ∷ []
 unfolding row
 unit-row = refl
 

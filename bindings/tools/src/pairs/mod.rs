@@ -28,13 +28,9 @@ pub enum Outcome {
 /// How far the search looked.
 #[derive(Debug, PartialEq, Eq)]
 pub enum Extent {
-    /// The grammar has no sentence.
-    NoSentence,
-    /// The rules that some sentence uses have no parting strings.
-    NoParting,
     /// Two trees were found that the check does not confirm, or that are too large for it.
     Unconfirmed,
-    /// Every pair of stacks was tried, so many.
+    /// Every pair of stacks was tried, so many; 0 where no strings part, so that the verdict is unambiguous.
     All { pairs: usize },
     /// The limit was met after so many pairs; all walks with fewer moves than this were tried.
     Limit { pairs: usize, moves: usize },
@@ -42,7 +38,7 @@ pub enum Extent {
 
 /// Looks for two trees. Those that are found are shown only if the check confirms them.
 pub fn look(grammar: &Grammar, limits: Limits) -> Outcome {
-    let Some(items) = Items::new(grammar) else { return Outcome::NotFound(Extent::NoSentence) };
+    let Some(items) = Items::new(grammar) else { return Outcome::NotFound(Extent::All { pairs: 0 }) };
     let found = match search::search(&items, limits) {
         Ok((left, right)) => finishing::finished(grammar, left, right),
         Err(extent) => return Outcome::NotFound(extent),

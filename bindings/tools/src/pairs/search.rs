@@ -82,9 +82,6 @@ pub fn search(items: &Items, limits: Limits) -> Result<(Tree, Tree), Extent> {
     };
     let first = search.stacks.push(EMPTY, FIRST);
     search.add(Pair { layer: 0, turn: Turn::Left, left: first, right: first }, 0, None);
-    if search.kept.is_empty() {
-        return Err(Extent::NoParting);
-    }
     let mut total = 0;
     while total < search.queue.len() {
         let Some(number) = search.queue[total].pop() else {

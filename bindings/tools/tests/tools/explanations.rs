@@ -129,9 +129,10 @@ fn false_alarms() {
     let look = |text: String| pairs::look(&Grammar::read(text.as_bytes()).unwrap(), Limits { pairs: 1000, moves: 100_000 });
     let palindromes = look(text("a,b", "S", &["S: a S a", "S: b S b", "S:"]));
     assert!(matches!(palindromes, Outcome::NotFound(Extent::Limit { pairs, .. }) if (1000..1100).contains(&pairs)));
+    // Rules that no sentence uses have no moves, so that no strings part.
     let unused = look(text("a", "S,W", &["S: a S", "S:", "W: S S"]));
-    assert_eq!(unused, Outcome::NotFound(Extent::NoParting));
-    assert_eq!(look(text("", "S", &["S: S"])), Outcome::NotFound(Extent::NoSentence));
+    assert_eq!(unused, Outcome::NotFound(Extent::All { pairs: 0 }));
+    assert_eq!(look(text("", "S", &["S: S"])), Outcome::NotFound(Extent::All { pairs: 0 }));
     let few = pairs::look(&Grammar::read(dangling().as_bytes()).unwrap(), Limits { pairs: 1_000_000, moves: 10 });
     assert!(matches!(few, Outcome::NotFound(Extent::Limit { .. })));
 }

@@ -2,7 +2,9 @@
 
 use std::collections::BTreeMap;
 
-use crate::support::{certify, file, folder, one_a, run, CERTIFY, CHECK};
+use crate::support::{certify, corpus, file, folder, one_a, run, text, CERTIFY, CHECK};
+use ambig_tools::holes;
+use ambiguity::{Grammar, Searched};
 
 /// By file name what is said of it, without the folder.
 fn expected() -> BTreeMap<String, String> {
@@ -64,6 +66,37 @@ fn damaged_texts() {
             assert!(finding.message.is_ascii() && !finding.message.contains('\n'));
         }
     }
+}
+
+/// What the search says of a text: the verdict, with the size or the number of the witness's entries.
+fn searched(text: &str) -> (bool, usize) {
+    match Grammar::read(text.as_bytes()).unwrap().search() {
+        Searched::Unambiguous { size, .. } => (true, size),
+        Searched::Potential { witness } => (false, witness.len()),
+    }
+}
+
+/// Rules that are warned of have no part in the verdict: it is the same without them.
+#[test]
+fn unused_rules_change_no_verdict() {
+    let mut texts: Vec<String> = corpus().into_iter().map(|entry| entry.text).collect();
+    texts.extend([
+        text("a", "S,A", &["S: a", "S: A", "A: A"]),
+        text("", "S", &["S: S"]),
+        text("a,b", "S,A,B", &["S: A", "A: B", "B: S b", "A: B a"]),
+        text("a", "S,A,B,C", &["C: S S", "S: a S a", "B: a", "S: A B", "S: a", "A: B A", "C: a"]),
+        text("a", "S,A,B", &["B: a B", "S: S S", "A: S A", "S: a", "B: S", "A: B A"]),
+    ]);
+    let mut unused = 0;
+    for text in texts {
+        let live = holes::live_rules(&Grammar::read(text.as_bytes()).unwrap());
+        let kept = |place: usize| place < 2 || live[place - 2];
+        let lines = text.split_inclusive('\n').enumerate().filter(|(place, _)| kept(*place));
+        let without: String = lines.map(|(_, line)| line).collect();
+        assert_eq!(searched(&text), searched(&without), "{text}");
+        unused += usize::from(text != without);
+    }
+    assert!(unused >= 10, "{unused}");
 }
 
 #[test]

@@ -1,4 +1,7 @@
-//! Document 01's "Parting strings", tried word for word on the grammar: another way than that of the tools, and without the library.
+//! Document 01's "Parting strings", tried word for word on the grammar, with document 02's live rules: another way than that of the
+//! tools, and without the library.
+
+use std::collections::{BTreeMap, BTreeSet};
 
 use ambiguity::{Code, Grammar, Letter, START};
 
@@ -19,29 +22,48 @@ fn sides(grammar: &Grammar, rule: usize) -> (Option<Code>, Vec<Code>) {
     }
 }
 
-/// Every item with its dot just past this nonterminal.
-fn past(grammar: &Grammar, nonterminal: Code) -> Vec<State> {
-    let rules = 0..=grammar.rules().len();
-    let items = rules.flat_map(|rule| {
+/// "A rule is live if some sentence has a tree that uses it; rule 0 is live if there is a sentence." Found by the rules that the
+/// finite trees of each nonterminal use.
+fn live(grammar: &Grammar) -> BTreeSet<usize> {
+    let mut used: BTreeMap<Code, BTreeSet<usize>> = BTreeMap::new();
+    loop {
+        let before = used.clone();
+        for (place, rule) in grammar.rules().iter().enumerate() {
+            let below: Option<Vec<_>> = rule.right.iter().filter(|code| **code >= START).map(|code| used.get(code)).collect();
+            if let Some(below) = below {
+                let mut rules: BTreeSet<usize> = below.into_iter().flatten().copied().collect();
+                rules.insert(place + 1);
+                used.entry(rule.left).or_default().extend(rules);
+            }
+        }
+        if used == before {
+            let sentence = used.remove(&START);
+            return sentence.map_or(BTreeSet::new(), |rules| rules.into_iter().chain([0]).collect());
+        }
+    }
+}
+
+/// Every item of a live rule with its dot just past this nonterminal.
+fn past(grammar: &Grammar, live: &BTreeSet<usize>, nonterminal: Code) -> Vec<State> {
+    let items = live.iter().flat_map(|&rule| {
         let right = sides(grammar, rule).1;
         (0..right.len()).filter(move |dot| right[*dot] == nonterminal).map(move |dot| State::Item(rule, dot + 1))
     });
     items.collect()
 }
 
-/// The states to which a letter leads.
-fn moved(grammar: &Grammar, state: State, letter: Letter) -> Vec<State> {
+/// The states to which a letter leads. None is an item of a rule that is not live.
+fn moved(grammar: &Grammar, live: &BTreeSet<usize>, state: State, letter: Letter) -> Vec<State> {
+    let opened = |rule: usize| live.contains(&rule).then_some(State::Item(rule, 0)).into_iter().collect();
     let ahead = match state {
         State::Item(rule, dot) => sides(grammar, rule).1.get(dot).copied(),
         _ => None,
     };
     match (letter, state) {
-        (Letter::Opening(0), State::Begin) => vec![State::Item(0, 0)],
-        (Letter::Opening(rule), _) if ahead.is_some() && sides(grammar, rule.into()).0 == ahead => {
-            vec![State::Item(rule.into(), 0)]
-        }
+        (Letter::Opening(0), State::Begin) => opened(0),
+        (Letter::Opening(rule), _) if ahead.is_some() && sides(grammar, rule.into()).0 == ahead => opened(rule.into()),
         (Letter::Closing(rule), State::Item(of, _)) if of == usize::from(rule) && ahead.is_none() => {
-            sides(grammar, of).0.map_or(vec![State::End], |left| past(grammar, left))
+            sides(grammar, of).0.map_or(vec![State::End], |left| past(grammar, live, left))
         }
         (Letter::Symbol(code), State::Item(rule, dot)) if ahead == Some(code) => vec![State::Item(rule, dot + 1)],
         _ => Vec::new(),
@@ -50,10 +72,11 @@ fn moved(grammar: &Grammar, state: State, letter: Letter) -> Vec<State> {
 
 /// "The automaton accepts u".
 pub fn accepts(grammar: &Grammar, string: &[Letter]) -> bool {
+    let live = live(grammar);
     let mut states = vec![State::Begin];
     for letter in string {
         let mut next: Vec<State> = Vec::new();
-        for state in states.iter().flat_map(|state| moved(grammar, *state, *letter)) {
+        for state in states.iter().flat_map(|state| moved(grammar, &live, *state, *letter)) {
             if !next.contains(&state) {
                 next.push(state);
             }
@@ -102,6 +125,7 @@ pub fn part(grammar: &Grammar, u: &[Letter], v: &[Letter]) -> bool {
 
 /// All strings of at most so many letters that the automaton accepts, and at most so many of them.
 pub fn accepted(grammar: &Grammar, longest: usize, most: usize) -> Vec<Vec<Letter>> {
+    let live = live(grammar);
     let rules = 0..=grammar.rules().len() as u16;
     let terminals = (1..).take(grammar.terminals().len());
     let nonterminals = (START..).take(grammar.nonterminals().len());
@@ -116,7 +140,7 @@ pub fn accepted(grammar: &Grammar, longest: usize, most: usize) -> Vec<Vec<Lette
             found.push(string);
         } else if string.len() < longest && found.len() < most {
             for letter in &letters {
-                let next: Vec<State> = states.iter().flat_map(|state| moved(grammar, *state, *letter)).collect();
+                let next: Vec<State> = states.iter().flat_map(|state| moved(grammar, &live, *state, *letter)).collect();
                 if !next.is_empty() {
                     fronts.push(([&string[..], &[*letter]].concat(), next));
                 }

@@ -4,10 +4,10 @@ use native.Mathlib.Omega.{arith}
 use Prim.Native.Nat.{ℕ}
 use mathlib.Core.Path.{_≡_, ap₂, _∙_}
 use Rattle.grammar.specs.Limits.{limits}
+use Rattle.grammar.specs.Record.{IsRecord}
 use Rattle.grammar.specs.Refusal.{refused}
 use Rattle.triple_laws.proofs.Position.{position-regular}
 use Rattle.table_check.proofs.Callers.{PassedTable, passed-table, refused-table}
-use Rattle.moves.specs.Tables.{IsRecord}
 use Rattle.moves.proofs.Columns.{read}
 use Rattle.moves.proofs.Built.{few-nonterminals, few-states, room-of}
 use Rattle.prepared.proofs.Rows.{shows-of, four}
@@ -79,7 +79,7 @@ returns-2 c =
         record {
           regular = position-regular limits (p .grammar) (p .wellFormed) (omega arith);
           size = read _ (p .grammar) (p .same) .total;
-          shows = shows-of _ (p .grammar) (p .wellFormed) (p .same) _ _ (c .before .build .ensures (p .grammar) (p .same));
+          shows = shows-of _ (p .grammar) (p .wellFormed) (p .same) _ _ (c .before .build .ensures (p .grammar) (p .wellFormed) (p .same));
           long = search needs;
         },
       );
