@@ -21,6 +21,7 @@ from shortest import shortest_witness
 from small_grammars import every_table
 from tables import Refusal
 from test_partings import accepts, strings_of
+from test_triples import closing, opening, symbol
 from triples import is_potential
 
 AMPLE = LentStrings(2 * 256 * 256, 2 * 256 * 256)
@@ -30,18 +31,6 @@ ODD = text_of(figures_named()[7])            # S→a S a; S→a
 ODD_LINES = b"left=(0 (2 a )2 a )1 )0\nright=(0 (1 a (2 a )2 )0\n"
 NAME = re.compile(rb"[-0-9A-Za-z]{1,15}")
 WORD = re.compile(rb"[()](0|[1-9][0-9]*)")
-
-
-def opening(rule):
-    return ("opening", rule)
-
-
-def closing(rule):
-    return ("closing", rule)
-
-
-def symbol(code):
-    return ("symbol", code)
 
 
 def lines_of(text):

@@ -2,9 +2,8 @@
 -- Each entry's promise is one definition, which its `ensures` cites and over which the front page quantifies:
 -- TableAnswer in grammar/specs/TableCheck.antt; CertificateAnswer and WitnessAnswer in triples/specs/Verdict.antt; RecordsAnswer in
 -- witness_records/specs/Records.antt; NthAnswer in steps/specs/Steps.antt; Searches in search/specs/Promise.antt; ReadsText and
--- WritesText in text/specs/Promise.antt; Reports in report/specs/Report.antt;
--- ReadsBack in readings/specs/Promise.antt. That a refusal is the first in document 01's order is
--- in the definitions that the promises equal.
+-- WritesText in text/specs/Promise.antt; Reports in report/specs/Report.antt; ReadsBack in readings/specs/Promise.antt. That a refusal
+-- is the first in document 01's order is in the definitions that the promises equal.
 -- Source: document 01. Assumes nothing.
 use Prim.Native.Nat.{ℕ, _<_}
 use mathlib.Core.Path.{_≡_}

@@ -1,9 +1,9 @@
 -- What holds of the library, whatever the input: theorems over what the public entries promise. A promise is the entry's
 -- `ensures`; it determines the answer and all that was lent. Each promise is one definition: specs/Entries.antt says where.
 -- specs/Searches.antt, specs/Texts.antt, specs/Reports.antt and specs/Readings.antt have what follows for the search, for texts, for
--- the program and for the two lines of a witness, specs/Automata.antt whose moves the promises compute with, proofs/FrontPage.antt the value of the record. Source: document 01 and
--- document 02's requests; README.md has the demands. Of demand 1, that a refusal is the first in document 01's order is in the
--- definitions that the promises equal.
+-- the program and for the two lines of a witness, specs/Automata.antt whose moves the promises compute with, proofs/FrontPage.antt
+-- the value of the record. Source: document 01 and document 02's requests; README.md has the demands. Of demand 1, that a refusal is
+-- the first in document 01's order is in the definitions that the promises equal.
 -- Assumes nothing.
 use Prim.Native.Nat.{ℕ, _+_, _≤_, _<_}
 use mathlib.Core.Path.{_≡_}

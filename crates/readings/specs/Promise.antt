@@ -18,7 +18,7 @@ use Rattle.readings.specs.declared.ReadBack.{ReadBack}
 use Rattle.readings.specs.declared.ReadBack.the-variants.{Read, GrammarRefused, Refused}
 
 module _ (L : Limits) where
-  -- what two lines say in the grammar of a text: line 1, line 2, then 14, where the rows lent have so many entries
+  -- what two lines say in the grammar of a text: line 1, line 2, then 14, where the rows lent have this many entries
   unfoldable pub stringsInto : ℕ → ℕ → List ℕ → Source → Answer (List Letter × List Letter)
   stringsInto left right lines s =
       andThen (readStrings L (length (s .terminals)) (length (s .rules)) (symbolNames s) lines) (λ p.
