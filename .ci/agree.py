@@ -17,7 +17,7 @@ ROOT = os.path.dirname(os.path.dirname(os.path.abspath(__file__)))
 sys.path.insert(0, os.path.join(ROOT, "second"))
 sys.dont_write_bytecode = True
 
-from corpus import AMBIGUOUS, EMPTY, coded, entries, found_in, text_in  # noqa: E402
+from corpus import AMBIGUOUS, EMPTY, POTENTIAL, coded, entries, found_in, text_in  # noqa: E402
 from judge import checked, verdict  # noqa: E402
 from program import MAX_BYTES, MAX_STATES  # noqa: E402
 from readings import LentStrings, Refused, named_in, read_back, reading_lines  # noqa: E402
@@ -135,7 +135,7 @@ def strings(tools):
     rng = random.Random(1)
     printed = []
     for entry in entries():
-        if entry.size is None and entry.states <= SMALL:
+        if entry.verdict == POTENTIAL and entry.states <= SMALL:
             text = text_in(entry.name)
             lines = ran([tools.certify, "--quiet", "-"], text)[0].encode().split(b"\n", 2)[2]
             assert lines == reading_lines(named_in(text)) and said_of_strings(text, lines) == "accepted\n", entry.name

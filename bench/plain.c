@@ -79,8 +79,6 @@ static void build(const struct grammar *g, struct moves *m)
     m->state[1] = (struct state){0, 0, 0, STAYS, 0};
     m->state[2] = (struct state){opens[0], closes[0], START, OPENS, 0};
     m->state[3] = (struct state){1, 2, 0, CLOSES, 0};
-    if (!live[0])
-        m->state[0] = m->state[2] = m->state[3] = m->state[1];
 }
 
 static inline int is_seen(const uint64_t *seen, size_t index)

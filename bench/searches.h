@@ -39,10 +39,11 @@ size_t plain_reached(const struct grammar *g, uint32_t *queue, uint32_t *parents
 search_function same_search;
 check_function same_check;
 
-/* A checked table: each rule is its left code, its length and its codes. */
+/* A checked table: each rule is its left code, its length and its codes. By nonterminal whether it has a finite tree. */
 struct grammar {
     unsigned t, n, rules, states;
     const uint8_t *rule[MAX_RULES];
+    uint8_t has_tree[MAX_NONTERMINALS];
 };
 
 static inline search_reply search_refused(uint64_t cause, uint64_t at)
@@ -65,7 +66,30 @@ static inline int is_repeated(const struct grammar *g, const uint8_t *rule)
     return 0;
 }
 
-/* Causes 1 to 8, in document 01's order. */
+/* Is every nonterminal of a right side marked? */
+static inline int all_marked(const uint8_t *marks, const uint8_t *rule)
+{
+    for (unsigned d = 0; d < rule[1]; d++)
+        if (rule[2 + d] >= START && !marks[rule[2 + d] - START])
+            return 0;
+    return 1;
+}
+
+/* Passes over the rules, from the last to the first, mark what has a tree until one marks nothing. */
+static inline void find_trees(struct grammar *g)
+{
+    memset(g->has_tree, 0, g->n);
+    for (int fresh = 1; fresh;) {
+        fresh = 0;
+        for (unsigned i = g->rules; i-- > 0;) {
+            const uint8_t *rule = g->rule[i];
+            if (!g->has_tree[rule[0] - START] && all_marked(g->has_tree, rule))
+                fresh = g->has_tree[rule[0] - START] = 1;
+        }
+    }
+}
+
+/* Causes 1 to 8, in document 01's order, then 19. */
 static inline check_reply check_table(size_t t, size_t n, const uint8_t *table, size_t table_len, struct grammar *g)
 {
     if (t > MAX_TERMINALS || n < 1 || n > MAX_NONTERMINALS)
@@ -98,45 +122,29 @@ static inline check_reply check_table(size_t t, size_t n, const uint8_t *table, 
         g->states += k + 1;
         at += 2 + k;
     }
-    return (check_reply){0, 0};
+    find_trees(g);
+    return (check_reply){g->has_tree[0] ? 0 : 19, 0};
 }
 
-/* Is every nonterminal of a right side marked? */
-static inline int all_marked(const uint8_t *marks, const uint8_t *rule)
-{
-    for (unsigned d = 0; d < rule[1]; d++)
-        if (rule[2 + d] >= START && !marks[rule[2 + d] - START])
-            return 0;
-    return 1;
-}
-
-/* By number whether some sentence uses a rule; for rule 0, whether there is a sentence. Passes over the rules mark what has a tree,
- * from the last rule to the first, then what S reaches through rules that can stand in one, from the first to the last. */
+/* By number whether some sentence uses a rule. Rule 0 is used, for S has a tree. Passes over the rules, from the first to the last,
+ * mark what S reaches through rules that can stand in a tree. */
 static inline void find_live(const struct grammar *g, uint8_t *live)
 {
-    uint8_t has_tree[MAX_NONTERMINALS] = {0}, is_reached[MAX_NONTERMINALS] = {1};
-    for (int fresh = 1; fresh;) {
-        fresh = 0;
-        for (unsigned i = g->rules; i-- > 0;) {
-            const uint8_t *rule = g->rule[i];
-            if (!has_tree[rule[0] - START] && all_marked(has_tree, rule))
-                fresh = has_tree[rule[0] - START] = 1;
-        }
-    }
+    uint8_t is_reached[MAX_NONTERMINALS] = {1};
     for (int fresh = 1; fresh;) {
         fresh = 0;
         for (unsigned i = 0; i < g->rules; i++) {
             const uint8_t *rule = g->rule[i];
-            if (!is_reached[rule[0] - START] || !all_marked(has_tree, rule))
+            if (!is_reached[rule[0] - START] || !all_marked(g->has_tree, rule))
                 continue;
             for (unsigned d = 0; d < rule[1]; d++)
                 if (rule[2 + d] >= START && !is_reached[rule[2 + d] - START])
                     fresh = is_reached[rule[2 + d] - START] = 1;
         }
     }
-    live[0] = has_tree[0];
+    live[0] = 1;
     for (unsigned i = 0; i < g->rules; i++)
-        live[i + 1] = is_reached[g->rule[i][0] - START] && all_marked(has_tree, g->rule[i]);
+        live[i + 1] = is_reached[g->rule[i][0] - START] && all_marked(g->has_tree, g->rule[i]);
 }
 
 #endif

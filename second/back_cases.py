@@ -54,7 +54,8 @@ def answer(case: Case) -> str:
 
 
 KIND = Kind(back_inputs.all_cases, encode_case, decode_case, answer,
-            back_reasons.REASONS, lambda case: back_reasons.reasons_of(*case), fewest=FEWEST)
+            back_reasons.REASONS, lambda case: back_reasons.reasons_of(*case), fewest=FEWEST,
+            enough=back_reasons.ENOUGH)
 
 if __name__ == "__main__":
     sys.exit(main(__doc__, sys.argv[1:], KIND))

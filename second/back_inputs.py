@@ -7,24 +7,26 @@ adds for a witness.
 from functools import lru_cache
 from typing import Callable, Dict, Iterator, List, NamedTuple, Tuple
 
-import corpus_texts
 from case_files import Group, Rng, cases_of
-from corpus import POTENTIAL, entries, text_in
+from corpus import POTENTIAL, REFUSED, entries, text_in
 from corpus_texts import FAULTS, counting
 from named_grammars import (
-    MAX_BYTES, MAX_LENT, Named, figures_named, join_lines, lines_of, random_name,
+    MAX_BYTES, MAX_LENT, Named, good_figures, join_lines, lines_of, random_name,
     random_names, small_named, text_of,
 )
-from random_tables import random_rules, small_grammar
+from random_tables import random_rules, small_grammar, with_sentence
 from readings import LentStrings, NamedGrammar, named_in, reading_lines
 from robot_grammars import grown, states_of
+from sentence_grammars import (
+    large_sentenceless, named_table, nearly_sentenceless, sentenceless,
+)
 from tables import MAX_NONTERMINALS, MAX_RULES, MAX_TERMINALS
 from text import MAX_NAME, MAX_TEXT
 from text_read_inputs import damage, named_with_rules, spoiled
 
 SEED = 4
 EACH = 54                  # cases of a kind
-IN_WORDS = 42              # of a kind of word, of which other groups have some more
+IN_WORDS = 50              # of a kind of word, of which other groups have some more
 SMALL_TEXT = 600           # bytes of a text of the corpus that is taken for any lines
 GROWN = 64                 # states of a grown grammar
 
@@ -75,9 +77,9 @@ def named_text(text: bytes) -> NamedGrammar:
 
 @lru_cache(maxsize=1)
 def corpus_bases() -> Tuple[Base, ...]:
-    """The short texts of the corpus."""
-    texts = [text for text in corpus_texts.corpus_texts() if len(text) <= SMALL_TEXT]
-    found = [(text, named_text(text)) for text in texts]
+    """The short texts of the corpus that are read."""
+    texts = [text_in(entry.name) for entry in entries() if entry.verdict != REFUSED]
+    found = [(text, named_text(text)) for text in texts if len(text) <= SMALL_TEXT]
     return tuple(Base(text, len(named.grammar.rules), named.names) for text, named in found)
 
 
@@ -91,14 +93,14 @@ def limits_named(rng: Rng) -> Named:
     """All limits of symbols and rules at once."""
     t, n = MAX_TERMINALS, MAX_NONTERMINALS
     rules = random_rules(rng, t, n, [rng.randrange(3) for _ in range(MAX_RULES - 40)] + [1] * 40)
-    return Named(t, n, rules, random_names(rng, t + n))
+    return Named(t, n, with_sentence(rng, t, rules), random_names(rng, t + n))
 
 
 def some_base(rng: Rng) -> Base:
     """A small grammar of any kind."""
     kind = rng.randrange(10)
     if kind == 0:
-        return base_of(rng.choice(figures_named()))
+        return base_of(rng.choice(good_figures()))
     if kind < 3:
         return base_of(odd_named(rng))
     if kind == 3:
@@ -194,7 +196,7 @@ def potential_texts(rng: Rng) -> Iterator[bytes]:
     for entry in entries():
         if entry.verdict == POTENTIAL:
             yield text_in(entry.name)
-    grammars = figures_named() + [small_named(rng) for _ in range(100)]
+    grammars = good_figures() + [small_named(rng) for _ in range(100)]
     grammars += [odd_named(rng) for _ in range(30)] + [grown(rng, 4, GROWN) for _ in range(30)]
     for text in map(text_of, grammars + [counting(rng) for _ in range(12)]):
         if reading_lines(named_text(text)):
@@ -214,7 +216,7 @@ def own_lines(rng: Rng) -> Iterator[Case]:
 
 def random_strings(rng: Rng) -> Iterator[Case]:
     """Any letters of a grammar, in strings that need not be accepted."""
-    for _ in range(125):
+    for _ in range(160):
         good = some_good(rng)
         yield Case(good.base.text, good_lines(good), any_lent(rng, good))
 
@@ -644,6 +646,27 @@ def long_texts(rng: Rng) -> Iterator[Case]:
                    beside_a_fault(rng, good))
 
 
+# No sentence.
+
+def without_a_sentence(rng: Rng) -> Iterator[Case]:
+    """No sentence, with lines of its letters, rows long enough or none; with bad lines."""
+    for table in [*sentenceless(rng, 14), *large_sentenceless(rng, 10)]:
+        base = base_of(named_table(rng, table))
+        good = Good(base, *(random_words(rng, base, 1 + some_length(rng)) for _ in range(2)))
+        yield Case(base.text, good_lines(good), rng.choice([exact(good), LentStrings(0, 0)]))
+        yield Case(base.text, bad_lines(rng, good), beside_a_fault(rng, good))
+
+
+def nearly_without(rng: Rng) -> Iterator[Case]:
+    """Grammars that nearly lack a sentence: good lines, unknown names."""
+    for table in nearly_sentenceless(rng, 18):
+        base = base_of(named_table(rng, table))
+        good = Good(base, *(random_words(rng, base, 1 + some_length(rng)) for _ in range(2)))
+        yield Case(base.text, good_lines(good), any_lent(rng, good))
+        bad = with_unknown(rng, good, 1 + rng.randrange(2))
+        yield Case(base.text, good_lines(bad), beside_a_fault(rng, bad))
+
+
 # Any damage.
 
 def damaged(rng: Rng) -> Iterator[Case]:
@@ -683,6 +706,7 @@ GROUPS: List[Group] = [
     own_lines, random_strings, empty_strings, long_strings, long_lines, at_the_limits, lent_rows,
     malformed_words, spaces, keys, exchanged, missing, more_lines, unknown, both_in_a_line,
     both_lines, unknown_and_lines, faulty_grammars, long_texts, damaged, noise, all_bytes,
+    without_a_sentence, nearly_without,
 ]
 
 

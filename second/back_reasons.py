@@ -6,14 +6,17 @@ the order hides are found too. The first of them must be the refusal.
 
 import re
 from functools import lru_cache
-from typing import FrozenSet, List, NamedTuple, Optional, Sequence, Tuple
+from typing import FrozenSet, List, NamedTuple, Optional, Sequence, Tuple, Union
 
+from case_files import FEWEST
 from dead_rules import rule_kinds
 from readings import (
     GRAMMAR, LentStrings, NamedGrammar, Pair, Refused, named_in, read_back, reading_lines,
 )
-from tables import MAX_NONTERMINALS, MAX_RULES, MAX_TERMINALS, START, Refusal
-from text import MALFORMED, MAX_NAME, ROW_TOO_SHORT, UNKNOWN_NAME
+from sentence_misreadings import AFTER_14, TOLD
+from sentence_reasons import RULES_REASONS, has_tree, loose_rules, of_rules
+from tables import MAX_NONTERMINALS, MAX_RULES, MAX_TERMINALS, NO_SENTENCE, START, Refusal
+from text import MALFORMED, MAX_NAME, ROW_TOO_SHORT, UNKNOWN_NAME, Text, read_lines
 from triples import CLOSING, OPENING, SYMBOL
 
 NAME = re.compile(rb"[-0-9A-Za-z]{1,15}")
@@ -25,7 +28,7 @@ MANY_LETTERS = 256
 FEW_DIGITS = 3             # of the numbers of rules
 BITS = 8, 16, 32, 64, 128
 
-GRAMMAR_CAUSES = 1, 4, 6, 7, 8, 16, 17, 18     # those of the reader without 14
+GRAMMAR_CAUSES = 1, 4, 6, 7, 8, 16, 17, 18, 19     # those of the reader without 14
 LINE_CAUSES = MALFORMED, UNKNOWN_NAME
 
 READ_REASONS = [
@@ -41,7 +44,6 @@ READ_REASONS = [
     "read-rule-100",
     "read-a-rule-of-two-digits",
     "read-a-dead-rule",
-    "read-rule-0-without-a-sentence",
     "read-a-terminal",
     "read-a-nonterminal",
     "read-terminal-127",
@@ -139,7 +141,8 @@ REASONS = READ_REASONS + SHORT_REASONS + [
 ] + ["order-%d-at-1-before-%d-at-2" % (first, second)
      for first in LINE_CAUSES for second in LINE_CAUSES] + [
     "order-%d-at-%d-before-14" % (cause, line) for cause in LINE_CAUSES for line in (1, 2)
-]
+] + RULES_REASONS + [TOLD[AFTER_14]]
+ENOUGH = {name: FEWEST for name in RULES_REASONS}
 
 
 class Line(NamedTuple):
@@ -165,7 +168,28 @@ def reasons_of(text: bytes, lines: bytes, lent: LentStrings) -> List[str]:
     """Every reason of REASONS that this case meets."""
     result = read_back(text, lines, lent)
     if isinstance(result, Refused) and result.part == GRAMMAR:
-        return grammar_reasons(result.refusal, lines, lent)
+        found = grammar_reasons(result.refusal, lines, lent)
+        if result.refusal.cause != NO_SENTENCE:
+            return found
+        told = [TOLD[AFTER_14]] if "order-grammar-19-before-14" in found else []
+        return found + told + list(sentence_reasons(text, False))
+    return line_reasons(text, lines, lent, result) + list(sentence_reasons(text, True))
+
+
+@lru_cache(maxsize=4096)
+def sentence_reasons(text: bytes, sentence: bool) -> Tuple[str, ...]:
+    """Why a text has no sentence, or nearly none."""
+    found = read_lines(text)
+    assert isinstance(found, Text), "19 comes after all faults of the text"
+    rules = loose_rules(found.table)
+    assert has_tree(rules) == sentence
+    return tuple(of_rules(rules))
+
+
+def line_reasons(
+    text: bytes, lines: bytes, lent: LentStrings, result: Union[Pair, Refused]
+) -> List[str]:
+    """The reasons of two lines of a good grammar."""
     known = known_in(text)
     found = faults_of(lines, known)
     if isinstance(result, Pair) or result.refusal.cause == ROW_TOO_SHORT:
@@ -296,8 +320,7 @@ def read_reasons(text: bytes, lines: bytes, pair: Pair, lent: LentStrings) -> Li
         ("read-the-last-rule", known.rules in rules - {0}),
         ("read-rule-100", MAX_RULES in rules),
         ("read-a-rule-of-two-digits", any(10 <= rule < 100 for rule in rules)),
-        ("read-a-dead-rule", not dead_in(text).isdisjoint(rules - {0})),
-        ("read-rule-0-without-a-sentence", 0 in rules & dead_in(text)),
+        ("read-a-dead-rule", not dead_in(text).isdisjoint(rules)),
         ("read-a-terminal", any(code < START for code in codes)),
         ("read-a-nonterminal", any(code >= START for code in codes)),
         ("read-terminal-127", MAX_TERMINALS in codes),

@@ -25,7 +25,7 @@ CASE_HEADER = struct.Struct("<QQI")
 LAST = 2 ** 64 - 1             # largest t or n
 
 # The reasons of a refused table, in every file of cases.
-TABLE_REASONS = [str(cause) for cause in range(1, 9)]
+TABLE_REASONS = [str(cause) for cause in (*range(1, 9), 19)]
 
 Rng = random.Random
 Case = TypeVar("Case")

@@ -1,6 +1,7 @@
 """Grammars for the cases: document 01's rows, classic, random and faulty ones.
 
-A grammar is given as t, n and its table.
+A grammar is given as t, n and its table. Those without a sentence, which document
+02's [4] refuses, are in sentence_grammars.py; here are two of document 01's rows.
 """
 
 from functools import lru_cache
@@ -14,7 +15,8 @@ from random_tables import (
 )
 from table_reasons import rule_start
 from tables import (
-    FIXED_STATES, MAX_LENGTH, MAX_STATES, OUT_OF_RANGE, START, Grammar, Refusal, check_table,
+    FIXED_STATES, MAX_LENGTH, MAX_STATES, OUT_OF_RANGE, START, TOO_MANY_STATES, Grammar, Refusal,
+    check_rules, check_table,
 )
 from triples import Triples, triples_of
 
@@ -25,8 +27,10 @@ ROWS: List[Table] = [(t, n, encode(rules)) for t, n, rules in FIGURES]
 ONE_A = ROWS[2]                # S→a
 ONE_A_BYTES = bytes.fromhex("15 50 21 15 08 00 00 00 00")    # its certificate
 LEFT_LIST, NESTED = ROWS[3:5]  # the two rows with Q = 9
+NO_RULES = ROWS[0]             # Q = 4, without a sentence
 ENDLESS = ROWS[5]              # S→S, Q = 6, without a sentence
 CYCLE = ROWS[6]                # S→S; S→a, Q = 8, potential
+GOOD_ROWS = [row for row in ROWS if row not in (NO_RULES, ENDLESS)]
 
 
 def spelled(*lines: str) -> Table:
@@ -88,7 +92,6 @@ CLASSICS: Dict[str, Table] = {
     "behind-an-endless-one": spelled("S: a S b | | W V", "W: W a", "V: S | V V b"),
     "dead-rules-of-all-kinds": spelled(
         "S: S a | W V | b", "W: a W | W S", "V: S | S b", "U: S a | U U"),
-    "no-start-rule": (1, 2, encode([(START + 1, bytes([1])), (START + 1, b"")])),
     "json": spelled(
         "V: str | num | true | false | null | { } | { M } | [ ] | [ E ]",
         "M: P | M , P", "P: str : V", "E: V | E , V"),
@@ -135,7 +138,7 @@ def keywords(rng: Rng, count: int, states: int) -> Table:
     """
     while True:
         table = any_keywords(rng, count, states)
-        if all(used_rules(good(table))):
+        if all(used_rules(grammar_of(table))):
             return table
 
 
@@ -157,15 +160,12 @@ def any_keywords(rng: Rng, count: int, states: int) -> Table:
 # Random grammars.
 
 def small_random(rng: Rng) -> Table:
-    """1 to 3 nonterminals, 0 to 3 terminals, 0 to 6 rules of length 0 to 4.
-
-    Of those without a sentence one in eight is taken.
-    """
+    """1 to 3 nonterminals, 0 to 3 terminals, 1 to 6 rules of length 0 to 4, a sentence."""
     while True:
         t, n = rng.randrange(4), 1 + rng.randrange(3)
-        lengths = [rng.randrange(5) for _ in range(rng.randrange(7))]
+        lengths = [rng.randrange(5) for _ in range(1 + rng.randrange(6))]
         table = t, n, encode(random_rules(rng, t, n, lengths))
-        if any(used_rules(good(table))) or rng.randrange(8) == 0:
+        if any(used_rules(grammar_of(table))):
             return table
 
 
@@ -173,8 +173,7 @@ def live_small(rng: Rng) -> Table:
     """A small random grammar all of whose rules are live, of at most 16 states."""
     while True:
         table = small_random(rng)
-        used = used_rules(good(table))
-        if used and all(used) and states_of(table) <= 16:
+        if all(used_rules(good(table))) and states_of(table) <= 16:
             return table
 
 
@@ -182,7 +181,7 @@ def larger_random(rng: Rng, states: int) -> Table:
     """Q of about `states`; few symbols for so many rules, all of them live."""
     while True:
         table = any_larger(rng, states)
-        if all(used_rules(good(table))):
+        if all(used_rules(grammar_of(table))):
             return table
 
 
@@ -204,6 +203,14 @@ def largest_random(rng: Rng) -> Table:
 
 
 @lru_cache(maxsize=1024)
+def grammar_of(table: Table) -> Grammar:
+    """The grammar of a table without faults 1 to 8; it may lack sentences."""
+    grammar = check_rules(*table)
+    assert isinstance(grammar, Grammar)
+    return grammar
+
+
+@lru_cache(maxsize=1024)
 def good(table: Table) -> Grammar:
     """The grammar of a table that passes its check."""
     grammar = check_table(*table)
@@ -212,21 +219,21 @@ def good(table: Table) -> Grammar:
 
 
 def states_of(table: Table) -> int:
-    """Q of a good table."""
-    return good(table).states
+    """Q of a table without faults 1 to 8."""
+    return grammar_of(table).states
 
 
 def triples_in(table: Table) -> Triples:
-    """The triples of a good table."""
-    return triples_of(good(table))
+    """The triples of a table without faults 1 to 8; without a sentence none has a successor."""
+    return triples_of(grammar_of(table))
 
 
 def some(rng: Rng, count: int, wanted: Callable[[Triples], bool], most: int) -> List[Table]:
-    """Small random grammars with Q of 5 to `most` that are as wanted, none twice."""
+    """Small random grammars with Q of at most `most` that are as wanted, none twice."""
     found: List[Table] = []
     while len(found) < count:
         table = small_random(rng)
-        if 4 < states_of(table) <= most and table not in found:
+        if states_of(table) <= most and table not in found:
             if wanted(triples_in(table)):
                 found.append(table)
     return found
@@ -253,20 +260,20 @@ def damaged_table(rng: Rng) -> Table:
 
 def faulty_tables(rng: Rng, each: int) -> List[Table]:
     """`each` tables that are refused for each of causes 1 to 8, cause by cause."""
-    found: Dict[int, List[Table]] = {cause: [] for cause in range(1, 9)}
+    found: Dict[int, List[Table]] = {cause: [] for cause in range(1, TOO_MANY_STATES + 1)}
     found[OUT_OF_RANGE] = [out_of_range(rng) for _ in range(each)]
     while any(len(tables) < each for tables in found.values()):
         table = damaged_table(rng)
-        refusal = check_table(*table)
+        refusal = check_rules(*table)
         if isinstance(refusal, Refusal) and len(found[refusal.cause]) < each:
             found[refusal.cause].append(table)
     return [table for cause in sorted(found) for table in found[cause]]
 
 
 def rules_before_the_fault(table: Table) -> Table:
-    """A good grammar made of a faulty one: the rules in front of the refused one."""
+    """The rules in front of the refused one, as a grammar without faults 1 to 8."""
     t, n, data = table
-    refusal = check_table(t, n, data)
+    refusal = check_rules(t, n, data)
     assert isinstance(refusal, Refusal)
     if refusal.cause == OUT_OF_RANGE:
         return ONE_A

@@ -13,15 +13,20 @@ from case_files import (
     Kind, Reader, Rng, accepted_or_refused, cases_of, encode_bytes, encode_table, main,
 )
 from case_grammars import (
-    CLASSICS, LEFT_LIST, NESTED, ONE_A, ROWS, STATEMENTS, Table, faulty_tables, good, keywords,
-    larger_random, operators, rules_before_the_fault, some, states_of, triples_in,
+    CLASSICS, LEFT_LIST, NESTED, ONE_A, ROWS, STATEMENTS, Table, faulty_tables, good, grammar_of,
+    keywords, larger_random, operators, rules_before_the_fault, some, states_of, triples_in,
 )
 from certificate_reasons import REASONS, reasons_of
 from certificates import check_certificate
 from dead_grammars import chains, dead_larger, dead_tables
-from dead_rules import ENOUGH, KINDS, dead_states
+from dead_rules import ENOUGH as ENOUGH_DEAD
+from dead_rules import KINDS, dead_states
 from live_misreadings import former_triples
 from random_tables import random_bytes
+from sentence_grammars import (
+    faulty_sentenceless, large_sentenceless, nearly_sentenceless, sentenceless,
+)
+from sentence_reasons import ENOUGH as ENOUGH_NONE
 from tables import MAX_STATES, Grammar
 from triples import (
     BYTE, Triples, certificate_length, certificate_of, closure, held_indices,
@@ -65,7 +70,7 @@ def flipped(certificate: bytes, *indices: int) -> bytes:
 
 def former_smallest(table: Table) -> bytes:
     """The smallest closed set of the automaton before document 02's [3]."""
-    former = former_triples(good(table))
+    former = former_triples(grammar_of(table))
     return certificate_of(former.states, reached(former))
 
 
@@ -366,10 +371,54 @@ def dead_and_larger(rng: Rng) -> Iterator[Case]:
             yield Case(*table, former_smallest(table))
 
 
+def without_a_sentence(rng: Rng) -> Iterator[Case]:
+    """No sentence: certificates accepted before document 02's [4], or before its [3] too.
+
+    Also with a bit flipped, of a wrong length, with a spare bit, without a bit.
+    """
+    for table in sentenceless(rng, 12):
+        right, triples = smallest(table), triples_in(table)
+        former = former_triples(grammar_of(table))
+        yield Case(*table, right)
+        yield Case(*table, former_smallest(table))
+        yield Case(*table, certificate_of(triples.states, largest_set(triples)))
+        yield Case(*table, closed_superset(rng, former, 2) or right)
+        yield Case(*table, flipped(right, triples.last))
+        yield Case(*table, flipped(right, rng.randrange(triples.count)))
+        yield Case(*table, flipped(right, BYTE * len(right) - 1))
+        yield Case(*table, rng.choice([b"", right[:-1], right + b"\0", former_smallest(table)[1:]]))
+        yield Case(*table, rng.choice([bytes(len(right)), b"\xff" * len(right)]))
+
+
+def large_without(rng: Rng) -> Iterator[Case]:
+    """The same at the limits of rules and states."""
+    for table in large_sentenceless(rng, 10):
+        right = smallest(table)
+        for certificate in (right, former_smallest(table), right[:-1], bytes(len(right)), b""):
+            yield Case(*table, certificate)
+
+
+def nearly_without(rng: Rng) -> Iterator[Case]:
+    """Grammars that nearly lack a sentence: the smallest set, and with a bit flipped."""
+    for table in nearly_sentenceless(rng, 16):
+        right = smallest(table)
+        yield Case(*table, right)
+        yield Case(*table, flipped(right, rng.choice(held_indices(right))))
+        only = b"\1" + bytes(len(right) - 1)
+        yield Case(*table, rng.choice([right[:-1], bytes(len(right)), only]))
+
+
+def faulty_without(rng: Rng) -> Iterator[Case]:
+    """Each of causes 1 to 8 where there is no sentence either."""
+    for table in faulty_sentenceless(rng, 22):
+        yield Case(*table, rng.choice([b"", b"\1" + bytes(3), smallest(ONE_A), b"\xff" * 9]))
+
+
 GROUPS = [
     document, every_bit, every_bit_of_larger_sets, some_bits, lengths, spare_bits,
     closed_sets, extremes, potential, of_other_grammars, faulty, larger, largest_grammar,
-    former, dead, unambiguous_since, dead_and_larger,
+    former, dead, unambiguous_since, dead_and_larger, without_a_sentence, large_without,
+    nearly_without, faulty_without,
 ]
 
 
@@ -394,7 +443,7 @@ def decode_case(reader: Reader) -> Case:
 
 
 KIND = Kind(lambda: cases_of(GROUPS), encode_case, decode_case, answer,
-            REASONS, lambda case: reasons_of(*case), enough=ENOUGH)
+            REASONS, lambda case: reasons_of(*case), enough={**ENOUGH_DEAD, **ENOUGH_NONE})
 
 if __name__ == "__main__":
     sys.exit(main(__doc__, sys.argv[1:], KIND))

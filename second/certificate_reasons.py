@@ -1,4 +1,4 @@
-"""Sorts certificate cases by reasons finer than document 01's causes.
+"""Sorts certificate cases by reasons finer than the causes.
 
 The counts of these reasons show that a file of cases tries every fault, every
 way in which a successor is missing, and every place where the order shows.
@@ -7,17 +7,19 @@ way in which a successor is missing, and every place where the order shows.
 from typing import List, Optional, Set, Tuple
 
 import dead_rules
+import sentence_reasons
 from case_files import TABLE_REASONS
-from case_grammars import good
+from case_grammars import Table, good, grammar_of
 from certificates import (
     FIRST_MISSING, LAST_PRESENT, SPARE_BIT, SUCCESSOR_MISSING, WRONG_LENGTH,
     certificate_fault, checked_triples, successor_fault,
 )
 from dead_rules import KINDS, dead_states, kind_of
 from live_misreadings import MISREAD, TOLD, former_triples, told
-from tables import MAX_STATES, Grammar, Refusal
+from tables import MAX_STATES, NO_SENTENCE, Grammar, Refusal
 from triples import (
     Triples, certificate_length, certificate_of, held_indices, is_potential, reached, triple_at,
+    triples_of,
 )
 from ways import largest_set
 
@@ -64,17 +66,26 @@ REASONS = [
     "12-of-a-potential-grammar-with-dead-rules",
     "13-with-a-dead-item",
     "13-elsewhere-than-formerly",
-] + list(TOLD.values())
+] + list(TOLD.values()) + [
+    "19-though-accepted-before",
+    "19-though-accepted-by-document-01",
+] + ["order-19-before-%d" % cause for cause in range(WRONG_LENGTH, SUCCESSOR_MISSING + 1)] + [
+    "19-256-states",
+] + sentence_reasons.REASONS
 
 
 def reasons_of(t: int, n: int, table: bytes, certificate: bytes) -> List[str]:
     """Every reason of REASONS that this case meets."""
     triples = checked_triples(t, n, table)
+    names = list(sentence_reasons.of_table(t, n, table))
     if isinstance(triples, Refusal):
-        empty = ["1-to-8-with-an-empty-certificate"] if not certificate else []
-        return [str(triples.cause)] + empty
+        names.append(str(triples.cause))
+        if triples.cause == NO_SENTENCE:
+            return names + none_reasons((t, n, table), certificate)
+        return names + ["1-to-8-with-an-empty-certificate"] * (not certificate)
     fault = certificate_fault(triples, certificate)
-    names = ["256-states"] if triples.states == MAX_STATES else []
+    if triples.states == MAX_STATES:
+        names.append("256-states")
     grammar = good((t, n, table))
     if kind_of(grammar) is not None:
         names += dead_reasons(grammar, triples, certificate, fault)
@@ -84,6 +95,24 @@ def reasons_of(t: int, n: int, table: bytes, certificate: bytes) -> List[str]:
     if fault.cause == WRONG_LENGTH:
         return names + length_reasons(triples, certificate)
     return names + later_reasons(triples, certificate, fault)
+
+
+def none_reasons(table: Table, certificate: bytes) -> List[str]:
+    """What was said of a certificate of a grammar without a sentence before document 02's [4].
+
+    Before its [3] successors could be missing, since then nothing moves.
+    """
+    grammar = grammar_of(table)
+    before, former = (certificate_fault(triples, certificate)
+                      for triples in (triples_of(grammar), former_triples(grammar)))
+    met = [
+        ("19-though-accepted-before", before is None),
+        ("19-though-accepted-by-document-01", former is None),
+        ("order-19-before-13", former is not None and former.cause == SUCCESSOR_MISSING),
+        ("19-256-states", grammar.states == MAX_STATES),
+    ]
+    names = [] if before is None else ["order-19-before-%d" % before.cause]
+    return names + [name for name, holds in met if holds]
 
 
 def accepted_reasons(triples: Triples, certificate: bytes) -> List[str]:

@@ -10,8 +10,8 @@ from typing import Iterator, List, NamedTuple, Optional, Tuple
 
 from readings import named_of
 from searches import Potential, needed, search
-from tables import MAX_STATES, Grammar, Refusal
-from text import AMPLE, Text, read_text, write_text
+from tables import MAX_STATES, NO_SENTENCE, Grammar, Refusal
+from text import AMPLE, Text, read_lines, read_text, write_text
 from trees import MOST, some_sentences, tree_count
 
 FOLDER = os.path.join(os.path.dirname(os.path.dirname(os.path.abspath(__file__))), "corpus")
@@ -20,9 +20,10 @@ ENDING = ".grammar"
 NOTHING = "-"             # in a column that says nothing of a grammar
 EMPTY = "(empty)"         # the sentence without symbols
 
-UNAMBIGUOUS, POTENTIAL = "unambiguous", "potential"
-AMBIGUOUS, FALSE_ALARM = "ambiguous", "false-alarm"
-TRUTHS = {UNAMBIGUOUS: UNAMBIGUOUS, AMBIGUOUS: POTENTIAL, FALSE_ALARM: POTENTIAL}
+UNAMBIGUOUS, POTENTIAL, REFUSED = "unambiguous", "potential", "refused"
+AMBIGUOUS, FALSE_ALARM, WITHOUT = "ambiguous", "false-alarm", "no-sentence"
+TRUTHS = {UNAMBIGUOUS: UNAMBIGUOUS, AMBIGUOUS: POTENTIAL, FALSE_ALARM: POTENTIAL,
+          WITHOUT: REFUSED}
 KINDS = "row", "classic", "robot"
 
 SENTENCES = 12            # random sentences tried for each grammar
@@ -96,10 +97,10 @@ def found_in(text: bytes) -> Optional[Found]:
 
 
 def table_in(name: str, folder: str = FOLDER) -> Tuple[int, int, bytes]:
-    """A good grammar's t, n and table."""
-    found = found_in(text_in(name, folder))
-    assert found is not None
-    return found.table
+    """t, n and table of a grammar of the corpus, also of one without a sentence."""
+    found = read_lines(text_in(name, folder))
+    assert isinstance(found, Text)
+    return found.terminals, found.nonterminals, found.table
 
 
 # Comparison.
@@ -144,8 +145,26 @@ def truth_faults(entry: Entry, found: Found) -> Iterator[str]:
                 yield "a sentence has not one tree: %s" % " ".join(words)
 
 
+def refused_faults(entry: Entry, text: bytes) -> Iterator[str]:
+    """What speaks against a line of the index whose verdict is refused."""
+    if read_text(text, AMPLE) != Refusal(NO_SENTENCE, 0):
+        yield "the text is not refused for lack of a sentence"
+        return
+    lines = read_lines(text)
+    assert isinstance(lines, Text), "19 comes after all other faults"
+    if entry.states != lines.states:
+        yield "states=%d" % lines.states
+    if (entry.size, entry.truth, entry.sentence) != (None, WITHOUT, NOTHING):
+        yield "size, truth and sentence do not fit"
+
+
 def faults_of(entry: Entry, text: bytes) -> Iterator[str]:
     """What speaks against a line of the index."""
+    if entry.kind not in KINDS:
+        yield "the kind is none of %s" % ", ".join(KINDS)
+    if entry.verdict == REFUSED:
+        yield from refused_faults(entry, text)
+        return
     found = found_in(text)
     if found is None:
         yield "the text is refused"
@@ -154,8 +173,6 @@ def faults_of(entry: Entry, text: bytes) -> Iterator[str]:
         *found.table, text, found.text.starts, found.text.lengths, len(text))
     if written != text:
         yield "the text is written otherwise than it was read"
-    if entry.kind not in KINDS:
-        yield "the kind is none of %s" % ", ".join(KINDS)
     if entry.states != found.grammar.states:
         yield "states=%d" % found.grammar.states
     verdict, size = verdict_of(found)

@@ -16,7 +16,7 @@ from functools import lru_cache
 from typing import Dict, FrozenSet, Iterator, List, Optional, Sequence
 
 from case_files import Kind, Rng, cases_of, main
-from case_grammars import Table, good
+from case_grammars import Table, states_of
 from corpus import counts, entries, faults, table_in
 from corpus_texts import GROUPS as TEXT_GROUPS
 from corpus_texts import REASONS as TEXT_REASONS
@@ -26,9 +26,9 @@ from program import MAX_STATES, printed
 from robot_grammars import grown, table_of
 from search_cases import Case, answer, decode_case, encode_case, exact_and_longer
 from searches import Potential, needed, search
-from tables import Refusal
+from tables import NO_SENTENCE, Refusal
 
-FEWEST = 5                # texts that each group and each reason must have
+FEWEST = 5                # texts that each group and each reason must have; cases of 19
 SECONDS = 60              # that the program may take for one text
 SHOWN = 10                # differences that are printed
 
@@ -67,17 +67,20 @@ def grown_large(rng: Rng) -> Iterator[Case]:
 
 GROUPS = [of_the_corpus, grown_small, grown_large]
 
+OF_19 = "19-of-the-corpus"
 REASONS = ["%s-%s" % (verdict, how) for verdict in ("unambiguous", "potential")
            for how in ("of-the-corpus", "grown", "up-to-48-states", "over-48-states",
-                       "exactly-enough", "longer")]
+                       "exactly-enough", "longer")] + [OF_19]
 
 
 def reasons_of(case: Case) -> List[str]:
     """Every reason of REASONS that this case meets."""
     table = case.t, case.n, case.table
-    states = good(table).states
+    states = states_of(table)
     result = search(*table, case.lent)
-    assert not isinstance(result, Refusal)
+    if isinstance(result, Refusal):
+        assert result.cause == NO_SENTENCE and table in corpus_tables()
+        return [OF_19]
     verdict = "potential-" if isinstance(result, Potential) else "unambiguous-"
     return [verdict + how for how in (
         "of-the-corpus" if table in corpus_tables() else "grown",
@@ -85,7 +88,8 @@ def reasons_of(case: Case) -> List[str]:
         "exactly-enough" if case.lent == needed(states) else "longer")]
 
 
-KIND = Kind(lambda: cases_of(GROUPS), encode_case, decode_case, answer, REASONS, reasons_of)
+KIND = Kind(lambda: cases_of(GROUPS), encode_case, decode_case, answer, REASONS, reasons_of,
+            enough={OF_19: FEWEST})
 
 
 # The index.

@@ -1,8 +1,8 @@
 """The texts that the program is tried with, in groups; they depend on the seed alone.
 
 The corpus, grown grammars, both damaged in one byte or cut, texts with one fault
-of each cause, texts of too many bytes or states, texts with long readings, and
-texts with rules that no sentence uses.
+of each cause, texts of too many bytes or states, texts with long readings, texts
+with rules that no sentence uses, and texts without a sentence, or nearly so.
 """
 
 from functools import lru_cache
@@ -10,8 +10,10 @@ from math import gcd
 from typing import Callable, Dict, Iterator, List, NamedTuple, Optional, Sequence, Tuple
 
 import dead_rules
+import sentence_reasons
 from case_files import Rng
 from case_grammars import good as good_grammar
+from case_grammars import states_of as states_of_table
 from corpus import entries, text_in
 from dead_grammars import Rules, dead_named, dead_small, rules_of, telling_tables
 from dead_rules import KINDS, kind_of
@@ -20,8 +22,13 @@ from named_grammars import Named, join_lines, lines_of, long_names, text_of, wit
 from program import MAX_BYTES, MAX_STATES
 from random_tables import A, B, S, Rule, a
 from robot_grammars import grown, states_of, table_of
+from sentence_grammars import (
+    large_sentenceless, named_table, nearly_sentenceless, sentenceless,
+)
+from sentence_misreadings import AFTER_14, TOLD
+from sentence_reasons import has_tree, loose_rules, of_rules
 from tables import (
-    FIXED_STATES, MAX_LENGTH, MAX_NONTERMINALS, MAX_RULES, MAX_TERMINALS, Refusal,
+    FIXED_STATES, MAX_LENGTH, MAX_NONTERMINALS, MAX_RULES, MAX_TERMINALS, NO_SENTENCE, Refusal,
 )
 from tables import MAX_STATES as MOST_STATES
 from text import MAX_NAME, Text, read_lines
@@ -167,9 +174,18 @@ def declared_twice(rng: Rng, lines: List[bytes]) -> List[bytes]:
     return lines[:place] + [new[place]] + lines[place + 1:]
 
 
+def no_sentence(rng: Rng, lines: List[bytes]) -> List[bytes]:
+    """Cause 19: no rule of S, or S in each of them."""
+    name = lines[1].partition(b"=")[2].split(b",")[0]
+    front = b"rule=" + name + b":"
+    if rng.randrange(2):
+        return [line for line in lines if not line.startswith(front)]
+    return [line + b" " + name if line.startswith(front) else line for line in lines]
+
+
 FAULTS: List[Callable[[Rng, List[bytes]], List[bytes]]] = [
     many_terminals, no_nonterminals, long_rule, equal_rule, many_rules, many_states, no_equals,
-    long_name, unknown_name, declared_twice,
+    long_name, unknown_name, declared_twice, no_sentence,
 ]
 
 
@@ -249,7 +265,7 @@ def too_long(rng: Rng) -> Iterator[bytes]:
 def faulty_large(rng: Rng) -> Iterator[bytes]:
     """More states than the program takes, and a fault of the text, which comes first."""
     for _ in range(24):
-        fault = rng.choice([equal_rule, unknown_name, long_rule, declared_twice])
+        fault = rng.choice([equal_rule, unknown_name, long_rule, declared_twice, no_sentence])
         yield join_lines(fault(rng, lines_of(grown(rng, 12))))
 
 
@@ -311,6 +327,37 @@ def with_dead_rules(rng: Rng) -> Iterator[bytes]:
         yield text_with_names(rng, rules_of(table))
 
 
+# No sentence.
+
+def without_a_sentence(rng: Rng) -> Iterator[bytes]:
+    """No sentence: small grammars, grown ones, and ones of more states than are taken."""
+    for table in sentenceless(rng, 6):
+        if states_of_table(table) <= MAX_STATES:
+            yield text_of(named_table(rng, table))
+    for most in (MAX_STATES, MOST_STATES):
+        for _ in range(20):
+            yield join_lines(no_sentence(rng, lines_of(grown(rng, 12, most))))
+    for table in large_sentenceless(rng, 12):
+        yield text_of(named_table(rng, table))
+
+
+def padded_without(rng: Rng) -> Iterator[bytes]:
+    """No sentence in 4,096 bytes, and in more: then 14 comes first."""
+    count = 0
+    while count < 12:
+        text = join_lines(no_sentence(rng, lines_of(grown(rng, 4, MAX_STATES))))
+        texts = [padded(text, size) for size in (MAX_BYTES, MAX_BYTES + 1)]
+        if None not in texts:
+            count += 1
+            yield from texts
+
+
+def nearly_without(rng: Rng) -> Iterator[bytes]:
+    """Only the empty sentence; sentences that need the first rule, or the last."""
+    for table in nearly_sentenceless(rng, 12):
+        yield text_of(named_table(rng, table))
+
+
 GROUPS: Dict[str, Callable[[Rng], Iterator[bytes]]] = {
     "corpus": of_the_corpus,
     "grown": grown_small,
@@ -325,6 +372,9 @@ GROUPS: Dict[str, Callable[[Rng], Iterator[bytes]]] = {
     "faulty-large": faulty_large,
     "long-readings": long_readings,
     "dead-rules": with_dead_rules,
+    "no-sentence": without_a_sentence,
+    "no-sentence-padded": padded_without,
+    "nearly-no-sentence": nearly_without,
 }
 
 
@@ -337,7 +387,7 @@ def samples() -> Iterator[Sample]:
 
 # What the texts are counted by.
 
-CAUSES = [1, 4, 6, 7, 8, 16, 17, 18]     # those that a text can be refused for
+CAUSES = [1, 4, 6, 7, 8, 16, 17, 18, 19]     # those that a text can be refused for
 REASONS = ["unambiguous", "potential"] + ["refused-%d" % cause for cause in CAUSES] + [
     "readings-with-a-terminal",
     "readings-with-a-nonterminal",
@@ -349,6 +399,8 @@ REASONS = ["unambiguous", "potential"] + ["refused-%d" % cause for cause in CAUS
     "refused-14-states",
     "refused-14-bytes-and-otherwise-at-fault",
     "refused-for-another-cause-with-too-many-states",
+    "refused-19-with-too-many-states",
+    "refused-14-bytes-without-a-sentence",
     "of-4096-bytes",
     "of-4097-bytes",
     "of-48-states",
@@ -357,7 +409,7 @@ REASONS = ["unambiguous", "potential"] + ["refused-%d" % cause for cause in CAUS
     "unambiguous-formerly-potential",
     "unambiguous-formerly-of-another-size",
     "potential-formerly-with-other-readings",
-] + TOLD_BY_SEARCH
+] + TOLD_BY_SEARCH + sentence_reasons.RULES_REASONS + [TOLD[AFTER_14]]
 
 
 def items_in(lines: Sequence[bytes]) -> int:
@@ -409,6 +461,10 @@ def reasons_of(text: bytes, printed: bytes) -> List[str]:
     refused = first.startswith(b"refused=")
     cause = int(first[len(b"refused="):]) if refused else 0
     bytes_first = len(text) > MAX_BYTES
+    rules = loose_rules(result.table) if isinstance(result, Text) else None
+    none = rules is not None and not has_tree(rules)
+    assert (cause == NO_SENTENCE) == (none and not bytes_first), "19 for lack of a sentence"
+    states_too = cause == NO_SENTENCE and states > MAX_STATES
     met = [
         ("unambiguous", b"verdict=unambiguous\n" in printed),
         ("potential", b"verdict=potential\n" in printed),
@@ -418,6 +474,9 @@ def reasons_of(text: bytes, printed: bytes) -> List[str]:
          cause == 14 and bytes_first and isinstance(result, Refusal)),
         ("refused-for-another-cause-with-too-many-states",
          refused and cause != 14 and items_in(text.split(b"\n")) > MAX_STATES),
+        ("refused-19-with-too-many-states", states_too),
+        (TOLD[AFTER_14], states_too),
+        ("refused-14-bytes-without-a-sentence", cause == 14 and bytes_first and none),
         ("of-4096-bytes", len(text) == MAX_BYTES),
         ("of-4097-bytes", len(text) == MAX_BYTES + 1),
         ("of-48-states", states == MAX_STATES),
@@ -427,4 +486,6 @@ def reasons_of(text: bytes, printed: bytes) -> List[str]:
     if not refused:
         assert isinstance(result, Text)
         found += dead_reasons(result)
+    if rules is not None and cause != 14:
+        found += of_rules(rules)
     return found + (reading_reasons(text, printed) if "potential" in found else [])

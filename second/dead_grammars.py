@@ -7,12 +7,12 @@ from itertools import product
 from typing import Callable, Dict, Iterator, List, NamedTuple, Optional, Sequence, Tuple
 
 from case_files import Rng
-from case_grammars import Table, good, keywords, larger_random, live_small
-from dead_rules import BEHIND, KINDS, MIXED, NO_SENTENCE, UNPRODUCTIVE, UNREACHABLE, kind_of
+from case_grammars import Table, good, grammar_of, keywords, larger_random, live_small
+from dead_rules import BEHIND, KINDS, MIXED, UNPRODUCTIVE, UNREACHABLE, kind_of
 from live_misreadings import REACHED, found_by_search, told
 from named_grammars import Named, random_names
 from random_tables import Rule, encode, random_code, random_rules
-from tables import MAX_LENGTH, START, Grammar, check_table
+from tables import START, Grammar, check_table, codes_of
 
 MOST = 26                  # states of a small grammar
 MANY = 130                 # states of a larger one that may not be potential
@@ -22,7 +22,6 @@ TRIES = 400                # random grammars that are looked at for one of a kin
 KINDS_OF = {
     "unreachable-rules-are-taken": [UNREACHABLE],
     "rules-behind-unproductive-ones-are-taken": [BEHIND],
-    "rule-0-is-always-taken": [NO_SENTENCE],
 }
 
 
@@ -35,9 +34,8 @@ class Rules(NamedTuple):
 
 
 def rules_of(table: Table) -> Rules:
-    grammar = good(table)
-    return Rules(grammar.terminals, grammar.nonterminals,
-                 tuple((rule.left, rule.right) for rule in grammar.rules))
+    grammar = grammar_of(table)
+    return Rules(grammar.terminals, grammar.nonterminals, tuple(codes_of(grammar)))
 
 
 # Dead rules.
@@ -120,28 +118,10 @@ def add_both(rng: Rng, base: Rules) -> Rules:
     return base
 
 
-def without_sentence(rng: Rng, base: Rules) -> Rules:
-    """An endless nonterminal in each rule of S; it may need S."""
-    first = START + base.n
-    rules = []
-    for left, right in base.rules:
-        if left == START:
-            place = rng.randrange(len(right) + 1)
-            rest = right[place + (len(right) == MAX_LENGTH):]
-            right = right[:place] + bytes([first]) + rest
-        rules.append((left, right[:MAX_LENGTH]))
-    changed = Rules(base.t, base.n, tuple(dict.fromkeys(rules)))
-    more = endless(rng, base, first)
-    if rng.randrange(3) == 0:
-        more = [(first, right_with(rng, base, START))]
-    return put_in(rng, changed, 2, more)
-
-
 ADD: Dict[str, Callable[[Rng, Rules], Rules]] = {
     UNPRODUCTIVE: add_unproductive,
     UNREACHABLE: add_unreachable,
     BEHIND: add_behind,
-    NO_SENTENCE: without_sentence,
     MIXED: add_both,
 }
 
@@ -163,7 +143,7 @@ def any_of_kind(rng: Rng, kind: str) -> Rules:
         t, n = rng.randrange(4), 1 + rng.randrange(4)
         lengths = [rng.randrange(4) for _ in range(1 + rng.randrange(7))]
         rules = random_rules(rng, t, n, lengths)
-        grammar = good((t, n, encode(rules)))
+        grammar = grammar_of((t, n, encode(rules)))
         if kind_of(grammar) == kind and grammar.states <= MOST:
             return Rules(t, n, tuple(rules))
     return with_dead_rules(rng, rules_of(live_small(rng)), kind, MOST)
@@ -228,7 +208,6 @@ def chain_of(kind: Optional[str], length: int) -> Rules:
         UNPRODUCTIVE: [(START, a), (START, bytes([first]))] + chain(first, length, []),
         UNREACHABLE: [(START, a)] + chain(first, length, [(end, bytes([START]))]),
         BEHIND: [(START, a), (START, bytes([first, end + 1]))] + chain(first, length, [(end, a)]),
-        NO_SENTENCE: [(START, bytes([first]))] + chain(first, length, [(end, bytes([first]))]),
         MIXED: [(START, a), (START, bytes([end + 1]))] + chain(first, length, [(end, a)]),
     }[kind]
     return Rules(1, length + 3, tuple(rules))

@@ -17,11 +17,11 @@ UNPRODUCTIVE = "unproductive"     # reachable, but some symbol of it has no fini
 BEHIND = "behind-unproductive"    # productive, but reached through unproductive rules alone
 
 # The kinds of a grammar with dead rules: unproductive ones alone; unreachable ones
-# alone; unproductive ones and others behind them; no rule live; unreachable ones
-# beside other dead ones.
-NO_SENTENCE = "no-sentence"
+# alone; unproductive ones and others behind them; unreachable ones beside other
+# dead ones. A grammar without a sentence has no live rule, and is refused.
 MIXED = "mixed"
-KINDS = [UNPRODUCTIVE, UNREACHABLE, BEHIND, NO_SENTENCE, MIXED]
+KINDS = [UNPRODUCTIVE, UNREACHABLE, BEHIND, MIXED]
+NO_SENTENCE = "no-sentence"
 
 FEWEST = 50                       # cases of each kind that a file must have
 REASONS = ["dead-" + kind for kind in KINDS]
@@ -62,7 +62,7 @@ def rule_kinds(grammar: Grammar) -> Tuple[Optional[str], ...]:
 
 
 def kind_of(grammar: Grammar) -> Optional[str]:
-    """Which of KINDS a grammar is of, or None if all its rules are live."""
+    """Which of KINDS a grammar is of, or NO_SENTENCE, or None if all its rules are live."""
     first, *others = rule_kinds(grammar)
     if first is not None:
         return NO_SENTENCE
@@ -75,7 +75,7 @@ def kind_of(grammar: Grammar) -> Optional[str]:
 
 
 def reasons_of(grammar: Grammar) -> List[str]:
-    """The reason of REASONS that a grammar meets, if any."""
+    """The reason of REASONS that a grammar with a sentence meets, if any."""
     kind = kind_of(grammar)
     return [] if kind is None else ["dead-" + kind]
 

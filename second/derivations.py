@@ -1,8 +1,11 @@
-"""Which rules the derivation trees of document 01, "Tables", apply."""
+"""Which rules the derivation trees of document 01, "Tables", apply.
 
-from typing import List
+Cases are counted by this, found in another way than in tables.py and live.py.
+"""
 
-from tables import START, Grammar, Rule
+from typing import List, Sequence
+
+from tables import START, Grammar, Rule, RuleCodes, codes_of
 
 CODES = 256  # "A symbol is one byte."
 
@@ -12,16 +15,21 @@ def nonterminals_of(rule: Rule) -> List[int]:
     return [code for code in rule.right if code >= START]
 
 
-def productive(grammar: Grammar) -> List[bool]:
-    """By code: whether a finite subtree has this nonterminal at its root."""
+def finite_roots(rules: Sequence[RuleCodes]) -> List[bool]:
+    """By code: whether a finite subtree of these rules has this nonterminal at its root."""
     known = [False] * CODES
     changed = True
     while changed:
         changed = False
-        for rule in grammar.rules:
-            if not known[rule.left] and all(known[c] for c in nonterminals_of(rule)):
-                known[rule.left] = changed = True
+        for left, right in rules:
+            if not known[left] and all(code < START or known[code] for code in right):
+                known[left] = changed = True
     return known
+
+
+def productive(grammar: Grammar) -> List[bool]:
+    """The same of a grammar's rules."""
+    return finite_roots(codes_of(grammar))
 
 
 def used_rules(grammar: Grammar) -> List[bool]:

@@ -1,11 +1,17 @@
 """What the tests of the files of cases share."""
 
 from case_files import decode_all, digest
+from sentence_reasons import REASONS as SENTENCE_REASONS
 
 TABLE = 1, 1, b"\x80\x00"
 TABLE_BYTES = b"\x01" + bytes(7) + b"\x01" + bytes(7) + b"\x02\0\0\0" + b"\x80\x00"
 
 WAY = 0, 2, 18, 20, 29, 75, 73      # a witness of S→S; S→a, Q = 8
+
+
+def without_sentences(names):
+    """Reasons without those of sentences, sorted; test_sentences.py is about these."""
+    return sorted(name for name in names if name not in SENTENCE_REASONS)
 
 
 class FileTests:

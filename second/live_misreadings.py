@@ -1,15 +1,15 @@
 """What document 02's [3] could be taken for, and the automaton before it.
 
-Each misreading is an automaton. A case that is answered otherwise in one of them
-tells it from [3], and is counted for that.
+Each misreading is an automaton of a grammar with a sentence. A case that is
+answered otherwise in one of them tells it from [3], and is counted for that.
 """
 
 from functools import lru_cache
 from typing import Callable, Dict, Iterable, List, Set, Tuple
 
-from automaton import BEGIN, Automaton, automaton_of, automaton_with, items_of
+from automaton import Automaton, automaton_of, automaton_with, items_of
 from dead_rules import BEHIND, UNPRODUCTIVE, UNREACHABLE, dead_states, is_complete, reachable
-from derivations import nonterminals_of, productive, used_rules
+from derivations import nonterminals_of, productive
 from shortest import shortest_witness
 from tables import START, Grammar
 from triples import Triple, Triples, reached, triple_at, triples_of
@@ -43,11 +43,6 @@ def productive_and_reachable(grammar: Grammar) -> Taken:
     """Also rules that are reached through unproductive ones alone."""
     pairs = zip(productive_rules(grammar), reachable_rules(grammar))
     return tuple(one and other for one, other in pairs)
-
-
-def always_rule_0(grammar: Grammar) -> Taken:
-    """Rule 0, though there may be no sentence."""
-    return (True, *used_rules(grammar))
 
 
 def in_one_round(grammar: Grammar) -> Taken:
@@ -106,7 +101,6 @@ REACHED: Dict[str, Misread] = {
     "unreachable-rules-are-taken": of_taken(productive_rules),
     "unproductive-rules-are-taken": of_taken(reachable_rules),
     "rules-behind-unproductive-ones-are-taken": of_taken(productive_and_reachable),
-    "rule-0-is-always-taken": of_taken(always_rule_0),
     "live-rules-are-found-in-one-round": of_taken(in_one_round),
     "dead-items-are-entered": dead_items_are_entered,
 }
@@ -161,13 +155,12 @@ def told_by_search(grammar: Grammar) -> Tuple[str, ...]:
 # Steps that document 01's automaton had.
 
 WRONG_STEPS = [
-    "opening-of-rule-0-without-a-sentence",
     "opening-of-an-unproductive-rule",
     "closing-into-an-unproductive-rule",
     "closing-into-an-unreachable-rule",
     "closing-into-a-rule-behind-unproductive-ones",
 ]
-CLOSINGS = dict(zip([UNPRODUCTIVE, UNREACHABLE, BEHIND], WRONG_STEPS[2:]))
+CLOSINGS = dict(zip([UNPRODUCTIVE, UNREACHABLE, BEHIND], WRONG_STEPS[1:]))
 
 
 def wrong_steps(grammar: Grammar, before: int, after: int) -> List[str]:
@@ -187,6 +180,4 @@ def wrong_moves(grammar: Grammar, one: Triple, other: Triple, side: int) -> List
         return []
     item = items_of(grammar)[to]
     assert item is not None
-    if item.dot == 0:
-        return [WRONG_STEPS[0 if state == BEGIN else 1]]
-    return [CLOSINGS[dead[to]]]
+    return [WRONG_STEPS[0] if item.dot == 0 else CLOSINGS[dead[to]]]

@@ -1,13 +1,16 @@
-"""Good grammars with names, from which the cases of texts are made.
+"""Grammars with names, from which the cases of texts are made.
 
-The texts here are put together without the writer of text.py.
+All have a sentence, but for two of document 01's rows. The texts here are put
+together without the writer of text.py.
 """
 
 from typing import Dict, List, NamedTuple, Sequence
 
 from case_files import Rng
-from random_tables import FIGURES, Rule, encode, large_grammar, random_rules, small_grammar
-from tables import MAX_LENGTH, MAX_NONTERMINALS, MAX_TERMINALS, START
+from random_tables import (
+    FIGURES, Rule, encode, large_grammar, random_rules, small_grammar, with_sentence,
+)
+from tables import MAX_LENGTH, MAX_NONTERMINALS, MAX_TERMINALS, START, has_sentence
 from text import MAX_NAME, NAME_BYTES, Lent
 
 MAX_BYTES = 70000        # bytes of the longest text, or names, of a case
@@ -15,7 +18,7 @@ MAX_LENT = 70000         # entries of the longest row that a case lends
 
 
 class Named(NamedTuple):
-    """A good grammar; `names` in order of symbol numbers."""
+    """A grammar without faults; `names` in order of symbol numbers."""
 
     t: int
     n: int
@@ -112,20 +115,25 @@ def full_named(rng: Rng) -> Named:
     t = rng.choice([0, 1, 126, MAX_TERMINALS])
     n = rng.choice([1, 2, 126, MAX_NONTERMINALS])
     lengths = [rng.randrange(5) for _ in range(rng.randrange(40))]
-    return with_names(rng, t, n, random_rules(rng, t, n, lengths))
+    return with_names(rng, t, n, with_sentence(rng, t, random_rules(rng, t, n, lengths)))
 
 
 def longest_named(rng: Rng) -> Named:
     """All limits at once, with names of 15 bytes: the longest text there is."""
     t, n = MAX_TERMINALS, MAX_NONTERMINALS
     rules = random_rules(rng, t, n, [MAX_LENGTH] * 5 + [1] * 92 + [0] * 3)
-    return Named(t, n, rules, long_names(rng, t + n))
+    return Named(t, n, with_sentence(rng, t, rules), long_names(rng, t + n))
 
 
 def figures_named() -> List[Named]:
     """Document 01's "Grammars on file", its names being a, b, S, A, B."""
     return [Named(t, n, rules, [b"a", b"b"][:t] + [b"S", b"A", b"B"][:n])
             for t, n, rules in FIGURES]
+
+
+def good_figures() -> List[Named]:
+    """Those of them that have a sentence."""
+    return [grammar for grammar in figures_named() if has_sentence(grammar.rules)]
 
 
 # Lent rows.

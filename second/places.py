@@ -6,7 +6,10 @@ The refusal decides; the text is looked at only to find the place.
 import re
 from typing import List, NamedTuple, Tuple
 
-from tables import EQUAL_RULE, MAX_LENGTH, MAX_RULES, MAX_STATES, OUT_OF_RANGE, TOO_LONG, TOO_MANY_RULES, Refusal
+from tables import (
+    EQUAL_RULE, MAX_LENGTH, MAX_RULES, MAX_STATES, NO_SENTENCE, OUT_OF_RANGE, TOO_LONG,
+    TOO_MANY_RULES, Refusal,
+)
 from text import DECLARED_TWICE, KEYS, MALFORMED, MAX_TEXT, UNKNOWN_NAME, split_lines
 
 NAME = rb"[A-Za-z0-9-]{1,15}"
@@ -121,6 +124,12 @@ def of_rule(text: bytes, cause: int, offset: int) -> Place:
     return Place(line.number, 6, what.get(cause, "there are more than %d states" % MAX_STATES))
 
 
+def without_sentence(text: bytes) -> Place:
+    """Cause 19: where the start symbol is declared."""
+    column, name = words_on(split_lines(text)[1].content)[0]
+    return Place(LISTS, column, "'%s' has no finite tree, so there is no sentence" % name.decode())
+
+
 def place_of(text: bytes, refusal: Refusal) -> Place:
     """Where and what the reader refuses."""
     cause, position = refusal
@@ -132,6 +141,8 @@ def place_of(text: bytes, refusal: Refusal) -> Place:
         return repeated(text, position)
     if cause == OUT_OF_RANGE:
         return Place(position, len(key_of(position)) + 1, "there are too many names, or no nonterminal")
+    if cause == NO_SENTENCE:
+        return without_sentence(text)
     if cause == TOO_LONG:
         return Place(position, 6, "the right side has more than %d symbols" % MAX_LENGTH)
     return of_rule(text, cause, position)

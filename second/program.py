@@ -19,7 +19,7 @@ def taken(text: bytes) -> Union[Text, Refusal]:
     """The text as it is read, or its refusal.
 
     "A longer text is 14 before any other fault; more states are 14 after all
-    faults of the text."
+    faults of the text." To lack a sentence, 19, is one of them.
     """
     if len(text) > MAX_BYTES:
         return TOO_MUCH

@@ -3,9 +3,10 @@
 from typing import List, Sequence, Tuple
 
 from case_files import Rng
-from tables import FIXED_STATES, MAX_LENGTH, MAX_RULES, START
+from tables import FIXED_STATES, MAX_LENGTH, MAX_RULES, START, has_sentence
 
 Rule = Tuple[int, bytes]       # left code and right codes
+TRIES = 8                      # random rows of rules that are looked at for one with a sentence
 
 S, A, B = START, START + 1, START + 2
 a, b = 1, 2
@@ -72,17 +73,41 @@ def random_lengths(rng: Rng, count: int, states: int) -> List[int]:
     return lengths
 
 
+def with_sentence(rng: Rng, t: int, rules: Sequence[Rule]) -> List[Rule]:
+    """The rules; if they have no sentence, one of them is changed so that they have.
+
+    It becomes a rule of S without nonterminals, of the same length if there are
+    terminals.
+    """
+    found = list(rules) or [(S, b"")]
+    if not has_sentence(found):
+        place = rng.randrange(len(found))
+        k = len(found[place][1]) if t > 0 else 0
+        found[place] = S, bytes(1 + rng.randrange(t) for _ in range(k))
+    return found
+
+
+def small_rules(rng: Rng, t: int, n: int, most: int) -> List[Rule]:
+    """At most `most` rules, which have a sentence."""
+    for _ in range(TRIES):
+        lengths = [rng.randrange(5) for _ in range(1 + rng.randrange(most))]
+        rules = random_rules(rng, t, n, lengths)
+        if has_sentence(rules):
+            return rules
+    return with_sentence(rng, t, rules)
+
+
 def small_grammar(rng: Rng, most: int) -> Tuple[int, int, List[Rule]]:
     """A good grammar of at most `most` rules and few symbols."""
     t, n = rng.randrange(5), 1 + rng.randrange(5)
-    lengths = [rng.randrange(5) for _ in range(rng.randrange(most + 1))]
-    return t, n, random_rules(rng, t, n, lengths)
+    return t, n, small_rules(rng, t, n, most)
 
 
 def large_grammar(rng: Rng, count: int, states: int) -> Tuple[int, int, List[Rule]]:
-    """A grammar of `count` rules and Q = `states`, with many symbols."""
+    """A grammar of `count` rules and Q = `states`, with many symbols and a sentence."""
     t, n = 60 + rng.randrange(67), 90 + rng.randrange(37)
-    return t, n, random_rules(rng, t, n, random_lengths(rng, count, states))
+    rules = random_rules(rng, t, n, random_lengths(rng, count, states))
+    return t, n, with_sentence(rng, t, rules)
 
 
 def bad_left(rng: Rng, t: int, n: int) -> int:

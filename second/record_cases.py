@@ -10,14 +10,16 @@ import sys
 from typing import Iterator, List, NamedTuple, Sequence, Tuple
 
 import dead_rules
+import sentence_reasons
 from case_files import (
     LARGEST, TABLE_REASONS, Kind, Reader, Rng, accepted_or_refused, cases_of,
     encode_number, encode_table, main,
 )
-from case_grammars import good, triples_in
+from case_grammars import good, states_of, triples_in
 from certificates import Record, check_records, checked_triples, records_fault
-from tables import Refusal
-from triples import Triple, Triples
+from sentence_grammars import sentenceless
+from tables import NO_SENTENCE, Refusal, check_rules
+from triples import Triple, Triples, in_range
 from ways import longer, shortest
 from witness_cases import GROUPS as ROW_GROUPS
 from witness_cases import potential_tables
@@ -51,8 +53,8 @@ def rows(rng: Rng) -> Iterator[Case]:
         found = [case for case in group(Rng(rng.randrange(2 ** 32) + number))
                  if len(case.entries) <= MOST]
         for case in rng.sample(found, min(PER_GROUP, len(found))):
-            triples = checked_triples(*case[:3])
-            states = SOME_STATES if isinstance(triples, Refusal) else triples.states
+            grammar = check_rules(*case[:3])
+            states = SOME_STATES if isinstance(grammar, Refusal) else grammar.states
             yield Case(*case[:3], records_of(states, case.entries))
 
 
@@ -98,7 +100,15 @@ def ends(rng: Rng) -> Iterator[Case]:
             yield Case(*table, tuple(way[:-1] + [record]))
 
 
-GROUPS = [rows, outside, ends]
+def without_a_sentence(rng: Rng) -> Iterator[Case]:
+    """No sentence: no records, or one outside the ranges, alone or after (0,0,0)."""
+    for table in sentenceless(rng, 4):
+        yield Case(*table, ())
+        for record in rng.sample(strangers(states_of(table), 0, 0, 0), 2):
+            yield Case(*table, rng.choice([(record,), ((0, 0, 0), record)]))
+
+
+GROUPS = [rows, outside, ends, without_a_sentence]
 
 
 # Reasons.
@@ -118,24 +128,40 @@ REASONS = ["accepted"] + TABLE_REASONS + [
     "15-first-record",
     "15-last-record",
     "15-inner-record",
-] + dead_rules.REASONS
+] + dead_rules.REASONS + [
+    "19-no-records",
+    "19-with-a-record-outside",
+] + sentence_reasons.REASONS
 
 
 def reasons_of(t: int, n: int, table: bytes, records: Sequence[Record]) -> List[str]:
     """Every reason of REASONS that this case meets."""
     triples = checked_triples(t, n, table)
+    names = list(sentence_reasons.of_table(t, n, table))
     if isinstance(triples, Refusal):
-        return [str(triples.cause)]
+        none = triples.cause == NO_SENTENCE
+        return names + [str(triples.cause)] + (
+            none_reasons(states_of((t, n, table)), records) if none else [])
     fault = records_fault(triples, [Triple(*record) for record in records])
-    dead = dead_rules.reasons_of(good((t, n, table)))
+    names += dead_rules.reasons_of(good((t, n, table)))
     if fault is None:
-        return ["accepted"] + dead
+        return names + ["accepted"]
     if len(records) == 0:
-        return ["15-no-records"] + dead
+        return names + ["15-no-records"]
     if fault.position == len(records):
-        return ["15-only-the-end-fails"] + dead
+        return names + ["15-only-the-end-fails"]
     met = refused_reasons(triples, records, fault.position)
-    return [name for name, holds in met if holds] + dead
+    return names + [name for name, holds in met if holds]
+
+
+def none_reasons(states: int, records: Sequence[Record]) -> List[str]:
+    """What the records of a grammar without a sentence are."""
+    met = [
+        ("19-no-records", not records),
+        ("19-with-a-record-outside",
+         any(not in_range(states, Triple(*record)) for record in records)),
+    ]
+    return [name for name, holds in met if holds]
 
 
 def refused_reasons(
@@ -191,7 +217,8 @@ def decode_case(reader: Reader) -> Case:
 
 
 KIND = Kind(lambda: cases_of(GROUPS), encode_case, decode_case, answer,
-            REASONS, lambda case: reasons_of(*case), enough=dead_rules.ENOUGH)
+            REASONS, lambda case: reasons_of(*case),
+            enough={**dead_rules.ENOUGH, **sentence_reasons.ENOUGH})
 
 if __name__ == "__main__":
     sys.exit(main(__doc__, sys.argv[1:], KIND))

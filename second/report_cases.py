@@ -20,12 +20,14 @@ from corpus_texts import reasons_of as text_reasons_of
 from corpus_texts import samples, small
 from dead_rules import ENOUGH as ENOUGH_DEAD
 from program import TOO_MUCH, printed
+from sentence_reasons import FEWEST as FEWEST_NONE
 
 MAX_BYTES = 100000         # of a text
 MAX_ROOM = 70000
 ENOUGH = 8192              # bytes that no report of these texts passes
 FEWEST = 10                # cases that each reason must have
 POTENTIAL_LINES = 4        # states, verdict, left, right
+WITHOUT = b"refused=19\nat=0\n"
 
 
 class Case(NamedTuple):
@@ -81,6 +83,7 @@ REASONS = TEXT_REASONS + [
     "14-one-byte-short",
     "14-shorter",
     "14-for-a-text-that-is-refused",
+    "14-for-a-text-without-a-sentence",
     "14-room-for-the-verdict",
     "14-room-for-the-verdict-and-left",
 ]
@@ -97,6 +100,7 @@ def reasons_of(case: Case) -> List[str]:
         ("14-one-byte-short", short == 1),
         ("14-shorter", short > 1),
         ("14-for-a-text-that-is-refused", report.startswith(b"refused=")),
+        ("14-for-a-text-without-a-sentence", report == WITHOUT),
     ]
     ends = ends_of(report)
     if len(ends) == POTENTIAL_LINES:
@@ -129,7 +133,7 @@ def decode_case(reader: Reader) -> Case:
 
 
 KIND = Kind(lambda: cases_of(GROUPS), encode_case, decode_case, answer, REASONS, reasons_of,
-            fewest=FEWEST, enough=ENOUGH_DEAD)
+            fewest=FEWEST, enough={**ENOUGH_DEAD, "refused-19": FEWEST_NONE})
 
 if __name__ == "__main__":
     sys.exit(main(__doc__, sys.argv[1:], KIND))

@@ -9,7 +9,7 @@ from typing import Callable, Dict, List
 from case_files import Rng
 from named_grammars import Named
 from random_tables import Rule, encode
-from tables import FIXED_STATES, MAX_LENGTH, MAX_STATES, START
+from tables import FIXED_STATES, MAX_LENGTH, MAX_STATES, START, has_sentence
 
 Lines = Dict[str, List[str]]      # by left name the right sides, names apart by spaces
 
@@ -143,7 +143,10 @@ def states_of(grammar: Named) -> int:
 
 
 def grown(rng: Rng, commands: int, most: int = MAX_STATES) -> Named:
-    """A grammar of up to so many commands, changed up to three times; Q at most `most`."""
+    """A grammar of up to so many commands, changed up to three times; Q at most `most`.
+
+    It has a sentence.
+    """
     while True:
         count = 1 + rng.randrange(commands)
         lines = grow(rng, count, rng.randrange(1 + min(count, 3)))
@@ -151,7 +154,7 @@ def grown(rng: Rng, commands: int, most: int = MAX_STATES) -> Named:
             rng.choice(CHANGES)(rng, lines)
         grammar = named(lines)
         assert all(len(right) <= MAX_LENGTH for _, right in grammar.rules)
-        if states_of(grammar) <= most:
+        if states_of(grammar) <= most and has_sentence(grammar.rules):
             return grammar
 
 

@@ -11,6 +11,7 @@ import sys
 from typing import Iterator, List, NamedTuple, Optional, Sequence, Tuple
 
 import dead_rules
+import sentence_reasons
 from case_files import (
     TABLE_REASONS, Kind, Reader, Rng, cases_of, encode_number, encode_table, main,
     numbers, read_cases, refused,
@@ -21,14 +22,19 @@ from case_grammars import (
 )
 from certificates import check_witness, checked_triples
 from dead_grammars import chains, dead_larger, dead_tables, telling_tables
-from dead_rules import KINDS, NO_SENTENCE, kind_of
+from dead_rules import KINDS, kind_of
 from derivations import used_rules
 from live_misreadings import (
     MOST_STATES, TOLD_BY_SEARCH, former_triples, found_by_search, told_by_search,
 )
 from random_tables import encode
 from searches import Lent, Potential, Unambiguous, needed, search
-from tables import MAX_STATES, START, Grammar, Refusal, check_table
+from sentence_grammars import (
+    faulty_sentenceless, large_sentenceless, nearly_sentenceless, sentenceless,
+)
+from sentence_misreadings import AFTER_14
+from sentence_misreadings import TOLD as TOLD_SENTENCES
+from tables import MAX_STATES, NO_SENTENCE, Grammar, Refusal, check_table
 from triples import is_potential, reached, triples_of
 
 NAMES = Lent._fields      # certificate, queue, parents, witness
@@ -183,9 +189,33 @@ def dead_and_larger(rng: Rng) -> Iterator[Case]:
         yield rng.choice(list(exact_and_longer(rng, table)))
 
 
+def without_a_sentence(rng: Rng) -> Iterator[Case]:
+    """No sentence, lent exactly enough, more, one entry too little, or nothing."""
+    for table in [*sentenceless(rng, 14), *large_sentenceless(rng, 8)]:
+        yield rng.choice(list(exact_and_longer(rng, table)))
+        yield rng.choice(list(too_short(rng, table)))
+        yield rng.choice(list(short_and_empty(rng, table)))
+
+
+def nearly_without(rng: Rng) -> Iterator[Case]:
+    """Grammars that nearly lack a sentence, lent enough or too little."""
+    for table in nearly_sentenceless(rng, 24):
+        yield rng.choice(list(exact_and_longer(rng, table)))
+        if rng.randrange(4) == 0:
+            yield rng.choice(list(too_short(rng, table)))
+
+
+def faulty_without(rng: Rng) -> Iterator[Case]:
+    """Each of causes 1 to 8 where there is no sentence either."""
+    for table in faulty_sentenceless(rng, 22):
+        need = needed(states_of(rules_before_the_fault(table)))
+        yield Case(*table, rng.choice([need, Lent(0, 0, 0, 0)]), fill(rng))
+
+
 GROUPS = [
     rows_and_classics, random_grammars, random_short, much_longer, larger, largest, faulty,
-    many_ways, dead, telling, dead_short, dead_and_larger,
+    many_ways, dead, telling, dead_short, dead_and_larger, without_a_sentence, nearly_without,
+    faulty_without,
 ]
 
 
@@ -216,13 +246,12 @@ REASONS = TABLE_REASONS + [
      for how in ("exactly-enough", "longer", "every-rule-used", "a-rule-no-sentence-uses",
                  "odd-states", "even-states", "over-60-states")
 ] + [
-    "unambiguous-without-a-rule-of-S",
     "unambiguous-with-layer-1",
     "256-states",
 ] + dead_rules.REASONS + [
     "unambiguous-dead-" + kind for kind in KINDS
 ] + [
-    "potential-dead-" + kind for kind in KINDS if kind != NO_SENTENCE
+    "potential-dead-" + kind for kind in KINDS
 ] + [
     "14-with-dead-rules",
     "unambiguous-formerly-potential",
@@ -231,15 +260,23 @@ REASONS = TABLE_REASONS + [
     "potential-formerly-with-another-witness",
     "potential-formerly-with-the-same-witness",
     "over-60-states-with-dead-rules",
-] + TOLD_BY_SEARCH
+] + TOLD_BY_SEARCH + [
+    "19-lent-enough",
+    "19-with-nothing-lent",
+    "order-19-before-14",
+    TOLD_SENTENCES[AFTER_14],
+] + sentence_reasons.REASONS
 
 
 def reasons_of(case: Case) -> List[str]:
     """Every reason of REASONS that this case meets."""
-    grammar = check_table(case.t, case.n, case.table)
+    sentences = list(sentence_reasons.of_table(*case[:3]))
+    grammar = check_table(*case[:3])
     if isinstance(grammar, Refusal):
-        nothing = not any(case.lent)
-        return [str(grammar.cause)] + ["1-to-8-with-nothing-lent"] * nothing
+        sentences.append(str(grammar.cause))
+        if grammar.cause == NO_SENTENCE:
+            return sentences + none_reasons(case)
+        return sentences + ["1-to-8-with-nothing-lent"] * (not any(case.lent))
     result = search(*case[:4])
     if isinstance(result, Refusal):
         met = short_reasons(case, grammar)
@@ -248,8 +285,16 @@ def reasons_of(case: Case) -> List[str]:
     met.append(("256-states", grammar.states == MAX_STATES))
     if kind_of(grammar) is not None:
         met += dead_reasons(grammar, result)
-    found = [name for name, holds in met if holds]
+    found = sentences + [name for name, holds in met if holds]
     return found if isinstance(result, Refusal) else found + list(told_by_search(grammar))
+
+
+def none_reasons(case: Case) -> List[str]:
+    """What was lent for a grammar without a sentence."""
+    if all(given >= need for given, need in zip(case.lent, needed(states_of(case[:3])))):
+        return ["19-lent-enough"]
+    nothing = ["19-with-nothing-lent"] * (not any(case.lent))
+    return nothing + ["order-19-before-14", TOLD_SENTENCES[AFTER_14]]
 
 
 def short_reasons(case: Case, grammar: Grammar) -> List[Tuple[str, bool]]:
@@ -285,7 +330,6 @@ def found_reasons(case: Case, grammar: Grammar, result) -> List[Tuple[str, bool]
         ("over-60-states", grammar.states > 60),
     ]
     return [(verdict + name, holds) for name, holds in met] + [
-        ("unambiguous-without-a-rule-of-S", unambiguous and not opens(grammar)),
         ("unambiguous-with-layer-1", unambiguous and has_layer_1(grammar, result)),
     ]
 
@@ -318,11 +362,6 @@ def former_reasons(grammar: Grammar, unambiguous: bool) -> List[Tuple[str, bool]
         ("potential-formerly-with-another-witness", not unambiguous and not same),
         ("potential-formerly-with-the-same-witness", not unambiguous and same),
     ]
-
-
-def opens(grammar: Grammar) -> bool:
-    """Whether S has a rule."""
-    return any(rule.left == START for rule in grammar.rules)
 
 
 def has_layer_1(grammar: Grammar, result: Unambiguous) -> bool:
@@ -386,7 +425,7 @@ def decode_case(reader: Reader) -> Case:
 
 
 KIND = Kind(lambda: cases_of(GROUPS), encode_case, decode_case, answer, REASONS, reasons_of,
-            enough=dead_rules.ENOUGH)
+            enough={**dead_rules.ENOUGH, **sentence_reasons.ENOUGH})
 
 
 def run(words: Sequence[str]) -> int:

@@ -10,20 +10,24 @@ import sys
 from typing import Iterator, List, NamedTuple, Sequence, Tuple
 
 import dead_rules
+import sentence_reasons
 from case_files import (
     LARGEST, TABLE_REASONS, Kind, Reader, Rng, cases_of, encode_number, encode_table,
     main, refused,
 )
 from case_grammars import (
-    CLASSICS, ONE_A, ROWS, STATEMENTS, Table, faulty_tables, good, keywords, larger_random,
-    operators, some, triples_in,
+    CLASSICS, ONE_A, ROWS, STATEMENTS, Table, faulty_tables, good, grammar_of, keywords,
+    larger_random, operators, some, triples_in,
 )
 from certificates import checked_triples
 from dead_grammars import chains, dead_larger, dead_tables
 from dead_rules import KINDS, dead_states
 from live_misreadings import MISREAD, TOLD, WRONG_STEPS, former_triples, told, wrong_steps
 from random_tables import encode
-from tables import MAX_STATES, START, Grammar, Refusal
+from sentence_grammars import (
+    faulty_sentenceless, large_sentenceless, nearly_sentenceless, sentenceless,
+)
+from tables import MAX_STATES, NO_SENTENCE, START, Grammar, Refusal
 from triples import (
     CLOSING, OPENING, STILL, SYMBOL, Move, Step, Triple, Triples, in_range,
     index_of, reached, steps, triple_at, triples_of,
@@ -167,7 +171,33 @@ def faulty(rng: Rng) -> Iterator[Case]:
     yield Case(128, *ONE_A[1:], Triple(LARGEST, LARGEST, LARGEST))
 
 
-GROUPS = [rows, small, larger, many_closings, out_of_range, faulty, dead_small, dead]
+def without_a_sentence(rng: Rng) -> Iterator[Case]:
+    """No sentence: the start, triples that had moves before [3], others, ones out of range."""
+    for table in [*sentenceless(rng, 12), *large_sentenceless(rng, 8)]:
+        states, former = triples_in(table).states, former_triples(grammar_of(table))
+        yield Case(*table, Triple(0, 0, 0))
+        yield Case(*table, busy_triple(rng, former))
+        yield Case(*table, Triple(rng.randrange(2), rng.randrange(states), rng.randrange(states)))
+        yield Case(*table, Triple(2, states, rng.choice([0, LARGEST])))
+
+
+def nearly_without(rng: Rng) -> Iterator[Case]:
+    """Grammars that nearly lack a sentence: the start, and busy triples."""
+    for table in nearly_sentenceless(rng, 16):
+        yield Case(*table, Triple(0, 0, 0))
+        yield Case(*table, busy_triple(rng, triples_in(table)))
+
+
+def faulty_without(rng: Rng) -> Iterator[Case]:
+    """Each of causes 1 to 8 where there is no sentence either."""
+    for table in faulty_sentenceless(rng, 22):
+        yield Case(*table, Triple(rng.randrange(3), rng.randrange(6), rng.randrange(6)))
+
+
+GROUPS = [
+    rows, small, larger, many_closings, out_of_range, faulty, dead_small, dead,
+    without_a_sentence, nearly_without, faulty_without,
+]
 
 
 # Answers.
@@ -237,23 +267,40 @@ REASONS = TABLE_REASONS + sorted(SHOWN.values()) + [
     "a-dead-item-does-not-close",
     "a-dead-item-does-not-shift",
     "no-parting-beside-a-dead-item-before-a-terminal",
-] + list(TOLD.values())
+] + list(TOLD.values()) + [
+    "19-though-it-had-records-before",
+    "19-out-of-range",
+] + sentence_reasons.REASONS
 
 
 def reasons_of(case: Case) -> List[str]:
     """Every reason of REASONS that this case meets."""
-    triples = checked_triples(case.t, case.n, case.table)
+    table = case.t, case.n, case.table
+    triples = checked_triples(*table)
+    sentences = list(sentence_reasons.of_table(*table))
     if isinstance(triples, Refusal):
-        return [str(triples.cause)]
+        more = none_reasons(case) if triples.cause == NO_SENTENCE else []
+        return [str(triples.cause)] + more + sentences
     met = range_reasons(triples, case.triple)
     if not in_range(triples.states, case.triple):
-        return [name for name, holds in met if holds]
+        return [name for name, holds in met if holds] + sentences
     met += record_reasons(triples, case.triple)
     met += quiet_reasons(triples, case.triple)
-    grammar = good((case.t, case.n, case.table))
+    grammar = good(table)
     met += dead_reasons(grammar, case.triple)
-    return [name for name, holds in met if holds] + dead_rules.reasons_of(grammar) + told(
+    found = [name for name, holds in met if holds] + sentences
+    return found + dead_rules.reasons_of(grammar) + told(
         grammar, MISREAD, lambda other: steps(other.automaton, case.triple))
+
+
+def none_reasons(case: Case) -> List[str]:
+    """What a triple of a grammar without a sentence had before document 02's [3] and [4]."""
+    former = former_triples(grammar_of((case.t, case.n, case.table)))
+    met = [
+        ("19-though-it-had-records-before", bool(steps(former.automaton, case.triple))),
+        ("19-out-of-range", not in_range(former.states, case.triple)),
+    ]
+    return [name for name, holds in met if holds]
 
 
 def range_reasons(triples: Triples, triple: Triple) -> List[Tuple[str, bool]]:
@@ -354,7 +401,7 @@ def decode_case(reader: Reader) -> Case:
 
 
 KIND = Kind(lambda: cases_of(GROUPS), encode_case, decode_case, answer, REASONS, reasons_of,
-            enough=dead_rules.ENOUGH)
+            enough={**dead_rules.ENOUGH, **sentence_reasons.ENOUGH})
 
 if __name__ == "__main__":
     sys.exit(main(__doc__, sys.argv[1:], KIND))

@@ -14,7 +14,10 @@ from case_files import (
 )
 from random_tables import (
     FIGURES, A, B, Rule, S, a, base_grammar, encode, faulty_rule, large_grammar,
-    random_bytes, random_code, random_rule, random_rules, small_grammar,
+    random_bytes, random_code, random_rule, random_rules, small_grammar, with_sentence,
+)
+from sentence_grammars import (
+    faulty_sentenceless, large_sentenceless, nearly_sentenceless, sentenceless,
 )
 from table_reasons import REASONS, reasons_of
 from tables import MAX_LENGTH, MAX_RULES, MAX_STATES, START, Refusal, check_table
@@ -66,7 +69,7 @@ def lengths_of_rules(rng: Rng) -> Iterator[Case]:
     for _ in range(80):
         t, n = rng.randrange(4), 1 + rng.randrange(4)
         rules = random_rules(rng, t, n, [MAX_LENGTH] * (1 + rng.randrange(19)))
-        yield t, n, encode(rules)
+        yield t, n, encode(with_sentence(rng, t, rules))
 
 
 def short_tables(rng: Rng) -> Iterator[Case]:
@@ -89,11 +92,27 @@ def good_grammars(rng: Rng) -> Iterator[Case]:
     for _ in range(250):
         t, n = rng.randrange(128), 1 + rng.randrange(127)
         lengths = [rng.randrange(6) for _ in range(rng.randrange(60))]
-        yield t, n, encode(random_rules(rng, t, n, lengths))
+        yield t, n, encode(with_sentence(rng, t, random_rules(rng, t, n, lengths)))
+
+
+def without_a_sentence(rng: Rng) -> Iterator[Case]:
+    """No finite tree of S, in small grammars and at the limits of rules and states."""
+    yield from sentenceless(rng, 60)
+    yield from large_sentenceless(rng, 150)
+
+
+def nearly_without(rng: Rng) -> Iterator[Case]:
+    """Only the empty sentence; sentences that need the first rule, or the last."""
+    yield from nearly_sentenceless(rng, 90)
+
+
+def faulty_without(rng: Rng) -> Iterator[Case]:
+    """Each of causes 1 to 8 where there is no sentence either."""
+    yield from faulty_sentenceless(rng, 54)
 
 
 def unused_rules(rng: Rng) -> Iterator[Case]:
-    """Rules that no sentence uses: no rule of S, no finite tree, never opened."""
+    """Rules that no sentence uses, or no sentence: no rule of S, no finite tree, never opened."""
     for _ in range(40):
         t, n, rules = small_grammar(rng, 5)
         other = START + n
@@ -284,6 +303,7 @@ GROUPS: List[Group] = [
     figures, ranges, edge_codes, lengths_of_rules, short_tables, good_grammars,
     unused_rules, many_rules, many_states, equal_rules, several_faults,
     late_faults, faults_in_two_rules, prefixes, replaced_bytes, damaged, noise, long_tables,
+    without_a_sentence, nearly_without, faulty_without,
 ]
 
 

@@ -1,4 +1,4 @@
-"""Sorts table cases by reasons finer than document 01's causes.
+"""Sorts table cases by reasons finer than the causes.
 
 The counts of these reasons show that a file of cases tries every limit and
 every place where the order of tests shows.
@@ -7,11 +7,13 @@ every place where the order of tests shows.
 from typing import List, Sequence
 
 from derivations import used_rules
+from sentence_misreadings import BEFORE_8, TOLD
+from sentence_reasons import CAUSE, RULES_REASONS, has_tree, loose_rules, of_rules
 from tables import (
     BAD_LEFT, BAD_RIGHT, EQUAL_RULE, HEADER, MAX_LENGTH, MAX_NONTERMINALS,
-    MAX_RULES, MAX_STATES, MAX_TERMINALS, OUT_OF_RANGE, START, TABLE_ENDS,
-    TOO_LONG, TOO_MANY_RULES, TOO_MANY_STATES, Grammar, Refusal, Rule,
-    check_table, has_equal, in_range, is_nonterminal, undeclared_place,
+    MAX_RULES, MAX_STATES, MAX_TERMINALS, NO_SENTENCE, OUT_OF_RANGE, START, TABLE_ENDS,
+    TOO_LONG, TOO_MANY_RULES, TOO_MANY_STATES, Grammar, Refusal, Rule, check_rules,
+    check_table, codes_of, has_equal, in_range, is_nonterminal, undeclared_place,
 )
 
 # The tests of one rule in table order, and the cause that each gives.
@@ -35,7 +37,6 @@ PAIRS = [
 
 REASONS = [
     "passed",
-    "passed-no-rules",
     "passed-k-of-12",
     "passed-100-rules",
     "passed-256-states",
@@ -61,10 +62,17 @@ REASONS = [
     "7-stray-byte",
     "8-by-one-state",
     "8-by-more",
+    CAUSE,
+    "19-k-of-12",
+    "19-100-rules",
+    "19-256-states",
+] + RULES_REASONS + [
     "order-1-before-a-faulty-table",
 ] + ["order-%s-before-%s" % pair for pair in PAIRS] + [
     "order-%d-before-2-to-5-of-a-later-rule" % cause
     for cause in (BAD_LEFT, BAD_RIGHT, EQUAL_RULE, TOO_MANY_STATES)
+] + ["order-%d-before-19" % cause for cause in range(OUT_OF_RANGE, TOO_MANY_STATES + 1)] + [
+    TOLD[BEFORE_8],
 ]
 
 
@@ -72,25 +80,39 @@ def reasons_of(t: int, n: int, table: bytes) -> List[str]:
     """Every reason of REASONS that this case meets."""
     result = check_table(t, n, table)
     if isinstance(result, Grammar):
-        return passed_reasons(result)
+        assert has_tree(codes_of(result)), "what has passed has a sentence"
+        return passed_reasons(result) + of_rules(codes_of(result))
+    if result.cause == NO_SENTENCE:
+        return sentence_reasons(t, n, table)
+    hidden = [] if has_tree(loose_rules(table)) else ["order-%d-before-19" % result.cause]
+    if hidden and result.cause == TOO_MANY_STATES:
+        hidden.append(TOLD[BEFORE_8])
     if result.cause == OUT_OF_RANGE:
-        return range_reasons(t, n, table)
-    return rule_reasons(t, n, table, result)
+        return range_reasons(t, n, table) + hidden
+    return rule_reasons(t, n, table, result) + hidden
+
+
+def limit_reasons(verdict: str, grammar: Grammar) -> List[str]:
+    """The limits that a grammar without faults 1 to 8 reaches."""
+    met = [
+        ("k-of-12", any(len(rule.right) == MAX_LENGTH for rule in grammar.rules)),
+        ("100-rules", len(grammar.rules) == MAX_RULES),
+        ("256-states", grammar.states == MAX_STATES),
+    ]
+    return ["%s-%s" % (verdict, name) for name, holds in met if holds]
 
 
 def passed_reasons(grammar: Grammar) -> List[str]:
     """The limits that a passed grammar reaches, and whether it uses its rules."""
-    used = used_rules(grammar)
-    met = [
-        ("passed", True),
-        ("passed-no-rules", not used),
-        ("passed-k-of-12", any(len(r.right) == MAX_LENGTH for r in grammar.rules)),
-        ("passed-100-rules", len(used) == MAX_RULES),
-        ("passed-256-states", grammar.states == MAX_STATES),
-        ("passed-every-rule-used", bool(used) and all(used)),
-        ("passed-a-rule-no-sentence-uses", not all(used)),
-    ]
-    return [name for name, holds in met if holds]
+    used = "every-rule-used" if all(used_rules(grammar)) else "a-rule-no-sentence-uses"
+    return ["passed"] + limit_reasons("passed", grammar) + ["passed-" + used]
+
+
+def sentence_reasons(t: int, n: int, table: bytes) -> List[str]:
+    """Why a grammar has no sentence; it has no other fault."""
+    grammar = check_rules(t, n, table)
+    assert isinstance(grammar, Grammar) and not has_tree(codes_of(grammar)), "19 comes last"
+    return [CAUSE] + limit_reasons(CAUSE, grammar) + of_rules(codes_of(grammar))
 
 
 def range_reasons(t: int, n: int, table: bytes) -> List[str]:
@@ -102,7 +124,7 @@ def range_reasons(t: int, n: int, table: bytes) -> List[str]:
     else:
         names = ["1-n-of-0" if n == 0 else "1-n-too-large"]
     near_n = max(1, min(n, MAX_NONTERMINALS))
-    if isinstance(check_table(min(t, MAX_TERMINALS), near_n, table), Refusal):
+    if isinstance(check_rules(min(t, MAX_TERMINALS), near_n, table), Refusal):
         names.append("order-1-before-a-faulty-table")
     return names
 
@@ -110,7 +132,7 @@ def range_reasons(t: int, n: int, table: bytes) -> List[str]:
 def rule_reasons(t: int, n: int, table: bytes, refusal: Refusal) -> List[str]:
     """How the refused rule fails, and what other faults the order hides."""
     start = rule_start(table, refusal.position)
-    before = check_table(t, n, table[:start])
+    before = check_rules(t, n, table[:start])
     assert isinstance(before, Grammar), "the rules before the refused one pass"
     faults = faults_of_rule(t, n, table[start:], before)
     first = TESTS[faults[0]]
@@ -200,7 +222,7 @@ def later_reasons(
         return []
     if len(table) - start < HEADER:
         return []
-    later = check_table(t, n, table[start + HEADER + table[start + 1]:])
+    later = check_rules(t, n, table[start + HEADER + table[start + 1]:])
     if isinstance(later, Refusal) and TABLE_ENDS <= later.cause <= BAD_RIGHT:
         return ["order-%d-before-2-to-5-of-a-later-rule" % cause]
     return []

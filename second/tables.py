@@ -1,9 +1,10 @@
-"""The table check of document 01: "Tables" and refusals 1 to 8, "Table order".
+"""The table check: document 01's "Tables" and refusals 1 to 8, document 02's [4].
 
 `check_table` takes t, n and a table, and answers a Grammar or a Refusal.
+`check_rules` leaves out 19, for grammars that "may lack sentences".
 """
 
-from typing import List, NamedTuple, Optional, Sequence, Tuple, Union
+from typing import Dict, FrozenSet, List, NamedTuple, Optional, Sequence, Tuple, Union
 
 # The limits of document 01.
 MAX_TERMINALS = 127       # "Terminals are 1 to t, t from 0 to 127"
@@ -15,7 +16,7 @@ MAX_STATES = 256          # "Q is 4 plus the sum of (k+1), at most 256"
 FIXED_STATES = 4          # states 0 to 3, which belong to no stored rule
 HEADER = 2                # left code and length, in front of the k codes
 
-# The causes of refusal, by document 01's numbers.
+# The causes of refusal, by the documents' numbers.
 OUT_OF_RANGE = 1          # "t or n outside its range"
 TABLE_ENDS = 2            # "table ends inside a rule"
 BAD_LEFT = 3              # "left code no declared nonterminal"
@@ -24,6 +25,9 @@ BAD_RIGHT = 5             # "right code undeclared"
 EQUAL_RULE = 6            # "rule equals an earlier one"
 TOO_MANY_RULES = 7        # "a 101st rule"
 TOO_MANY_STATES = 8       # "Q would pass 256"
+NO_SENTENCE = 19          # "A grammar in which S has no finite tree"
+
+RuleCodes = Tuple[int, bytes]    # left code and right codes
 
 
 class Rule(NamedTuple):
@@ -109,8 +113,8 @@ def check_rule(
     return Rule(offset, left, right)
 
 
-def check_table(t: int, n: int, table: bytes) -> Union[Grammar, Refusal]:
-    """The whole check: "1; then for each rule [...]"; "Rules lie end to end"."""
+def check_rules(t: int, n: int, table: bytes) -> Union[Grammar, Refusal]:
+    """Causes 1 to 8: "1; then for each rule [...]"; "Rules lie end to end"."""
     if not in_range(t, n):
         return Refusal(OUT_OF_RANGE, 0)
     rules: List[Rule] = []
@@ -124,3 +128,45 @@ def check_table(t: int, n: int, table: bytes) -> Union[Grammar, Refusal]:
         states += len(rule.right) + 1
         offset += HEADER + len(rule.right)
     return Grammar(t, n, tuple(rules), states)
+
+
+def finite_nonterminals(rules: Sequence[RuleCodes]) -> FrozenSet[int]:
+    """The nonterminals that are the root of a finite subtree.
+
+    A rule waits for the nonterminals of its right side that are not yet found.
+    When it waits for none, its left side is found.
+    """
+    missing = [{code for code in right if code >= START} for _, right in rules]
+    waiting_for: Dict[int, List[int]] = {}
+    for place, codes in enumerate(missing):
+        for code in codes:
+            waiting_for.setdefault(code, []).append(place)
+    found = set()
+    ready = [place for place, codes in enumerate(missing) if not codes]
+    while ready:
+        left, _ = rules[ready.pop()]
+        if left not in found:
+            found.add(left)
+            for place in waiting_for.get(left, []):
+                missing[place].remove(left)
+                if not missing[place]:
+                    ready.append(place)
+    return frozenset(found)
+
+
+def has_sentence(rules: Sequence[RuleCodes]) -> bool:
+    """Whether S has a finite tree, so that its row is a sentence, maybe the empty one."""
+    return START in finite_nonterminals(rules)
+
+
+def codes_of(grammar: Grammar) -> List[RuleCodes]:
+    """The rules by their codes alone."""
+    return [(rule.left, rule.right) for rule in grammar.rules]
+
+
+def check_table(t: int, n: int, table: bytes) -> Union[Grammar, Refusal]:
+    """The whole check: 1 to 8, then "19 at position 0, after 8"."""
+    grammar = check_rules(t, n, table)
+    if isinstance(grammar, Grammar) and not has_sentence(codes_of(grammar)):
+        return Refusal(NO_SENTENCE, 0)
+    return grammar

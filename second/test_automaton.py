@@ -4,10 +4,13 @@ import random
 import unittest
 
 from automaton import Item, automaton_of, automaton_with, items_of, move_count
-from case_grammars import CLASSICS, COURSE, ENDLESS, ROWS, good, spelled, triples_in
+from case_grammars import (
+    CLASSICS, COURSE, NO_RULES, ROWS, good, grammar_of, spelled, triples_in,
+)
 from dead_grammars import chains, dead_tables
-from dead_rules import KINDS, kind_of
+from dead_rules import KINDS, NO_SENTENCE, kind_of
 from random_tables import A, S, a, b, encode
+from sentence_grammars import sentenceless
 from shortest import shortest_witness
 from small_grammars import every_table
 from tables import check_table
@@ -22,7 +25,7 @@ def automaton(*lines):
 
 class StatesTest(unittest.TestCase):
     def test_states_of_the_grammars_on_file(self):
-        counts = [automaton_of(check_table(*row)).states for row in ROWS]
+        counts = [automaton_of(grammar_of(row)).states for row in ROWS]
         self.assertEqual(counts, STATES)
 
     def test_items_come_rule_by_rule_and_dot_by_dot(self):
@@ -77,8 +80,9 @@ class LiveTest(unittest.TestCase):
             self.assertFalse(moves.before_terminal[state])
 
     def test_without_a_sentence_nothing_moves(self):
-        for table in (ROWS[0], ENDLESS, CLASSICS["no-start-rule"], spelled("S: a S | S S")):
-            moves = automaton_of(good(table))
+        """No entry shows it, since [4] refuses these."""
+        for table in sentenceless(random.Random(3), 8):
+            moves = automaton_of(grammar_of(table))
             self.assertEqual(move_count(moves), 0)
             self.nothing(moves, range(moves.states))
 
@@ -118,7 +122,7 @@ class LiveTest(unittest.TestCase):
         self.assertEqual(moves.closings[7], ((2, 3), (2, 6), (2, 9)))
         self.assertEqual(moves.closings[13], ((4, 12),))
         self.assertEqual(moves.openings[11], ((3, 8), (4, 11)))
-        moves = automaton_with(good(ROWS[0]), [True])
+        moves = automaton_with(grammar_of(NO_RULES), [True])
         self.assertEqual(moves.openings, (((0, 2),), (), (), ()))
         self.assertEqual(moves.closings, ((), (), (), ((0, 1),)))
         self.assertEqual(moves.shifts, (None, None, (S, 3), None))
@@ -127,7 +131,7 @@ class LiveTest(unittest.TestCase):
         """All moves of document 01's automaton between states that are no items of dead rules."""
         rng = random.Random(1)
         for table in list(every_table(1, 2, 9)) + list(dead_tables(rng, 30)):
-            grammar = good(table)
+            grammar = grammar_of(table)
             live, items = by_definition(grammar), items_of(grammar)
             there = [item is None or live[item.rule] for item in items]
             moves, every = automaton_of(grammar), automaton_with(grammar, [True] * len(live))
@@ -166,15 +170,12 @@ class PrunedTest(unittest.TestCase):
         counts = {kind: 0 for kind in KINDS}
         tables = list(dead_tables(rng, 40)) + list(chains(rng, (2, 9)))
         for table in tables + list(every_table(0, 3, 9)):
-            grammar = good(table)
+            grammar = grammar_of(table)
             kind = kind_of(grammar)
-            if kind is None:
+            if kind in (None, NO_SENTENCE):
                 continue
             counts[kind] += 1
             triples = triples_in(table)
-            if kind == "no-sentence":
-                self.assertEqual(reached(triples), {0})
-                continue
             other, numbers = self.pruned(grammar)
             self.assertIsNone(kind_of(good(other)))
             found = self.renumbered(triples.states, numbers, sorted(reached(triples)))

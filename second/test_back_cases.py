@@ -6,7 +6,7 @@ from back_cases import KIND, answer
 from back_inputs import Case
 from back_reasons import REASONS, known_in, reasons_of
 from case_files import decode_all
-from file_tests import FileTests
+from file_tests import FileTests, without_sentences
 from readings import LentStrings, Pair, named_in, pair_lines, read_back
 from text import MAX_TEXT
 
@@ -25,7 +25,7 @@ def two(left, right=b""):
 
 class FileTest(FileTests, unittest.TestCase):
     KIND = KIND
-    DIGEST = "03c73f199a5de491b124e96f74ef701a973d20f77fd16b695128d02191b48187"
+    DIGEST = "25791a6c979217e2da29e5b56533fcabb02b4a2a94ba9a2bb5970c7cedace893"
     CASE = Case(b"ab", b"left=\n", LentStrings(258, 3))
     BYTES = b"\2\0\0\0ab" + b"\6\0\0\0left=\n" + b"\2\1\0\0" + b"\3\0\0\0"
 
@@ -55,6 +55,8 @@ class AnswerTest(unittest.TestCase):
             (TEXT, b"", AMPLE, "refused=16 at=1"),
             (TEXT + b"rule=S: c\n", two(b"c"), AMPLE, "grammar-refused=17 at=5"),
             (TEXT + b"rule=Ab:\n", two(b"a"), NONE, "grammar-refused=6 at=6"),
+            (ENDLESS, two(b"(0 S )0"), AMPLE, "grammar-refused=19 at=0"),
+            (FRONT, b"", NONE, "grammar-refused=19 at=0"),
         ]:
             self.assertEqual(answer(Case(text, lines, lent)), line)
 
@@ -73,12 +75,12 @@ class InputsTest(unittest.TestCase):
 class ReasonsTest(unittest.TestCase):
     def reasons(self, lines, *names, text=TEXT, lent=AMPLE):
         found = reasons_of(text, lines, lent)
-        self.assertEqual(sorted(found), sorted(names))
+        self.assertEqual(without_sentences(found), sorted(names))
         self.assertLessEqual(set(found), set(REASONS))
 
     def test_known(self):
         self.assertEqual(known_in(TEXT), (2, [b"a", b"b", b"S", b"Ab"]))
-        self.assertEqual(known_in(b"terminals=\nnonterminals=S\n"), (0, [b"S"]))
+        self.assertEqual(known_in(b"terminals=\nnonterminals=S\nrule=S:\n"), (1, [b"S"]))
 
     def test_read(self):
         longer = ["read", "read-left-row-longer", "read-right-row-longer"]
@@ -90,20 +92,17 @@ class ReasonsTest(unittest.TestCase):
         self.reasons(two(b"(0 S )0", b"(0 (1 S )1 )0"), "read", "read-what-the-program-adds",
                      "read-rule-0", "read-a-nonterminal", "read-rows-exactly-enough",
                      text=CYCLE, lent=LentStrings(3, 5))
-        self.reasons(two(b"(0 S )0", b"(0 (1 S )1 )0"), "read", "read-rule-0",
-                     "read-the-last-rule", "read-a-nonterminal", "read-rows-exactly-enough",
-                     "read-a-dead-rule", "read-rule-0-without-a-sentence",
-                     text=ENDLESS, lent=LentStrings(3, 5))
         self.reasons(two(b"(0 (3", b""), "read-only-right-empty", "read-rule-0",
                      "read-the-last-rule", "read-a-dead-rule", *longer,
                      text=b"terminals=\nnonterminals=S,U\nrule=S:\nrule=S: S\nrule=U:\n")
-        self.reasons(two(b" ".join([b"S"] * 72), b""), "read-only-right-empty",
+        self.reasons(two(b" ".join([b"S"] * 50), b""), "read-only-right-empty",
                      "read-a-nonterminal", "read-more-letters-than-a-witness-has",
-                     "read-not-opened-first", *longer, text=ENDLESS)
+                     "read-not-opened-first", *longer,
+                     text=b"terminals=\nnonterminals=S\nrule=S:\n")
         self.reasons(two(b"0 " + b"x" * 15, b""), "read-only-right-empty", "read-a-terminal",
                      "read-a-nonterminal", "read-a-name-of-15", "read-a-name-of-digits",
                      "read-not-opened-first", *longer,
-                     text=b"terminals=0\nnonterminals=%s\n" % (b"x" * 15))
+                     text=b"terminals=0\nnonterminals=%s\nrule=%s:\n" % (b"x" * 15, b"x" * 15))
 
     def test_14(self):
         lines = two(b"a a", b"b")
@@ -204,14 +203,16 @@ class ReasonsTest(unittest.TestCase):
             (b"a" * 65537, ["grammar-16", "grammar-16-at-0"]),
             (b"terminals=\n", ["grammar-16", "grammar-16-at-2"]),
             (TEXT[:-1], ["grammar-16", "grammar-16-at-a-rule"]),
-            (TEXT + b"rule=Ab:\n", ["grammar-6"]),
+            (TEXT + b"rule=Ab:\n", ["grammar-6"]), (ENDLESS, ["grammar-19"]),
+            (FRONT, ["grammar-19"]),
         ]:
             cause = names[0].split("-")[1]
             self.reasons(two(b"c"), *names, text=text)
             self.reasons(two(b"("), *names, "order-grammar-%s-before-the-lines" % cause, text=text)
             self.reasons(b"", *names, "order-grammar-%s-before-the-lines" % cause, text=text)
-            self.reasons(two(b"(9"), *names, "order-grammar-%s-before-14" % cause, text=text,
-                         lent=NONE)
+            told = ["told-from-14-comes-before-19"] * (cause == "19")
+            self.reasons(two(b"(9"), *names, "order-grammar-%s-before-14" % cause, *told,
+                         text=text, lent=NONE)
 
 
 if __name__ == "__main__":

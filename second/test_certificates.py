@@ -5,16 +5,17 @@ import unittest
 
 from case_files import cases_of
 from case_grammars import (
-    CLASSICS, COURSE, CYCLE, ENDLESS, LEFT_LIST, NESTED, ONE_A, ONE_A_BYTES, ROWS, good,
-    spelled, triples_in,
+    CLASSICS, COURSE, CYCLE, ENDLESS, GOOD_ROWS, LEFT_LIST, NESTED, NO_RULES, ONE_A, ONE_A_BYTES,
+    ROWS, good, grammar_of, spelled, triples_in,
 )
 from certificate_cases import closed_superset, flipped, former_smallest, had_another, smallest
 from certificates import certificate_fault, check_certificate, check_records, check_witness
 from dead_grammars import dead_tables
 from live_misreadings import former_triples
 from misreadings import NAMES, misread_indices
+from sentence_grammars import nearly_sentenceless, sentenceless
 from small_grammars import every_table
-from tables import Refusal
+from tables import Refusal, codes_of, has_sentence
 from triples import certificate_of, held_indices, is_potential, reached, triple_at
 from ways import largest_set, shortest, way_to
 from witness_cases import cut, extended, first_entries, wrong_entries
@@ -55,7 +56,7 @@ class DocumentTest(CertificateTest):
             self.refused(table, flipped(right, 162), 10, 162)
 
     def test_smallest_sets_of_the_rows(self):
-        for row in ROWS[:6] + ROWS[9:]:
+        for row in ROWS[1:5] + ROWS[9:]:
             self.accepted(row, smallest(row))
         for row in ROWS[6:9]:
             self.refused(row, smallest(row), 12, triples_in(row).last)
@@ -72,7 +73,7 @@ class FaultsTest(CertificateTest):
     def test_9_too_long_and_empty(self):
         self.refused(ONE_A, ONE_A_BYTES + b"\0", 9, 0)
         self.refused(ONE_A, b"", 9, 0)
-        self.refused(ROWS[0], b"", 9, 0)
+        self.refused(ROWS[1], b"", 9, 0)
 
     def test_10_gives_the_lowest_bit(self):
         right = smallest(ROWS[1])                      # Q = 5: bits 50 to 55 are spare
@@ -103,7 +104,7 @@ class FaultsTest(CertificateTest):
 
     def test_larger_closed_sets_are_accepted(self):
         self.accepted(ONE_A, flipped(ONE_A_BYTES, 7))   # (0,1,1), no successors
-        for row in ROWS[:6]:
+        for row in ROWS[1:5]:
             triples = triples_in(row)
             self.accepted(row, certificate_of(triples.states, largest_set(triples)))
 
@@ -124,17 +125,6 @@ class LiveTest(CertificateTest):
         self.accepted(COURSE, certificate_of(10, held))
         self.assertEqual(smallest(COURSE), certificate_of(10, held))
 
-    def test_without_a_sentence(self):
-        for table in (ROWS[0], ENDLESS):
-            right = smallest(table)
-            self.assertEqual(held_indices(right), [0])
-            self.accepted(table, right)
-            for index in range(1, triples_in(table).count):
-                if index != triples_in(table).last:
-                    self.accepted(table, flipped(right, index))
-            self.refused(table, flipped(right, 0), 11, 0)
-            self.refused(table, flipped(right, triples_in(table).last), 12, triples_in(table).last)
-
     def test_items_of_dead_rules_need_no_successors(self):
         # 4 and 5 S→a, 6 to 8 S→a W, 9 and 10 W→W; Q = 11
         table = spelled("S: a | a W", "W: W")
@@ -149,8 +139,53 @@ class LiveTest(CertificateTest):
         self.accepted(table, flipped(right, 121 + 61, 121 + 39, 121 + 17))
 
 
+class SentenceTest(CertificateTest):
+    """Document 02, [4]: "and so does any certificate accepted for such a grammar before"."""
+
+    def test_whatever_the_certificate_is(self):
+        rng = random.Random(3)
+        for table in sentenceless(rng, 10):
+            right, former = smallest(table), former_smallest(table)
+            self.assertEqual(held_indices(right), [0])
+            for certificate in (right, former, b"", right[:-1], right + b"\0", bytes(len(right)),
+                                b"\xff" * len(right), flipped(right, triples_in(table).last)):
+                self.refused(table, certificate, 19, 0)
+
+    def test_those_accepted_before(self):
+        """By document 01's automaton, and by that of live rules."""
+        rng = random.Random(4)
+        formerly = 0
+        for table in sentenceless(rng, 10):
+            triples, former = triples_in(table), former_triples(grammar_of(table))
+            self.assertIsNone(certificate_fault(triples, smallest(table)))
+            self.refused(table, smallest(table), 19, 0)
+            if not is_potential(former):
+                formerly += 1
+                self.assertIsNone(certificate_fault(former, former_smallest(table)))
+                self.refused(table, former_smallest(table), 19, 0)
+        self.assertGreater(formerly, 40)
+
+    def test_every_certificate_without_rules(self):
+        """Q = 4: every set of triples of layer 0 with (0,0,0) in it."""
+        for bits in range(1, 1 << 16, 64):
+            self.refused(NO_RULES, bits.to_bytes(4, "little"), 19, 0)
+
+    def test_nearly_without_a_sentence(self):
+        for table in nearly_sentenceless(random.Random(5), 10):
+            fault = check_certificate(*table, smallest(table))
+            potential = is_potential(triples_in(table))
+            self.assertEqual(fault is not None and fault.cause, 12 if potential else False)
+
+    def test_witnesses(self):
+        # What was the shortest witness of S→S, and its front.
+        for entries in ([0, 2, 4, 16, 23, 45, 43], [0, 12], [0], []):
+            records = [tuple(triple_at(6, entry)) for entry in entries]
+            self.assertEqual(check_witness(*ENDLESS, entries), Refusal(19, 0))
+            self.assertEqual(check_records(*ENDLESS, records), Refusal(19, 0))
+
+
 class FormerTest(CertificateTest):
-    """"Certificates accepted so far are still accepted." """
+    """"Certificates accepted so far are still accepted", where there is a sentence."""
 
     def test_smallest_and_larger_ones(self):
         rng = random.Random(1)
@@ -162,27 +197,14 @@ class FormerTest(CertificateTest):
             for adding in (1, 2, 5, 20):
                 self.accepted(table, closed_superset(rng, former, adding))
 
-    def test_document_01s_certificate_without_rules(self):
-        self.assertEqual(held_indices(former_smallest(ROWS[0])), [0, 2, 8, 10, 15])
-        self.accepted(ROWS[0], former_smallest(ROWS[0]))
-
-    def test_every_certificate_without_rules(self):
-        """Q = 4: every set of triples of layer 0 with (0,0,0) in it."""
-        triples, former = triples_in(ROWS[0]), former_triples(good(ROWS[0]))
-        count = 0
-        for bits in range(1, 1 << 16, 2):
-            certificate = bits.to_bytes(4, "little")
-            if certificate_fault(former, certificate) is None:
-                count += 1
-                self.assertIsNone(certificate_fault(triples, certificate))
-        self.assertEqual(count, 648)
-
     def test_random_sets(self):
         rng = random.Random(2)
         formerly = now = 0
         for table in list(every_table(1, 2, 9))[::5] + list(dead_tables(rng, 10)):
+            if not has_sentence(codes_of(grammar_of(table))):
+                continue
             triples, former = triples_in(table), former_triples(good(table))
-            for _ in range(6):
+            for _ in range(12):
                 base = rng.choice([smallest(table), former_smallest(table)])
                 held = [rng.randrange(triples.count) for _ in range(rng.randrange(3))]
                 certificate = flipped(base, *set(held) - {triples.last})
@@ -194,10 +216,9 @@ class FormerTest(CertificateTest):
         self.assertGreater(now, formerly + 150)
 
     def test_accepted_for_what_was_potential(self):
-        for table in (COURSE, ENDLESS):
-            self.assertTrue(is_potential(former_triples(good(table))))
-            self.accepted(table, smallest(table))
-            self.refused(table, former_smallest(table), 12, triples_in(table).last)
+        self.assertTrue(is_potential(former_triples(good(COURSE))))
+        self.accepted(COURSE, smallest(COURSE))
+        self.refused(COURSE, former_smallest(COURSE), 12, triples_in(COURSE).last)
 
 
 class WitnessTest(unittest.TestCase):
@@ -269,13 +290,6 @@ class WitnessTest(unittest.TestCase):
         self.refused(ONE_A, [0, 2, 14, 21], 4)
         self.refused(ONE_A, [0, 2, 14, 21, 43], 4)
 
-    def test_without_a_sentence(self):
-        # What was the shortest witness of S→S, and its front.
-        self.refused(ENDLESS, [0, 2, 4, 16, 23, 45, 43], 1)
-        self.refused(ENDLESS, [0, 12], 1)
-        self.refused(ENDLESS, [0], 1)
-        self.refused(ENDLESS, [], 0)
-
     def test_steps_to_items_of_dead_rules(self):
         # Q = 10: S→A is 6 and 7; (0,2,2), index 22, to (0,2,6) and (0,6,2).
         self.refused(COURSE, [0, 2, 22, 26], 3)
@@ -337,7 +351,7 @@ class MisreadingsTest(unittest.TestCase):
 
     def test_what_follows_in_a_misreading_does_not_follow(self):
         found = set()
-        for table in ROWS + list(CLASSICS.values()):
+        for table in GOOD_ROWS + list(CLASSICS.values()):
             triples = triples_in(table)
             for index in sorted(reached(triples)):
                 wrong = misread_indices(triples, index)

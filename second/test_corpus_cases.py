@@ -10,27 +10,29 @@ from io import StringIO
 
 import corpus_texts
 from case_files import digest
-from case_grammars import ROWS, good
+from case_grammars import ROWS, good, grammar_of
 from corpus import (
     Entry, counts, entries, entry_of, faults, faults_of, names_in, table_in, text_in,
 )
 from corpus_cases import FEWEST, KIND, REASONS, compare_program, difference, reasons_of, run
 from corpus_texts import Sample, padded, padding, samples
 from dead_rules import kind_of
-from named_grammars import text_of
+from file_tests import without_sentences
+from named_grammars import join_lines, text_of
 from program import printed
 from robot_grammars import CHANGES, grow, grown, named, states_of, table_of
 from search_cases import Case
 from searches import needed
 from tables import MAX_STATES
-from test_tables import STATES
+from test_tables import STATES, WITHOUT
 from text import AMPLE, read_text
 from text_read_inputs import EXAMPLE
 
 # SHA-256 of the file of cases, and of the program's texts, each after its length.
-DIGEST = "3f6f7857b7fd5a41260f8e5274a9bec9ab54a9aa77be4e1863daa207b3af88d9"
-TEXTS = "17263f9ce7da594de0458cb4384e7296691533182e1877c27f40ca2618b134de"
+DIGEST = "1d15b02eb87971d6d7be64d794d67cf56c135a72ea4e33737924ad5bfcd7e127"
+TEXTS = "f4ffe33a3fcd14f08951e7b6ab95e7db9e237a32f68cdcf06ca77645170f917d"
 
+WITHOUT_LINES = b"refused=19\nat=0\n"
 RIGHT = b"states=6\nverdict=unambiguous\nreached=11\n"
 CYCLE = b"states=8\nverdict=potential\nleft=(0 S )0\nright=(0 (1 S )1 )0\n"
 
@@ -49,24 +51,29 @@ class IndexTest(unittest.TestCase):
         self.assertIn("grammars %d\n" % len(entries()), out.getvalue())
 
     def test_no_kind_is_without_a_truth(self):
-        self.assertNotIn(0, [count for _, count in counts(entries())])
+        missing = [name for name, count in counts(entries()) if count == 0]
+        self.assertEqual(missing, ["robot no-sentence"])
 
     def test_document_01(self):
         rows = [entry for entry in entries() if entry.kind == "row"]
         self.assertEqual([table_in(entry.name) for entry in rows], ROWS)
         self.assertEqual([entry.states for entry in rows], STATES)
         self.assertEqual([entry.size for entry in rows],
-                         [1, 10, 11, 24, 30, 1, None, None, None, 82])
+                         [None, 10, 11, 24, 30, None, None, None, None, 82])
+        self.assertEqual([place for place, entry in enumerate(rows) if entry.verdict == "refused"],
+                         list(WITHOUT))
 
     def test_rules_that_no_sentence_uses(self):
         """All of the corpus that have such rules, with their kind and size."""
-        found = [(entry.name, kind_of(good(table_in(entry.name))), entry.size)
+        found = [(entry.name, kind_of(grammar_of(table_in(entry.name))), entry.size)
                  for entry in entries()]
         self.assertEqual([one for one in found if one[1] is not None], [
-            ("row-none", "no-sentence", 1), ("row-cycle", "no-sentence", 1),
+            ("row-none", "no-sentence", None), ("row-cycle", "no-sentence", None),
             ("useless-unreached", "unreachable", 29), ("useless-endless", "unproductive", 11),
-            ("useless-alarm", "unproductive", 11), ("no-language", "no-sentence", 1),
-            ("no-language-both", "no-sentence", 1), ("no-start-rule", "no-sentence", 1)])
+            ("useless-alarm", "unproductive", 11), ("no-language", "no-sentence", None),
+            ("no-language-both", "no-sentence", None), ("no-start-rule", "no-sentence", None)])
+        self.assertEqual([entry.name for entry in entries() if entry.verdict == "refused"],
+                         [name for name, kind, _ in found if kind == "no-sentence"])
 
     def test_the_program_takes_some_and_not_others(self):
         outputs = [printed(text_in(entry.name)) for entry in entries()]
@@ -85,6 +92,16 @@ class IndexTest(unittest.TestCase):
                          ["truth and verdict do not fit", "a sentence is given, or missing"])
         self.assertEqual(self.faults("palin-even", sentence="a a"),
                          ["a sentence is given, or missing"])
+
+    def test_wrong_columns_without_a_sentence(self):
+        self.assertEqual(self.faults("row-cycle"), [])
+        self.assertEqual(self.faults("row-cycle", states=7), ["states=6"])
+        for change in ({"size": 1}, {"truth": "unambiguous"}, {"sentence": "(empty)"}):
+            self.assertEqual(self.faults("row-cycle", **change),
+                             ["size, truth and sentence do not fit"])
+        self.assertEqual(self.faults("row-cycle", verdict="unambiguous"), ["the text is refused"])
+        self.assertEqual(self.faults("row-a", verdict="refused"),
+                         ["the text is not refused for lack of a sentence"])
 
     def test_wrong_sentences(self):
         wrong = ["the sentence has no two trees"]
@@ -143,6 +160,8 @@ class CasesTest(unittest.TestCase):
             self.assertLessEqual(set(found), set(REASONS))
         table = 2, 1, bytes([128, 2, 2, 1])
         self.assertIn("unambiguous-grown", reasons_of(Case(*table, needed(7), 0)))
+        self.assertEqual(reasons_of(Case(*table_in("row-none"), needed(4), 0)),
+                         ["19-of-the-corpus"])
 
     def test_other_words(self):
         with redirect_stderr(StringIO()) as errors:
@@ -185,10 +204,19 @@ class PrintedTest(unittest.TestCase):
         self.assertEqual(printed(EXAMPLE[:-1]), b"refused=16\nat=3\n")
         self.assertEqual(printed(b""), b"refused=16\nat=1\n")
 
+    def test_without_a_sentence(self):
+        for name in ("row-none", "row-cycle", "no-start-rule", "no-language", "no-language-both"):
+            self.assertEqual(printed(text_in(name)), WITHOUT_LINES)
+
+    def test_19_before_too_many_states_and_after_too_many_bytes(self):
+        lines = text_in("robot-49").split(b"\n")[:-1]
+        large = join_lines(corpus_texts.no_sentence(random.Random(1), lines))
+        self.assertEqual(printed(large), WITHOUT_LINES)
+        self.assertEqual(printed(padded(text_in("no-language"), 3500)), WITHOUT_LINES)
+        self.assertEqual(printed(text_in("row-none") + b"rule=S: S\n" * 500),
+                         b"refused=14\nat=0\n")
+
     def test_rules_that_no_sentence_uses(self):
-        for name, states in [("row-none", 4), ("row-cycle", 6), ("no-start-rule", 7)]:
-            self.assertEqual(printed(text_in(name)),
-                             b"states=%d\nverdict=unambiguous\nreached=1\n" % states)
         course = b"terminals=a\nnonterminals=S,A\nrule=S: a\nrule=S: A\nrule=A: A\n"
         self.assertEqual(printed(course), b"states=10\nverdict=unambiguous\nreached=11\n")
 
@@ -233,11 +261,7 @@ class TextsTest(unittest.TestCase):
             (EXAMPLE, ["unambiguous"]),
             (text_in("row-cycle-a"), ["potential", "readings-with-a-nonterminal",
                                       "readings-of-unequal-length"]),
-            (text_in("row-cycle"), [
-                "unambiguous", "told-from-every-rule-is-taken",
-                "told-from-unproductive-rules-are-taken", "told-from-rule-0-is-always-taken",
-                "told-from-dead-items-are-entered", "dead-no-sentence",
-                "unambiguous-formerly-potential"]),
+            (text_in("row-cycle"), ["refused-19"]),
             (text_in("row-odd-a"), ["potential", "readings-with-a-terminal"]),
             (text_in("robot-48"), ["unambiguous", "of-48-states"]),
             (text_in("robot-49"), ["refused-14-states", "of-49-states"]),
@@ -247,7 +271,7 @@ class TextsTest(unittest.TestCase):
              ["refused-for-another-cause-with-too-many-states", "refused-17"]),
         ]:
             found = corpus_texts.reasons_of(text, printed(text))
-            self.assertEqual(found, expected)
+            self.assertEqual(without_sentences(found), sorted(expected))
             self.assertLessEqual(set(found), set(corpus_texts.REASONS))
 
 

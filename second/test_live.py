@@ -5,17 +5,18 @@ import unittest
 from itertools import product
 
 from case_grammars import (
-    CLASSICS, COURSE, ENDLESS, ONE_A, ROWS, good, keywords, larger_random, small_random,
-    spelled,
+    CLASSICS, COURSE, ENDLESS, GOOD_ROWS, NO_RULES, ONE_A, good, grammar_of, keywords,
+    larger_random, small_random, spelled,
 )
 from corpus_texts import grown_live
 from dead_grammars import MOST as MOST_STATES
 from dead_grammars import chains, dead_larger, dead_named, dead_tables
 from dead_rules import BEHIND, KINDS, NO_SENTENCE, UNPRODUCTIVE, UNREACHABLE, kind_of, rule_kinds
 from derivations import used_rules
-from live import finite_nonterminals, live_rules
+from live import live_rules
 from named_grammars import text_of
 from random_tables import encode
+from sentence_grammars import sentenceless
 from small_grammars import every_table
 from tables import START
 from text import AMPLE, read_text
@@ -78,21 +79,20 @@ def rules_of(tree):
 
 class FiguresTest(unittest.TestCase):
     def live(self, table, *expected):
-        self.assertEqual(live_rules(good(table)), expected)
+        self.assertEqual(live_rules(grammar_of(table)), expected)
 
     def test_the_course(self):
         self.live(COURSE, True, True, False, False)
 
     def test_no_sentence(self):
-        self.live(ROWS[0], False)
+        self.live(NO_RULES, False)
         self.live(ENDLESS, False, False)
-        self.live(spelled("S: a S | S S"), False, False, False)
-        self.live(spelled("S: A a", "A: S"), False, False, False)
-        self.live(CLASSICS["no-start-rule"], False, False, False)
+        for table in sentenceless(random.Random(9), 10):
+            self.assertFalse(any(live_rules(grammar_of(table))))
 
     def test_all_live(self):
         self.live(ONE_A, True, True)
-        for row in ROWS[1:5] + ROWS[6:]:
+        for row in GOOD_ROWS:
             self.assertTrue(all(live_rules(good(row))))
 
     def test_a_rule_with_one_symbol_that_has_no_tree(self):
@@ -111,16 +111,12 @@ class FiguresTest(unittest.TestCase):
     def test_reachable_in_another_way_too(self):
         self.live(spelled("S: W V | V", "W: W", "V: a"), True, False, True, False, True)
 
-    def test_finite_nonterminals(self):
-        grammar = good(spelled("S: A B", "A: a", "B: B | A C", "C:", "D: D"))
-        self.assertEqual(finite_nonterminals(grammar), {128, 129, 130, 131})
-
 
 class DefinitionTest(unittest.TestCase):
     def as_defined(self, tables, fewest):
-        counts = {kind: 0 for kind in [None] + KINDS}
+        counts = {kind: 0 for kind in [None, NO_SENTENCE] + KINDS}
         for table in tables:
-            grammar = good(table)
+            grammar = grammar_of(table)
             self.assertEqual(live_rules(grammar), by_definition(grammar))
             counts[kind_of(grammar)] += 1
         self.assertGreaterEqual(min(counts.values()), fewest, counts)
@@ -131,7 +127,7 @@ class DefinitionTest(unittest.TestCase):
     def test_random_grammars(self):
         rng = random.Random(1)
         tables = list(dead_tables(rng, 60)) + [small_random(rng) for _ in range(300)]
-        self.as_defined(tables + list(chains(rng, (2, 5))), 60)
+        self.as_defined(tables + list(chains(rng, (2, 5))) + list(sentenceless(rng, 10)), 60)
 
     def test_trees_written_out(self):
         """The rules of trees are live, their rows are sentences, and most live rules occur."""
@@ -154,8 +150,10 @@ class DefinitionTest(unittest.TestCase):
 
     def test_nothing_is_a_sentence_where_rule_0_is_not_live(self):
         rng = random.Random(3)
-        for table in dead_tables(rng, 8):
-            grammar = good(table)
+        for table in [*dead_tables(rng, 8), *sentenceless(rng, 4)]:
+            grammar = grammar_of(table)
+            if grammar.terminals > 4:
+                continue
             rows = [bytes(row) for length in range(4)
                     for row in product(range(1, 1 + grammar.terminals), repeat=length)]
             found = any(tree_count(grammar, row) for row in rows)
@@ -213,19 +211,19 @@ class KindsTest(unittest.TestCase):
             (["S: S a", "V: a"], (UNPRODUCTIVE, UNPRODUCTIVE, UNREACHABLE)),
             (["S: W V", "W: W", "V: a"], (UNPRODUCTIVE,) * 3 + (BEHIND,)),
         ]:
-            self.assertEqual(rule_kinds(good(spelled(*lines))), kinds)
+            self.assertEqual(rule_kinds(grammar_of(spelled(*lines))), kinds)
 
     def test_kinds_of_grammars(self):
         for kind, tables in {
-            None: ROWS[1:5] + ROWS[6:] + [CLASSICS["json"]],
+            None: GOOD_ROWS + [CLASSICS["json"]],
             UNPRODUCTIVE: [COURSE, CLASSICS["no-finite-tree"]],
             UNREACHABLE: [CLASSICS["never-opened"]],
             BEHIND: [CLASSICS["behind-an-endless-one"]],
-            NO_SENTENCE: [ROWS[0], ENDLESS, CLASSICS["no-start-rule"]],
+            NO_SENTENCE: [NO_RULES, ENDLESS, *sentenceless(random.Random(10), 5)],
             "mixed": [CLASSICS["dead-rules-of-all-kinds"], spelled("S: a | S W", "U: a", "W: W")],
         }.items():
             for table in tables:
-                self.assertEqual(kind_of(good(table)), kind)
+                self.assertEqual(kind_of(grammar_of(table)), kind)
 
     def test_as_live_rules_has_it(self):
         rng = random.Random(5)

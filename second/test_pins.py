@@ -6,7 +6,9 @@ The steps are told by grammars all of whose rules are live and that have a sente
 import random
 import unittest
 
-from case_grammars import CLASSICS, COURSE, ENDLESS, good, small_random, spelled, triples_in
+from case_grammars import (
+    CLASSICS, COURSE, ENDLESS, NO_RULES, good, grammar_of, small_random, spelled, triples_in,
+)
 from dead_grammars import dead_tables, telling_tables
 from live_misreadings import (
     FORMER, MISREAD, REACHED, TOLD, WRONG_STEPS, former_triples, misread_triples, told_by_search,
@@ -108,15 +110,13 @@ class LiveTest(unittest.TestCase):
 
     def found(self, table, name):
         """Potential or the size, in a misreading."""
-        triples = misread_triples(good(table), name)
+        triples = misread_triples(grammar_of(table), name)
         return "potential" if is_potential(triples) else len(reached(triples))
 
     def test_figures(self):
         for table, right, names in [
             (COURSE, 11, {FORMER: "potential", "unproductive-rules-are-taken": "potential",
                           "dead-items-are-entered": 18}),
-            (ENDLESS, 1, {FORMER: "potential", "unproductive-rules-are-taken": "potential",
-                          "rule-0-is-always-taken": 5, "dead-items-are-entered": 4}),
             (spelled("S: a S |", "U: S"), 29,
              {FORMER: 31, "unreachable-rules-are-taken": 31, "dead-items-are-entered": 31}),
             (CLASSICS["behind-an-endless-one"], 30,
@@ -133,9 +133,9 @@ class LiveTest(unittest.TestCase):
             self.assertEqual(set(told_by_search(good(table))), {TOLD[name] for name in names})
 
     def test_document_01s_figures(self):
-        """Before [3]: "none" 5, S→S potential."""
-        self.assertEqual(self.found((0, 1, b""), FORMER), 5)
-        self.assertEqual(shortest_witness(former_triples(good(ENDLESS))),
+        """Before [3]: "none" 5, S→S potential; both are refused since [4]."""
+        self.assertEqual(self.found(NO_RULES, FORMER), 5)
+        self.assertEqual(shortest_witness(former_triples(grammar_of(ENDLESS))),
                          (0, 2, 4, 16, 23, 45, 43))
 
     def different(self, lines, name):
@@ -177,19 +177,18 @@ class LiveTest(unittest.TestCase):
             return layer * 225 + left * 15 + right
 
         for before, after, name in [
-            ((0, 2, 2), (0, 2, 6), WRONG_STEPS[1]), ((1, 5, 1), (1, 12, 1), WRONG_STEPS[4]),
-            ((1, 5, 1), (1, 14, 1), WRONG_STEPS[3]), ((0, 5, 4), (1, 12, 4), WRONG_STEPS[4]),
+            ((0, 2, 2), (0, 2, 6), WRONG_STEPS[0]), ((1, 5, 1), (1, 12, 1), WRONG_STEPS[3]),
+            ((1, 5, 1), (1, 14, 1), WRONG_STEPS[2]), ((0, 5, 4), (1, 12, 4), WRONG_STEPS[3]),
         ]:
             self.assertEqual(wrong_steps(grammar, index(*before), index(*after)), [name])
         for before, after in [
             ((0, 2, 2), (0, 2, 4)), ((0, 6, 6), (0, 6, 9)), ((0, 2, 2), (0, 2, 9)),
         ]:
             self.assertEqual(wrong_steps(grammar, index(*before), index(*after)), [])
-        self.assertEqual(wrong_steps(good(ENDLESS), 0, 2), WRONG_STEPS[:1])
-        self.assertEqual(wrong_steps(good(ENDLESS), 72, 2), [])
+        self.assertEqual(wrong_steps(grammar, 450, 2), [])
         # 4 and 5 S→a, 6 to 8 S→S W: rule 1 closes to 7
         self.assertEqual(wrong_steps(good((1, 2, bytes([128, 1, 1, 128, 2, 128, 129]))),
-                                     81 + 5 * 9 + 1, 81 + 7 * 9 + 1), WRONG_STEPS[2:3])
+                                     81 + 5 * 9 + 1, 81 + 7 * 9 + 1), WRONG_STEPS[1:2])
 
 
 if __name__ == "__main__":

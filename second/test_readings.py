@@ -5,11 +5,11 @@ import re
 import unittest
 from itertools import product
 
-from case_grammars import CYCLE, ROWS, good, small_random, triples_in
+from case_grammars import CYCLE, GOOD_ROWS, ROWS, good, small_random, triples_in
 from dead_grammars import dead_small
 from dead_rules import KINDS
 from live import live_rules
-from named_grammars import figures_named, small_named, text_of, with_names
+from named_grammars import figures_named, good_figures, small_named, text_of, with_names
 from program import printed
 from random_tables import FIGURES, S, a, encode
 from readings import (
@@ -102,14 +102,13 @@ class LinesTest(unittest.TestCase):
         self.assertEqual(printed(ODD), b"states=10\nverdict=potential\n" + ODD_LINES)
 
     def test_the_other_potential_rows(self):
-        lines = [lines_of(text_of(grammar)) for grammar in figures_named()]
-        short = b"left=(0 S )0\nright=(0 (1 S )1 )0\n"
-        self.assertEqual(lines[5:7], [b"", short])
-        self.assertEqual(
-            lines[8], b"left=(0 (2 (4 )4 )2 )0\nright=(0 (1 (3 )3 )1 )0\n")
+        lines = [lines_of(text_of(figures_named()[place])) for place in (6, 8)]
+        self.assertEqual(lines, [
+            b"left=(0 S )0\nright=(0 (1 S )1 )0\n",
+            b"left=(0 (2 (4 )4 )2 )0\nright=(0 (1 (3 )3 )1 )0\n"])
 
     def test_only_after_a_potential_verdict(self):
-        for row, grammar in zip(ROWS, figures_named()):
+        for row, grammar in zip(GOOD_ROWS, good_figures()):
             lines = lines_of(text_of(grammar))
             self.assertEqual(lines != b"", is_potential(triples_in(row)))
 
@@ -133,6 +132,7 @@ class LinesTest(unittest.TestCase):
     def test_a_refused_text(self):
         self.assertEqual(named_in(b""), Refusal(16, 1))
         self.assertEqual(named_in(FRONT + b"rule=S: c\n"), Refusal(17, 3))
+        self.assertEqual(named_in(FRONT + b"rule=S: a S\n"), Refusal(19, 0))
         self.assertEqual(printed(ODD[:-1]), b"refused=16\nat=4\n")
 
 
@@ -158,9 +158,6 @@ class ReadBackTest(unittest.TestCase):
         self.assertEqual(read_back(text, two(b"(2 )2", b""), AMPLE),
                          Pair((opening(2), closing(2)), ()))
         self.refused(two(b"(3"), 16, 1, text)
-        endless = b"terminals=\nnonterminals=S\nrule=S: S\n"
-        self.assertEqual(read_back(endless, two(b"(0 (1", b"S )0"), AMPLE),
-                         Pair((opening(0), opening(1)), (symbol(S), closing(0))))
 
     def test_malformed_values(self):
         for value in (b" ", b" a", b"a ", b"a  b", b"(", b")", b"(01", b"(00", b")02", b"(3",
@@ -213,7 +210,8 @@ class ReadBackTest(unittest.TestCase):
                 (b"terminals=a\nnonterminals=a\n", 18, 2),
                 (b"terminals=\nnonterminals=\n", 1, 2), (FRONT + b"rule=S: c\n", 17, 3),
                 (FRONT + b"rule=S:" + b" a" * 13 + b"\n", 4, 3),
-                (FRONT + b"rule=S:\nrule=S:\n", 6, 2),
+                (FRONT + b"rule=S:\nrule=S:\n", 6, 2), (FRONT, 19, 0),
+                (FRONT + b"rule=S: S\nrule=A:\n", 19, 0),
             ]:
                 self.refused(lines, cause, position, text, LentStrings(0, 0), GRAMMAR)
 
@@ -233,9 +231,10 @@ class ReadBackTest(unittest.TestCase):
         self.refused(two(b"a a", b"b"), 14, 0, lent=LentStrings(2, 0))
 
     def test_the_number_of_rules_is_the_grammars(self):
-        none = b"terminals=\nnonterminals=S\n"
-        self.assertEqual(read_back(none, two(b"(0"), AMPLE), Pair((opening(0),), ()))
-        self.refused(two(b"(1"), 16, 1, none)
+        one = b"terminals=\nnonterminals=S\nrule=S:\n"
+        self.assertEqual(read_back(one, two(b"(0", b")1"), AMPLE),
+                         Pair((opening(0),), (closing(1),)))
+        self.refused(two(b"(2"), 16, 1, one)
         hundred = (b"terminals=%s\nnonterminals=S\n" % b",".join(b"%d" % i for i in range(100))
                    + b"".join(b"rule=S: %d\n" % i for i in range(100)))
         self.assertEqual(read_back(hundred, two(b")100 99"), AMPLE),
@@ -252,7 +251,7 @@ class RoundTripTest(unittest.TestCase):
                 self.assertEqual(read_back(text, lines, short), Refused(LINES, Refusal(14, 0)))
 
     def grammars(self, rng):
-        yield from figures_named()
+        yield from good_figures()
         for _ in range(300):
             yield small_named(rng)
         for kind in KINDS:

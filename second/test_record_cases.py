@@ -4,8 +4,8 @@ import unittest
 
 import file_tests
 from case_files import LARGEST
-from case_grammars import CYCLE
-from file_tests import TABLE, TABLE_BYTES, FileTests
+from case_grammars import CYCLE, ENDLESS
+from file_tests import TABLE, TABLE_BYTES, FileTests, without_sentences
 from record_cases import KIND, REASONS, Case, answer, reasons_of, records_of
 
 WAY = records_of(8, file_tests.WAY)
@@ -13,7 +13,7 @@ WAY = records_of(8, file_tests.WAY)
 
 class FileTest(FileTests, unittest.TestCase):
     KIND = KIND
-    DIGEST = "22056057d82dc71d3c5da5b6d109b88e7a76b9d6d1d40ae08d7e1a2dd696ebfe"
+    DIGEST = "201bc65c8d8d5e5146cc84f2299c4a7fbf61da38f750becc9a6fe3acbddf3730"
     CASE = Case(*TABLE, ((2, 258, LARGEST),))
     BYTES = TABLE_BYTES + b"\x01\0\0\0" + b"\x02\0\0\0" + b"\x02\x01\0\0" + b"\xff" * 4
 
@@ -22,6 +22,8 @@ class FileTest(FileTests, unittest.TestCase):
         self.assertEqual(answer(Case(*CYCLE, WAY[:4])), "refused=15 at=4")
         self.assertEqual(answer(Case(*CYCLE, ())), "refused=15 at=0")
         self.assertEqual(answer(Case(0, 0, b"", WAY)), "refused=1 at=0")
+        self.assertEqual(answer(Case(*ENDLESS, ((0, 0, 0),))), "refused=19 at=0")
+        self.assertEqual(answer(Case(*ENDLESS, ())), "refused=19 at=0")
 
     def test_records_outside_the_ranges(self):
         for record in ((2, 0, 2), (0, 8, 2), (0, 0, 8), (LARGEST, 0, 2)):
@@ -30,9 +32,9 @@ class FileTest(FileTests, unittest.TestCase):
 
 
 class ReasonsTest(unittest.TestCase):
-    def reasons(self, records, *names):
-        found = reasons_of(*CYCLE, records)
-        self.assertEqual(sorted(found), sorted(names))
+    def reasons(self, records, *names, table=CYCLE):
+        found = reasons_of(*table, records)
+        self.assertEqual(without_sentences(found), sorted(names))
         self.assertLessEqual(set(found), set(REASONS))
 
     def test_reasons(self):
@@ -46,6 +48,11 @@ class ReasonsTest(unittest.TestCase):
                      "15-right-index-though-outside", "15-inner-record")
         self.reasons(WAY[:2] + ((0, 8, LARGEST),), "15-left-of-Q", "15-right-above-Q",
                      "15-of-32-ones", "15-last-record")
+
+    def test_without_a_sentence(self):
+        self.reasons(WAY[:1], "19", table=ENDLESS)
+        self.reasons((), "19", "19-no-records", table=ENDLESS)
+        self.reasons(((0, 0, 6),), "19", "19-with-a-record-outside", table=ENDLESS)
 
 
 if __name__ == "__main__":

@@ -1,10 +1,12 @@
 """Tests of searches.py: what must be lent, the order of faults, the answers."""
 
+import random
 import unittest
 
-from case_grammars import CLASSICS, COURSE, ONE_A, ONE_A_BYTES, ROWS, states_of
+from case_grammars import CLASSICS, COURSE, GOOD_ROWS, ONE_A, ONE_A_BYTES, states_of
 from certificates import check_certificate
 from searches import Lent, Potential, Unambiguous, needed, search
+from sentence_grammars import nearly_sentenceless, sentenceless
 from tables import Refusal
 
 PLENTY = Lent(20000, 140000, 140000, 140000)
@@ -17,7 +19,7 @@ class LentTest(unittest.TestCase):
         self.assertEqual(needed(256), Lent(16384, 131072, 131072, 131072))
 
     def test_each_too_short(self):
-        for row in ROWS:
+        for row in GOOD_ROWS:
             need = needed(states_of(row))
             self.assertNotIsInstance(search(*row, need), Refusal)
             for place in range(4):
@@ -34,6 +36,18 @@ class LentTest(unittest.TestCase):
             self.assertEqual(search(1, 1, b"\x80\x01", lent), Refusal(2, 0))
             self.assertEqual(search(1, 1, ONE_A[2] * 2, lent), Refusal(6, 3))
 
+    def test_without_a_sentence(self):
+        """19 "before anything about [...] lent rows"."""
+        for table in sentenceless(random.Random(1), 10):
+            need = needed(states_of(table))
+            for lent in (PLENTY, need, Lent(0, 0, 0, 0), need._replace(queue=need.queue - 1)):
+                self.assertEqual(search(*table, lent), Refusal(19, 0))
+
+    def test_nearly_without_a_sentence(self):
+        for table in nearly_sentenceless(random.Random(2), 10):
+            self.assertNotIsInstance(search(*table, PLENTY), Refusal)
+            self.assertEqual(search(*table, Lent(0, 0, 0, 0)), Refusal(14, 0))
+
 
 class VerdictTest(unittest.TestCase):
     def test_one_a(self):
@@ -41,25 +55,18 @@ class VerdictTest(unittest.TestCase):
             self.assertEqual(search(*ONE_A, lent), Unambiguous(11, ONE_A_BYTES))
 
     def test_rows(self):
-        results = [search(*row, PLENTY) for row in ROWS]
-        self.assertEqual([result.size for result in results[:6] + results[9:]],
-                         [1, 10, 11, 24, 30, 1, 82])
-        self.assertEqual([type(result) for result in results[6:9]], [Potential] * 3)
-        self.assertEqual(results[6].witness, (0, 2, 4, 20, 29, 75, 73))
+        results = [search(*row, PLENTY) for row in GOOD_ROWS]
+        self.assertEqual([result.size for result in results[:4] + results[7:]],
+                         [10, 11, 24, 30, 82])
+        self.assertEqual([type(result) for result in results[4:7]], [Potential] * 3)
+        self.assertEqual(results[4].witness, (0, 2, 4, 20, 29, 75, 73))
 
     def test_the_course(self):
         result = search(*COURSE, PLENTY)
         self.assertEqual((result.size, len(result.certificate)), (11, 25))
 
-    def test_without_a_sentence(self):
-        for table in (ROWS[0], ROWS[5], CLASSICS["no-start-rule"]):
-            length = needed(states_of(table)).certificate
-            self.assertEqual(search(*table, PLENTY),
-                             Unambiguous(1, b"\x01" + bytes(length - 1)))
-            self.assertEqual(search(*table, Lent(0, 0, 0, 0)), Refusal(14, 0))
-
     def test_the_certificate_is_accepted(self):
-        for table in ROWS + list(CLASSICS.values()):
+        for table in GOOD_ROWS + list(CLASSICS.values()):
             result = search(*table, PLENTY)
             if isinstance(result, Unambiguous):
                 self.assertIsNone(check_certificate(*table, result.certificate))

@@ -4,7 +4,9 @@ import random
 import unittest
 
 from case_files import Rng
-from case_grammars import CLASSICS, COURSE, CYCLE, ROWS, small_random, spelled, triples_in
+from case_grammars import (
+    CLASSICS, COURSE, CYCLE, GOOD_ROWS, ROWS, small_random, spelled, triples_in,
+)
 from certificates import witness_fault
 from robot_grammars import grown, table_of
 from shortest import distances, shortest_witness
@@ -55,7 +57,7 @@ class FiguresTest(unittest.TestCase):
         self.assertEqual((triples.states, len(shortest_witness(triples))), (9, 17))
 
     def test_an_unambiguous_grammar_has_none(self):
-        for row in ROWS[:6] + ROWS[9:] + [COURSE]:
+        for row in ROWS[1:5] + ROWS[9:] + [COURSE]:
             self.assertIsNone(shortest_witness(triples_in(row)))
             self.assertEqual(distances(triples_in(row)), {})
 
@@ -105,7 +107,7 @@ class WitnessTest(unittest.TestCase):
 
     def test_classic_and_grown_grammars(self):
         rng = Rng(3)
-        tables = ROWS + list(CLASSICS.values())
+        tables = GOOD_ROWS + list(CLASSICS.values())
         tables += [table_of(grown(rng, 4, 48)) for _ in range(40)]
         found = potential(tables)
         self.assertGreater(len(found), 25)

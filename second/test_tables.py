@@ -1,12 +1,13 @@
-"""Tests of tables.py: document 01's figures, every refusal, the order of tests."""
+"""Tests of tables.py: the documents' figures, every refusal, the order of tests."""
 
 import unittest
 
 from random_tables import FIGURES, A, S, a, b, encode
-from tables import Grammar, Refusal, Rule, check_table
+from tables import Grammar, Refusal, Rule, check_rules, check_table
 
-# Q of document 01's "Grammars on file".
+# Q of document 01's "Grammars on file", of which two have no sentence.
 STATES = [4, 5, 6, 9, 9, 6, 8, 10, 10, 17]
+WITHOUT = 0, 5
 
 
 def table(*rules):
@@ -46,8 +47,12 @@ class FiguresTest(TableTest):
 
     def test_states_of_the_grammars_on_file(self):
         self.assertEqual(len(FIGURES), len(STATES))
-        for (t, n, rules), states in zip(FIGURES, STATES):
-            self.passed(t, n, encode(rules), states, len(rules))
+        for place, ((t, n, rules), states) in enumerate(zip(FIGURES, STATES)):
+            self.assertEqual(check_rules(t, n, encode(rules)).states, states)
+            if place in WITHOUT:
+                self.refused(t, n, encode(rules), 19, 0)
+            else:
+                self.passed(t, n, encode(rules), states, len(rules))
 
     def test_k_of_12_passes_and_13_does_not(self):
         self.passed(1, 1, bytes([S, 12] + [a] * 12), 17, 1)
@@ -69,8 +74,8 @@ class PassedTest(TableTest):
             Rule(0, A, bytes([a, S, b])), Rule(5, S, b""), Rule(7, S, bytes([A]))))
 
     def test_rules_that_no_sentence_uses_pass(self):
-        self.passed(1, 2, table([A, a]), 6, 1)
-        self.passed(0, 2, table([S, A], [A, A]), 8, 2)
+        self.passed(1, 2, table([A, a], [S]), 7, 2)
+        self.passed(0, 2, table([S, A], [A, A], [S]), 9, 3)
 
     def test_last_codes_are_declared(self):
         self.passed(127, 127, table([254, 127, 254], [S, 1]), 9, 2)
@@ -83,14 +88,14 @@ class RangeTest(TableTest):
     """Cause 1 at 0."""
 
     def test_t(self):
-        self.passed(0, 1, b"", 4, 0)
-        self.passed(127, 1, b"", 4, 0)
+        self.passed(0, 1, table([S]), 5, 1)
+        self.passed(127, 1, table([S]), 5, 1)
         for t in (128, 255, 256, 2 ** 32, 2 ** 32 + 1, 2 ** 64 - 1):
             self.refused(t, 1, b"", 1, 0)
 
     def test_n(self):
-        self.passed(0, 1, b"", 4, 0)
-        self.passed(0, 127, b"", 4, 0)
+        self.passed(0, 1, table([S]), 5, 1)
+        self.passed(0, 127, table([S]), 5, 1)
         for n in (0, 128, 256, 257, 2 ** 32 + 1, 2 ** 64 - 127, 2 ** 64 - 1):
             self.refused(0, n, b"", 1, 0)
 
@@ -144,6 +149,61 @@ class OneFaultTest(TableTest):
         rules = table(*([S] + [1 + i] * 12 for i in range(20)))
         self.refused(20, 1, rules, 8, 266)
         self.refused(20, 1, rules + table([S]), 8, 266)
+
+
+class SentenceTest(TableTest):
+    """Cause 19 at 0: document 02, [4]."""
+
+    def test_no_finite_tree(self):
+        for n, data in [(1, b""), (127, b""), (1, table([S, S])), (1, table([S, a, S])),
+                        (1, table([S, S, S], [S, a, S])), (2, table([S, A])),
+                        (2, table([S, A], [A, S])), (2, table([S, A], [A, A, a], [A, S])),
+                        (2, table([A, a])), (2, table([A], [A, S, a])),
+                        (3, table([S, A, A + 1], [A]))]:
+            self.refused(1, n, data, 19, 0)
+
+    def test_the_empty_sentence_is_one(self):
+        self.passed(0, 1, table([S]), 5, 1)
+        self.passed(0, 1, table([S, S], [S]), 7, 2)
+        self.passed(0, 2, table([S, A, A], [A]), 8, 2)
+        self.passed(1, 2, table([S, a, A], [S], [A, A]), 10, 3)
+
+    def test_a_sentence_by_the_last_rule(self):
+        for n, data, states in [(1, table([S, S]), 6), (1, table([S, a, S], [S, S, S]), 10),
+                                (2, table([A, S], [S, A]), 8), (2, table([A, a]), 6)]:
+            self.refused(1, n, data, 19, 0)
+            self.passed(1, n, data + table([S]), states + 1, len(check_rules(1, n, data).rules) + 1)
+
+    def test_the_order_of_rules_does_not_matter(self):
+        chain = [[S + place, S + place + 1] for place in range(40)]
+        for rules in (chain + [[S + 40, a]], [[S + 40, a]] + chain[::-1]):
+            self.passed(1, 41, table(*rules), 4 + 41 * 2, 41)
+        for rules in (chain, chain[::-1], chain + [[S + 40, S]], chain[1:] + [[S + 40, a]]):
+            self.refused(1, 41, table(*rules), 19, 0)
+
+    def test_100_rules_and_256_states(self):
+        rules = [[A, 1 + i] for i in range(100)]
+        self.refused(127, 2, table(*rules), 19, 0)
+        self.passed(127, 2, table(*rules[1:], [S, A]), 204, 100)
+        full = full_table().replace(bytes([S]), bytes([A]))
+        self.refused(19, 2, full, 19, 0)
+
+    def test_after_every_other_fault(self):
+        endless = table([S, S])
+        hundred = table(*([A, 1 + i] for i in range(100)))
+        full = full_table().replace(bytes([S]), bytes([A]))
+        for t, n, data, cause, position in [
+            (128, 1, endless, 1, 0), (1, 0, endless, 1, 0), (1, 1, endless + b"\x80", 2, 3),
+            (1, 1, endless + bytes([S, 2, S]), 2, 3), (1, 1, endless + table([a]), 3, 3),
+            (1, 1, endless + bytes([S, 13]), 4, 3), (1, 1, endless + table([S, 2]), 5, 5),
+            (1, 1, endless + endless, 6, 3), (127, 2, hundred + table([A]), 7, 300),
+            (19, 2, full + table([A]), 8, 272), (1, 1, bytes([0]), 2, 0),
+        ]:
+            self.refused(t, n, data, cause, position)
+
+    def test_a_fault_behind_a_sentence_and_before_one(self):
+        self.refused(1, 1, table([S]) + table([a]), 3, 2)
+        self.refused(1, 1, table([S, S]) + table([a]) + table([S]), 3, 3)
 
 
 class OrderTest(TableTest):

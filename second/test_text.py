@@ -1,4 +1,4 @@
-"""Tests of text.py: document 01's figures, every refusal, the order of tests."""
+"""Tests of text.py: the documents' figures, every refusal, the order of tests."""
 
 import random
 import unittest
@@ -8,8 +8,9 @@ from named_grammars import (
     large_named, longest_named, random_names, small_named, text_of,
 )
 from random_tables import A, S, encode
+from sentence_grammars import named_table, nearly_sentenceless, sentenceless
 from tables import Refusal
-from test_tables import STATES
+from test_tables import STATES, WITHOUT
 from text import Lent, Text, is_name, read_text, write_text
 from text_write_inputs import overlapping, packed, scattered
 
@@ -17,6 +18,7 @@ AMPLE = Lent(400, 300, 300)
 FRONT = b"terminals=a,b\nnonterminals=S,A\n"
 LETTERS = b"ABCDEFGHIJKLMNOPQRSTUVWXYZabcdefghijklmnopqrstuvwxyz"
 WORD = 2 ** 32
+EMPTY = bytes([S, 0])     # the table of S→ (empty)
 
 
 def text(*lines):
@@ -66,9 +68,12 @@ class FiguresTest(ReaderTest):
         self.assertEqual((result.starts, result.lengths), ((10, 25), (1, 1)))
 
     def test_states_of_the_grammars_on_file(self):
-        for grammar, states in zip(figures_named(), STATES):
+        for place, (grammar, states) in enumerate(zip(figures_named(), STATES)):
             table = encode(grammar.rules)
-            self.read(text_of(grammar), grammar.t, grammar.n, table, states)
+            if place in WITHOUT:
+                self.refused(text_of(grammar), 19, 0)
+            else:
+                self.read(text_of(grammar), grammar.t, grammar.n, table, states)
 
     def test_k_of_12_passes_and_13_does_not(self):
         self.read(rules(b"S:" + b" a" * 12), 2, 2, [S, 12] + [1] * 12, 17)
@@ -118,7 +123,7 @@ class ReadingsTest(ReaderTest):
 
     def test_03_empty_lists(self):
         self.refused(text(b"terminals=", b"nonterminals="), 1, 2)
-        self.read(text(b"terminals=", b"nonterminals=S"), 0, 1, b"", 4)
+        self.read(text(b"terminals=", b"nonterminals=S", b"rule=S:"), 0, 1, EMPTY, 5)
         for value in (b",", b"a,", b",a", b"a,,b"):
             self.refused(text(b"terminals=" + value), 16, 1)
             self.refused(text(b"terminals=", b"nonterminals=" + value), 16, 2)
@@ -146,7 +151,7 @@ class ReadingsTest(ReaderTest):
         self.refused(text(b"terminals=a"), 16, 2)
         self.refused(text(b"nonterminals=S", b"rule=S:"), 16, 1)
         self.refused(text(b"terminals=a", b"rule=S:"), 16, 2)
-        self.read(FRONT, 2, 2, b"", 4)
+        self.refused(FRONT, 19, 0)
 
     def test_07_blank_lines_and_byte_13(self):
         lines = [b"terminals=a", b"nonterminals=S", b"rule=S:", b"rule=S: a"]
@@ -158,14 +163,14 @@ class ReadingsTest(ReaderTest):
         self.refused(text(*lines).replace(b"\n", b"\r"), 16, 1)
 
     def test_08_starts_are_offsets_in_the_whole_text(self):
-        data = text(b"terminals=ab,c", b"nonterminals=Start,T-1,u", b"rule=u: ab")
-        result = self.read(data, 2, 3, [130, 1, 1], 6)
+        data = text(b"terminals=ab,c", b"nonterminals=Start,T-1,u", b"rule=Start: ab")
+        result = self.read(data, 2, 3, [128, 1, 1], 6)
         self.assertEqual(result.starts, (10, 13, 28, 34, 38))
         self.assertEqual(result.lengths, (2, 1, 5, 3, 1))
 
     def test_09_a_name_not_lent_whole(self):
         def answer(starts, lengths):
-            return write_text(1, 2, b"", b"aST", starts, lengths, 99)
+            return write_text(1, 2, EMPTY, b"aST", starts, lengths, 99)
         self.assertIsInstance(answer([0, 1, 2], [1, 1, 1]), bytes)
         self.assertEqual(answer([0, 1, 3], [1, 1, 1]), Refusal(16, 2))
         self.assertEqual(answer([0, WORD - 1, 2], [1, 1, 1]), Refusal(16, 1))
@@ -209,8 +214,9 @@ class ListTest(ReaderTest):
         self.refused(FRONT + b"rule=S: a", 16, 3)
 
     def test_lengths_of_names(self):
-        fifteen = text(b"terminals=" + b"a" * 15, b"nonterminals=" + b"b" * 15)
-        self.read(fifteen, 1, 1, b"", 4)
+        fifteen = text(b"terminals=" + b"a" * 15, b"nonterminals=" + b"b" * 15,
+                       b"rule=" + b"b" * 15 + b":")
+        self.read(fifteen, 1, 1, EMPTY, 5)
         self.refused(text(b"terminals=" + b"a" * 16, b"nonterminals=S"), 16, 1)
         self.refused(text(b"terminals=a", b"nonterminals=S," + b"b" * 16), 16, 2)
 
@@ -219,7 +225,7 @@ class ListTest(ReaderTest):
         for value in range(256):
             self.assertEqual(is_name(bytes([value])), value in good)
             line = b"terminals=x" + bytes([value]) + b"y"
-            result = read_text(text(line, b"nonterminals=S"), AMPLE)
+            result = read_text(text(line, b"nonterminals=S", b"rule=S:"), AMPLE)
             well = value in good or value == ord(",")
             self.assertEqual(isinstance(result, Text), well, value)
 
@@ -227,11 +233,13 @@ class ListTest(ReaderTest):
         self.refused(text(b"terminals=a,b,a", b"nonterminals=S"), 18, 1)
         self.refused(text(b"terminals=a", b"nonterminals=S,T,S"), 18, 2)
         self.refused(text(b"terminals=a,S", b"nonterminals=S"), 18, 2)
-        self.read(text(b"terminals=a,A,aa,a-", b"nonterminals=S,s"), 4, 2, b"", 4)
+        self.read(text(b"terminals=a,A,aa,a-", b"nonterminals=S,s", b"rule=S:"), 4, 2, EMPTY, 5)
 
     def test_counts(self):
-        self.read(text(b"terminals=" + names(127), b"nonterminals=S"), 127, 1, b"", 4)
-        self.read(text(b"terminals=", b"nonterminals=" + names(127)), 0, 127, b"", 4)
+        self.read(text(b"terminals=" + names(127), b"nonterminals=S", b"rule=S:"),
+                  127, 1, EMPTY, 5)
+        self.read(text(b"terminals=", b"nonterminals=" + names(127), b"rule=n0:"),
+                  0, 127, EMPTY, 5)
         self.refused(text(b"terminals=" + names(128), b"nonterminals=S"), 1, 1)
         self.refused(text(b"terminals=", b"nonterminals=" + names(128)), 1, 2)
         self.refused(text(b"terminals=a", b"nonterminals="), 1, 2)
@@ -242,8 +250,8 @@ class RuleTest(ReaderTest):
 
     def test_good_rules(self):
         self.read(rules(b"S:"), 2, 2, [S, 0], 5)
-        self.read(rules(b"A: b S a"), 2, 2, [A, 3, 2, S, 1], 8)
-        self.read(rules(b"S: S", b"A: S", b"S: A"), 2, 2, [S, 1, S, A, 1, S, S, 1, A], 10)
+        self.read(rules(b"A: b S a", b"S:"), 2, 2, [A, 3, 2, S, 1, S, 0], 9)
+        self.read(rules(b"S: S", b"A: b", b"S: A"), 2, 2, [S, 1, S, A, 1, 2, S, 1, A], 10)
 
     def test_malformed(self):
         for value in (b"", b"S", b"S a", b"S: ", b"S:a", b"S:  a", b"S: a ", b"S: a  b",
@@ -324,6 +332,7 @@ class ReaderOrderTest(ReaderTest):
         self.refused(rules(b"S:", b"S:"), 6, 2, none)
         self.refused(many(101), 7, 300, none)
         self.refused(full(b"rule=A:"), 8, 272, none)
+        self.refused(rules(b"S: S"), 19, 0, none)
         self.refused(rules(b"S:"), 14, 0, none)
 
     def test_14_by_each_row(self):
@@ -334,7 +343,48 @@ class ReaderOrderTest(ReaderTest):
         self.refused(data, 14, 0, Lent(4, 4, 4))
         self.refused(data, 14, 0, Lent(5, 3, 4))
         self.refused(data, 14, 0, Lent(5, 4, 3))
-        self.read(text(b"terminals=", b"nonterminals=S"), 0, 1, b"", 4, Lent(0, 1, 1))
+        self.read(text(b"terminals=", b"nonterminals=S", b"rule=S:"), 0, 1, EMPTY, 5,
+                  Lent(2, 1, 1))
+
+
+class SentenceTest(ReaderTest):
+    """19 at 0, "after 8 and before anything about [...] lent rows": document 02, [4]."""
+
+    def test_no_sentence(self):
+        for values in ([], [b"S: S"], [b"S: a S", b"S: S S"], [b"A:"], [b"A: S"],
+                       [b"S: A"], [b"S: A", b"A: S b"], [b"A: a", b"S: S A"]):
+            for lent in (AMPLE, Lent(0, 0, 0)):
+                self.refused(rules(*values), 19, 0, lent)
+            self.assertNotIsInstance(read_text(rules(*values, b"S: b"), AMPLE), Refusal)
+
+    def test_after_all_faults_of_the_text(self):
+        self.refused(rules(b"S: S", b"S: S"), 6, 3)
+        self.refused(rules(b"S: S", b"S: c"), 17, 4)
+        self.refused(rules(b"S: S", b"S"), 16, 4)
+        self.refused(rules(b"S: S") + b"\n", 16, 4)
+        self.refused(rules(b"S: S", b"S:" + b" a" * 13), 4, 4)
+        self.refused(many(101).replace(b"=S:", b"=A:").replace(b"s=S", b"s=S,A"), 7, 300)
+        self.refused(full(b"rule=S:").replace(b"=S:", b"=A:"), 8, 272)
+        self.refused(FRONT + b"rule=S: S\n" * 8000, 16, 0)
+
+    def test_many(self):
+        rng = random.Random(3)
+        for table in sentenceless(rng, 8):
+            grammar = named_table(rng, table)
+            for lent in (AMPLE, exact_lent(grammar), Lent(0, 0, 0)):
+                self.refused(text_of(grammar), 19, 0, lent)
+        for table in nearly_sentenceless(rng, 8):
+            grammar = named_table(rng, table)
+            self.assertEqual(read_text(text_of(grammar), exact_lent(grammar))[:3], table)
+
+    def test_the_writer(self):
+        rng = random.Random(4)
+        for table in sentenceless(rng, 8):
+            count = table[0] + table[1]
+            good = packed(random_names(rng, count))
+            for rows in (good, (b"", [], []), (b"a", [0] * count, [1] * count)):
+                for room in (9000, 0):
+                    self.assertEqual(write_text(*table, *rows, room), Refusal(19, 0))
 
 
 class WriterTest(unittest.TestCase):
@@ -349,8 +399,8 @@ class WriterTest(unittest.TestCase):
 
     def test_written(self):
         self.assertEqual(self.answer(), self.WRITTEN)
-        self.assertEqual(write_text(0, 1, b"", b"-", [0], [1], 26),
-                         b"terminals=\nnonterminals=-\n")
+        self.assertEqual(write_text(0, 1, EMPTY, b"-", [0], [1], 34),
+                         b"terminals=\nnonterminals=-\nrule=-:\n")
 
     def test_names_that_overlap_or_lie_in_any_order(self):
         self.assertEqual(

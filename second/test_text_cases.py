@@ -8,26 +8,29 @@ import text_read_reasons
 import text_write_inputs
 import text_write_reasons
 from case_files import decode_all
-from file_tests import TABLE, TABLE_BYTES, FileTests
+from file_tests import TABLE, TABLE_BYTES, FileTests, without_sentences
 from named_grammars import text_of
 from random_tables import S
 from tables import Refusal
-from test_text import AMPLE, FRONT, WORD
+from test_text import AMPLE, EMPTY, FRONT, WORD
 from text import Lent, Text, read_lines, read_text, write_text
 from text_cases import READ, WRITE, read_answer, write_answer
 from text_write_reasons import Case
 
 
+GOOD = FRONT + b"rule=S:\n"
+
+
 class ReadFileTest(FileTests, unittest.TestCase):
     KIND = READ
-    DIGEST = "dba768ba3af16ac604d29b0871bd53d4308bd2d11ec2be80611f8a20155d3ba3"
+    DIGEST = "bbd01f703b84cdd594523f0140b76764521129e324bed64dd3ca37f5a7f3f577"
     CASE = b"a\n", Lent(258, 3, 0)
     BYTES = b"\2\0\0\0a\n\2\1\0\0\3\0\0\0\0\0\0\0"
 
 
 class WriteFileTest(FileTests, unittest.TestCase):
     KIND = WRITE
-    DIGEST = "442eeb86ae89d3982f5a178d63ceab5dbfc223c0bf1f0a8076bc021190ada390"
+    DIGEST = "8b4b5059d6479122169408aa71c719265147576c5fc4614e51d28595e2699ef0"
     CASE = Case(*TABLE, b"ab", (WORD - 1, 1), (3,), 513)
     BYTES = (TABLE_BYTES + b"\2\0\0\0ab" + b"\2\0\0\0\xff\xff\xff\xff\1\0\0\0"
              + b"\1\0\0\0\3\0\0\0" + b"\1\2\0\0")
@@ -57,16 +60,18 @@ class AnswerTest(unittest.TestCase):
             "read terminals=2 nonterminals=2 states=8 table=129,2,2,128,128,0 "
             "starts=10,12,27,29 lengths=1,1,1,1")
         self.assertEqual(
-            read_answer((b"terminals=\nnonterminals=Start\n", Lent(0, 1, 1))),
-            "read terminals=0 nonterminals=1 states=4 table= starts=24 lengths=5")
+            read_answer((b"terminals=\nnonterminals=Start\nrule=Start:\n", Lent(2, 1, 1))),
+            "read terminals=0 nonterminals=1 states=5 table=128,0 starts=24 lengths=5")
         self.assertEqual(read_answer((b"", AMPLE)), "refused=16 at=1")
+        self.assertEqual(read_answer((FRONT, AMPLE)), "refused=19 at=0")
 
     def test_write_answers(self):
-        case = Case(0, 1, b"", b"S", (0,), (1,), 26)
+        case = Case(0, 1, EMPTY, b"S", (0,), (1,), 34)
         self.assertEqual(
-            write_answer(case),
-            "written=26 text=7465726d696e616c733d0a6e6f6e7465726d696e616c733d530a")
-        self.assertEqual(write_answer(case._replace(room=25)), "refused=14 at=0")
+            write_answer(case), "written=34 text=7465726d696e616c733d0a"
+            "6e6f6e7465726d696e616c733d530a72756c653d533a0a")
+        self.assertEqual(write_answer(case._replace(room=33)), "refused=14 at=0")
+        self.assertEqual(write_answer(case._replace(table=b"", starts=())), "refused=19 at=0")
 
     def test_what_is_read_is_written_back(self):
         for text, lent in text_read_inputs.all_cases():
@@ -91,10 +96,12 @@ class AnswerTest(unittest.TestCase):
 
 class ReadReasonsTest(unittest.TestCase):
     def reasons(self, text, *names, lent=AMPLE):
-        self.assertEqual(sorted(text_read_reasons.reasons_of(text, lent)), sorted(names))
+        found = text_read_reasons.reasons_of(text, lent)
+        self.assertEqual(without_sentences(found), sorted(names))
+        self.assertLessEqual(set(found), set(text_read_reasons.REASONS))
 
     def test_read(self):
-        self.reasons(FRONT, "read", "read-no-rules", "read-rows-all-longer")
+        self.reasons(GOOD, "read", "read-an-empty-rule", "read-rows-all-longer")
         self.reasons(b"terminals=\nnonterminals=S\nrule=S:\n", "read", "read-no-terminals",
                      "read-an-empty-rule", "read-rows-exactly-enough", lent=Lent(2, 1, 1))
 
@@ -104,37 +111,46 @@ class ReadReasonsTest(unittest.TestCase):
         self.reasons(b"terminals=", "16-in-line-1", "16-last-line-without-byte-10")
         self.reasons(b"\n", "16-in-line-1", "16-blank-line")
         self.reasons(b"terminals=\nrule=S:\n", "16-in-line-2", "16-key-of-another-line")
-        self.reasons(FRONT + b"Rule=S:\n", "16-in-a-rule-line",
+        self.reasons(GOOD + b"Rule=S:\n", "16-in-a-rule-line",
                      "16-key-in-wrong-case-or-with-spaces")
-        self.reasons(FRONT + b"rule=S: a  b \n", "16-in-a-rule-line",
+        self.reasons(GOOD + b"rule=S: a  b \n", "16-in-a-rule-line",
                      "16-rule-with-double-space", "16-rule-with-space-at-its-end")
         self.reasons(b"a" * 65537, "16-text-of-65537-bytes", "order-16-at-0-before-a-line")
         self.reasons(b"\n" * 65536, "text-of-65536-bytes", "16-in-line-1", "16-blank-line")
 
     def test_17_and_18_and_1_and_4(self):
-        self.reasons(FRONT + b"rule=a: c\n", "17-left-a-terminal", "17-right-unknown")
-        self.reasons(FRONT + b"rule=x:\n", "17-left-unknown")
+        self.reasons(GOOD + b"rule=a: c\n", "17-left-a-terminal", "17-right-unknown")
+        self.reasons(GOOD + b"rule=x:\n", "17-left-unknown")
         self.reasons(b"terminals=a,a\n", "18-among-terminals",
                      "order-18-before-a-missing-line")
         self.reasons(b"terminals=a\nnonterminals=a,S,S\n", "18-among-nonterminals",
                      "18-across-the-lists")
         self.reasons(b"terminals=\nnonterminals=\n", "1-no-nonterminals")
-        self.reasons(FRONT + b"rule=S:" + b" S" * 13 + b"\n", "4-k-of-13")
+        self.reasons(GOOD + b"rule=S:" + b" S" * 13 + b"\n", "4-k-of-13")
 
     def test_14(self):
-        self.reasons(FRONT, "14-only-the-starts-by-one", lent=Lent(0, 3, 4))
-        self.reasons(FRONT, "14-only-the-lengths-by-one", lent=Lent(0, 9, 3))
-        self.reasons(FRONT + b"rule=S:\n", "14-only-the-table-by-one", lent=Lent(1, 4, 4))
-        self.reasons(FRONT, "14-otherwise", lent=Lent(0, 3, 3))
-        self.reasons(FRONT + b"rule=S: x\n", "17-right-unknown", "order-17-before-14",
+        self.reasons(GOOD, "14-only-the-starts-by-one", lent=Lent(2, 3, 4))
+        self.reasons(GOOD, "14-only-the-lengths-by-one", lent=Lent(2, 9, 3))
+        self.reasons(GOOD, "14-only-the-table-by-one", lent=Lent(1, 4, 4))
+        self.reasons(GOOD, "14-otherwise", lent=Lent(2, 3, 3))
+        self.reasons(GOOD + b"rule=S: x\n", "17-right-unknown", "order-17-before-14",
                      lent=Lent(9, 0, 9))
+
+    def test_19(self):
+        self.reasons(FRONT, "19")
+        self.reasons(FRONT + b"rule=S: S\n", "19", "order-19-before-14",
+                     "told-from-14-comes-before-19", lent=Lent(2, 4, 4))
+        self.reasons(FRONT + b"rule=S: S\nrule=A: c\n", "17-right-unknown",
+                     "order-17-before-19")
+        self.reasons(FRONT + b"rule=A:\nrule=A:\n", "6-next-to-the-earlier-rule",
+                     "order-6-before-19")
 
     def test_faults_that_the_order_hides(self):
         equal = b"rule=S:\nrule=S:\n"
         self.reasons(FRONT + equal, "6-next-to-the-earlier-rule")
         self.reasons(FRONT + equal + b"rule=S: c\n", "17-right-unknown",
                      "order-17-before-6-of-an-earlier-rule")
-        self.reasons(FRONT + b"rule=S: c" + b" a" * 12 + b"\nrule\n", "17-right-unknown",
+        self.reasons(GOOD + b"rule=S: c" + b" a" * 12 + b"\nrule\n", "17-right-unknown",
                      "order-17-before-4-in-a-line", "order-17-before-16-on-a-later-line")
         self.reasons(b"terminals=a,,a\n", "16-in-line-1", "16-name-empty-in-a-list",
                      "order-16-before-18-in-a-line")
@@ -145,7 +161,9 @@ class WriteReasonsTest(unittest.TestCase):
 
     def reasons(self, changes, *names):
         case = self.CASE._replace(**changes)
-        self.assertEqual(sorted(text_write_reasons.reasons_of(case)), sorted(names))
+        found = text_write_reasons.reasons_of(case)
+        self.assertEqual(without_sentences(found), sorted(names))
+        self.assertLessEqual(set(found), set(text_write_reasons.REASONS))
 
     def test_written(self):
         self.reasons({}, "written", "written-a-name-at-the-end-of-the-bytes",
@@ -176,6 +194,15 @@ class WriteReasonsTest(unittest.TestCase):
         self.reasons({"t": 0, "room": 0}, "table-5", "order-table-before-14")
         self.reasons({"table": b"\x80", "names": b"aa"}, "table-2", "order-table-before-18")
         self.reasons({"n": 2 ** 64 - 1}, "table-1", "order-table-before-16")
+
+    def test_table_19(self):
+        told = "told-from-14-comes-before-19", "told-from-names-come-before-19"
+        none = {"table": bytes([S, 1, S])}
+        self.reasons(none, "table-19", "19-alone")
+        self.reasons({**none, "room": 36}, "table-19", "order-19-before-14", told[0])
+        self.reasons({**none, "names": b"aa"}, "table-19", "order-19-before-18", told[1])
+        self.reasons({**none, "names": b"a:", "room": 0}, "table-19", "order-19-before-16",
+                     "order-19-before-14", *told)
 
 
 class LengthTest(unittest.TestCase):

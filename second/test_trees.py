@@ -6,7 +6,9 @@ from collections import Counter
 from itertools import product
 from math import prod
 
-from case_grammars import CLASSICS, ROWS, good, small_random, triples_in
+from case_grammars import (
+    CLASSICS, ENDLESS, GOOD_ROWS, NO_RULES, ROWS, good, grammar_of, small_random, triples_in,
+)
 from dead_grammars import dead_tables
 from tables import START
 from trees import random_row, some_sentences, tree_count
@@ -32,7 +34,7 @@ def written_out(grammar, depth):
 
 class CountTest(unittest.TestCase):
     def count(self, table, sentence):
-        return tree_count(good(table), bytes(sentence))
+        return tree_count(grammar_of(table), bytes(sentence))
 
     def test_rows(self):
         self.assertEqual(self.count(ROWS[0], []), 0)
@@ -77,13 +79,13 @@ class CountTest(unittest.TestCase):
 class SentencesTest(unittest.TestCase):
     def test_each_has_a_tree(self):
         rng = random.Random(7)
-        for table in ROWS + list(CLASSICS.values()):
+        for table in GOOD_ROWS + list(CLASSICS.values()):
             for sentence in some_sentences(rng, good(table), 5, 8):
                 self.assertGreater(tree_count(good(table), sentence), 0)
 
     def test_no_tree(self):
-        self.assertEqual(some_sentences(random.Random(1), good(ROWS[0]), 5, 8), [])
-        self.assertEqual(some_sentences(random.Random(1), good(ROWS[5]), 5, 8), [])
+        for table in (NO_RULES, ENDLESS):
+            self.assertEqual(some_sentences(random.Random(1), grammar_of(table), 5, 8), [])
 
     def test_many(self):
         rng = random.Random(8)

@@ -5,7 +5,7 @@ import unittest
 
 from automaton import after_dot, automaton_of, items_of, move_count
 from case_grammars import (
-    CLASSICS, COURSE, ENDLESS, ONE_A, ONE_A_BYTES, ROWS, small_random, spelled, triples_in,
+    CLASSICS, COURSE, GOOD_ROWS, ONE_A, ONE_A_BYTES, ROWS, small_random, spelled, triples_in,
 )
 from dead_grammars import dead_tables
 from random_tables import S, a
@@ -30,26 +30,20 @@ def symbol(code):
 
 
 class FiguresTest(unittest.TestCase):
-    """Document 01, "Grammars on file", with what document 02's [3] replaces."""
+    """Document 01, "Grammars on file", those with a sentence; document 02's course."""
 
     def test_verdicts(self):
-        verdicts = [is_potential(triples_in(row)) for row in ROWS]
-        self.assertEqual(verdicts, [False] * 6 + [True] * 3 + [False])
+        verdicts = [is_potential(triples_in(row)) for row in GOOD_ROWS]
+        self.assertEqual(verdicts, [False] * 4 + [True] * 3 + [False])
 
     def test_sizes(self):
-        sizes = [len(reached(triples_in(row))) for row in ROWS[:6]]
-        self.assertEqual(sizes, [1, 10, 11, 24, 30, 1])
+        sizes = [len(reached(triples_in(row))) for row in ROWS[1:5]]
+        self.assertEqual(sizes, [10, 11, 24, 30])
 
     def test_the_course(self):
         triples = triples_in(COURSE)
         self.assertEqual((triples.states, is_potential(triples), len(reached(triples))),
                          (10, False, 11))
-
-    def test_certificate_without_a_sentence(self):
-        for table in (ROWS[0], ENDLESS, spelled("S: a S | S S"), spelled("S: A a", "A: S")):
-            triples = triples_in(table)
-            self.assertEqual(reached(triples), {triples.first})
-            self.assertEqual((is_potential(triples), choice_count(triples)), (False, 0))
 
     def test_size_of_the_row_with_17_states(self):
         triples = triples_in(ROWS[9])
@@ -180,10 +174,6 @@ class StepsTest(unittest.TestCase):
         self.steps(endless, (0, 5, 6))
         self.steps(endless, (1, 6, 5), ((1, 6, 3), STILL, closing(1)))
 
-    def test_without_a_sentence_there_are_none(self):
-        for triple in ((0, 0, 0), (0, 2, 2), (0, 3, 5), (1, 3, 3), (1, 5, 4)):
-            self.steps(["S: S"], triple)
-
     def test_out_of_range_has_none(self):
         for triple in ((2, 0, 0), (0, 6, 0), (0, 0, 6), (0, 0, 36), (2 ** 32 - 1,) * 3):
             self.steps(["S: a"], triple)
@@ -191,7 +181,7 @@ class StepsTest(unittest.TestCase):
 
 class OrderTest(unittest.TestCase):
     def test_order_of_all_records(self):
-        for table in ROWS + list(CLASSICS.values()):
+        for table in GOOD_ROWS + list(CLASSICS.values()):
             triples = triples_in(table)
             for index in range(triples.count):
                 self.in_order(triples, triple_at(triples.states, index))
@@ -263,7 +253,7 @@ class DefinitionTest(unittest.TestCase):
 
     def test_all_pairs_of_small_grammars(self):
         rng = random.Random(7)
-        tables = ROWS[:9] + [small_random(rng) for _ in range(60)]
+        tables = GOOD_ROWS[:-1] + [small_random(rng) for _ in range(60)]
         tables += dead_tables(rng, 5, lambda grammar: grammar.states <= 10)
         for table in tables:
             grammar = check_table(*table)

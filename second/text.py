@@ -1,5 +1,7 @@
 """The reader and the writer of document 01: "Grammar text", "Causes of refusal".
 
+Both refuse a grammar without a sentence: document 02, [4].
+
 `read_text` takes a text and the lengths of the rows lent to it, and answers a
 Text or a Refusal. `write_text` takes a table, its names and the room of the
 output, and answers the text's bytes or a Refusal.
@@ -10,7 +12,7 @@ from typing import Dict, List, NamedTuple, Optional, Sequence, Tuple, Union
 from tables import (
     EQUAL_RULE, FIXED_STATES, MAX_LENGTH, MAX_NONTERMINALS, MAX_RULES,
     MAX_STATES, MAX_TERMINALS, OUT_OF_RANGE, START, TOO_LONG, TOO_MANY_RULES,
-    TOO_MANY_STATES, Grammar, Refusal, check_table,
+    TOO_MANY_STATES, Grammar, Refusal, RuleCodes, check_table,
 )
 
 # The limits and forms of document 01.
@@ -30,8 +32,6 @@ ROW_TOO_SHORT = 14        # "a lent output or work row too short"
 MALFORMED = 16            # "malformed line, or name"
 UNKNOWN_NAME = 17         # "name unknown or of the wrong kind"
 DECLARED_TWICE = 18       # "name declared twice"
-
-RuleCodes = Tuple[int, bytes]    # left code and right codes
 
 
 class Line(NamedTuple):
@@ -227,7 +227,10 @@ def join_rules(rules: Sequence[RuleCodes]) -> Union[Tuple[bytes, int], Refusal]:
 
 
 def read_lines(text: bytes) -> Union[Text, Refusal]:
-    """A text of any length: "takes lines in order, from 1", then its rules."""
+    """A text of any length: "takes lines in order, from 1", then its rules.
+
+    It may lack sentences.
+    """
     lines = split_lines(text)
     terminals = read_list(lines, 0, [], 0, MAX_TERMINALS)
     if isinstance(terminals, Refusal):
@@ -249,13 +252,16 @@ def read_lines(text: bytes) -> Union[Text, Refusal]:
 
 
 def read_text(text: bytes, lent: Lent) -> Union[Text, Refusal]:
-    """The reader: "Text too long is 16 at line 0"; its lines; "then 14"."""
+    """The reader: "Text too long is 16 at line 0"; its lines; 19; "then 14"."""
     if len(text) > MAX_TEXT:
         return Refusal(MALFORMED, 0)
     result = read_lines(text)
-    if isinstance(result, Text) and not lent_enough(result, lent):
-        return Refusal(ROW_TOO_SHORT, 0)
-    return result
+    if isinstance(result, Refusal):
+        return result
+    grammar = check_table(result.terminals, result.nonterminals, result.table)
+    if isinstance(grammar, Refusal):
+        return grammar
+    return result if lent_enough(result, lent) else Refusal(ROW_TOO_SHORT, 0)
 
 
 def lent_enough(result: Text, lent: Lent) -> bool:

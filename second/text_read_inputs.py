@@ -9,6 +9,9 @@ from named_grammars import (
     longest_named, random_name, random_names, rule_line, small_named, text_of, with_names,
 )
 from random_tables import random_rule, random_rules
+from sentence_grammars import (
+    large_sentenceless, named_table, nearly_sentenceless, sentenceless,
+)
 from tables import MAX_LENGTH, MAX_RULES, MAX_STATES, START
 from text import MAX_NAME, MAX_TEXT, Lent
 
@@ -104,7 +107,7 @@ def good_large(rng: Rng) -> Iterator[Case]:
     for _ in range(24):
         grammar = longest_named(rng)
         yield text_of(grammar), any_lent(rng, grammar)
-        last = [(254, bytes([127, 254])), (S, bytes([1, S, 126, 253])), (254, b"")]
+        last = [(254, bytes([127, 254])), (S, bytes([1, 254, 126, 254])), (254, b"")]
         grammar = with_names(rng, 127, 127, last)
         yield text_of(grammar), any_lent(rng, grammar)
 
@@ -494,6 +497,43 @@ def equal_rules(rng: Rng) -> Iterator[Case]:
             join_lines(lines + lines[2:3])])
 
 
+# No sentence.
+
+def without_a_sentence(rng: Rng) -> Iterator[Case]:
+    """No sentence, with rows long enough, exact, too short, and without entries."""
+    for table in [*sentenceless(rng, 16), *large_sentenceless(rng, 24)]:
+        grammar = named_table(rng, table)
+        yield text_of(grammar), any_lent(rng, grammar)
+        exact = exact_lent(grammar)
+        short = [exact._replace(table=exact.table - 1)] * (exact.table > 0)
+        short += [exact._replace(starts=0), exact._replace(lengths=exact.lengths - 1)]
+        yield text_of(grammar), rng.choice(short + [Lent(0, 0, 0)])
+
+
+def nearly_without(rng: Rng) -> Iterator[Case]:
+    """Only the empty sentence; sentences that need the first rule, or the last."""
+    for table in nearly_sentenceless(rng, 30):
+        grammar = named_table(rng, table)
+        yield text_of(grammar), any_lent(rng, grammar)
+
+
+def faulty_without(rng: Rng) -> Iterator[Case]:
+    """Each cause of lines and rules where there is no sentence either."""
+    for table in sentenceless(rng, 8):
+        grammar = named_table(rng, table)
+        lines = lines_of(grammar)
+        place = 2 + rng.randrange(len(lines) - 1)
+        for fault in (1, 2, 4):
+            line = faulty_rule_line(rng, grammar, fault)
+            yield join_lines(put(lines, place, [line])), any_lent(rng, grammar)
+    for table in large_sentenceless(rng, 84):
+        grammar = named_table(rng, table)
+        _, right = random_rule(rng, grammar.t, grammar.n, 1 + rng.randrange(3))
+        for rule in ((S + 1, right), rng.choice(grammar.rules)):
+            more = grammar._replace(rules=grammar.rules + [rule])
+            yield text_of(more), any_lent(rng, grammar)
+
+
 # Several faults.
 
 def spoiled(rng: Rng, line: bytes) -> bytes:
@@ -657,6 +697,7 @@ GROUPS: List[Group] = [
     lists, name_lengths, all_bytes, equal_names, counts_of_names, thousands_of_names,
     rule_forms, unknown_names, right_lengths, many_rules, many_states, equal_rules,
     faulty_lines, without_line_2, faults_and_short_rows, longest_texts,
+    without_a_sentence, nearly_without, faulty_without,
 ]
 
 

@@ -1,4 +1,4 @@
-"""Sorts the reader's cases by reasons finer than document 01's causes.
+"""Sorts the reader's cases by reasons finer than the causes.
 
 Lines are tested here by patterns, each test on its own, so that faults which
 the order hides are found too. The first of them must be the reader's refusal.
@@ -7,14 +7,16 @@ the order hides are found too. The first of them must be the reader's refusal.
 import re
 from typing import Dict, List, NamedTuple, Sequence, Tuple
 
+from sentence_misreadings import AFTER_14, BEFORE_8, TOLD
+from sentence_reasons import CAUSE, RULES_REASONS, has_tree, of_rules
 from tables import (
     EQUAL_RULE, FIXED_STATES, HEADER, MAX_LENGTH, MAX_NONTERMINALS, MAX_RULES,
-    MAX_STATES, MAX_TERMINALS, OUT_OF_RANGE, START, TOO_LONG, TOO_MANY_RULES,
-    TOO_MANY_STATES, Refusal,
+    MAX_STATES, MAX_TERMINALS, NO_SENTENCE, OUT_OF_RANGE, START, TOO_LONG, TOO_MANY_RULES,
+    TOO_MANY_STATES, Refusal, RuleCodes,
 )
 from text import (
     DECLARED_TWICE, KEYS, MALFORMED, MAX_NAME, MAX_TEXT, ROW_TOO_SHORT,
-    UNKNOWN_NAME, Lent, Line, RuleCodes, Text, read_lines, read_text, split_lines,
+    UNKNOWN_NAME, Lent, Line, Text, read_lines, read_text, split_lines,
 )
 
 NAME = rb"[-0-9A-Za-z]{1,15}"
@@ -45,7 +47,6 @@ REASONS = [
     "read-127-terminals",
     "read-127-nonterminals",
     "read-a-name-of-15",
-    "read-no-rules",
     "read-an-empty-rule",
     "read-k-of-12",
     "read-100-rules",
@@ -112,7 +113,13 @@ REASONS = [
     for line in LINE_CAUSES for rule in RULE_CAUSES
 ] + ["order-%d-before-%d-of-a-rule" % pair for pair in IN_RULE] + [
     "order-%d-before-%d-of-a-later-rule" % pair for pair in LATER_RULE
-] + ["order-%d-before-14" % cause for cause in (16, 18, 1, 17, 4, 7, 6, 8)]
+] + ["order-%d-before-14" % cause for cause in (16, 18, 1, 17, 4, 7, 6, 8, 19)] + [
+    CAUSE,
+    "19-100-rules",
+    "19-256-states",
+] + RULES_REASONS + [
+    "order-%d-before-19" % cause for cause in LINE_CAUSES + RULE_CAUSES
+] + [TOLD[BEFORE_8], TOLD[AFTER_14]]
 
 
 class Faults(NamedTuple):
@@ -128,7 +135,11 @@ def reasons_of(text: bytes, lent: Lent) -> List[str]:
     names = ["text-of-65536-bytes"] if len(text) == MAX_TEXT else []
     if isinstance(result, Text):
         assert not has_faults(text), "what is read is without fault"
-        return names + passed_reasons(result, lent)
+        rules = rules_of(result.table)
+        assert has_tree(rules), "what is read has a sentence"
+        return names + passed_reasons(result, lent) + of_rules(rules)
+    if result.cause == NO_SENTENCE:
+        return names + none_reasons(text, lent)
     if len(text) > MAX_TEXT:
         names += too_long_reasons(text)
     elif result.cause == ROW_TOO_SHORT:
@@ -150,7 +161,6 @@ def passed_reasons(result: Text, lent: Lent) -> List[str]:
         ("read-127-terminals", result.terminals == MAX_TERMINALS),
         ("read-127-nonterminals", result.nonterminals == MAX_NONTERMINALS),
         ("read-a-name-of-15", MAX_NAME in result.lengths),
-        ("read-no-rules", not rules),
         ("read-an-empty-rule", any(not right for _, right in rules)),
         ("read-k-of-12", any(len(right) == MAX_LENGTH for _, right in rules)),
         ("read-100-rules", len(rules) == MAX_RULES),
@@ -159,6 +169,24 @@ def passed_reasons(result: Text, lent: Lent) -> List[str]:
         ("read-rows-all-longer", min(spare) > 0),
     ]
     return [name for name, holds in met if holds]
+
+
+def none_reasons(text: bytes, lent: Lent) -> List[str]:
+    """Why a text has no sentence, the limits that it reaches, and what the order hides."""
+    assert not has_faults(text), "19 comes after all faults of the text"
+    result = read_lines(text)
+    assert isinstance(result, Text)
+    rules = rules_of(result.table)
+    assert not has_tree(rules), "19 only without a sentence"
+    short = min(spare_of(result, lent)) < 0
+    met = [
+        (CAUSE, True),
+        ("19-100-rules", len(rules) == MAX_RULES),
+        ("19-256-states", result.states == MAX_STATES),
+        ("order-19-before-14", short),
+        (TOLD[AFTER_14], short),
+    ]
+    return [name for name, holds in met if holds] + of_rules(rules)
 
 
 def rules_of(table: bytes) -> List[RuleCodes]:
@@ -216,13 +244,25 @@ def fault_reasons(text: bytes, refusal: Refusal) -> List[str]:
     codes = loose_codes(names)
     found = faults_of_lines(lines, names, codes)
     if not found:
-        return rule_fault_reasons([codes_of(line, codes) for line in lines[2:]], refusal)
+        rules = [codes_of(line, codes) for line in lines[2:]]
+        return rule_fault_reasons(rules, refusal) + hidden_sentence(rules, refusal.cause)
     first = found[0]
     assert refusal == Refusal(first.causes[0], first.position), "the first fault"
+    wrong = {faults.position for faults in found}
+    others = [codes_of(line, codes) for line in lines[2:] if line.number not in wrong]
     return (finer_line(lines, names, codes, refusal)
             + hidden_in_line(first)
             + hidden_on_later_lines(found, len(lines))
-            + hidden_in_earlier_rules(lines, codes, refusal))
+            + hidden_in_earlier_rules(lines, codes, refusal)
+            + (hidden_sentence(others, refusal.cause) if refusal.position > 2 else []))
+
+
+def hidden_sentence(rules: Sequence[RuleCodes], cause: int) -> List[str]:
+    """Whether the rules of the lines without fault have no sentence."""
+    if has_tree(rules):
+        return []
+    told = [TOLD[BEFORE_8]] if cause == TOO_MANY_STATES else []
+    return ["order-%d-before-19" % cause] + told
 
 
 def faults_of_lines(

@@ -8,12 +8,16 @@ from named_grammars import (
     MAX_LENT, Named, figures_named, full_named, large_named, longest_named, random_name,
     random_names, small_named, text_of,
 )
-from random_tables import encode, random_rules
+from random_tables import Rule, encode, random_rules, with_sentence
+from sentence_grammars import (
+    faulty_sentenceless, large_sentenceless, named_table, nearly_sentenceless, sentenceless,
+)
 from tables import MAX_RULES, MAX_STATES, START
 from text import MAX_NAME, NAME_BYTES
 from text_write_reasons import SHORTEST, WORD, Case
 
 SEED = 3
+EMPTY = bytes([START, 0])      # the table of S→ (empty)
 
 Rows = Tuple[bytes, List[int], List[int]]      # name bytes, starts and lengths
 
@@ -74,6 +78,11 @@ def laid(rng: Rng, grammar: Named) -> Rows:
     if kind == 0:
         return packed(grammar.names)
     return in_text(grammar) if kind == 1 else scattered(rng, grammar.names)
+
+
+def good_rules(rng: Rng, t: int, n: int, lengths: Sequence[int]) -> List[Rule]:
+    """Random rules of these lengths, which have a sentence."""
+    return with_sentence(rng, t, random_rules(rng, t, n, lengths))
 
 
 # Cases.
@@ -138,7 +147,7 @@ def overlapping_names(rng: Rng) -> Iterator[Case]:
         rows = overlapping(rng, grammar.t + grammar.n)
         yield make(grammar, rows, some_room(rng, written_length(grammar, rows[2])))
     for count in range(1, 16):
-        grammar = Named(count - 1, 1, random_rules(rng, count - 1, 1, [1, 2]), [])
+        grammar = Named(count - 1, 1, good_rules(rng, count - 1, 1, [1, 2]), [])
         for starts in ([0] * count, [15 - i for i in range(1, count + 1)]):
             lengths = list(range(1, count + 1))
             yield make(grammar, (b"abcdefghijklmno", starts, lengths), enough_room(rng))
@@ -182,7 +191,7 @@ def ranges(rng: Rng) -> Iterator[Case]:
             data, starts, lengths = packed(names[:count])
             if count and rng.randrange(3) == 0:
                 starts[-1], lengths[-1] = starts[0], lengths[0]
-            table = rng.choice([b"", bytes([START, 0]), bytes([START, 13])])
+            table = rng.choice([EMPTY, EMPTY, b"", bytes([START, 13])])
             yield Case(t, n, table, data, tuple(starts), tuple(lengths), enough_room(rng))
 
 
@@ -244,7 +253,7 @@ def name_lengths(rng: Rng) -> Iterator[Case]:
     names = random_name(rng, 600) + b"-" * 65536 + random_name(rng, 3)
     for length in (0, 1, 14, 15, 16, 17, 31, 255, 256, 257, 271, 65536 + 15, WORD - 1):
         for count in range(1, 9):
-            grammar = Named(count - 1, 1, random_rules(rng, count - 1, 1, [1, 0]), [])
+            grammar = Named(count - 1, 1, good_rules(rng, count - 1, 1, [1, 0]), [])
             symbol = rng.randrange(count)
             starts = [20 * place for place in range(count)]
             lengths = [1 + rng.randrange(MAX_NAME) for _ in range(count)]
@@ -267,7 +276,7 @@ def all_bytes(rng: Rng) -> Iterator[Case]:
             name = [b"%c", b"x%c", b"%cx", b"x%cx"][rng.randrange(4)] % bytes([value])
             names = [b"x-y", b"y-x"]
             names[rng.choice([0, 1])] = name
-            grammar = Named(t, 2 - t, random_rules(rng, t, 2 - t, [1, 2]), names)
+            grammar = Named(t, 2 - t, good_rules(rng, t, 2 - t, [1, 2]), names)
             yield make(grammar, packed(names), enough_room(rng))
 
 
@@ -296,7 +305,7 @@ def crossing_names(rng: Rng) -> Iterator[Case]:
     for _ in range(30):
         t, n = 1 + rng.randrange(5), 1 + rng.randrange(5)
         names = random_names(rng, t + n)
-        grammar = Named(t, n, random_rules(rng, t, n, [2, 1]), names)
+        grammar = Named(t, n, good_rules(rng, t, n, [2, 1]), names)
         for first, second in ((0, t), (t - 1, t), (0, t + n - 1), (t - 1, t + n - 1)):
             changed = list(names)
             changed[second] = names[first]
@@ -367,13 +376,46 @@ def no_names(rng: Rng) -> Iterator[Case]:
             zeros = (0,) * (t + n)
             for starts, lengths in (((), ()), (zeros, ()), ((), zeros), (zeros, zeros),
                                     (zeros, (1,) * (t + n))):
-                yield Case(t, n, b"", b"", starts, lengths, enough_room(rng))
+                yield Case(t, n, EMPTY, b"", starts, lengths, enough_room(rng))
+
+
+# No sentence.
+
+def without_a_sentence(rng: Rng) -> Iterator[Case]:
+    """No sentence, with good names and enough room, and with names at fault or no room."""
+    for table in [*sentenceless(rng, 14), *large_sentenceless(rng, 16)]:
+        grammar = named_table(rng, table)
+        data, starts, lengths = laid(rng, grammar)
+        size = len(text_of(grammar))
+        yield make(grammar, (data, starts, lengths), size + rng.choice([0, 0, 1, 300]))
+        yield make(grammar, (data, starts, lengths), rng.choice([size - 1, 0]))
+        symbol = rng.randrange(len(starts))
+        if len(starts) > 1 and rng.randrange(2):
+            starts[symbol], lengths[symbol] = starts[symbol - 1], lengths[symbol - 1]
+        else:
+            spoil(rng, len(data), starts, lengths)
+        yield make(grammar, (data, starts, lengths), enough_room(rng))
+
+
+def nearly_without(rng: Rng) -> Iterator[Case]:
+    """Only the empty sentence; sentences that need the first rule, or the last."""
+    for table in nearly_sentenceless(rng, 24):
+        grammar = named_table(rng, table)
+        yield make(grammar, laid(rng, grammar), some_room(rng, len(text_of(grammar))))
+
+
+def faulty_without(rng: Rng) -> Iterator[Case]:
+    """Each of causes 1 to 8 where there is no sentence either."""
+    for t, n, table in faulty_sentenceless(rng, 22):
+        data, starts, lengths = packed(random_names(rng, min(t + n, 254)))
+        yield Case(t, n, table, data, tuple(starts), tuple(lengths), enough_room(rng))
 
 
 GROUPS: List[Group] = [
     figures, good_small, good_large, overlapping_names, rooms, longer_rows, ranges,
     faulty_tables, short_rows, spans_past_the_bytes, name_lengths, all_bytes,
     equal_names, crossing_names, several_faults, damaged_bytes, no_names,
+    without_a_sentence, nearly_without, faulty_without,
 ]
 
 

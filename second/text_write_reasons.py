@@ -1,4 +1,4 @@
-"""Sorts the writer's cases by reasons finer than document 01's causes.
+"""Sorts the writer's cases by reasons finer than the causes.
 
 Each symbol is tested on its own, so that faults which the order hides are
 found too. The first of them must be the writer's refusal.
@@ -7,8 +7,10 @@ found too. The first of them must be the writer's refusal.
 import re
 from typing import Dict, List, NamedTuple, Optional, Sequence, Tuple
 
+import sentence_reasons
+from sentence_misreadings import AFTER_14, AFTER_NAMES, TOLD
 from tables import (
-    MAX_LENGTH, MAX_NONTERMINALS, MAX_RULES, MAX_STATES, MAX_TERMINALS,
+    MAX_LENGTH, MAX_NONTERMINALS, MAX_RULES, MAX_STATES, MAX_TERMINALS, NO_SENTENCE,
     OUT_OF_RANGE, START, TOO_MANY_STATES, Grammar, Refusal, check_table,
 )
 from text import (
@@ -25,7 +27,6 @@ REASONS = [
     "written-127-terminals",
     "written-127-nonterminals",
     "written-a-name-of-15",
-    "written-no-rules",
     "written-an-empty-rule",
     "written-k-of-12",
     "written-100-rules",
@@ -37,7 +38,8 @@ REASONS = [
     "written-longer-rows",
     "written-exact-room",
     "written-more-room",
-] + ["table-%d" % cause for cause in range(OUT_OF_RANGE, TOO_MANY_STATES + 1)] + [
+] + ["table-%d" % cause for cause in (
+    *range(OUT_OF_RANGE, TOO_MANY_STATES + 1), NO_SENTENCE)] + [
     "16-starts-end",
     "16-lengths-end",
     "16-both-rows-end",
@@ -60,13 +62,21 @@ REASONS = [
     "order-table-before-16",
     "order-table-before-18",
     "order-table-before-14",
+    "order-19-before-16",
+    "order-19-before-18",
+    "order-19-before-14",
     "order-16-before-18-of-a-lower-symbol",
     "order-16-before-18-of-a-higher-symbol",
     "order-16-before-14",
     "order-18-before-14",
     "order-lowest-16-of-several",
     "order-lowest-18-of-several",
-]
+    "19-alone",
+    TOLD[AFTER_NAMES],
+    TOLD[AFTER_14],
+] + sentence_reasons.REASONS
+
+ENOUGH = {"table-19": sentence_reasons.FEWEST}
 
 
 class Case(NamedTuple):
@@ -83,6 +93,11 @@ class Case(NamedTuple):
 
 def reasons_of(case: Case) -> List[str]:
     """Every reason of REASONS that this case meets."""
+    return writer_reasons(case) + list(sentence_reasons.of_table(*case[:3]))
+
+
+def writer_reasons(case: Case) -> List[str]:
+    """The same without those that the table alone decides."""
     result = write_text(*case)
     if isinstance(result, bytes):
         return written_reasons(case, result)
@@ -97,6 +112,8 @@ def reasons_of(case: Case) -> List[str]:
         assert not malformed and not doubles, "14 comes last"
         return room_reasons(case)
     assert check_table(case.t, case.n, case.table) == result, "the table's fault"
+    if result.cause == NO_SENTENCE:
+        return none_reasons(case, malformed, doubles)
     return table_reasons(case, result, malformed, doubles)
 
 
@@ -125,7 +142,6 @@ def grammar_reasons(grammar: Grammar) -> List[Tuple[str, bool]]:
     used = {code for rule in grammar.rules for code in rule.right}
     used.update(rule.left for rule in grammar.rules)
     return [
-        ("written-no-rules", not lengths),
         ("written-an-empty-rule", 0 in lengths),
         ("written-k-of-12", MAX_LENGTH in lengths),
         ("written-100-rules", len(lengths) == MAX_RULES),
@@ -268,5 +284,21 @@ def table_reasons(
         ("order-table-before-16", bool(malformed)),
         ("order-table-before-18", bool(doubles)),
         ("order-table-before-14", case.room < SHORTEST),
+    ]
+    return [name for name, holds in met if holds]
+
+
+def none_reasons(case: Case, malformed: Sequence[int], doubles: Sequence[int]) -> List[str]:
+    """What else is wrong where there is no sentence."""
+    names = bool(malformed or doubles)
+    short = case.room < SHORTEST if names else case.room < length_of_text(case)
+    met = [
+        ("table-19", True),
+        ("order-19-before-16", bool(malformed)),
+        ("order-19-before-18", bool(doubles)),
+        ("order-19-before-14", short),
+        ("19-alone", not names and not short),
+        (TOLD[AFTER_NAMES], names),
+        (TOLD[AFTER_14], short),
     ]
     return [name for name, holds in met if holds]

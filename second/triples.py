@@ -1,8 +1,8 @@
 """Triples, their steps and the smallest closed set: document 01, "Triples".
 
-They are those of automaton.py, so of live rules alone. `steps` gives a triple's step records in order, `Triples` the successors by
-index, `reached` the smallest set that holds (0,0,0) and every successor of
-what it holds.
+They are those of automaton.py, so of live rules alone. `steps` gives a triple's
+step records in order, `Triples` the successors by index, `reached` the smallest
+set that holds (0,0,0) and every successor of what it holds.
 """
 
 from functools import lru_cache

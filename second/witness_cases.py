@@ -14,14 +14,19 @@ from case_files import (
     encode_table, main,
 )
 from case_grammars import (
-    CLASSICS, CYCLE, ONE_A, ROWS, STATEMENTS, Table, faulty_tables, good, keywords, larger_random,
-    operators, rules_before_the_fault, some, states_of, triples_in,
+    CLASSICS, CYCLE, GOOD_ROWS, ONE_A, ROWS, STATEMENTS, Table, faulty_tables, good, grammar_of,
+    keywords, larger_random, operators, rules_before_the_fault, some, states_of, triples_in,
 )
 from certificates import check_witness
 from dead_grammars import chains, dead_larger, dead_tables
-from dead_rules import ENOUGH, KINDS
+from dead_rules import ENOUGH as ENOUGH_DEAD
+from dead_rules import KINDS
 from live_misreadings import WRONG_STEPS, former_triples, wrong_steps
 from misreadings import NAMES, misread_indices
+from sentence_grammars import (
+    faulty_sentenceless, large_sentenceless, nearly_sentenceless, sentenceless,
+)
+from sentence_reasons import ENOUGH as ENOUGH_NONE
 from tables import MAX_STATES
 from triples import Triples, is_potential, reached
 from ways import longer, shortest, wander, way_from, way_to
@@ -39,7 +44,7 @@ class Case(NamedTuple):
 
 def potential_tables(rng: Rng, count: int) -> List[Table]:
     """Document 01's potential rows, classic ones and `count` random ones."""
-    tables = ROWS + list(CLASSICS.values())
+    tables = GOOD_ROWS + list(CLASSICS.values())
     tables = [table for table in tables if is_potential(triples_in(table))]
     return tables + some(rng, count, is_potential, 40)
 
@@ -106,7 +111,7 @@ def first_entries(rng: Rng) -> Iterator[Case]:
 
 def misread_entries(rng: Rng) -> Iterator[Case]:
     """An entry that would be right in a misreading, then the end."""
-    tables = ROWS + list(CLASSICS.values())
+    tables = GOOD_ROWS + list(CLASSICS.values())
     tables += some(rng, 40, lambda triples: len(reached(triples)) > 20, 40)
     for table in tables:
         triples = triples_in(table)
@@ -215,9 +220,29 @@ def dead_and_larger(rng: Rng) -> Iterator[Case]:
         yield from of_either(rng, table, triples_in(table))
 
 
+def without_a_sentence(rng: Rng) -> Iterator[Case]:
+    """No sentence: what were witnesses or ways before document 02's [3], cut, wrong, empty."""
+    for table in [*sentenceless(rng, 12), *large_sentenceless(rng, 6)]:
+        former = former_triples(grammar_of(table))
+        yield from of_either(rng, table, former)
+        yield Case(*table, rng.choice([(), (0,), (0, former.last), (former.count,), (LARGEST,)]))
+
+
+def nearly_without(rng: Rng) -> Iterator[Case]:
+    """Grammars that nearly lack a sentence: right witnesses, or ways that do not end."""
+    for table in nearly_sentenceless(rng, 16):
+        yield from of_either(rng, table, triples_in(table))
+
+
+def faulty_without(rng: Rng) -> Iterator[Case]:
+    """Each of causes 1 to 8 where there is no sentence either."""
+    for table in faulty_sentenceless(rng, 22):
+        yield Case(*table, rng.choice([(), (0,), (0, LARGEST), (1, 2, 3)]))
+
+
 GROUPS = [
     right, cut, extended, wrong_entries, first_entries, misread_entries, unambiguous,
-    larger, faulty, dead, dead_and_larger,
+    larger, faulty, dead, dead_and_larger, without_a_sentence, nearly_without, faulty_without,
 ]
 
 
@@ -241,7 +266,7 @@ def decode_case(reader: Reader) -> Case:
 
 
 KIND = Kind(lambda: cases_of(GROUPS), encode_case, decode_case, answer,
-            REASONS, lambda case: reasons_of(*case), enough=ENOUGH)
+            REASONS, lambda case: reasons_of(*case), enough={**ENOUGH_DEAD, **ENOUGH_NONE})
 
 if __name__ == "__main__":
     sys.exit(main(__doc__, sys.argv[1:], KIND))

@@ -1,4 +1,4 @@
-"""Sorts witness cases by reasons finer than document 01's cause 15.
+"""Sorts witness cases by reasons finer than the causes.
 
 The counts of these reasons show that a file of cases tries every way in which
 a row is wrong, also as a misreading would have it.
@@ -7,15 +7,16 @@ a row is wrong, also as a misreading would have it.
 from typing import List, Optional, Sequence, Tuple
 
 import dead_rules
+import sentence_reasons
 from case_files import LARGEST, TABLE_REASONS
-from case_grammars import good
+from case_grammars import good, grammar_of
 from certificates import checked_triples, witness_fault
-from dead_rules import KINDS, NO_SENTENCE, kind_of
+from dead_rules import KINDS, kind_of
 from live_misreadings import (
     REACHED, TOLD_BY_SEARCH, WRONG_STEPS, former_triples, told, wrong_steps,
 )
 from misreadings import NAMES, misread_indices
-from tables import Grammar, Refusal
+from tables import NO_SENTENCE, Grammar, Refusal
 from triples import Triples, is_potential, reached
 from ways import shortest
 
@@ -43,19 +44,26 @@ REASONS = [
     "15-of-an-unambiguous-grammar",
     "15-over-60-states",
 ] + ["15-" + name for name in NAMES] + dead_rules.REASONS + [
-    "accepted-dead-" + kind for kind in KINDS if kind != NO_SENTENCE
+    "accepted-dead-" + kind for kind in KINDS
 ] + [
     "15-though-formerly-accepted",
     "15-though-formerly-accepted-and-potential-still",
-] + ["15-" + name for name in WRONG_STEPS] + TOLD_BY_SEARCH
+] + ["15-" + name for name in WRONG_STEPS] + TOLD_BY_SEARCH + [
+    "19-though-accepted-by-document-01",
+    "19-with-an-empty-row",
+    "order-19-before-15",
+] + sentence_reasons.REASONS
 
 
 def reasons_of(t: int, n: int, table: bytes, entries: Sequence[int]) -> List[str]:
     """Every reason of REASONS that this case meets."""
     triples = checked_triples(t, n, table)
+    sentences = list(sentence_reasons.of_table(t, n, table))
     if isinstance(triples, Refusal):
-        empty = ["1-to-8-with-an-empty-row"] if not entries else []
-        return [str(triples.cause)] + empty
+        sentences.append(str(triples.cause))
+        if triples.cause == NO_SENTENCE:
+            return sentences + none_reasons(grammar_of((t, n, table)), entries)
+        return sentences + ["1-to-8-with-an-empty-row"] * (not entries)
     fault = witness_fault(triples, entries)
     if fault is None:
         met = accepted_reasons(triples, entries)
@@ -64,8 +72,19 @@ def reasons_of(t: int, n: int, table: bytes, entries: Sequence[int]) -> List[str
     grammar = good((t, n, table))
     if kind_of(grammar) is not None:
         met += dead_reasons(grammar, triples, entries, fault)
-    return [name for name, holds in met if holds] + told(
+    return sentences + [name for name, holds in met if holds] + told(
         grammar, REACHED, lambda other: witness_fault(other, entries))
+
+
+def none_reasons(grammar: Grammar, entries: Sequence[int]) -> List[str]:
+    """What was said of a row for a grammar without a sentence before document 02's [3]."""
+    accepted = witness_fault(former_triples(grammar), entries) is None
+    met = [
+        ("19-though-accepted-by-document-01", accepted),
+        ("19-with-an-empty-row", len(entries) == 0),
+        ("order-19-before-15", not accepted),
+    ]
+    return [name for name, holds in met if holds]
 
 
 def accepted_reasons(triples: Triples, entries: Sequence[int]) -> List[Tuple[str, bool]]:

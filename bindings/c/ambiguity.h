@@ -1,10 +1,11 @@
 /* The library for C: the table check, the step records, the certificate check, the witness check over indices and over records, the
  * search, the reader and the writer of grammar text, the report that the program prints, and reading back of the two strings that
  * it prints. Each function answers as its entry promises; crates/ambiguity_c/src/lib.rt has the promises, proved.
- * "Document 01" is the paper that the library follows: it has the tables, the certificates and the causes of refusal.
+ * "Document 01" is the paper that the library follows: it has the tables, the certificates and the causes of refusal. Cause 19 is
+ * document 02's, which has the requests after it.
  *
  * What holds of every function:
- * - Every input is taken: what is wrong is refused, with a cause from 1 to 18 and a position. `cause` 0 says that nothing is
+ * - Every input is taken: what is wrong is refused, with a cause from 1 to 19 and a position. `cause` 0 says that nothing is
  *   refused. A refusal changes no lent row. A field that an answer does not have is 0.
  * - A row is lent as a pointer and its number of entries. The pointer is never NULL, also at 0 entries, and is aligned as its
  *   type is. A row that is written overlaps no other row of the call. Nothing is kept after the return.
@@ -53,10 +54,10 @@
 #define AMBIGUITY_LETTER_NUMBER(entry) ((entry) % 65536)
 
 /* The stack that a call may use, below the caller's frame: bindings/c/stack.c measures it on a painted stack, at Q = 256. The
- * reader has a tree of names there (267,383 bytes measured), the search its marks (74,775 bytes, for few states too), the report
+ * reader has a tree of names there (267,383 bytes measured), the search its marks (76,023 bytes, for few states too), the report
  * calls both and lends them their rows (513,495 bytes), reading back calls the reader (270,343 bytes); of the others the
- * witness check over records goes deepest (12,663 bytes). */
-#define AMBIGUITY_STACK_BYTES 13312
+ * witness check over records goes deepest (13,911 bytes). */
+#define AMBIGUITY_STACK_BYTES 14336
 #define AMBIGUITY_READ_TEXT_STACK_BYTES 274432
 #define AMBIGUITY_SEARCH_STACK_BYTES 81920
 #define AMBIGUITY_REPORT_STACK_BYTES 532480
@@ -82,7 +83,8 @@ enum ambiguity_cause {
     AMBIGUITY_WITNESS_WRONG = 15,     /* at the first wrong entry, or at the row's length if only the end fails */
     AMBIGUITY_MALFORMED = 16,         /* malformed line, or name: at the line; for the writer at the symbol number from 0 */
     AMBIGUITY_NAME_UNKNOWN = 17,      /* name unknown or of the wrong kind: at the line */
-    AMBIGUITY_NAME_REPEATED = 18      /* name declared twice: at the line, or at the symbol number */
+    AMBIGUITY_NAME_REPEATED = 18,     /* name declared twice: at the line, or at the symbol number */
+    AMBIGUITY_NO_SENTENCE = 19        /* the start, the first nonterminal, has no finite tree: at 0 */
 };
 
 enum ambiguity_moved { AMBIGUITY_STILL = 0, AMBIGUITY_OPENING = 1, AMBIGUITY_CLOSING = 2, AMBIGUITY_SYMBOL = 3 };
@@ -168,8 +170,8 @@ typedef struct {
 extern "C" {
 #endif
 
-/* Checks a grammar's table: t terminals, n nonterminals, the rules end to end. Back comes Q. Refuses with 1 to 8, and so do all
- * functions that take a table, before their own causes. */
+/* Checks a grammar's table: t terminals, n nonterminals, the rules end to end. Back comes Q. Refuses with 1 to 8, then with 19 a
+ * grammar without a sentence; so do all functions that take a table, before their own causes. */
 ambiguity_table_reply ambiguity_check_table(size_t t, size_t n, const uint8_t *table, size_t table_entries);
 
 /* The step record of the triple (layer, left, right) at place nth, counted from 0: those back to the triple itself first, left
@@ -179,7 +181,7 @@ ambiguity_step_reply ambiguity_nth_step(size_t t, size_t n, const uint8_t *table
                                         size_t right, size_t nth);
 
 /* Checks a certificate of AMBIGUITY_CERTIFICATE_BYTES(Q) bytes: accepted exactly if it is acceptable, and then no sentence of the
- * grammar has two derivation trees. Refuses with 9 to 13. */
+ * grammar has two derivation trees. Refuses with 9 to 13. Whatever certificate comes with a grammar without a sentence, it is 19. */
 ambiguity_check_reply ambiguity_check_certificate(size_t t, size_t n, const uint8_t *table, size_t table_entries,
                                                   const uint8_t *certificate, size_t certificate_bytes);
 
@@ -203,9 +205,9 @@ ambiguity_search_reply ambiguity_search(size_t t, size_t n, const uint8_t *table
                                         size_t parents_entries, uint32_t *witness, size_t witness_entries);
 
 /* Reads grammar text. Written are the table, and the start in the text and the length of each symbol's name, terminals first.
- * AMBIGUITY_MAX_TABLE_ENTRIES and AMBIGUITY_MAX_NAMES are always enough. Refuses with 16, 17, 18, 1, 4, 7, 6, 8, 14; the
- * positions of 6, 7 and 8 are offsets in the table that it would write, all others but that of 14 are lines from 1. A text of
- * more than AMBIGUITY_MAX_TEXT_BYTES is 16 at 0. */
+ * AMBIGUITY_MAX_TABLE_ENTRIES and AMBIGUITY_MAX_NAMES are always enough. Refuses with 16, 17, 18, 1, 4, 7, 6, 8, 19, 14; the
+ * positions of 6, 7 and 8 are offsets in the table that it would write, those of 19 and 14 are 0, all others are lines from 1. A
+ * text of more than AMBIGUITY_MAX_TEXT_BYTES is 16 at 0. */
 ambiguity_read_reply ambiguity_read_text(const uint8_t *text, size_t text_bytes, uint8_t *table, size_t table_entries,
                                          uint32_t *starts, size_t starts_entries, uint32_t *lengths, size_t lengths_entries);
 
@@ -217,9 +219,10 @@ ambiguity_write_reply ambiguity_write_text(size_t t, size_t n, const uint8_t *ta
 
 /* Writes what the program prints for a text, each line ended by byte 10: `states=` and `verdict=`, then with unambiguous `reached=`,
  * with potential `left=` and `right=`, the two strings of the shortest witness; or `refused=` and `at=`. In a string `(i` opens rule
- * i, `)i` closes it, a symbol stands by its name, and one space stands between two letters. A text that is at fault, has more than
- * AMBIGUITY_MAX_REPORT_TEXT_BYTES or more than AMBIGUITY_MAX_REPORT_STATES states is answered by a report of its refusal, and `cause`
- * is 0. Refuses with 14 alone, if the output is too short; AMBIGUITY_MAX_REPORT_BYTES are always enough. */
+ * i, `)i` closes it, a symbol stands by its name, and one space stands between two letters. A text that has more than
+ * AMBIGUITY_MAX_REPORT_TEXT_BYTES, is at fault, 19 among its faults, or has more than AMBIGUITY_MAX_REPORT_STATES states is answered
+ * by a report of its refusal, the first in this order, and `cause` is 0. Refuses with 14 alone, if the output is too short;
+ * AMBIGUITY_MAX_REPORT_BYTES are always enough. */
 ambiguity_report_reply ambiguity_report(const uint8_t *text, size_t text_bytes, uint8_t *out, size_t out_bytes);
 
 /* Reads two lines `left=` and `right=` back, in the grammar of a text: the two strings are written, an entry for each letter. Lines

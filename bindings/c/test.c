@@ -1,5 +1,6 @@
 /* The certificate check on document 01's cases of S -> a, the witness check over records on those of S -> S; S -> a, the report,
- * and reading its two strings back. Exits with 0 if every answer is document 01's and document 02's. */
+ * and reading its two strings back; and all ten functions on grammars without a sentence. Exits with 0 if every answer is document
+ * 01's and document 02's. */
 #include <stdio.h>
 #include <string.h>
 
@@ -130,6 +131,116 @@ static void expect_read_back(const char *what, const char *text, const char *lin
     wrong += !same;
 }
 
+/* S -> S has no finite tree. Its triples would have this smallest certificate. */
+static const uint8_t ENDLESS[] = {128, 1, 128};
+static const char ENDLESS_TEXT[] = "terminals=\nnonterminals=S\nrule=S: S\n";
+static const uint8_t ENDLESS_CERTIFICATE[BYTES] = {0x01};
+
+/* So with no rules; and what is acceptable of them in document 01's automaton, where every rule has moves, rule 0 too. */
+static const uint8_t NONE_CERTIFICATES[][4] = {{0x01}, {0x05, 0x85}};
+
+#define LENT AMBIGUITY_ROW_ENTRIES(STATES)
+
+static uint8_t lent_bytes[LENT];
+static uint32_t lent_rows[3][LENT];
+
+/* 19 at 0; no other field of the reply is set, and nothing that is lent has changed. */
+static void expect_no_sentence(const char *what, uint64_t cause, uint64_t at, uint64_t others)
+{
+    int right = cause == AMBIGUITY_NO_SENTENCE && at == 0 && others == 0;
+    size_t i;
+    for (i = 0; i < LENT; i++)
+        right = right && lent_bytes[i] == 7 && lent_rows[0][i] == 7 && lent_rows[1][i] == 7 && lent_rows[2][i] == 7;
+    printf("%s: no sentence, %s, cause %llu at %llu\n", right ? "ok" : "WRONG", what, (unsigned long long)cause,
+           (unsigned long long)at);
+    wrong += !right;
+}
+
+/* All functions that take a table, with rows of so many entries: certificate, witness and names are at fault too. */
+static void expect_table_without_sentence(size_t lent)
+{
+    ambiguity_table_reply table = ambiguity_check_table(0, 1, ENDLESS, sizeof ENDLESS);
+    ambiguity_step_reply step = ambiguity_nth_step(0, 1, ENDLESS, sizeof ENDLESS, 0, 0, 0, 0);
+    ambiguity_check_reply certificate = ambiguity_check_certificate(0, 1, ENDLESS, sizeof ENDLESS, lent_bytes, lent);
+    ambiguity_check_reply witness = ambiguity_check_witness(0, 1, ENDLESS, sizeof ENDLESS, lent_rows[0], lent);
+    ambiguity_check_reply records = ambiguity_check_witness_records(0, 1, ENDLESS, sizeof ENDLESS, WITNESS, lent == 0 ? 0 : 1);
+    ambiguity_search_reply search = ambiguity_search(0, 1, ENDLESS, sizeof ENDLESS, lent_bytes, lent, lent_rows[0], lent,
+                                                     lent_rows[1], lent, lent_rows[2], lent);
+    ambiguity_write_reply written = ambiguity_write_text(0, 1, ENDLESS, sizeof ENDLESS, ENDLESS, 0, lent_rows[0], lent,
+                                                         lent_rows[1], lent, lent_bytes, lent);
+    expect_no_sentence("table check", table.cause, table.at, table.states);
+    expect_no_sentence("step record", step.cause, step.at,
+                       step.kind | step.layer | step.left | step.right | step.on_left.moved | step.on_right.moved);
+    expect_no_sentence("certificate check", certificate.cause, certificate.at, 0);
+    expect_no_sentence("witness check", witness.cause, witness.at, 0);
+    expect_no_sentence("witness check over records", records.cause, records.at, 0);
+    expect_no_sentence("search", search.cause, search.at, search.verdict | search.count);
+    expect_no_sentence("writer", written.cause, written.at, written.length);
+}
+
+/* Both functions that take a text and refuse it, with rows of so many entries; the two lines are at fault too. */
+static void expect_text_without_sentence(size_t lent)
+{
+    ambiguity_read_reply read = ambiguity_read_text((const uint8_t *)ENDLESS_TEXT, strlen(ENDLESS_TEXT), lent_bytes, lent,
+                                                    lent_rows[0], lent, lent_rows[1], lent);
+    ambiguity_read_back_reply back = ambiguity_read_back((const uint8_t *)ENDLESS_TEXT, strlen(ENDLESS_TEXT), lent_bytes, lent,
+                                                         lent_rows[0], lent, lent_rows[1], lent);
+    expect_no_sentence("reader", read.cause, read.at, read.terminals | read.nonterminals | read.entries | read.states);
+    expect_no_sentence("reading back", back.cause, back.at, (back.part ^ AMBIGUITY_GRAMMAR) | back.left | back.right);
+}
+
+static void expect_without_sentence(void)
+{
+    size_t i;
+    memset(lent_bytes, 7, sizeof lent_bytes);
+    for (i = 0; i < 3 * LENT; i++)
+        lent_rows[i / LENT][i % LENT] = 7;
+    expect_table_without_sentence(0);
+    expect_table_without_sentence(LENT);
+    expect_text_without_sentence(0);
+    expect_text_without_sentence(LENT);
+    expect("a certificate of S -> S",
+           ambiguity_check_certificate(0, 1, ENDLESS, sizeof ENDLESS, ENDLESS_CERTIFICATE, sizeof ENDLESS_CERTIFICATE),
+           AMBIGUITY_NO_SENTENCE, 0);
+    for (i = 0; i < 2; i++)
+        expect("a certificate of no rules", ambiguity_check_certificate(0, 1, ENDLESS, 0, NONE_CERTIFICATES[i], 4),
+               AMBIGUITY_NO_SENTENCE, 0);
+}
+
+/* The twelve rules of a nonterminal with 1 to 12 codes S, which have 90 states and 102 entries. */
+static void put_rules(uint8_t *table, uint8_t left)
+{
+    uint8_t length;
+    for (length = 1; length <= 12; table += 2 + length++) {
+        table[0] = left;
+        table[1] = length;
+        memset(table + 2, 128, length);
+    }
+}
+
+/* 8 comes before 19, here at the eleventh rule of the third nonterminal, and 19 before the report's limit of states. */
+static void expect_order(void)
+{
+    uint8_t table[3 * 102];
+    char text[512] = "terminals=\nnonterminals=S\n";
+    ambiguity_table_reply few, many;
+    int length, i;
+    put_rules(table, 128);
+    put_rules(table + 102, 129);
+    put_rules(table + 204, 130);
+    few = ambiguity_check_table(0, 3, table, 204);
+    many = ambiguity_check_table(0, 3, table, sizeof table);
+    expect("184 states without a sentence", (ambiguity_check_reply){few.cause, few.at}, AMBIGUITY_NO_SENTENCE, 0);
+    expect("too many states without a sentence", (ambiguity_check_reply){many.cause, many.at}, AMBIGUITY_TOO_MANY_STATES, 279);
+    for (length = 1; length <= 12; length++) {
+        strcat(text, "rule=S:");
+        for (i = 0; i < length; i++)
+            strcat(text, " S");
+        strcat(text, "\n");
+    }
+    expect_report(text, "refused=19\nat=0\n");
+}
+
 int main(void)
 {
     uint8_t longer[BYTES + 1] = {0};
@@ -161,5 +272,8 @@ int main(void)
     expect_read_back("a name that is not there", CYCLE_TEXT, "left=\nright=b\n", 0,
                      (ambiguity_read_back_reply){17, 2, AMBIGUITY_LINES, 0, 0});
     expect_read_back("a fault of the grammar", "", CYCLE_LINES, 0, (ambiguity_read_back_reply){16, 1, AMBIGUITY_GRAMMAR, 0, 0});
+    expect_report(ENDLESS_TEXT, "refused=19\nat=0\n");
+    expect_without_sentence();
+    expect_order();
     return wrong != 0;
 }

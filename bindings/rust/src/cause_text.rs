@@ -27,6 +27,7 @@ impl Cause {
             Cause::Malformed => "a line or a name is malformed or missing",
             Cause::NameUnknown => "a name is not declared, or is of the wrong kind",
             Cause::NameRepeated => "a name is declared twice",
+            Cause::NoSentence => "the start has no finite tree, so there is no sentence",
         }
     }
 }

@@ -71,7 +71,7 @@ impl Grammar {
     ///
     /// # Errors
     ///
-    /// The first refusal in document 01's order, with its line or offset:
+    /// The first refusal in order, with its line or offset; of a grammar without a sentence, 19 at 0:
     ///
     /// ```
     /// let refusal = ambiguity::Grammar::read(b"terminals=a\nnonterminals=S\nrule=S: b\n").unwrap_err();

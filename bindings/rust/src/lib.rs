@@ -172,7 +172,7 @@ fn verdict_of(reply: &raw::SearchReply) -> Verdict {
 ///
 /// # Errors
 ///
-/// Causes 1 to 8; all functions that take a table refuse with them before their own.
+/// Causes 1 to 8, then 19 for a grammar without a sentence; all functions that take a table refuse with them before their own.
 ///
 /// ```
 /// use ambiguity::{check_table, Cause, Refusal, Table};
@@ -181,6 +181,8 @@ fn verdict_of(reply: &raw::SearchReply) -> Verdict {
 /// assert_eq!(check_table(table), Ok(6));
 /// let cut = Table { rules: &[128, 1], ..table };
 /// assert_eq!(check_table(cut), Err(Refusal { cause: Cause::Truncated, at: 0 }));
+/// let endless = Table { rules: &[128, 1, 128], ..table };
+/// assert_eq!(check_table(endless), Err(Refusal { cause: Cause::NoSentence, at: 0 }));
 /// ```
 pub fn check_table(table: Table) -> Result<usize, Refusal> {
     let Table { terminals, nonterminals, rules } = table;
@@ -213,7 +215,7 @@ pub fn nth_step(table: Table, layer: usize, left: usize, right: usize, nth: usiz
 ///
 /// # Errors
 ///
-/// Causes 9 to 13.
+/// Causes 9 to 13. Whatever certificate comes with a grammar without a sentence, it is 19.
 pub fn check_certificate(table: Table, certificate: &[u8]) -> Result<(), Refusal> {
     let Table { terminals, nonterminals, rules } = table;
     let (bytes, length) = (certificate.as_ptr(), certificate.len());
@@ -282,7 +284,7 @@ pub fn search(
 ///
 /// # Errors
 ///
-/// Causes 16, 17, 18, 1, 4, 7, 6, 8, 14.
+/// Causes 16, 17, 18, 1, 4, 7, 6, 8, 19, 14.
 pub fn read_text(text: &[u8], table: &mut [u8], starts: &mut [u32], lengths: &mut [u32]) -> Result<Read, Refusal> {
     let reply = unsafe {
         raw::ambiguity_read_text(
@@ -331,8 +333,8 @@ pub fn write_text(table: Table, names: Names, out: &mut [u8]) -> Result<usize, R
 }
 
 /// Writes what the program prints for a text to the front of `out`: states, verdict, and the size or the two strings of the shortest
-/// witness; or a refusal's two lines. Back comes its length; the only refusal is an output that is too short, and `MAX_REPORT_BYTES`
-/// are always enough. Uses up to 520 KiB of stack.
+/// witness; or a refusal's two lines: 14 for a longer text, a fault of the text, 19 among them, or 14 for more states. Back comes its
+/// length; the only refusal is an output that is too short, and `MAX_REPORT_BYTES` are always enough. Uses up to 520 KiB of stack.
 pub fn report(text: &[u8], out: &mut [u8]) -> Result<usize, Refusal> {
     let reply = unsafe { raw::ambiguity_report(text.as_ptr(), text.len(), out.as_mut_ptr(), out.len()) };
     refusal::or_else(reply.cause, reply.at, || reply.length as usize)

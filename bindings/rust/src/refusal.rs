@@ -1,8 +1,8 @@
-//! Refusals: document 01's causes, each with its position.
+//! Refusals: the causes of document 01, and 19 of document 02, each with its position.
 
 use std::fmt;
 
-/// Why something is refused; the numbers are document 01's.
+/// Why something is refused; the numbers are document 01's, and 19 is document 02's.
 #[derive(Clone, Copy, Debug, PartialEq, Eq)]
 #[repr(u8)]
 pub enum Cause {
@@ -42,9 +42,11 @@ pub enum Cause {
     NameUnknown = 17,
     /// A name is declared twice: at the line, or at the symbol's number.
     NameRepeated = 18,
+    /// The start, the first nonterminal, has no finite tree, so the grammar has no sentence: at 0.
+    NoSentence = 19,
 }
 
-pub(crate) const CAUSES: [Cause; 18] = [
+pub(crate) const CAUSES: [Cause; 19] = [
     Cause::OutOfRange,
     Cause::Truncated,
     Cause::LeftUndeclared,
@@ -63,6 +65,7 @@ pub(crate) const CAUSES: [Cause; 18] = [
     Cause::Malformed,
     Cause::NameUnknown,
     Cause::NameRepeated,
+    Cause::NoSentence,
 ];
 
 /// What is refused, and where; bindings/c/ambiguity.h says for each cause what the position counts.
@@ -75,7 +78,7 @@ pub struct Refusal {
 }
 
 impl Cause {
-    /// Document 01's number, 1 to 18.
+    /// Its number, 1 to 19.
     #[must_use]
     pub fn number(self) -> u8 {
         self as u8
@@ -95,7 +98,7 @@ impl fmt::Display for Refusal {
 
 impl std::error::Error for Refusal {}
 
-/// The refusal of a reply, or what comes where nothing is refused. That a cause is at most 18 is proved (`CauseTheorems`).
+/// The refusal of a reply, or what comes where nothing is refused. That a cause is at most 19 is proved (`CauseTheorems`).
 pub(crate) fn or_else<T>(cause: u64, at: u64, given: impl FnOnce() -> T) -> Result<T, Refusal> {
     if cause == 0 {
         return Ok(given());

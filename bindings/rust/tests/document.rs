@@ -20,7 +20,7 @@ fn tables_of_every_length() {
     let rules = Lent::new(&[128, 1, 1, 128], 0xFF);
     let answers: Vec<_> = (0..5).map(|length| ambiguity::check_table(one_a(&rules.row()[..length]))).collect();
     let cut = refused(Cause::Truncated, 0);
-    assert_eq!(answers, [Ok(4), cut, cut, Ok(6), refused(Cause::Truncated, 3)]);
+    assert_eq!(answers, [refused(Cause::NoSentence, 0), cut, cut, Ok(6), refused(Cause::Truncated, 3)]);
     assert!(rules.kept());
 }
 

@@ -6,7 +6,7 @@ use ambiguity::{
     certificate_bytes, row_entries, Cause, Grammar, Refusal, Searched, Table, Verdict, MAX_NAMES, MAX_REPORT_BYTES,
     MAX_TABLE_ENTRIES,
 };
-use support::{grammar, refused};
+use support::{bytes_of, grammar, refused};
 
 /// S→S a; S→a
 const LEFT_RECURSION: [u8; 7] = [128, 2, 128, 1, 128, 1, 1];
@@ -14,17 +14,15 @@ const LEFT_RECURSION: [u8; 7] = [128, 2, 128, 1, 128, 1, 1];
 /// Terminals, nonterminals, rules, Q, and the size if the verdict is unambiguous, else the two strings.
 type OnFile = (&'static str, &'static str, &'static str, usize, Result<usize, &'static str>);
 
-/// Document 01's "Grammars on file" and document 02's, with the size of the row of 17 states and the strings of the potential ones,
-/// and the report of each.
+/// Document 01's "Grammars on file" with a sentence, and document 02's, with the size of the row of 17 states and the strings of the
+/// potential ones, and the report of each.
 #[test]
 fn grammars_on_file() {
-    let rows: [OnFile; 11] = [
-        ("", "S", "", 4, Ok(1)),
+    let rows: [OnFile; 9] = [
         ("", "S", "S:", 5, Ok(10)),
         ("a", "S", "S: a", 6, Ok(11)),
         ("a", "S", "S: S a;S: a", 9, Ok(24)),
         ("a,b", "S", "S: a S b;S:", 9, Ok(30)),
-        ("", "S", "S: S", 6, Ok(1)),
         ("a", "S", "S: S;S: a", 8, Err("left=(0 S )0\nright=(0 (1 S )1 )0\n")),
         ("a", "S", "S: a S a;S: a", 10, Err("left=(0 (2 a )2 a )1 )0\nright=(0 (1 a (2 a )2 )0\n")),
         ("", "S,A,B", "S: A;S: B;A:;B:", 10, Err("left=(0 (2 (4 )4 )2 )0\nright=(0 (1 (3 )3 )1 )0\n")),
@@ -32,19 +30,38 @@ fn grammars_on_file() {
         ("a", "S,A", "S: a;S: A;A: A", 10, Ok(11)),
     ];
     for (terminals, nonterminals, rules, states, found) in rows {
-        let rules: String = rules.split_terminator(';').map(|rule| format!("rule={rule}\n")).collect();
-        let text = format!("terminals={terminals}\nnonterminals={nonterminals}\n{rules}");
+        let text = text_of(terminals, nonterminals, rules);
         let expected = match found {
             Ok(size) => format!("states={states}\nverdict=unambiguous\nreached={size}\n"),
             Err(strings) => format!("states={states}\nverdict=potential\n{strings}"),
         };
-        let mut out = vec![0; MAX_REPORT_BYTES];
-        let length = ambiguity::report(text.as_bytes(), &mut out).unwrap();
-        assert_eq!(std::str::from_utf8(&out[..length]).unwrap(), expected, "{text}");
+        assert_eq!(report_of(&text), expected, "{text}");
         search_text(text.as_bytes(), states, found.ok());
         if let Err(lines) = found {
             strings_of(text.as_bytes(), lines);
         }
+    }
+}
+
+/// Grammar text with these rules, as `S: a;S:`.
+fn text_of(terminals: &str, nonterminals: &str, rules: &str) -> String {
+    let rules: String = rules.split_terminator(';').map(|rule| format!("rule={rule}\n")).collect();
+    format!("terminals={terminals}\nnonterminals={nonterminals}\n{rules}")
+}
+
+fn report_of(text: &str) -> String {
+    let mut out = vec![0; MAX_REPORT_BYTES];
+    let length = ambiguity::report(text.as_bytes(), &mut out).unwrap();
+    String::from_utf8(out[..length].to_vec()).unwrap()
+}
+
+/// The two rows without a sentence: no rules, and S→S.
+#[test]
+fn grammars_on_file_without_a_sentence() {
+    for rules in ["", "S: S"] {
+        let text = text_of("", "S", rules);
+        assert_eq!(report_of(&text), "refused=19\nat=0\n");
+        assert_eq!(Grammar::read(text.as_bytes()).map(|_| ()), refused(Cause::NoSentence, 0));
     }
 }
 
@@ -122,7 +139,7 @@ fn tables() {
     let over = [long_rules(19), vec![128, 5, 1, 1, 1, 1, 1]].concat();
     let cases: [Checked; 17] = [
         (1, 1, LEFT_RECURSION.to_vec(), Ok(9)),
-        (0, 1, vec![], Ok(4)),
+        (0, 1, vec![], refused(Cause::NoSentence, 0)),
         (127, 127, vec![128, 0, 129, 2, 127, 254], Ok(8)),
         (128, 1, vec![], refused(Cause::OutOfRange, 0)),
         (0, usize::MAX, vec![128, 0], refused(Cause::OutOfRange, 0)),
@@ -177,12 +194,12 @@ fn search_in(table: Table, lengths: [usize; 4]) -> (Result<Verdict, Refusal>, Ve
     (answer, certificate)
 }
 
-/// The certificates of no rule, of S→a and of document 01's last row.
+/// The certificates of S→, of S→a and of document 01's last row.
 #[test]
 fn certificates_that_are_found() {
     let last = [128, 1, 129, 128, 1, 130, 129, 3, 129, 1, 1, 129, 1, 1, 130, 2, 1, 1];
     let cases = [
-        (grammar(0, 1, &[]), [4, 32, 32, 32], 1, "01000000"),
+        (grammar(0, 1, &[128, 0]), [7, 50, 50, 50], 10, "15545401000000"),
         (grammar(1, 1, &[128, 1, 1]), [9, 72, 72, 72], 11, "155021150800000000"),
         (grammar(1, 3, &last), [76, 582, 583, 584], 82, CERTIFICATE_OF_82),
     ];
@@ -195,29 +212,20 @@ fn certificates_that_are_found() {
     }
 }
 
-/// Certificates that are acceptable if every rule has moves are accepted: of no rule, of A→a and A→, of corpus/useless-unreached.
+/// A certificate that is acceptable if every rule has moves is accepted: that of corpus/useless-unreached.
 #[test]
 fn certificates_over_every_rule() {
     let unreached = [128, 2, 1, 128, 128, 0, 129, 2, 129, 129, 129, 2, 128, 2];
-    let cases = [
-        (grammar(0, 1, &[]), "05850000"),
-        (grammar(1, 2, &[129, 1, 1, 129, 0]), "05400101000000000000000000"),
-        (grammar(2, 2, &unreached), UNREACHED_OF_31),
-    ];
-    for (table, certificate) in cases {
-        let digit = |place: usize| u8::from_str_radix(&certificate[place..place + 2], 16).unwrap();
-        let bytes: Vec<u8> = (0..certificate.len()).step_by(2).map(digit).collect();
-        assert_eq!(ambiguity::check_certificate(table, &bytes), Ok(()), "{table:?}");
-    }
+    assert_eq!(ambiguity::check_certificate(grammar(2, 2, &unreached), &bytes_of(UNREACHED_OF_31)), Ok(()));
 }
 
 /// One row is too short by one, and all others are as long as they must be; or the table is at fault.
 #[test]
 fn searches_that_are_refused() {
     let cases = [
-        (grammar(0, 1, &[128, 1, 128]), [8, 72, 72, 72], Cause::BufferTooShort, 0),
+        (grammar(1, 1, &[128, 1, 1]), [8, 72, 72, 72], Cause::BufferTooShort, 0),
         (grammar(1, 1, &LEFT_RECURSION), [21, 161, 162, 162], Cause::BufferTooShort, 0),
-        (grammar(0, 1, &[128, 1, 128]), [9, 72, 71, 72], Cause::BufferTooShort, 0),
+        (grammar(1, 1, &[128, 1, 1]), [9, 72, 71, 72], Cause::BufferTooShort, 0),
         (grammar(1, 1, &LEFT_RECURSION), [21, 162, 162, 161], Cause::BufferTooShort, 0),
         (grammar(128, 1, &[]), [0, 0, 0, 0], Cause::OutOfRange, 0),
         (grammar(1, 1, &[128, 1, 2]), [9, 72, 72, 72], Cause::CodeUndeclared, 2),

@@ -8,7 +8,7 @@ use ambiguity::{TripleRecord, Verdict};
 use support::{all_steps, Cases, Comparison, Lent};
 
 /// The causes of a table that is refused.
-const TABLE_CAUSES: [usize; 8] = [1, 2, 3, 4, 5, 6, 7, 8];
+const TABLE_CAUSES: [usize; 9] = [1, 2, 3, 4, 5, 6, 7, 8, 19];
 
 fn whole(line: &str) -> &str {
     line
@@ -239,39 +239,39 @@ fn step_records() {
 
 #[test]
 fn certificate_check() {
-    let causes = [1, 2, 3, 4, 5, 6, 7, 8, 9, 10, 11, 12, 13];
+    let causes = [1, 2, 3, 4, 5, 6, 7, 8, 9, 10, 11, 12, 13, 19];
     comparison("certificates", "certificate_cases.py", &causes).agrees(certificate_line);
 }
 
 #[test]
 fn witness_check() {
-    comparison("witnesses", "witness_cases.py", &[1, 2, 3, 4, 5, 6, 7, 8, 15]).agrees(witness_line);
+    comparison("witnesses", "witness_cases.py", &[1, 2, 3, 4, 5, 6, 7, 8, 15, 19]).agrees(witness_line);
 }
 
 #[test]
 fn witness_check_over_records() {
-    comparison("records", "record_cases.py", &[1, 2, 3, 4, 5, 6, 7, 8, 15]).agrees(record_line);
+    comparison("records", "record_cases.py", &[1, 2, 3, 4, 5, 6, 7, 8, 15, 19]).agrees(record_line);
 }
 
 #[test]
 fn search() {
-    comparison("searches", "search_cases.py", &[1, 2, 3, 4, 5, 6, 7, 8, 14]).agrees(search_line);
+    comparison("searches", "search_cases.py", &[1, 2, 3, 4, 5, 6, 7, 8, 14, 19]).agrees(search_line);
 }
 
 #[test]
 fn search_of_the_corpus() {
-    comparison("corpus", "corpus_cases.py", &[]).agrees(search_line);
+    comparison("corpus", "corpus_cases.py", &[19]).agrees(search_line);
 }
 
 #[test]
 fn reader() {
-    let causes = [1, 4, 6, 7, 8, 14, 16, 17, 18];
+    let causes = [1, 4, 6, 7, 8, 14, 16, 17, 18, 19];
     Comparison { verb: "read-", ..comparison("reads", "text_cases.py", &causes) }.agrees(read_line);
 }
 
 #[test]
 fn writer() {
-    let causes = [1, 2, 3, 4, 5, 6, 7, 8, 14, 16, 18];
+    let causes = [1, 2, 3, 4, 5, 6, 7, 8, 14, 16, 18, 19];
     Comparison { verb: "write-", ..comparison("writes", "text_cases.py", &causes) }.agrees(write_line);
 }
 
@@ -282,6 +282,6 @@ fn report() {
 
 #[test]
 fn reading_back() {
-    let grammar_causes = &[1, 4, 6, 7, 8, 16, 17, 18];
+    let grammar_causes = &[1, 4, 6, 7, 8, 16, 17, 18, 19];
     Comparison { grammar_causes, ..comparison("backs", "back_cases.py", &[14, 16, 17]) }.agrees(back_line);
 }

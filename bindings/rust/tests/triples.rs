@@ -15,11 +15,10 @@ const CYCLE: [u8; 6] = [128, 1, 128, 128, 1, 1];
 
 #[test]
 fn steps() {
-    let cases: [(usize, &[u8], [usize; 3], &str); 10] = [
+    let cases: [(usize, &[u8], [usize; 3], &str); 9] = [
         (1, LEFT_RECURSION, [1, 3, 4], "records=3 1,3,4,-,o1 1,1,4,c0,- 1,3,7,-,o2"),
         (1, LEFT_RECURSION, [0, 4, 0], "records=3 0,4,0,o1,- 0,4,2,-,o0 0,7,0,o2,-"),
         (1, LEFT_RECURSION, [1, 4, 4], "records=4 1,4,4,o1,- 1,4,4,-,o1 1,4,7,-,o2 1,7,4,o2,-"),
-        (0, &[], [0, 0, 0], "records=0"),
         (0, &[128, 0], [0, 2, 2], "records=3 0,2,4,-,o1 0,3,3,s128,s128 0,4,2,o1,-"),
         (0, &[128, 0], [1, 0, 3], "records=2 1,0,1,-,c0 1,2,3,o0,-"),
         (0, &[128, 0], [0, 3, 4], "records=1 1,1,3,c0,c1"),

@@ -11,7 +11,7 @@ const CODES: usize = Code::MAX as usize + 1;
 pub type Marks = [bool; CODES];
 
 /// By code, whether a symbol has a sentence: terminals have, and nonterminals with a finite tree.
-pub fn productive(grammar: &Grammar) -> Marks {
+fn productive(grammar: &Grammar) -> Marks {
     let mut marks = [false; CODES];
     marks[1..=grammar.terminals().len()].fill(true);
     loop {
@@ -115,7 +115,7 @@ mod tests {
     fn live() {
         let grammar = read("terminals=a\nnonterminals=S,A,B\nrule=S: a\nrule=S: A\nrule=A: A\nrule=B: a\nrule=S: B A\n");
         assert_eq!(live_rules(&grammar), [true, false, false, false, false]);
-        assert_eq!(live_rules(&read("terminals=\nnonterminals=S\nrule=S: S\n")), [false]);
+        assert_eq!(live_rules(&read("terminals=\nnonterminals=S\nrule=S: S\nrule=S:\n")), [true, true]);
     }
 
     #[test]

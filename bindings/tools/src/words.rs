@@ -82,6 +82,15 @@ pub fn one_of(names: &[String]) -> String {
     }
 }
 
+/// Names that all hold: `'a', 'b' and 'c'`.
+pub fn all_of(names: &[String]) -> String {
+    match names {
+        [] => String::new(),
+        [name] => name.clone(),
+        [front @ .., last] => format!("{} and {last}", front.join(", ")),
+    }
+}
+
 /// Layer, left and right of a triple's index.
 pub fn triple(grammar: &Grammar, index: usize) -> (usize, usize, usize) {
     let states = grammar.states();

@@ -6,13 +6,15 @@ use mathlib.Core.Logic.{_↔_}
 use native.Mathlib.Omega.{arith}
 use Rattle.grammar.specs.Limits.{limits}
 use Rattle.grammar.specs.Grammar.{Grammar, WellFormed}
-use Rattle.grammar.specs.Refusal.{Answer, done, refused, andThen}
+use Rattle.grammar.specs.Refusal.{Answer, done, refused, andThen, noSentence}
 use Rattle.grammar.specs.TableCheck.{checkTable, tableChecked, TableAnswer}
 use Rattle.grammar.specs.declared.TableChecked.{TableChecked}
 use Rattle.grammar.specs.declared.TableVerdict.the-variants.{Refused}
+use Rattle.grammar.specs.Live.{live-start}
 use Rattle.grammar.proofs.Live.{is-live}
 use Rattle.grammar.proofs.Answers.{then-goes, then-stops}
-use Rattle.grammar.proofs.WellFormed.{takes-only, room}
+use Rattle.grammar.proofs.WellFormed.{Taken, room}
+use Rattle.grammar.proofs.Sentence.{passes-exactly, refuses-exactly}
 use Rattle.automaton.specs.Items.{states}
 use Rattle.automaton.specs.Position.{position}
 use Rattle.automaton.specs.PositionMoves.{movesOf}
@@ -31,12 +33,12 @@ use Rattle.witness_records.specs.Records.{triples, RecordsAnswer}
 use Rattle.witness_records.specs.declared.TripleRecord.{TripleRecord}
 use Rattle.witness_records.proofs.Ranges.{entries-are, records-alike, records-inside}
 use Rattle.table_check.proofs.Callers.{passed-table, refused-table}
-use Rattle.ambiguity.proofs.Searches.{checked, regular, lists, search-theorems}
+use Rattle.ambiguity.proofs.Searches.{is-taken, checked, regular, lists, search-theorems}
 use Rattle.ambiguity.proofs.Readings.{reading-theorems, back-theorems}
 use Rattle.ambiguity.proofs.Reports.{report-theorems}
 use Rattle.ambiguity.proofs.Steps.{step-theorems}
 use Rattle.ambiguity.proofs.Texts.{text-theorems}
-use Rattle.ambiguity.specs.Entries.{Stores}
+use Rattle.ambiguity.specs.Entries.{IsTableOf, Stores}
 use Rattle.ambiguity.specs.Automata.{AutomatonTheorems}
 use Rattle.ambiguity.specs.FrontPage.{TableTheorems, WitnessTheorems, RecordTheorems, CertificateTheorems, FrontPage}
 
@@ -72,12 +74,21 @@ module _ (t n : ℕ) (table : List ℕ) where
       let w : v ≡ checkVerdict (go G) = h ∙ ap checkVerdict e in
       (λ x. a .0 (sym w ∙ x), λ x. w ∙ a .1 x)
 
+  is-table : (G : Grammar) → Taken limits t n table G → IsTableOf t n table G
+  is-table G a = record { wellFormed = a .wellFormed; terminals = a .terminals; nonterminals = a .nonterminals; stored = a .table }
+
   table-theorems : (r : TableChecked) → TableAnswer t n table r → TableTheorems t n table r
   table-theorems r e = record {
     passes = λ G s. let h : r ≡ tableChecked (done G) = e ∙ ap tableChecked (checked t n table G s) in
         (ap (λ (r : TableChecked). r .verdict) h, ap (λ (r : TableChecked). r .grammar) h);
-    passes-only = λ v. let p = passed-table t n table r e v in let a = takes-only limits room t n table (p .grammar) (p .checked) in
-        (p .grammar, record { wellFormed = a .wellFormed; terminals = a .terminals; nonterminals = a .nonterminals; stored = a .table }, p .same);
+    passes-only = λ v. let p = passed-table t n table r e v in
+        let a = passes-exactly limits room (omega arith) t n table (p .grammar) .0 (p .checked) in
+        (p .grammar, record { isTable = is-table (p .grammar) (a .0); sentence = a .1 }, p .same);
+    without = λ at. let w = refuses-exactly limits room (omega arith) t n table at in (
+      λ v. let x = w .0 (refused-table t n table r e noSentence at v) in (x .0, (x .1 .0, is-table (x .1 .0) (x .1 .1), x .1 .2)),
+      λ (z, x). ap (λ (r : TableChecked). r .verdict) (e ∙ ap tableChecked (w .1 (z, (x .0, is-taken t n table (x .0) (x .1), x .2)))),
+    );
+    rule-0-live = λ G s. live-start (s .sentence .2);
   }
 
   module _ (row : List ℕ) (v : CheckVerdict) (h : WitnessAnswer t n table row v) where
@@ -85,7 +96,7 @@ module _ (t n : ℕ) (table : List ℕ) where
     unfolding checkWitness
     accepts-witness G s =
         let a = then-accepted (λ G. checkRow (movesOf limits G) row) v h G s in
-        let b = witnesses-of (position limits G) (movesOf limits G) (regular G (s .wellFormed)) (lists G (s .wellFormed)) row in
+        let b = witnesses-of (position limits G) (movesOf limits G) (regular G (s .isTable .wellFormed)) (lists G (s .isTable .wellFormed)) row in
         (λ x. b .0 (a .0 x), λ x. a .1 (b .1 x))
 
     witness-theorems : WitnessTheorems t n table row v
@@ -93,7 +104,7 @@ module _ (t n : ℕ) (table : List ℕ) where
     witness-theorems = record {
       refused = table-first (λ G. checkRow (movesOf limits G) row) v h;
       accepted = accepts-witness;
-      potential = λ G s x. potential-reached limits G (s .wellFormed) (omega arith) .1 (witness-reached G (accepts-witness G s .0 x));
+      potential = λ G s x. potential-reached limits G (s .isTable .wellFormed) (omega arith) .1 (witness-reached G (accepts-witness G s .0 x));
     }
 
   module _ (entries : List TripleRecord) (v : CheckVerdict) (h : RecordsAnswer t n table entries v) where
@@ -103,10 +114,10 @@ module _ (t n : ℕ) (table : List ℕ) where
       refused = table-first (λ G. checkRow (movesOf limits G) (map (entryOf (states G)) (triples entries))) v h;
       alike = λ G s r w k. h ∙ ap checkVerdict (records-alike t n table G entries (checked t n table G s) r) ∙ sym k;
       accepted = λ G s. let M = movesOf limits G in
-          let R = regular G (s .wellFormed) in
+          let R = regular G (s .isTable .wellFormed) in
           let row = map (entryOf (states G)) (triples entries) in
           let a = then-accepted (λ G. checkRow (movesOf limits G) (map (entryOf (states G)) (triples entries))) v h G s in
-          let b = witnesses-of (position limits G) M R (lists G (s .wellFormed)) row in (
+          let b = witnesses-of (position limits G) M R (lists G (s .isTable .wellFormed)) row in (
             λ x. let r = records-inside M R entries (witness-exactly M R row .0 (a .0 x)) in
                 (r, subst (Witness (position limits G)) (entries-are (states G) entries r) (b .0 (a .0 x))),
             λ (r, w). a .1 (b .1 (subst (Witness (position limits G)) (sym (entries-are (states G) entries r)) w)),
@@ -118,7 +129,7 @@ module _ (t n : ℕ) (table : List ℕ) where
     unfolding checkCertificate
     accepts-certificate G s =
         let a = then-accepted (λ G. checkBytes (movesOf limits G) bytes) v h G s in
-        let b = certificates-of (position limits G) (movesOf limits G) (regular G (s .wellFormed)) (lists G (s .wellFormed)) bytes in
+        let b = certificates-of (position limits G) (movesOf limits G) (regular G (s .isTable .wellFormed)) (lists G (s .isTable .wellFormed)) bytes in
         (λ x. b .0 (a .0 x), λ x. a .1 (b .1 x))
 
     certificate-theorems : CertificateTheorems t n table bytes v
@@ -126,9 +137,9 @@ module _ (t n : ℕ) (table : List ℕ) where
     certificate-theorems = record {
       refused = table-first (λ G. checkBytes (movesOf limits G) bytes) v h;
       accepted = accepts-certificate;
-      one-tree = λ G s x. one-tree limits G (s .wellFormed) (omega arith) _ (accepts-certificate G s .0 x .acceptable);
+      one-tree = λ G s x. one-tree limits G (s .isTable .wellFormed) (omega arith) _ (accepts-certificate G s .0 x .acceptable);
       unambiguous = λ G s x p. end-not-reached (position limits G) (accepts-certificate G s .0 x .acceptable)
-          (potential-reached limits G (s .wellFormed) (omega arith) .0 p);
+          (potential-reached limits G (s .isTable .wellFormed) (omega arith) .0 p);
       former = λ G s c. accepts-certificate G s .1 (still-accepted limits G bytes c);
     }
 

@@ -14,7 +14,8 @@ use Rattle.grammar.specs.Grammar.{Grammar, WellFormed}
 use Rattle.grammar.specs.Table.{encode}
 use Rattle.grammar.specs.Refusal.{Answer, done, refused, bufferTooShort}
 use Rattle.grammar.proofs.Answers.{then-goes, then-stops, unless-holds, unless-fails, both-and}
-use Rattle.grammar.proofs.WellFormed.{takes-only, room}
+use Rattle.grammar.proofs.WellFormed.{room}
+use Rattle.grammar.proofs.Sentence.{takes-only}
 use Rattle.automaton.specs.Items.{states}
 use Rattle.automaton.specs.PositionMoves.{movesOf}
 use Rattle.automaton.specs.Position.{position}

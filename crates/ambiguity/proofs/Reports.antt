@@ -18,9 +18,9 @@ use Rattle.triple_laws.proofs.Explore.{is-element}
 use Rattle.text.specs.Promise.{afterwards}
 use Rattle.search.specs.Promise.{isPotential}
 use Rattle.text.specs.Numbers.{decimal}
-use Rattle.text.specs.Read.{Source, symbolNames}
+use Rattle.text.specs.Read.{Source, symbolNames, grammarOf}
 use Rattle.text.specs.Rules.{checkText}
-use Rattle.report.specs.Report.{judge, grammarOf, line, statesIs, verdictIs, reachedIs, unambiguous, potential, witnessLines, verdictLines, printed, reportOf, reportSize, reported, Reports}
+use Rattle.report.specs.Report.{judge, line, statesIs, verdictIs, reachedIs, unambiguous, potential, witnessLines, verdictLines, printed, reportOf, reportSize, reported, Reports}
 use Rattle.report.specs.declared.Reported.{Reported}
 use Rattle.report.specs.declared.Reported.the-variants.{Written}
 use Rattle.report.proofs.Strings.{witness-valid}

@@ -13,7 +13,8 @@ use Rattle.grammar.specs.Grammar.{Grammar, WellFormed}
 use Rattle.grammar.specs.Refusal.{Answer, done, refused, refuseUnless, bufferTooShort}
 use Rattle.grammar.specs.TableCheck.{checkTable}
 use Rattle.grammar.proofs.Answers.{unless-holds, unless-fails, unless-done, then-done, then-goes, then-stops}
-use Rattle.grammar.proofs.WellFormed.{passes-exactly, room}
+use Rattle.grammar.proofs.WellFormed.{Taken, room}
+use Rattle.grammar.proofs.Sentence.{takes-only, passes-exactly}
 use Rattle.automaton.specs.Strings.{Potential, Unambiguous}
 use Rattle.automaton.specs.Items.{states}
 use Rattle.automaton.specs.Position.{position}
@@ -44,7 +45,7 @@ use Rattle.search.specs.Promise as promise
 use Rattle.search.specs.Promise.{Lent, isPotential, isEnough, searchable, Told, Answers, Searches}
 use Rattle.search.specs.declared.SearchVerdict.{SearchVerdict}
 use Rattle.search.specs.declared.SearchVerdict.the-variants as search
-use Rattle.ambiguity.specs.Entries.{Stores}
+use Rattle.ambiguity.specs.Entries.{IsTableOf, Stores}
 use Rattle.ambiguity.specs.Searches.{ListsHeld, Certifies, VerdictTheorems, SearchTheorems}
 
 -- what is written over the front of a row
@@ -66,8 +67,12 @@ same-grammar : (G H : Grammar) → _≡_ {A = Answer Grammar} (done G) (done H) 
 same-grammar G H e = cc
 
 -- a stored table passes
+-- as the laws of the table check have it
+pub is-taken : (t n : ℕ) (table : List ℕ) (G : Grammar) → IsTableOf t n table G → Taken limits t n table G
+is-taken t n table G s = record { wellFormed = s .wellFormed; terminals = s .terminals; nonterminals = s .nonterminals; table = s .stored }
+
 pub checked : (t n : ℕ) (table : List ℕ) (G : Grammar) → Stores t n table G → checkTable limits t n table ≡ done G
-checked t n table G s = passes-exactly limits room t n table G .1 (s .wellFormed, s .terminals, s .nonterminals, s .stored)
+checked t n table G s = passes-exactly limits room (omega arith) t n table G .1 (is-taken t n table G (s .isTable), s .sentence)
 
 module _ (G : Grammar) (W : WellFormed limits G) where
   abbrev M : Moves
@@ -144,10 +149,10 @@ module _ (t n : ℕ) (table : List ℕ) where
   module _ (G : Grammar) (s : Stores t n table G) where
     -- unambiguous with the certificate of the smallest set
     certifies : (r : SearchVerdict) → isPotential (movesOf limits G) ≡ false → r ≡ search.Unambiguous (size (movesOf limits G))
-        → Certifies t n table G r (bytes G (s .wellFormed))
+        → Certifies t n table G r (bytes G (s .isTable .wellFormed))
     unfolding bytes checkCertificate
     certifies r e c =
-        let W = s .wellFormed in
+        let W = s .isTable .wellFormed in
         let small : SmallestCertificate (position limits G) (bytes G W) = smallest-of (position limits G) (movesOf limits G) (regular G W) (lists G W) (lacks G W e) in
         record {
           verdict = c;
@@ -168,30 +173,30 @@ module _ (t n : ℕ) (table : List ℕ) where
       certified e c =
           subst (Certifies t n table G r)
           (sym (ap (take (byteCount (states G))) (c .certificate)
-          ∙ front-of (bytes G (s .wellFormed)) (before .certificate) (byteCount (states G)) (bytes-length (smallest (movesOf limits G)) 0 (byteCount (states G)))))
+          ∙ front-of (bytes G (s .isTable .wellFormed)) (before .certificate) (byteCount (states G)) (bytes-length (smallest (movesOf limits G)) 0 (byteCount (states G)))))
           (certifies r e (c .verdict))
 
       verdict-theorems : (b : Bool) → isPotential (movesOf limits G) ≡ b → Told b (movesOf limits G) before r after
           → VerdictTheorems t n table G r (take (byteCount (states G)) (after .certificate))
       verdict-theorems true e w =
-          let p = parting G (s .wellFormed) e in
+          let p = parting G (s .isTable .wellFormed) e in
           let k : (k : ℕ) × (r ≡ search.Potential k) = (length (shortest (movesOf limits G)), w .verdict) in
           record {
             potential = (λ q. p, λ q. k);
             otherwise = λ u. absurd (u p);
             one-of-two = inl k;
-            certificates = λ l a. absurd (lacks-of (position limits G) (movesOf limits G) (regular G (s .wellFormed)) (lists G (s .wellFormed)) l a
+            certificates = λ l a. absurd (lacks-of (position limits G) (movesOf limits G) (regular G (s .isTable .wellFormed)) (lists G (s .isTable .wellFormed)) l a
                 (is-element (index (states G) 1 1 1) (smallest (movesOf limits G)) .0 e));
             one-tree = λ n q. no-two n (length (shortest (movesOf limits G))) (sym q ∙ w .verdict);
           }
       verdict-theorems false e c =
           let k = certified e c in
           record {
-            potential = (λ (n, q). no-two (size (movesOf limits G)) n (sym (c .verdict) ∙ q), λ q. absurd (not-parting G (s .wellFormed) e q));
+            potential = (λ (n, q). no-two (size (movesOf limits G)) n (sym (c .verdict) ∙ q), λ q. absurd (not-parting G (s .isTable .wellFormed) e q));
             otherwise = λ u. k;
             one-of-two = inr k;
             certificates = λ l a. k;
-            one-tree = λ n q. one-tree limits G (s .wellFormed) (omega arith) _ (k .smallest .acceptable .acceptable);
+            one-tree = λ n q. one-tree limits G (s .isTable .wellFormed) (omega arith) _ (k .smallest .acceptable .acceptable);
           }
 
   module _ (before : Lent) (r : SearchVerdict) (after : Lent) (h : Searches t n table before r after) where
@@ -225,7 +230,7 @@ module _ (t n : ℕ) (table : List ℕ) where
 
     row-written : (G : Grammar) → searchable limits t n table before ≡ done G → Answers (done G) before r after
         → (k : ℕ) → r ≡ search.Potential k → Shortest G k
-    row-written G e a k q = written G (passes-exactly limits room t n table G .0 (passed G e) .0) (isPotential (movesOf limits G)) refl a k q
+    row-written G e a k q = written G (takes-only limits room t n table G (passed G e) .wellFormed) (isPotential (movesOf limits G)) refl a k q
 
     -- the witness check accepts it
     witness-accepted : (o : Answer Grammar) → searchable limits t n table before ≡ o → Answers o before r after
@@ -233,7 +238,7 @@ module _ (t n : ℕ) (table : List ℕ) where
     unfolding checkWitness
     witness-accepted (refused cause at) e a k q v w = no-refusal cause at k (sym (a .0) ∙ q)
     witness-accepted (done G) e a k q v w =
-        let W = passes-exactly limits room t n table G .0 (passed G e) .0 in
+        let W = takes-only limits room t n table G (passed G e) .wellFormed in
         w ∙ ap checkVerdict (then-goes (checkTable limits t n table) (λ G. checkRow (movesOf limits G) (take k (after .witness))) G (passed G e)
         ∙ witnesses-of (position limits G) (movesOf limits G) (regular G W) (lists G W) (take k (after .witness)) .1 (row-written G e a k q .0 .witness))
 

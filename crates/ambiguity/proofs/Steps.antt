@@ -201,7 +201,7 @@ module _ (t n : ℕ) (table : List ℕ) (f p q : ℕ) (ask : ℕ → StepAnswer)
   record-at G s k u = h k u ∙ ap stepAnswer (then-goes (checkTable limits t n table) (λ G. done (nthRecord (movesOf limits G) f p q k)) G (checked t n table G s))
 
   usize-at : (G : Grammar) → Stores t n table G → (k : ℕ) → k < length (records (movesOf limits G) f p q) → Usize k
-  usize-at G s k i = place-usize (movesOf limits G) (regular G (s .wellFormed)) (s .wellFormed .size) f p q k i
+  usize-at G s k i = place-usize (movesOf limits G) (regular G (s .isTable .wellFormed)) (s .isTable .wellFormed .size) f p q k i
 
   pub step-theorems : StepTheorems t n table f p q ask
   unfolding nthStep
@@ -210,17 +210,17 @@ module _ (t n : ℕ) (table : List ℕ) (f p q : ℕ) (ask : ℕ → StepAnswer)
         ∙ ap stepAnswer (then-stops (checkTable limits t n table) (λ G. done (nthRecord (movesOf limits G) f p q k)) cause at (refused-table t n table r e cause at d));
     outside = λ G s out k u. let l = records (movesOf limits G) f p q in
         record-at G s k u ∙ ap recordAnswer (nth-past l k (omega (arith, ap (length {A = Step}) (none-outside (movesOf limits G) f p q out))));
-    exact = λ G s hf hp hq x. let r = records-steps G (s .wellFormed) f p q hf hp hq x in (
+    exact = λ G s hf hp hq x. let r = records-steps G (s .isTable .wellFormed) f p q hf hp hq x in (
       λ (k, u, e). r .0 (nth-in (records (movesOf limits G) f p q) k x (answer-some _ x (sym (record-at G s k u) ∙ e))),
       λ y. let m = in-nth (records (movesOf limits G) f p q) x (r .1 y) in
           let u = usize-at G s (m .0) (m .1) in
           (m .0, u, record-at G s (m .0) u ∙ ap recordAnswer (m .2)),
     );
-    once = λ G s k l x u v e w. nth-once (records (movesOf limits G) f p q) (records-distinct (movesOf limits G) (regular G (s .wellFormed)) f p q) k l x
+    once = λ G s k l x u v e w. nth-once (records (movesOf limits G) f p q) (records-distinct (movesOf limits G) (regular G (s .isTable .wellFormed)) f p q) k l x
         (answer-some _ x (sym (record-at G s k u) ∙ e)) (answer-some _ x (sym (record-at G s l v) ∙ w));
     count = λ G s. let l = records (movesOf limits G) f p q in (
       length l,
-      at-most (movesOf limits G) (regular G (s .wellFormed)) f p q,
+      at-most (movesOf limits G) (regular G (s .isTable .wellFormed)) f p q,
       λ k j. let x = nth-below l k j in (x .0, record-at G s k (usize-at G s k j) ∙ ap recordAnswer (x .1)),
       λ k j u. record-at G s k u ∙ ap recordAnswer (nth-past l k j),
     );

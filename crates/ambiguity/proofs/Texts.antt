@@ -1,21 +1,21 @@
 -- What follows from the promises of reader and writer. Assumes nothing.
 use Prim.Native.Nat.{ℕ, _+_, _≤_}
 use mathlib.Core.Path.{_≡_, ap, sym, subst, _∙_}
-use mathlib.Core.List.{List, [], _++_}
+use mathlib.Core.Bool.{Bool, true, false}
+use mathlib.Core.List.{List, _++_}
 use native.Mathlib.Omega.{arith}
 use lib.ListN.{length, take, drop, length-append}
 use lib.Seq.{take-at}
 use Rattle.grammar.specs.Limits.{limits}
 use Rattle.grammar.specs.Table.{encode}
-use Rattle.grammar.specs.Refusal.{Answer, done, refused, andThen}
+use Rattle.grammar.specs.Refusal.{Answer, done, refused, refuseUnless, andThen, bufferTooShort, noSentence}
 use Rattle.grammar.specs.TableCheck.{checkTable, tableChecked, TableAnswer}
-use Rattle.grammar.proofs.Steps.{grammarOf}
 use Rattle.grammar.specs.declared.TableChecked.{TableChecked}
 use Rattle.grammar.specs.declared.TableVerdict.the-variants.{Passed, Refused}
-use Rattle.grammar.proofs.Answers.{then-goes, then-stops, then-done}
+use Rattle.grammar.proofs.Answers.{no-answer, then-goes, then-stops}
 use Rattle.table_check.proofs.Callers.{passed-table, refused-table}
-use Rattle.text.specs.Read.{Source, symbolNames, readText}
-use Rattle.text.specs.Rules.{admit, checkText, readInto}
+use Rattle.text.specs.Read.{Source, symbolNames, grammarOf, readText}
+use Rattle.text.specs.Rules.{lastTests, checkText, readInto}
 use Rattle.text.specs.Print.{gather, writeInto}
 use Rattle.text.specs.Promise.{nameStarts, nameLengths, textRead, textWritten, afterwards, ReadsText, WritesText}
 use Rattle.text.specs.declared.TextRead.{TextRead}
@@ -25,10 +25,10 @@ use Rattle.text.specs.declared.TextWritten.{TextWritten}
 use Rattle.text.specs.declared.TextWritten.the-variants as writer
 use Rattle.text.specs.declared.TextWritten.the-variants.{Written}
 use Rattle.text.proofs.Spans.{length-lengths, length-name-starts}
-use Rattle.text.proofs.Admit.{read-admit, admit-refuses, Checked, text-checked}
+use Rattle.text.proofs.Admit.{read-tests, Checked, text-checked}
 use Rattle.text.proofs.Gather.{gather-front, gather-read}
 use Rattle.text.proofs.RoundTrip.{apart, reads-into, into-checked, limits-short}
-use Rattle.text.proofs.Promises.{written-as, read-write, write-read, read-as, after-done}
+use Rattle.text.proofs.Promises.{written-as, refuses-as, written-passes, read-write, write-read, read-as, after-done}
 use Rattle.ambiguity.specs.Texts.{TextTheorems}
 
 short : (t n : ℕ) (table bytes starts lengths out : List ℕ) (m : ℕ) (out′ : List ℕ)
@@ -37,20 +37,36 @@ short t n table bytes starts lengths out m out′ w =
     let a = written-as _ m (w .answer) in
     subst (λ m. m ≤ limits .maxText) (a .2) (limits-short t n table bytes starts lengths (length out) (a .0) (a .1))
 
+-- a text that passes is refused with nothing but 14
+only-14 : (e a b : ℕ) (text : List ℕ) (s : Source) → checkText limits text ≡ done s → (at : ℕ) → ¬ (readInto limits e a b text ≡ refused noSentence at)
+unfolding readInto
+only-14 e a b text s c at h = go _ (sym (then-goes (checkText limits text) _ s c) ∙ h)
+  where
+    go : (ok : Bool) → ¬ (refuseUnless bufferTooShort 0 ok (done s) ≡ refused noSentence at)
+    go true h = unfold refuseUnless in no-answer (sym h)
+    go false h = unfold refuseUnless in absurd (let z : bufferTooShort ≡ noSentence = cc in omega arith)
+
+never-19 : (t n : ℕ) (table bytes starts lengths out : List ℕ) (m : ℕ) (out′ table₂ starts₂ lengths₂ : List ℕ) (r : TextRead)
+    (table′ starts′ lengths′ : List ℕ)
+    → WritesText t n table bytes starts lengths out (Written m) out′
+    → ReadsText (take m out′) table₂ starts₂ lengths₂ r table′ starts′ lengths′ → (at : ℕ) → ¬ (r ≡ reader.Refused noSentence at)
+never-19 t n table bytes starts lengths out m out′ table₂ starts₂ lengths₂ r table′ starts′ lengths′ w p at e =
+    let k = written-passes t n table bytes starts lengths out m out′ w in
+    only-14 (length table₂) (length starts₂) (length lengths₂) (take m out′) (k .0) (k .1) at (refuses-as _ noSentence at (sym e ∙ p .answer))
+
 module _ (text : List ℕ) (s : Source) (d : readText limits text ≡ done s) (r : TableChecked)
     (h : TableAnswer (length (s .terminals)) (length (s .nonterminals)) (encode (s .rules)) r)
     (table starts lengths : List ℕ) (v : TextRead) (table′ starts′ lengths′ : List ℕ)
     (p : ReadsText text table starts lengths v table′ starts′ lengths′) where
   abbrev rest : Source → Answer Source
-  rest s = andThen (admit limits (limits .maxRules) [] 0 (s .rules)) (λ rules. done s)
+  rest s = andThen (lastTests limits s) (λ G. done s)
 
   last-tests : (cause at : ℕ) → r .verdict ≡ Refused cause at → v ≡ reader.Refused cause at
   unfolding readInto checkText
   last-tests cause at e =
       let c = refused-table (length (s .terminals)) (length (s .nonterminals)) (encode (s .rules)) r h cause at e in
-      let a = admit-refuses limits apart text s cause at d .1 c in
       let o : checkText limits text ≡ refused cause at
-      = then-goes (readText limits text) rest s d ∙ then-stops (admit limits (limits .maxRules) [] 0 (s .rules)) (λ rules. done s) cause at a in
+      = then-goes (readText limits text) rest s d ∙ then-stops (lastTests limits s) (λ G. done s) cause at (sym (read-tests limits apart text s d) ∙ c) in
       p .answer ∙ ap textRead (then-stops (checkText limits text) _ cause at o)
 
   reads : r .verdict ≡ Passed → length (encode (s .rules)) ≤ length table → length (symbolNames s) ≤ length starts
@@ -58,9 +74,8 @@ module _ (text : List ℕ) (s : Source) (d : readText limits text ≡ done s) (r
   unfolding checkText
   reads e i j k =
       let c = passed-table (length (s .terminals)) (length (s .nonterminals)) (encode (s .rules)) r h e in
-      let x = then-done (admit limits (limits .maxRules) [] 0 (s .rules)) _ _ (sym (read-admit limits apart text s d) ∙ c .checked) in
       let o : checkText limits text ≡ done s
-      = then-goes (readText limits text) rest s d ∙ then-goes (admit limits (limits .maxRules) [] 0 (s .rules)) (λ rules. done s) (x .0) (x .1) in
+      = then-goes (readText limits text) rest s d ∙ then-goes (lastTests limits s) (λ G. done s) (c .grammar) (sym (read-tests limits apart text s d) ∙ c .checked) in
       p .answer ∙ ap textRead (reads-into limits (length table) (length starts) (length lengths) text s o i j k)
 
 module _ (text table starts lengths : List ℕ) (t n e q : ℕ) (table′ starts′ lengths′ : List ℕ)
@@ -92,7 +107,7 @@ module _ (text table starts lengths : List ℕ) (t n e q : ℕ) (table′ starts
   -- it passes
   passes-on : (c : TableChecked) → TableAnswer t n (take e table′) c → c .verdict ≡ Passed
   passes-on c h =
-      let y : checkTable limits t n (take e table′) ≡ done (grammarOf (length (source .terminals)) (length (source .nonterminals)) (source .rules))
+      let y : checkTable limits t n (take e table′) ≡ done (grammarOf source)
       = (λ d. checkTable limits (sym (counts .0) d) (sym (counts .1) d) (table-front d)) ∙ source-checked .table in
       ap (λ (r : TableChecked). r .verdict) (h ∙ ap tableChecked y)
 
@@ -133,6 +148,7 @@ pub text-theorems : TextTheorems
 text-theorems = record {
   text-again = read-write;
   tables-again = write-read;
+  never-19 = never-19;
   short = short;
   last-tests = last-tests;
   reads = reads;

@@ -3,7 +3,7 @@
 -- specs/Searches.antt, specs/Texts.antt, specs/Reports.antt and specs/Readings.antt have what follows for the search, for texts, for
 -- the program and for the two lines of a witness, specs/Automata.antt whose moves the promises compute with, proofs/FrontPage.antt
 -- the value of the record. Source: document 01 and document 02's requests; README.md has the demands. Of demand 1, that a refusal is
--- the first in document 01's order is in the definitions that the promises equal.
+-- the first in the documents' order is in the definitions that the promises equal.
 -- Assumes nothing.
 use Prim.Native.Nat.{ℕ, _+_, _≤_, _<_}
 use mathlib.Core.Path.{_≡_}
@@ -13,6 +13,7 @@ use Rattle.grammar.specs.Basics.{Mem}
 use Rattle.grammar.specs.Limits.{limits}
 use Rattle.grammar.specs.Grammar.{Grammar, WellFormed}
 use Rattle.grammar.specs.Tree.{HasTwoTrees}
+use Rattle.grammar.specs.Live.{HasSentence, Live}
 use Rattle.grammar.specs.Record.{recordOf}
 use Rattle.grammar.specs.declared.TableChecked.{TableChecked}
 use Rattle.grammar.specs.declared.TableVerdict.the-variants.{Passed, Refused}
@@ -34,14 +35,14 @@ use Rattle.steps.specs.declared.StepAnswer.{StepAnswer}
 use Rattle.steps.specs.declared.StepAnswer.the-variants as step
 use Rattle.search.specs.Promise.{Lent, Searches}
 use Rattle.search.specs.declared.SearchVerdict.{SearchVerdict}
-use Rattle.grammar.specs.Refusal.{done}
+use Rattle.grammar.specs.Refusal.{done, noSentence}
 use Rattle.text.specs.Read.{Source}
 use Rattle.text.specs.Rules.{checkText}
 use Rattle.readings.specs.Promise.{ReadsBack}
 use Rattle.readings.specs.declared.ReadBack.{ReadBack}
 use Rattle.report.specs.Report.{Reports}
 use Rattle.report.specs.declared.Reported.{Reported}
-use Rattle.ambiguity.specs.Entries.{Usize, Stores, StepAnswers}
+use Rattle.ambiguity.specs.Entries.{Usize, IsTableOf, Stores, StepAnswers}
 use Rattle.ambiguity.specs.Searches.{SearchTheorems}
 use Rattle.ambiguity.specs.Texts.{TextTheorems}
 use Rattle.ambiguity.specs.Readings.{ReadingTheorems, BackTheorems}
@@ -50,9 +51,14 @@ use Rattle.ambiguity.specs.Automata.{AutomatonTheorems}
 
 module _ (t n : ℕ) (table : List ℕ) where
   pub record TableTheorems (r : TableChecked) : Type 0 where
-    -- passed exactly if the table is that of a well-formed grammar, and then with that grammar's record
+    -- passed exactly if the table is that of a well-formed grammar with a sentence, and then with that grammar's record
     pub passes : (G : Grammar) → Stores t n table G → (r .verdict ≡ Passed) × (r .grammar ≡ recordOf G)
     pub passes-only : r .verdict ≡ Passed → (G : Grammar) × Stores t n table G × (r .grammar ≡ recordOf G)
+    -- document 02, [4]: refused with 19, at 0, exactly if it is that of a well-formed grammar without one
+    pub without : (at : ℕ) → (r .verdict ≡ Refused noSentence at)
+        ↔ ((at ≡ 0) × ((G : Grammar) × IsTableOf t n table G × ¬ HasSentence limits G))
+    -- so rule 0 is live in every grammar that passes
+    pub rule-0-live : (G : Grammar) → Stores t n table G → Live limits G 0
 
   pub record StepTheorems (f p q : ℕ) (ask : ℕ → StepAnswer) : Type 0 where
     -- the faults of the table come first, as the table check gives them
@@ -96,7 +102,8 @@ module _ (t n : ℕ) (table : List ℕ) where
     pub one-tree : (G : Grammar) → Stores t n table G → v ≡ check.Accepted → (sentence : List ℕ) → ¬ HasTwoTrees limits G sentence
     -- demand 2: nor do two strings part
     pub unambiguous : (G : Grammar) → Stores t n table G → v ≡ check.Accepted → Unambiguous (position limits G)
-    -- document 02, [3]: what was an acceptable certificate while every rule had moves, document 01's automaton, is still accepted
+    -- document 02, [3]: what was an acceptable certificate of a grammar with a sentence while every rule had moves, document 01's
+    -- automaton, is still accepted; of a grammar without one it is refused with 19 (`refused`, [4])
     pub former : (G : Grammar) → Stores t n table G → AcceptableCertificate (positionOf limits G every) bytes → v ≡ check.Accepted
 
 -- whatever answers as the entries promise; and the automaton with which they are computed

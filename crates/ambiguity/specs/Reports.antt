@@ -14,7 +14,7 @@ use Rattle.automaton.specs.Position.{position}
 use Rattle.automaton.specs.PositionMoves.{movesOf}
 use Rattle.triples.specs.Smallest.{size}
 use Rattle.text.specs.Numbers.{decimal}
-use Rattle.text.specs.Read.{Source}
+use Rattle.text.specs.Read.{Source, grammarOf}
 use Rattle.report.specs.Report as report
 use Rattle.report.specs.declared.Reported.{Reported}
 use Rattle.report.specs.declared.Reported.the-variants as reported
@@ -40,4 +40,4 @@ pub record ReportTheorems (text out : List ℕ) (r : Reported) (out′ : List �
       → (r ≡ reported.Written (length (report.reportOf text))) × (out′ ≡ over (report.reportOf text) out)
   -- the lines of a text that passes the reader and the program's limits
   pub lines : (s : Source) → report.judge text ≡ done s
-      → WellFormed limits (report.grammarOf s) × ReportLines s (report.grammarOf s) (report.reportOf text)
+      → WellFormed limits (grammarOf s) × ReportLines s (grammarOf s) (report.reportOf text)

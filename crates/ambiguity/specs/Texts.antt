@@ -1,5 +1,5 @@
--- What follows from the promises of the reader and the writer, whatever the input. Source: document 01; README.md has the
--- demands. Assumes nothing.
+-- What follows from the promises of the reader and the writer, whatever the input. Source: document 01; document 02, [4]; README.md
+-- has the demands. Assumes nothing.
 use Prim.Native.Nat.{ℕ, _+_, _≤_}
 use mathlib.Core.Path.{_≡_}
 use mathlib.Core.List.{List}
@@ -7,7 +7,7 @@ use lib.ListN.{length, take}
 use Rattle.grammar.specs.Basics.{over}
 use Rattle.grammar.specs.Limits.{limits}
 use Rattle.grammar.specs.Table.{encode}
-use Rattle.grammar.specs.Refusal.{done}
+use Rattle.grammar.specs.Refusal.{done, noSentence}
 use Rattle.grammar.specs.declared.TableChecked.{TableChecked}
 use Rattle.grammar.specs.declared.TableVerdict.the-variants.{Passed, Refused}
 use Rattle.grammar.specs.TableCheck.{TableAnswer}
@@ -34,10 +34,15 @@ pub record TextTheorems : Type 0 where
       → ReadsText (take m out′) table₂ starts₂ lengths₂ r table′ starts′ lengths′
       → length table ≤ length table₂ → t + n ≤ length starts₂ → t + n ≤ length lengths₂
       → SameAgain t n table bytes starts lengths (take m out′) r table′ starts′ lengths′
+  -- document 02, [4]: whatever rows are lent, the reader never refuses with 19 what was written
+  pub never-19 : (t n : ℕ) (table bytes starts lengths out : List ℕ) (m : ℕ) (out′ table₂ starts₂ lengths₂ : List ℕ) (r : TextRead)
+      (table′ starts′ lengths′ : List ℕ)
+      → WritesText t n table bytes starts lengths out (Written m) out′
+      → ReadsText (take m out′) table₂ starts₂ lengths₂ r table′ starts′ lengths′ → (at : ℕ) → ¬ (r ≡ reader.Refused noSentence at)
   -- what is written is never longer than the reader takes
   pub short : (t n : ℕ) (table bytes starts lengths out : List ℕ) (m : ℕ) (out′ : List ℕ)
       → WritesText t n table bytes starts lengths out (Written m) out′ → m ≤ limits .maxText
-  -- the reader's tests 7, 6, 8 are the table check of the table that it would write
+  -- the reader's tests 7, 6, 8 and 19 are the table check of the table that it would write
   pub last-tests : (text : List ℕ) (s : Source) → readText limits text ≡ done s → (r : TableChecked)
       → TableAnswer (length (s .terminals)) (length (s .nonterminals)) (encode (s .rules)) r
       → (table starts lengths : List ℕ) (v : TextRead) (table′ starts′ lengths′ : List ℕ)

@@ -1,4 +1,4 @@
--- The cause in a reply: every refusal that an entry promises has one of document 01's, and every other reply has 0. Assumes nothing.
+-- The cause in a reply: every refusal that an entry promises has one of the documents', and every other reply has 0. Assumes nothing.
 use Prim.Native.Nat.{ℕ, _≤_}
 use native.Mathlib.Omega.{arith}
 use mathlib.Core.Path.{_≡_, refl, sym, subst}
@@ -10,7 +10,7 @@ use mathlib.Core.List.{List}
 use mathlib.Core.Logic.{inl, inr}
 use Rattle.grammar.specs.Limits.{limits}
 use Rattle.grammar.specs.Grammar.{Grammar}
-use Rattle.grammar.specs.Refusal.{Answer, done, refused, andThen}
+use Rattle.grammar.specs.Refusal.{Answer, done, refused, andThen, noSentence}
 use Rattle.grammar.specs.TableCheck.{tableChecked}
 use Rattle.grammar.specs.declared.TableVerdict.the-variants.{Passed}
 use Rattle.grammar.proofs.Answers.{and-both}
@@ -35,7 +35,8 @@ use Rattle.text.specs.declared.TextWritten.the-variants.{Written}
 use Rattle.witness_records.specs.Records.{triples}
 use Rattle.ambiguity_c.specs.Replies.{tableReply, stepReply, checkReply, searchReply, readReply, writeReply, reportReply, readBackReply}
 use Rattle.ambiguity_c.specs.Causes.{Tells, IsRead, IsVerdict, IsStep, CauseTheorems}
-use Rattle.ambiguity_c.proofs.Refusals.{isCause, Caused, cause, check-table, nth-step, check-witness, check-records, check-certificate, search-asked, check-text, read-into, write-into, report-into, strings-into}
+use Rattle.grammar.proofs.Causes.{cause}
+use Rattle.ambiguity_c.proofs.Refusals.{isCause, Caused, check-table, nth-step, check-witness, check-records, check-certificate, search-asked, check-text, read-into, write-into, report-into, strings-into}
 
 -- nothing is refused
 tells-done : {X : Type 0} → X → Tells 0 X
@@ -44,9 +45,9 @@ tells-done x = record { known = omega arith; zero = λ e. x }
 -- a refusal is not told by 0
 tells-refused : {X : Type 0} (c : ℕ) → isCause c ≡ true → Tells c X
 tells-refused c h =
-    let b = and-both (leb 1 c) (leb c 18) h in
+    let b = and-both (leb 1 c) (leb c noSentence) h in
     let low : 1 ≤ c = leb-true 1 c (b .0) in
-    let high : c ≤ 18 = leb-true c 18 (b .1) in
+    let high : c ≤ noSentence = leb-true c noSentence (b .1) in
     record { known = high; zero = λ e. absurd (omega arith) }
 
 table-tells : (o : Answer Grammar) → Caused o → Tells (tableReply (tableChecked o) .cause) (tableChecked o .verdict ≡ Passed)

@@ -1,17 +1,21 @@
--- Every refusal of the entries' definitions has one of document 01's 18 causes. Assumes nothing.
-use Prim.Native.Nat.{ℕ, zero, suc, _+_}
+-- Every refusal of the entries' definitions has one of the documents' causes. Assumes nothing.
+use Prim.Native.Nat.{ℕ, zero, suc, _+_, _≤_}
 use mathlib.Core.Path.{_≡_, refl}
 use mathlib.Core.Bool.{Bool, true, false, _&&_}
 use mathlib.Core.List.{List, [], _∷_, _++_}
 use mathlib.Core.Option.{Option, none, some}
+use native.Mathlib.Omega.{arith}
+use borrow.Author.Tests.{leb-true, le-leb}
 use lib.Dec.{leb}
 use lib.ListN.{length}
 use Rattle.grammar.specs.Basics.{choose}
 use Rattle.grammar.specs.Limits.{Limits}
 use Rattle.grammar.specs.Grammar.{Rule}
 use Rattle.grammar.specs.Table.{ruleAt}
-use Rattle.grammar.specs.Refusal.{Answer, done, refused, refuseUnless, andThen, outOfRange, truncated, leftUndeclared, ruleTooLong, codeUndeclared, ruleRepeated, tooManyRules, tooManyStates, certificateLength, spareBit, startMissing, endPresent, successorMissing, bufferTooShort, witnessWrong, malformed, nameUnknown, nameRepeated}
-use Rattle.grammar.specs.TableCheck.{readRule, nextRule, checkFrom, checkTable}
+use Rattle.grammar.specs.Refusal.{Answer, done, refused, refuseUnless, andThen, outOfRange, ruleTooLong, ruleRepeated, tooManyStates, certificateLength, spareBit, startMissing, endPresent, successorMissing, bufferTooShort, witnessWrong, malformed, nameUnknown, nameRepeated, noSentence}
+use Rattle.grammar.specs.TableCheck.{checkTable}
+use Rattle.grammar.proofs.Answers.{and-both, both-and}
+use Rattle.grammar.proofs.Causes.{CausedBy, result, cause, unless, next, upTo, caused-more, stored-causes}
 use Rattle.automaton.specs.Moves.{Moves}
 use Rattle.automaton.specs.PositionMoves.{movesOf}
 use Rattle.triples.specs.Certificate.{checkBytes, checkCertificate}
@@ -22,64 +26,32 @@ use Rattle.steps.specs.Steps.{nthStep}
 use Rattle.readings.specs.Readings.{readWords, readStrings}
 use Rattle.readings.specs.Promise.{stringsInto}
 use Rattle.text.specs.Read.{Source, refuseNone, declaration, ruleLine, ruleLines, wholeLine, readLines, readText}
-use Rattle.text.specs.Rules.{admit, checkText, readInto}
+use Rattle.text.specs.Rules.{admit, lastTests, checkText, readInto}
 use Rattle.text.specs.Print.{gather, writeInto}
 
--- document 01's causes
+-- the documents' causes
 abbrev pub isCause : ℕ → Bool
-isCause c = leb 1 c && leb c 18
+isCause = upTo noSentence
 
 -- a result, or a refusal with one of the causes
-pub data Caused {A : Type 0} : Answer A → Type 0 where
-  result : {a : A} → Caused (done a)
-  cause : {c p : ℕ} → isCause c ≡ true → Caused (refused c p)
-
-unless : {A : Type 0} (c : ℕ) (p : ℕ) (b : Bool) (o : Answer A) → isCause c ≡ true → Caused o → Caused (refuseUnless c p b o)
-unfolding refuseUnless
-unless c p true o h k = k
-unless c p false o h k = cause h
-
-next : {A B : Type 0} (o : Answer A) (go : A → Answer B) → Caused o → ((a : A) → Caused (go a)) → Caused (andThen o go)
-unfolding andThen
-next (done a) go h k = k a
-next (refused c p) go (cause h) k = cause h
+abbrev pub Caused : {A : Type 0} → Answer A → Type 0
+Caused o = CausedBy isCause o
 
 or-none : {A B : Type 0} (c p : ℕ) (o : Option A) (go : A → Answer B) → isCause c ≡ true → ((a : A) → Caused (go a)) → Caused (refuseNone c p o go)
 unfolding refuseNone
 or-none c p none go h k = cause h
 or-none c p (some a) go h k = k a
 
-either : {A : Type 0} (b : Bool) (x y : Answer A) → Caused x → Caused y → Caused (choose b x y)
-either true x y h k = h
-either false x y h k = k
-
-read-rule : (L : Limits) (t n : ℕ) (table : List ℕ) (at : ℕ) → Caused (readRule L t n table at)
-unfolding readRule
-read-rule L t n table at =
-    unless truncated _ _ _ refl
-    (unless leftUndeclared _ _ _ refl
-    (unless ruleTooLong _ _ _ refl
-    (unless truncated _ _ _ refl
-    (unless codeUndeclared _ _ _ refl result))))
-
-next-rule : (L : Limits) (t n : ℕ) (table : List ℕ) (earlier : List Rule) (at : ℕ) → Caused (nextRule L t n table earlier at)
-unfolding nextRule
-next-rule L t n table earlier at =
-    next _ _ (read-rule L t n table at) (λ k. unless ruleRepeated _ _ _ refl (unless tooManyStates _ _ _ refl result))
-
-check-from : (L : Limits) (m t n : ℕ) (table : List ℕ) (earlier : List Rule) (at : ℕ) → Caused (checkFrom L m t n table earlier at)
-unfolding checkFrom
-check-from L zero t n table earlier at = unless tooManyRules _ _ _ refl result
-check-from L (suc m) t n table earlier at =
-    either (leb (length table) at) (done earlier)
-    (andThen (nextRule L t n table earlier at) (λ k. checkFrom L m t n table (earlier ++ (ruleAt table at k ∷ [])) (at + 2 + k)))
-    result
-    (next _ _ (next-rule L t n table earlier at) (λ k. check-from L m t n table (earlier ++ (ruleAt table at k ∷ [])) (at + 2 + k)))
+-- 1 to 8 are among them
+more : (c : ℕ) → upTo 8 c ≡ true → isCause c ≡ true
+more c h =
+    let b = and-both (leb 1 c) (leb c 8) h in
+    let low : c ≤ 8 = leb-true c 8 (b .1) in
+    both-and (leb 1 c) (leb c noSentence) (b .0) (le-leb c noSentence (omega arith))
 
 pub check-table : (L : Limits) (t n : ℕ) (table : List ℕ) → Caused (checkTable L t n table)
 unfolding checkTable
-check-table L t n table =
-    unless outOfRange _ _ _ refl (next _ _ (check-from L (L .maxRules) t n table [] 0) (λ rules. result))
+check-table L t n table = next _ _ (caused-more more _ (stored-causes L t n table)) (λ G. unless noSentence _ _ _ refl result)
 
 pub nth-step : (L : Limits) (t n : ℕ) (table : List ℕ) (f p q k : ℕ) → Caused (nthStep L t n table f p q k)
 unfolding nthStep
@@ -164,10 +136,14 @@ admits L (suc m) earlier at (r ∷ rs) =
     unless ruleRepeated _ _ _ refl
     (unless tooManyStates _ _ _ refl (admits L m (earlier ++ (r ∷ [])) (at + 2 + length (r .right)) rs))
 
+last-tests : (L : Limits) (s : Source) → Caused (lastTests L s)
+unfolding lastTests
+last-tests L s = next _ _ (admits L (L .maxRules) [] 0 (s .rules)) (λ rules. unless noSentence _ _ _ refl result)
+
 pub check-text : (L : Limits) (text : List ℕ) → Caused (checkText L text)
 unfolding checkText readText
 check-text L text =
-    next _ _ (unless malformed _ _ _ refl (read-lines L _)) (λ source. next _ _ (admits L (L .maxRules) [] 0 (source .rules)) (λ rules. result))
+    next _ _ (unless malformed _ _ _ refl (read-lines L _)) (λ s. next _ _ (last-tests L s) (λ G. result))
 
 pub read-into : (L : Limits) (e s l : ℕ) (text : List ℕ) → Caused (readInto L e s l text)
 unfolding readInto

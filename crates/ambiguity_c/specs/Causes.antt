@@ -1,9 +1,10 @@
--- What the cause in a reply tells a caller: it is one of document 01's, or 0, and then nothing is refused.
+-- What the cause in a reply tells a caller: it is one of document 01's or document 02's 19, or 0, and then nothing is refused.
 -- proofs/Causes.antt has the value of the record. Assumes nothing.
 use Prim.Native.Nat.{ℕ, _≤_}
 use mathlib.Core.Path.{_≡_}
 use mathlib.Core.List.{List}
 use mathlib.Core.Logic.{_⊎_}
+use Rattle.grammar.specs.Refusal.{noSentence}
 use Rattle.grammar.specs.declared.TableChecked.{TableChecked}
 use Rattle.grammar.specs.declared.TableVerdict.the-variants.{Passed}
 use Rattle.grammar.specs.TableCheck.{TableAnswer}
@@ -32,9 +33,9 @@ use Rattle.witness_records.specs.declared.TripleRecord.{TripleRecord}
 use Rattle.ambiguity.specs.Entries.{Usize, StepAnswers}
 use Rattle.ambiguity_c.specs.Replies.{tableReply, stepReply, checkReply, searchReply, readReply, writeReply, reportReply, readBackReply}
 
--- the cause is none that document 01 does not have, and 0 tells that something is answered
+-- the cause is none that the documents do not have, and 0 tells that something is answered
 pub record Tells (cause : ℕ) (Answered : Type 0) : Type 0 where
-  pub known : cause ≤ 18
+  pub known : cause ≤ noSentence
   pub zero : cause ≡ 0 → Answered
 
 -- the numbers of the reply are the answer

@@ -11,7 +11,7 @@ ghost use Rattle.ambiguity_c.specs.Replies.{tableReply, stepReply, check
 ghost use Rattle.ambiguity_c.specs.Lent.{Replies, RepliesSearch, RepliesRead, RepliesWritten, RepliesReport, RepliesBack};
 use ambiguity::TripleRecord;
 
-// In every reply `cause` is 0, or document 01's number with its position `at`; what a case does not have is 0.
+// In every reply `cause` is 0, or the number of a cause with its position `at`; what a case does not have is 0.
 #[repr(C)]
 pub struct TableReply {
     pub cause: u64,

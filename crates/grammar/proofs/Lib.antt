@@ -13,4 +13,6 @@ pub mod Derives
 pub mod Palindromes
 pub mod Closure
 pub mod Live
+pub mod Causes
+pub mod Sentence
 pub mod LivePins

@@ -12,7 +12,7 @@ use Rattle.grammar.specs.Basics.{when, each, Mem, here, there}
 use Rattle.grammar.specs.Limits.{Limits}
 use Rattle.grammar.specs.Grammar.{Terminal, Nonterminal, Rule, Grammar, IsRule, start, rule, WellFormed}
 use Rattle.grammar.specs.Tree.{Tree, node, Trees, none, child, AppliesRuleOf, DerivationTree, applies, Children, end, terminal, nonterminal, row, HasTree}
-use Rattle.grammar.specs.Live.{Uses, at-root, further, UsesBelow, in-first, in-others, Live, live-start, live-rule, Clause, has, hasAll, closure}
+use Rattle.grammar.specs.Live.{HasSentence, Uses, at-root, further, UsesBelow, in-first, in-others, Live, live-start, live-rule, Clause, has, hasAll, closure}
 use Rattle.grammar.specs.Live.{nonterminalsOf, derivesIf, productive, isProductive, reachesFrom, usable, reachable, hasSentence, isLive}
 use Rattle.grammar.proofs.Answers.{no-bool, and-both, both-and}
 use Rattle.grammar.proofs.Lists.{no-element, mem-place, mem-left, mem-right, mem-either, in-map, map-in, in-each, each-in}
@@ -221,7 +221,7 @@ module _ (L : Limits) (G : Grammar) (W : WellFormed L G) (apart : L .maxTerminal
         below-good c (λ x m. h x (subst (λ z. Mem x (when z (b ∷ []) ++ nonterminalsOf L α)) (sym (high b n)) (there m))) u
 
   -- there is a sentence exactly if the test says so
-  pub has-sentence : (hasSentence L G ≡ true) ↔ ((w : List ℕ) × (t : Tree) × HasTree L G w t)
+  pub has-sentence : (hasSentence L G ≡ true) ↔ HasSentence L G
   unfolding hasSentence
   has-sentence = (
     λ e. let t = productive-tree (start L) (has-is P (start L) .0 e) in (row L G (t .0), t .0, record { derives = t .1; sentence = refl }),

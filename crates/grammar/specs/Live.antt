@@ -1,7 +1,8 @@
--- Rules that some sentence uses, and the test that finds them.
--- Source: document 02, request [3] ("a rule is live if some sentence has a tree that uses it; rule 0 is live if there is a
--- sentence"); the test goes by productive nonterminals and then by what S reaches through productive rules, which is known of
--- context-free grammars since Bar-Hillel, Perles and Shamir. The test is meant for well-formed grammars. Assumes nothing.
+-- Grammars with a sentence, rules that some sentence uses, and the tests of both.
+-- Source: document 02, request [4] ("a grammar in which S has no finite tree") and [3] ("a rule is live if some sentence has a tree
+-- that uses it; rule 0 is live if there is a sentence"); the tests go by productive nonterminals and then by what S reaches through
+-- productive rules, which is known of context-free grammars since Bar-Hillel, Perles and Shamir. They are meant for well-formed
+-- grammars. Assumes nothing.
 use Prim.Native.Nat.{ℕ, zero, suc}
 use mathlib.Core.Bool.{Bool, true, false, not, _&&_, _||_}
 use mathlib.Core.List.{List, [], _∷_, _++_, map}
@@ -23,6 +24,10 @@ mutual
     in-others : {t : Tree} {ts : Trees} → UsesBelow j ts → UsesBelow j (child t ts)
 
 module _ (L : Limits) (G : Grammar) where
+  -- there is a sentence: S has a finite tree
+  abbrev pub HasSentence : Type 0
+  HasSentence = (w : List ℕ) × (t : Tree) × HasTree L G w t
+
   -- a rule is live if some sentence has a tree that uses it; rule 0 is live if there is a sentence
   pub data Live : ℕ → Type 0 where
     live-start : {w : List ℕ} {t : Tree} → HasTree L G w t → Live 0
@@ -92,7 +97,7 @@ module _ (L : Limits) where
   reachable rules = closure (record { premises = []; conclusion = start L } ∷ each (usable (productive rules) rules) reachesFrom)
 
 module _ (L : Limits) (G : Grammar) where
-  -- there is a sentence
+  -- the test of a sentence
   unfoldable pub hasSentence : Bool
   hasSentence = has (productive L (G .rules)) (start L)
 

@@ -136,6 +136,13 @@ module _ (G : Grammar) (W : WellFormed limits G) (lefts lengths codes : List ℕ
         same-test (marked marks x) (has P x) (F .sound P productive-closed (none-marked (limits .maxNonterminals) P) x h)
         (λ e. productive-marked x (has-is P x .0 e))
 
+    -- there is a sentence if the first nonterminal is marked
+    pub sentence-is : (some : Bool) → some ≡ ltb 0 (getD marks 0 0) → some ≡ hasSentence limits G
+    unfolding hasSentence
+    sentence-is some e =
+        let z : limits .nonterminalBase - limits .nonterminalBase ≡ 0 = omega arith in
+        e ∙ ap (λ i. ltb 0 (getD marks i 0)) (sym z) ∙ sym (marked-high marks (start limits) (omega arith)) ∙ productive-exact (start limits) (omega arith)
+
     -- what S reaches
     reachable-closed : AllLed lefts lengths codes marks 0 count R
     reachable-closed i a h m e =
@@ -186,11 +193,9 @@ module _ (G : Grammar) (W : WellFormed limits G) (lefts lengths codes : List ℕ
       pub answers-of : (some : Bool) (live : List ℕ) → some ≡ ltb 0 (getD marks 0 0)
           → ((i : ℕ) → i < count → getD live i 0 ≡ bit (marked reached (leftAt lefts i) && allMarked marks (rightAt lengths codes i)))
           → Answers some live G
-      unfolding hasSentence isLive
+      unfolding isLive
       answers-of some live e f = record {
-        sentence =
-            let z : limits .nonterminalBase - limits .nonterminalBase ≡ 0 = omega arith in
-            e ∙ ap (λ i. ltb 0 (getD marks i 0)) (sym z) ∙ sym (marked-high marks (start limits) (omega arith)) ∙ productive-exact (start limits) (omega arith);
+        sentence = sentence-is some e;
         rules = λ i h.
             let k : i < count = omega (arith, many) in
             let r = rule limits G (suc i) in

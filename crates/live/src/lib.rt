@@ -9,7 +9,7 @@ ghost use mathlib.Core.Bool.{_&&_};
 ghost use lib.ListN.{length, getD};
 ghost use Rattle.grammar.specs.Limits.{limits};
 ghost use Rattle.grammar.specs.Record.{IsRecord};
-ghost use Rattle.live.specs.Marks.{marked, allMarked, Small, leftAt, rightAt, Columns, bit, LiveOf};
+ghost use Rattle.live.specs.Marks.{marked, allMarked, Small, leftAt, rightAt, Columns, bit, SentenceOf, LiveOf};
 use grammar::CheckedGrammar;
 use grammar::MAX_NONTERMINALS;
 use grammar::MAX_RULES;
@@ -70,6 +70,18 @@ fn write_live<'a>(
         u = e;
         i += 1;
     }
+}
+
+// Is there a sentence of a checked grammar?
+pub fn has_sentence(g: CheckedGrammar) -> bool
+    requires { ⌜ IsRecord g ⌝ }
+    ensures { λ r. ⌜ SentenceOf g r ⌝ }
+{
+    let count = g.count;
+    let used = g.used;
+    let mut productive = [0u8; MAX_NONTERMINALS];
+    mark_productive(&g.lefts, &g.lengths, &g.codes, count, used, &mut productive);
+    0 < productive[0]
 }
 
 // Which rules of a checked grammar are live, and is there a sentence?

@@ -13,14 +13,16 @@ use Rattle.grammar.specs.Limits.{limits}
 use Rattle.grammar.specs.Grammar.{Grammar, rule, stateCount, WellFormed}
 use Rattle.grammar.specs.Table.{encode, decodeUpTo, decode}
 use Rattle.grammar.specs.Refusal.{Answer, done, refused, refuseUnless, andThen}
-use Rattle.grammar.specs.TableCheck.{sameCodes, isAmong, declaredFront, readRule, nextRule, checkFrom, checkTable}
+use Rattle.grammar.specs.TableCheck.{sameCodes, isAmong, declaredFront, readRule, nextRule, checkFrom, storedTable, checkTable}
 use Rattle.grammar.specs.Tree.{HasTwoTrees}
 use Rattle.grammar.specs.Live.{has, hasAll, concluded, waiting, rounds, nonterminalsOf, productive, usable, reachable, hasSentence, isLive}
 use Rattle.grammar.proofs.Answers.{no-bool, and-both}
 use Rattle.grammar.proofs.Plain.{same-codes}
 use Rattle.grammar.proofs.Rules.{decode-encode}
 use Rattle.grammar.proofs.Steps.{grammarOf}
-use Rattle.grammar.proofs.WellFormed.{takes-only, room}
+use Rattle.grammar.proofs.WellFormed.{stored-only, room}
+use Rattle.grammar.proofs.Live.{has-sentence}
+use Rattle.grammar.proofs.Sentence.{with-sentence, without-sentence}
 use Rattle.grammar.proofs.Palindromes.{palindromes, palindromes-one}
 use Rattle.automaton.specs.Items.{states}
 use Rattle.automaton.specs.Position.{position}
@@ -35,9 +37,9 @@ use Rattle.triple_laws.proofs.Explore.{is-element, not-element}
 use Rattle.triple_laws.proofs.Laws.{end-of, smallest-of}
 use Rattle.triple_laws.proofs.Position.{position-listed, position-regular}
 use Rattle.parting.proofs.Position.{potential-reached}
-use Rattle.on_file.specs.Rows.{Claim, unambiguous, certified, potential, potentialOnly, Row, Claimed, Says, rows}
+use Rattle.on_file.specs.Rows.{Claim, withoutSentence, unambiguous, certified, potential, potentialOnly, Row, Claimed, answerOf, Says, rows}
 
--- the table passes
+-- the table is that of a grammar
 passes : Answer Grammar → Bool
 passes (done G) = true
 passes (refused cause at) = false
@@ -45,8 +47,9 @@ passes (refused cause at) = false
 abbrev grammar : Row → Grammar
 grammar r = grammarOf (r .terminals) (r .nonterminals) (decode (r .table))
 
--- the claim's test: whether (1,1,1) is in the smallest set, its size, its certificate
+-- the claim's test, of a grammar with a sentence: whether (1,1,1) is in the smallest set, its size, its certificate
 claimTest : Grammar → List ℕ → Claim → Bool
+claimTest G table withoutSentence = not (hasSentence limits G)
 claimTest G table (unambiguous n) = not (isElement (index (states G) 1 1 1) (smallest (movesOf limits G))) && eqb (size (movesOf limits G)) n
 claimTest G table (certified n bytes) =
     not (isElement (index (states G) 1 1 1) (smallest (movesOf limits G))) && (eqb (size (movesOf limits G)) n && sameCodes (certificateOf (states G) (smallest (movesOf limits G))) bytes)
@@ -55,23 +58,31 @@ claimTest G table potentialOnly =
     isElement (index (states G) 1 1 1) (smallest (movesOf limits G))
     && (eqb (G .terminals) 1 && (eqb (G .nonterminals) 1 && sameCodes table (encode (palindromes .rules))))
 
+-- the test of a sentence: all but the first claim have one
+sentenceTest : Grammar → Claim → Bool
+sentenceTest G withoutSentence = not (hasSentence limits G)
+sentenceTest G (unambiguous n) = hasSentence limits G
+sentenceTest G (certified n bytes) = hasSentence limits G
+sentenceTest G potential = hasSentence limits G
+sentenceTest G potentialOnly = hasSentence limits G
+
 rowTest : Row → Bool
 rowTest r =
-    passes (checkTable limits (r .terminals) (r .nonterminals) (r .table))
-    && (eqb (states (grammar r)) (r .states) && claimTest (grammar r) (r .table) (r .claim))
+    passes (storedTable limits (r .terminals) (r .nonterminals) (r .table))
+    && (eqb (states (grammar r)) (r .states) && (sentenceTest (grammar r) (r .claim) && claimTest (grammar r) (r .table) (r .claim)))
 
 everyTest : List Row → Bool
 everyTest [] = true
 everyTest (r ∷ rs) = rowTest r && everyTest rs
 
--- a table that passes has the grammar of its decoding
-passed : (t n : ℕ) (table : List ℕ) → passes (checkTable limits t n table) ≡ true → checkTable limits t n table ≡ done (grammarOf t n (decode table))
+-- such a table has the grammar of its decoding
+passed : (t n : ℕ) (table : List ℕ) → passes (storedTable limits t n table) ≡ true → storedTable limits t n table ≡ done (grammarOf t n (decode table))
 unfolding passes
-passed t n table e = go (checkTable limits t n table) refl e
+passed t n table e = go (storedTable limits t n table) refl e
   where
-    go : (o : Answer Grammar) → checkTable limits t n table ≡ o → passes o ≡ true → checkTable limits t n table ≡ done (grammarOf t n (decode table))
+    go : (o : Answer Grammar) → storedTable limits t n table ≡ o → passes o ≡ true → storedTable limits t n table ≡ done (grammarOf t n (decode table))
     go (done G) q p =
-        let T = takes-only limits room t n table G q in
+        let T = stored-only limits room t n table G q in
         let d : decode table ≡ G .rules = ap decode (T .table) ∙ decode-encode (G .rules) in
         q ∙ ap done (λ i. record { terminals = T .terminals i; nonterminals = T .nonterminals i; rules = sym d i })
     go (refused c p) q e = no-bool (sym e)
@@ -101,6 +112,7 @@ module _ (G : Grammar) (W : WellFormed limits G) where
 
   claimed : (table : List ℕ) (c : Claim) → G .rules ≡ decode table → claimTest G table c ≡ true → Claimed G c
   unfolding claimTest Claimed
+  claimed table withoutSentence d e = λ s. no-bool (sym (has-sentence limits G W (omega arith) .1 s) ∙ not-true (hasSentence limits G) e)
   claimed table (unambiguous n) d e =
       let a = and-both (not (isElement (index (states G) 1 1 1) (smallest (movesOf limits G)))) (eqb (size (movesOf limits G)) n) e in
       (lone (a .0), eqb-true (size (movesOf limits G)) n (a .1))
@@ -122,17 +134,29 @@ module _ (G : Grammar) (W : WellFormed limits G) where
       } in
       (parted (a .0), subst (λ (G : Grammar). (w : List ℕ) → ¬ HasTwoTrees limits G w) p palindromes-one)
 
+-- the table check's answer, from the test of a sentence
+answered : (t n : ℕ) (table : List ℕ) (G : Grammar) (c : Claim) → storedTable limits t n table ≡ done G → sentenceTest G c ≡ true
+    → checkTable limits t n table ≡ answerOf G c
+unfolding sentenceTest answerOf
+answered t n table G withoutSentence q e = without-sentence limits t n table G q (not-true (hasSentence limits G) e)
+answered t n table G (unambiguous k) q e = with-sentence limits t n table G q e
+answered t n table G (certified k bytes) q e = with-sentence limits t n table G q e
+answered t n table G potential q e = with-sentence limits t n table G q e
+answered t n table G potentialOnly q e = with-sentence limits t n table G q e
+
 row-says : (r : Row) → rowTest r ≡ true → Says r
 unfolding rowTest
 row-says r e =
-    let a = and-both (passes (checkTable limits (r .terminals) (r .nonterminals) (r .table))) _ e in
-    let b = and-both (eqb (states (grammar r)) (r .states)) (claimTest (grammar r) (r .table) (r .claim)) (a .1) in
+    let a = and-both (passes (storedTable limits (r .terminals) (r .nonterminals) (r .table))) _ e in
+    let b = and-both (eqb (states (grammar r)) (r .states)) _ (a .1) in
+    let c = and-both (sentenceTest (grammar r) (r .claim)) (claimTest (grammar r) (r .table) (r .claim)) (b .1) in
     let p = passed (r .terminals) (r .nonterminals) (r .table) (a .0) in
     record {
       grammar = grammar r;
-      passes = p;
+      stored = p;
+      answers = answered (r .terminals) (r .nonterminals) (r .table) (grammar r) (r .claim) p (c .0);
       count = eqb-true (states (grammar r)) (r .states) (b .0);
-      claimed = claimed (grammar r) (takes-only limits room (r .terminals) (r .nonterminals) (r .table) (grammar r) p .wellFormed) (r .table) (r .claim) refl (b .1);
+      claimed = claimed (grammar r) (stored-only limits room (r .terminals) (r .nonterminals) (r .table) (grammar r) p .wellFormed) (r .table) (r .claim) refl (c .1);
     }
 
 every-says : {r : Row} (rs : List Row) → everyTest rs ≡ true → Mem r rs → Says r
@@ -141,7 +165,7 @@ every-says (s ∷ rs) e here = row-says s (and-both (rowTest s) (everyTest rs) e
 every-says (s ∷ rs) e (there m) = every-says rs (and-both (rowTest s) (everyTest rs) e .1) m
 
 computed : everyTest rows ≡ true
-unfolding everyTest rowTest claimTest passes rows checkTable checkFrom nextRule readRule declaredFront isAmong sameCodes refuseUnless andThen decodeUpTo stateCount encode
+unfolding everyTest rowTest sentenceTest claimTest passes rows storedTable checkFrom nextRule readRule declaredFront isAmong sameCodes refuseUnless andThen decodeUpTo stateCount encode
     rule each has hasAll concluded waiting rounds nonterminalsOf productive usable reachable hasSentence isLive
     shown aheads rulesOf completed past aheadRow openings closings leftAlone rightAlone bothShift bothClose choices insert ordered records
     isElement push pushAll explore successors smallest bitsFrom bytesFrom

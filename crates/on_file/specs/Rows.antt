@@ -1,15 +1,16 @@
 -- The grammars on file: one table of rows, each with a claim. proofs/Rows.antt has the one theorem, that every row says true.
--- Source: document 01, "Grammars on file", the rows marked P and the certificate of S → a; document 02, [3], by which no rules and
--- S → S have size 1, and its grammar S → a; S → A; A → A. The claims are about the table check's definition, parting strings, the
+-- Source: document 01, "Grammars on file", the rows marked P and the certificate of S → a; document 02, [4], by which no rules and
+-- S → S are refused, and [3]'s grammar S → a; S → A; A → A. The claims are about the table check's definition, parting strings, the
 -- smallest set and trees. Assumes nothing.
 use Prim.Native.Nat.{ℕ}
 use mathlib.Core.Path.{_≡_}
 use mathlib.Core.List.{List, [], _∷_}
 use Rattle.grammar.specs.Limits.{limits}
 use Rattle.grammar.specs.Grammar.{Grammar}
-use Rattle.grammar.specs.Refusal.{done}
-use Rattle.grammar.specs.TableCheck.{checkTable}
+use Rattle.grammar.specs.Refusal.{Answer, done, refused, noSentence}
+use Rattle.grammar.specs.TableCheck.{storedTable, checkTable}
 use Rattle.grammar.specs.Tree.{HasTwoTrees}
+use Rattle.grammar.specs.Live.{HasSentence}
 use Rattle.automaton.specs.Items.{states}
 use Rattle.automaton.specs.Position.{position}
 use Rattle.automaton.specs.Strings.{Potential, Unambiguous}
@@ -19,6 +20,8 @@ use Rattle.triples.specs.Certificate.{SmallestCertificate}
 
 -- what is claimed of a grammar
 pub data Claim : Type 0 where
+  -- no sentence, so refused
+  withoutSentence : Claim
   -- unambiguous, with this size
   unambiguous : ℕ → Claim
   -- the same, and these bytes are the smallest certificate
@@ -37,15 +40,25 @@ pub record Row : Type 0 where
 
 -- the claim is true of the grammar
 unfoldable pub Claimed : Grammar → Claim → Type 0
+Claimed G withoutSentence = ¬ HasSentence limits G
 Claimed G (unambiguous n) = Unambiguous (position limits G) × (size (movesOf limits G) ≡ n)
 Claimed G (certified n bytes) = Unambiguous (position limits G) × (size (movesOf limits G) ≡ n) × SmallestCertificate (position limits G) bytes
 Claimed G potential = Potential (position limits G)
 Claimed G potentialOnly = Potential (position limits G) × ((w : List ℕ) → ¬ HasTwoTrees limits G w)
 
--- the row says true: its table passes with a grammar of which Q and the claim are true
+-- what the table check answers for a grammar with this claim
+unfoldable pub answerOf : Grammar → Claim → Answer Grammar
+answerOf G withoutSentence = refused noSentence 0
+answerOf G (unambiguous n) = done G
+answerOf G (certified n bytes) = done G
+answerOf G potential = done G
+answerOf G potentialOnly = done G
+
+-- the row says true: its table is that of a grammar of which Q and the claim are true, and the table check answers so
 pub record Says (r : Row) : Type 0 where
   pub grammar : Grammar
-  pub passes : checkTable limits (r .terminals) (r .nonterminals) (r .table) ≡ done grammar
+  pub stored : storedTable limits (r .terminals) (r .nonterminals) (r .table) ≡ done grammar
+  pub answers : checkTable limits (r .terminals) (r .nonterminals) (r .table) ≡ answerOf grammar (r .claim)
   pub count : states grammar ≡ r .states
   pub claimed : Claimed grammar (r .claim)
 
@@ -53,7 +66,7 @@ pub record Says (r : Row) : Type 0 where
 unfoldable pub rows : List Row
 rows =
     -- none
-    record { terminals = 0; nonterminals = 1; table = []; states = 4; claim = unambiguous 1 }
+    record { terminals = 0; nonterminals = 1; table = []; states = 4; claim = withoutSentence }
     -- S → (empty)
     ∷ record { terminals = 0; nonterminals = 1; table = 128 ∷ 0 ∷ []; states = 5; claim = unambiguous 10 }
     -- S → a
@@ -69,7 +82,7 @@ rows =
     -- S → a S b; S → (empty)
     ∷ record { terminals = 2; nonterminals = 1; table = 128 ∷ 3 ∷ 1 ∷ 128 ∷ 2 ∷ 128 ∷ 0 ∷ []; states = 9; claim = unambiguous 30 }
     -- S → S
-    ∷ record { terminals = 0; nonterminals = 1; table = 128 ∷ 1 ∷ 128 ∷ []; states = 6; claim = unambiguous 1 }
+    ∷ record { terminals = 0; nonterminals = 1; table = 128 ∷ 1 ∷ 128 ∷ []; states = 6; claim = withoutSentence }
     -- S → S; S → a
     ∷ record { terminals = 1; nonterminals = 1; table = 128 ∷ 1 ∷ 128 ∷ 128 ∷ 1 ∷ 1 ∷ []; states = 8; claim = potential }
     -- S → a S a; S → a

@@ -9,7 +9,8 @@ use lib.Seq.{length-take-le}
 use Rattle.grammar.specs.Limits.{limits}
 use Rattle.grammar.specs.Refusal.{done}
 use Rattle.grammar.proofs.Answers.{then-goes, then-stops}
-use Rattle.grammar.proofs.WellFormed.{takes-only, room}
+use Rattle.grammar.proofs.WellFormed.{room}
+use Rattle.grammar.proofs.Sentence.{takes-only}
 use Rattle.text.specs.Rules.{checkText}
 use Rattle.text.specs.Promise.{ReadsText}
 use Rattle.text.specs.declared.TextRead.{TextRead}

@@ -9,7 +9,8 @@ use Rattle.grammar.specs.Limits.{limits}
 use Rattle.grammar.specs.Grammar.{Grammar}
 use Rattle.grammar.specs.Refusal.{Answer}
 use Rattle.grammar.specs.TableCheck.{checkTable}
-use Rattle.grammar.proofs.WellFormed.{Taken, takes-only, room}
+use Rattle.grammar.proofs.WellFormed.{Taken, room}
+use Rattle.grammar.proofs.Sentence.{takes-only}
 use Rattle.automaton.specs.Items.{states}
 use Rattle.automaton.specs.Moves.{Moves}
 use Rattle.automaton.specs.PositionMoves.{movesOf}

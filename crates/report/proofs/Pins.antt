@@ -20,7 +20,7 @@ use Rattle.text.specs.Names.{isNameByte, all, any, isName, folded, sameName, ha
 use Rattle.text.specs.Keys.{keyTable, keyLengths, key, valueOf}
 use Rattle.text.specs.Read.{Source, refuseNone, namesOf, declaration, bodyOf, sidesOf, numberOf, isKnown}
 use Rattle.text.specs.Read.{codeOf, ruleOf, ruleLine, ruleLines, wholeLine, readLines, readText}
-use Rattle.text.specs.Rules.{admit, checkText}
+use Rattle.text.specs.Rules.{admit, lastTests, checkText}
 use Rattle.text.specs.Pieces.{join, ledBy, endedBy}
 use Rattle.text.specs.Numbers.{decimalTo}
 use Rattle.text.specs.Read.{symbolOf}
@@ -37,13 +37,14 @@ bytes (c then s) = code c ∷ bytes s
 
 -- to unfold one of these is to unfold all that it uses
 judged : String → Answer Source
-unfolding bytes judge checkText admit isAmong sameCodes stateCount readText readLines wholeLine ruleLines ruleLine ruleOf codeOf
+unfolding bytes judge checkText lastTests admit isAmong sameCodes stateCount readText readLines wholeLine ruleLines ruleLine ruleOf codeOf
     isKnown numberOf place sidesOf bodyOf declaration namesOf refuseNone valueOf key keyTable keyLengths hasDouble sameName folded
     isName any all isNameByte splitOn refuseUnless andThen
+    has hasAll concluded waiting rounds nonterminalsOf productive hasSentence
 judged text = judge (bytes text)
 
 lived : String → List ℕ
-unfolding judged reportOf rule each has hasAll concluded waiting rounds nonterminalsOf productive usable reachable hasSentence isLive
+unfolding judged reportOf rule each usable reachable isLive
 lived text = reportOf (bytes text)
 
 shown : String → List ℕ
@@ -84,6 +85,11 @@ states-49 = refl
 fault-first : judged "terminals=a\nnonterminals=S\nrule=S: a a a a a a a a a a a a\nrule=S: a a a a a a a a a a a\nrule=S: a a a a a a a a a a\nrule=S: a a a a a a a a\nrule=S: a a a a a a a a\n" ≡ refused 6 49
 unfolding judged
 fault-first = refl
+
+-- 19 comes before them too
+sentence-first : judged "terminals=a\nnonterminals=S\nrule=S: S a a a a a a a a a a a\nrule=S: S a a a a a a a a a a\nrule=S: S a a a a a a a a a\nrule=S: S a a a a a a a\n" ≡ refused 19 0
+unfolding judged
+sentence-first = refl
 
 -- 4,096 bytes are read, 4,097 are not
 bytes-4096 : judge (replicate 4096 0) ≡ refused 16 1

@@ -12,7 +12,8 @@ use Rattle.grammar.specs.Grammar.{Grammar}
 use Rattle.grammar.specs.Refusal.{Answer, done, refused}
 use Rattle.grammar.specs.TableCheck.{checkTable}
 use Rattle.grammar.proofs.Steps.{grammarOf}
-use Rattle.grammar.proofs.WellFormed.{takes-only, room}
+use Rattle.grammar.proofs.WellFormed.{room}
+use Rattle.grammar.proofs.Sentence.{takes-only}
 use Rattle.text.specs.Names.{all, isName}
 use Rattle.text.specs.Read.{Source, symbolNames}
 use Rattle.text.proofs.Spans.{spelled}

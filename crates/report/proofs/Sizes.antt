@@ -13,9 +13,10 @@ use Rattle.grammar.specs.Basics.{choose, Mem, here, there}
 use Rattle.grammar.specs.Limits.{limits}
 use Rattle.grammar.specs.Grammar.{Rule, Grammar, WellFormed, stateCount}
 use Rattle.grammar.specs.Table.{encode}
-use Rattle.grammar.specs.Refusal.{Answer, done, refused, refuseUnless, andThen}
+use Rattle.grammar.specs.Refusal.{Answer, done, refused, refuseUnless, andThen, noSentence}
 use Rattle.grammar.proofs.Answers.{then-done, unless-done, done-inj}
-use Rattle.grammar.proofs.WellFormed.{takes-only, room}
+use Rattle.grammar.proofs.WellFormed.{room}
+use Rattle.grammar.proofs.Sentence.{takes-only}
 use Rattle.automaton.specs.Items.{states}
 use Rattle.automaton.specs.PositionMoves.{movesOf}
 use Rattle.triples.specs.Index.{tripleCount}
@@ -25,14 +26,14 @@ use Rattle.triple_laws.proofs.Laws.{smallest-distinct, smallest-below}
 use Rattle.text.specs.Pieces.{onto, splitOn}
 use Rattle.text.specs.Names.{isName, all, hasDouble, within}
 use Rattle.text.specs.Keys.{key, valueOf}
-use Rattle.text.specs.Read.{Source, symbolNames, refuseNone, namesOf, declaration, sidesOf, isKnown, ruleLine, ruleLines, wholeLine, readLines, readText}
-use Rattle.text.specs.Rules.{admit, checkText}
+use Rattle.text.specs.Read.{Source, symbolNames, grammarOf, refuseNone, namesOf, declaration, sidesOf, isKnown, ruleLine, ruleLines, wholeLine, readLines, readText}
+use Rattle.text.specs.Rules.{admit, lastTests, checkText}
 use Rattle.text.proofs.PrintRead.{read-well}
 use Rattle.text.proofs.Admit.{text-checked}
 use Rattle.text.proofs.RoundTrip.{apart}
 use Rattle.triple_laws.proofs.Position.{position-regular}
 use Rattle.search.specs.Promise.{isPotential}
-use Rattle.report.specs.Report.{programText, programStates, judge, grammarOf, line, statesIs, verdictIs, reachedIs, refusedIs, atIs, unambiguous, potential, witnessLines, verdictLines, grammarLines, printed, reportOf, reportSize}
+use Rattle.report.specs.Report.{programText, programStates, judge, line, statesIs, verdictIs, reachedIs, refusedIs, atIs, unambiguous, potential, witnessLines, verdictLines, grammarLines, printed, reportOf, reportSize}
 use Rattle.report.specs.Contracts.{refusedLines}
 use Rattle.report.proofs.Strings.{witness-most}
 use Rattle.readings_write.proofs.Decimal.{decimal-most}
@@ -42,17 +43,17 @@ use Rattle.automaton.specs.Moves.{Moves}
 
 -- ---- refusals
 
--- a refusal has a cause of document 01 and a position that is at most b
+-- a refusal has one of the documents' causes and a position that is at most b
 abbrev pub Small : {A : Type 0} → ℕ → Answer A → Type 0
 Small b (done a) = Unit {0}
-Small b (refused cause at) = (cause ≤ 18) × (at ≤ b)
+Small b (refused cause at) = (cause ≤ noSentence) × (at ≤ b)
 
-small-unless : {A : Type 0} (b cause at : ℕ) (t : Bool) (o : Answer A) → cause ≤ 18 → at ≤ b → Small b o → Small b (refuseUnless cause at t o)
+small-unless : {A : Type 0} (b cause at : ℕ) (t : Bool) (o : Answer A) → cause ≤ noSentence → at ≤ b → Small b o → Small b (refuseUnless cause at t o)
 unfolding refuseUnless
 small-unless b cause at true o h k s = s
 small-unless b cause at false o h k s = (h, k)
 
-small-none : {A B : Type 0} (b cause at : ℕ) (o : Option A) (go : A → Answer B) → cause ≤ 18 → at ≤ b → ((a : A) → Small b (go a))
+small-none : {A B : Type 0} (b cause at : ℕ) (o : Option A) (go : A → Answer B) → cause ≤ noSentence → at ≤ b → ((a : A) → Small b (go a))
     → Small b (refuseNone cause at o go)
 unfolding refuseNone
 small-none b cause at none go h k s = (h, k)
@@ -135,13 +136,19 @@ unfolding checkText readText
 small-text text h =
     small-then 5000 (readText limits text) _
     (small-unless 5000 16 0 _ _ (omega arith) (omega arith) (small-lines 5000 (splitOn 10 text) (omega (arith, pieces-most 10 text)) (omega arith)))
-    (λ s e. small-then 5000 (admit limits 100 [] 0 (s .rules)) _
-    (small-admit 5000 100 [] 0 (s .rules) (λ r i. read-well limits apart text s e .fit r i .few) (omega arith)) (λ rs f. tt))
+    (λ s e. small-then 5000 (lastTests limits s) _ (small-tests s e) (λ G f. tt))
+  where
+    small-tests : (s : Source) → readText limits text ≡ done s → Small 5000 (lastTests limits s)
+    small-tests s e =
+        unfold lastTests in
+        small-then 5000 (admit limits 100 [] 0 (s .rules)) _
+        (small-admit 5000 100 [] 0 (s .rules) (λ r i. read-well limits apart text s e .fit r i .few) (omega arith))
+        (λ rs f. small-unless 5000 noSentence 0 _ _ (omega arith) (omega arith) tt)
 
 -- ---- a text that is judged
 
 -- a test that holds may be used
-small-when : {A : Type 0} (b cause at : ℕ) (t : Bool) (o : Answer A) → cause ≤ 18 → at ≤ b → (t ≡ true → Small b o) → Small b (refuseUnless cause at t o)
+small-when : {A : Type 0} (b cause at : ℕ) (t : Bool) (o : Answer A) → cause ≤ noSentence → at ≤ b → (t ≡ true → Small b o) → Small b (refuseUnless cause at t o)
 unfolding refuseUnless
 small-when b cause at true o h k s = s refl
 small-when b cause at false o h k s = (h, k)
@@ -226,7 +233,7 @@ grammar-most G W few names named many = go (isPotential M) refl
         )
 
 -- a refusal
-pub refused-most : (cause at : ℕ) → cause ≤ 18 → at ≤ 5000 → length (refusedLines cause at) ≤ reportSize
+pub refused-most : (cause at : ℕ) → cause ≤ noSentence → at ≤ 5000 → length (refusedLines cause at) ≤ reportSize
 refused-most cause at h k =
     omega (
       arith,

@@ -13,7 +13,8 @@ use Rattle.grammar.specs.Limits.{limits}
 use Rattle.grammar.specs.Grammar.{Grammar, WellFormed}
 use Rattle.grammar.specs.Refusal.{Answer, done}
 use Rattle.grammar.specs.TableCheck.{checkTable}
-use Rattle.grammar.proofs.WellFormed.{Taken, takes-only, room}
+use Rattle.grammar.proofs.WellFormed.{Taken, room}
+use Rattle.grammar.proofs.Sentence.{takes-only}
 use Rattle.automaton.specs.Items.{states}
 use Rattle.automaton.specs.Moves.{Moves, Regular}
 use Rattle.automaton.specs.PositionMoves.{movesOf}

@@ -25,7 +25,7 @@ use Rattle.search.specs.Promise.{Lent, isPotential, searchable, Told, Answers, 
 use Rattle.search.specs.declared.SearchVerdict.{SearchVerdict}
 use Rattle.search.specs.declared.SearchVerdict.the-variants as search
 use Rattle.search.proofs.LentLaws.{is-enough, search-enough}
-use Rattle.report.specs.Report.{programText, programStates, judge, grammarOf}
+use Rattle.report.specs.Report.{programText, programStates, judge}
 use Rattle.report.specs.Contracts.{Tellable}
 
 -- ---- the search

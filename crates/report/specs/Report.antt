@@ -17,7 +17,7 @@ use Rattle.triples.specs.Smallest.{size}
 use Rattle.triples.specs.Shortest.{shortest}
 use Rattle.triples.specs.Sides.{leftSide, rightSide}
 use Rattle.text.specs.Numbers.{decimal}
-use Rattle.text.specs.Read.{Source, symbolNames}
+use Rattle.text.specs.Read.{Source, symbolNames, grammarOf}
 use Rattle.text.specs.Rules.{checkText}
 use Rattle.text.specs.Promise.{afterwards}
 use Rattle.readings.specs.Readings.{readingLines}
@@ -31,10 +31,6 @@ programText = 4096
 
 abbrev pub programStates : ℕ
 programStates = 48
-
--- the grammar that a text says
-abbrev pub grammarOf : Source → Grammar
-grammarOf s = record { terminals = length (s .terminals); nonterminals = length (s .nonterminals); rules = s .rules }
 
 -- a longer text is 14 before any other fault; more states are 14 after all faults of the text
 unfoldable pub judge : List ℕ → Answer Source

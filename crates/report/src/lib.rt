@@ -12,7 +12,7 @@ pub const PROGRAM_STATES: usize = 48;
 
 pub const REPORT_SIZE: usize = 147520;
 
-// How many bytes were written; or the refusal with document 01's number and position.
+// How many bytes were written; or the refusal with its cause's number and its position.
 pub enum Reported {
     Written(usize),
     Refused(u8, usize),

@@ -9,7 +9,7 @@ use Rattle.grammar.specs.Limits.{limits}
 use Rattle.grammar.specs.Grammar.{stateCount, rule}
 use Rattle.grammar.specs.Table.{decodeUpTo}
 use Rattle.grammar.specs.Refusal.{Answer, done, refused, refuseUnless, andThen}
-use Rattle.grammar.specs.TableCheck.{sameCodes, isAmong, declaredFront, readRule, nextRule, checkFrom, checkTable}
+use Rattle.grammar.specs.TableCheck.{sameCodes, isAmong, declaredFront, readRule, nextRule, checkFrom, storedTable, checkTable}
 use Rattle.grammar.specs.Basics.{each}
 use Rattle.grammar.specs.Live.{has, hasAll, concluded, waiting, rounds, nonterminalsOf, productive, usable, reachable, hasSentence, isLive}
 use Rattle.automaton.specs.PositionMoves.{shown, aheads, rulesOf, completed, past, aheadRow, openings, closings}
@@ -21,7 +21,7 @@ use Rattle.steps.specs.Steps.{nth, nthStep}
 
 -- to unfold one of these is to unfold all that it uses
 checked : ℕ → List ℕ → ℕ → ℕ → ℕ → ℕ → Answer (Option Step)
-unfolding decodeUpTo stateCount sameCodes isAmong declaredFront readRule nextRule checkFrom checkTable refuseUnless andThen nthStep
+unfolding decodeUpTo stateCount sameCodes isAmong declaredFront readRule nextRule checkFrom storedTable checkTable refuseUnless andThen nthStep
 checked t table f p q k = nthStep limits t 1 table f p q k
 
 lived : ℕ → List ℕ → ℕ → ℕ → ℕ → ℕ → Answer (Option Step)

@@ -1,4 +1,4 @@
-// The table check: any t, n and bytes to the record of a checked grammar, or to document 01's first refusal.
+// The table check: any t, n and bytes to the record of a checked grammar, or to the first refusal.
 mod earlier;
 mod reading;
 
@@ -10,7 +10,7 @@ ghost use lib.Seq.{paste};
 ghost use Rattle.grammar.specs.Limits.{limits};
 ghost use Rattle.grammar.specs.Record.{recordOf};
 ghost use Rattle.grammar.specs.Refusal.{refused};
-ghost use Rattle.grammar.specs.TableCheck.{inRange, tableChecked, TableAnswer};
+ghost use Rattle.grammar.specs.TableCheck.{inRange, storedTable, tableChecked, TableAnswer};
 ghost use Rattle.grammar.proofs.Steps.{grammarOf};
 ghost use Rattle.table_check.specs.Contracts.{ruleRead, Before, nextOrFull};
 use earlier::repeats;
@@ -19,12 +19,14 @@ use grammar::MAX_NONTERMINALS;
 use grammar::MAX_RULES;
 use grammar::MAX_STATES;
 use grammar::MAX_TERMINALS;
+use grammar::NO_SENTENCE;
 use grammar::OUT_OF_RANGE;
 use grammar::RULE_REPEATED;
 use grammar::TOO_MANY_RULES;
 use grammar::TOO_MANY_STATES;
 use grammar::TableChecked;
 use grammar::TableVerdict;
+use live::has_sentence;
 use reading::code;
 use reading::read_rule;
 
@@ -115,9 +117,9 @@ fn refuse(cause: u8, at: usize) -> TableChecked
     }
 }
 
-// The table check: the record, or the first refusal in document 01's order with an empty record.
-pub fn check_table(t: usize, n: usize, table: &[u8]) -> TableChecked
-    ensures { λ r. ⌜ TableAnswer t n (now (table .entry)) r ⌝ }
+// 1 to 8: the record of the grammar that the table stores, or the first refusal in document 01's order with an empty record.
+pub fn check_stored(t: usize, n: usize, table: &[u8]) -> TableChecked
+    ensures { λ r. ⌜ r ≡ tableChecked (storedTable limits t n (now (table .entry))) ⌝ }
 {
     if !in_range(t, n) {
         return refuse(OUT_OF_RANGE, 0);
@@ -159,5 +161,25 @@ pub fn check_table(t: usize, n: usize, table: &[u8]) -> TableChecked
     TableChecked {
         verdict: TableVerdict::Passed,
         grammar: g,
+    }
+}
+
+// The table check: then 19 for a grammar without a sentence.
+pub fn check_table(t: usize, n: usize, table: &[u8]) -> TableChecked
+    ensures { λ r. ⌜ TableAnswer t n (now (table .entry)) r ⌝ }
+{
+    let checked = check_stored(t, n, table);
+    let verdict = checked.verdict;
+    match verdict {
+        TableVerdict::Refused(cause, at) => {
+            return refuse(cause, at);
+        }
+        TableVerdict::Passed => {
+            let g = checked.grammar;
+            if has_sentence(g) {
+                return checked;
+            }
+            return refuse(NO_SENTENCE, 0);
+        }
     }
 }

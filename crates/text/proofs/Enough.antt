@@ -15,7 +15,8 @@ use Rattle.grammar.specs.Refusal.{Answer, done, refused}
 use Rattle.grammar.specs.TableCheck.{checkTable}
 use Rattle.grammar.proofs.Answers.{then-stops}
 use Rattle.grammar.proofs.Steps.{grammarOf}
-use Rattle.grammar.proofs.WellFormed.{takes-only, room}
+use Rattle.grammar.proofs.WellFormed.{room}
+use Rattle.grammar.proofs.Sentence.{takes-only}
 use Rattle.text.specs.Read.{Source, symbolNames}
 use Rattle.text.specs.Rules.{checkText, readInto}
 use Rattle.text.specs.Promise.{nameStarts, nameLengths, textRead, afterwards, ReadsText}

@@ -14,13 +14,14 @@ use Rattle.grammar.specs.Limits.{Limits, limits}
 use Rattle.grammar.specs.Grammar.{Rule, stateCount}
 use Rattle.grammar.specs.Table.{encode}
 use Rattle.grammar.specs.Refusal.{Answer, done, refused, refuseUnless, andThen}
-use Rattle.grammar.specs.TableCheck.{sameCodes, isAmong, declaredFront, readRule, nextRule, checkFrom, checkTable}
+use Rattle.grammar.specs.TableCheck.{sameCodes, isAmong, declaredFront, readRule, nextRule, checkFrom, storedTable, checkTable}
+use Rattle.grammar.specs.Live.{has, hasAll, concluded, waiting, rounds, nonterminalsOf, productive, hasSentence}
 use Rattle.text.specs.Pieces.{splitOn, ledBy, join, endedBy}
 use Rattle.text.specs.Names.{isNameByte, all, any, isName, folded, sameName, hasDouble, place}
 use Rattle.text.specs.Keys.{keyTable, keyLengths, key, valueOf}
 use Rattle.text.specs.Read.{Source, refuseNone, namesOf, declaration, bodyOf, sidesOf, numberOf, isKnown}
 use Rattle.text.specs.Read.{codeOf, symbolOf, ruleOf, ruleLine, ruleLines, wholeLine, readLines, readText}
-use Rattle.text.specs.Rules.{admit, checkText, readInto}
+use Rattle.text.specs.Rules.{admit, lastTests, checkText, readInto}
 use Rattle.text.specs.Print.{printLine, nameOf, printRule, printed, nameAt, gather, firstDouble, writeInto}
 use Rattle.text.specs.Promise.{startsFrom, nameStarts, nameLengths}
 
@@ -71,7 +72,7 @@ unfolding read
 readSmall text = readText small (bytes text)
 
 check : Limits → String → Answer Source
-unfolding read checkText admit isAmong sameCodes stateCount
+unfolding read checkText lastTests admit isAmong sameCodes stateCount has hasAll concluded waiting rounds nonterminalsOf productive hasSentence
 check L text = checkText L (bytes text)
 
 into : ℕ → ℕ → ℕ → String → Answer Source
@@ -84,7 +85,8 @@ print s = printed limits s
 
 write : ℕ → ℕ → List ℕ → String → List ℕ → List ℕ → ℕ → Answer (List ℕ)
 unfolding print writeInto gather nameAt firstDouble refuseNone isName isNameByte all any sameName folded refuseUnless
-    andThen checkTable checkFrom nextRule readRule declaredFront isAmong sameCodes stateCount encode
+    andThen checkTable storedTable checkFrom nextRule readRule declaredFront isAmong sameCodes stateCount encode
+    has hasAll concluded waiting rounds nonterminalsOf productive hasSentence
 write t n table lent starts lengths room = writeInto limits t n table (bytes lent) starts lengths room
 
 -- ---- names
@@ -249,6 +251,15 @@ rules-order : (check small "terminals=a\nnonterminals=S\nrule=S:\nrule=S:\n" ≡
 unfolding check
 rules-order = (refl, refl, refl, refl, refl, refl)
 
+-- 19 at 0 where S has no finite tree, after 8 and before 14; one whose only sentence is empty passes
+cause-19 : (check limits "terminals=a\nnonterminals=S\n" ≡ refused 19 0)
+    × (check limits "terminals=a\nnonterminals=S,A\nrule=S: a A\nrule=A: S\n" ≡ refused 19 0)
+    × (check roomy "terminals=a\nnonterminals=S\nrule=S: S\nrule=S: S\n" ≡ refused 6 3)
+    × (into 0 0 0 "terminals=a\nnonterminals=S\nrule=S: S\n" ≡ refused 19 0)
+    × (check limits "terminals=\nnonterminals=S\nrule=S:\n" ≡ done (source [] ("S" ∷ []) (rule 128 [] ∷ [])))
+unfolding check into
+cause-19 = (refl, refl, refl, refl, refl)
+
 -- 14 at 0 where a lent row is short of 3 entries, 2 starts or 2 lengths, and after all else
 cause-14 : (into 3 2 2 "terminals=a\nnonterminals=S\nrule=S: a\n" ≡ done (source ("a" ∷ []) ("S" ∷ []) (rule 128 (1 ∷ []) ∷ [])))
     × (into 2 2 2 "terminals=a\nnonterminals=S\nrule=S: a\n" ≡ refused 14 0)
@@ -264,7 +275,7 @@ cause-14 = (refl, refl, refl, refl, refl)
 writes : (write 1 1 (128 ∷ 1 ∷ 1 ∷ []) "Sa" (1 ∷ 0 ∷ []) (1 ∷ 1 ∷ []) 37
     ≡ done (bytes "terminals=a\nnonterminals=S\nrule=S: a\n"))
     × (write 1 1 (128 ∷ 1 ∷ 1 ∷ []) "Sa" (1 ∷ 0 ∷ []) (1 ∷ 1 ∷ []) 36 ≡ refused 14 0)
-    × (write 0 1 [] "S" (0 ∷ 9 ∷ []) (1 ∷ 9 ∷ []) 100 ≡ done (bytes "terminals=\nnonterminals=S\n"))
+    × (write 0 1 (128 ∷ 0 ∷ []) "S" (0 ∷ 9 ∷ []) (1 ∷ 9 ∷ []) 100 ≡ done (bytes "terminals=\nnonterminals=S\nrule=S:\n"))
 unfolding write
 writes = (refl, refl, refl)
 
@@ -277,24 +288,25 @@ unfolding bytes nameAt
 lent-names = (refl, refl, refl, refl)
 
 -- 16 at the symbol without a start, without a length, past the bytes, or with a malformed name
-writer-16 : (write 1 1 [] "aS" (0 ∷ []) (1 ∷ 1 ∷ []) 100 ≡ refused 16 1)
-    × (write 1 1 [] "aS" (0 ∷ 1 ∷ []) (1 ∷ []) 100 ≡ refused 16 1)
-    × (write 1 1 [] "aS" (0 ∷ 1 ∷ []) (1 ∷ 2 ∷ []) 100 ≡ refused 16 1)
-    × (write 1 1 [] "_S" (0 ∷ 1 ∷ []) (1 ∷ 1 ∷ []) 100 ≡ refused 16 0)
-    × (write 1 1 [] "aS" (0 ∷ 1 ∷ []) (0 ∷ 1 ∷ []) 100 ≡ refused 16 0)
+writer-16 : (write 1 1 (128 ∷ 0 ∷ []) "aS" (0 ∷ []) (1 ∷ 1 ∷ []) 100 ≡ refused 16 1)
+    × (write 1 1 (128 ∷ 0 ∷ []) "aS" (0 ∷ 1 ∷ []) (1 ∷ []) 100 ≡ refused 16 1)
+    × (write 1 1 (128 ∷ 0 ∷ []) "aS" (0 ∷ 1 ∷ []) (1 ∷ 2 ∷ []) 100 ≡ refused 16 1)
+    × (write 1 1 (128 ∷ 0 ∷ []) "_S" (0 ∷ 1 ∷ []) (1 ∷ 1 ∷ []) 100 ≡ refused 16 0)
+    × (write 1 1 (128 ∷ 0 ∷ []) "aS" (0 ∷ 1 ∷ []) (0 ∷ 1 ∷ []) 100 ≡ refused 16 0)
 unfolding write
 writer-16 = (refl, refl, refl, refl, refl)
 
 -- 18 at the lowest symbol whose name an earlier one has
-writer-18 : (write 2 2 [] "ab" (0 ∷ 1 ∷ 0 ∷ 1 ∷ []) (1 ∷ 1 ∷ 1 ∷ 1 ∷ []) 100 ≡ refused 18 2)
-    × (write 1 2 [] "ab" (1 ∷ 0 ∷ 0 ∷ []) (1 ∷ 1 ∷ 1 ∷ []) 100 ≡ refused 18 2)
+writer-18 : (write 2 2 (128 ∷ 0 ∷ []) "ab" (0 ∷ 1 ∷ 0 ∷ 1 ∷ []) (1 ∷ 1 ∷ 1 ∷ 1 ∷ []) 100 ≡ refused 18 2)
+    × (write 1 2 (128 ∷ 0 ∷ []) "ab" (1 ∷ 0 ∷ 0 ∷ []) (1 ∷ 1 ∷ 1 ∷ []) 100 ≡ refused 18 2)
 unfolding write
 writer-18 = (refl, refl)
 
 -- table faults before 16 before 18 before 14
 writer-order : (write 1 0 [] "" [] [] 0 ≡ refused 1 0)
     × (write 1 1 (128 ∷ 1 ∷ 2 ∷ []) "" [] [] 0 ≡ refused 5 2)
-    × (write 2 1 [] "a_" (0 ∷ 0 ∷ 1 ∷ []) (1 ∷ 1 ∷ 1 ∷ []) 0 ≡ refused 16 2)
-    × (write 1 1 [] "a" (0 ∷ 0 ∷ []) (1 ∷ 1 ∷ []) 0 ≡ refused 18 1)
+    × (write 1 1 [] "" [] [] 0 ≡ refused 19 0)
+    × (write 2 1 (128 ∷ 0 ∷ []) "a_" (0 ∷ 0 ∷ 1 ∷ []) (1 ∷ 1 ∷ 1 ∷ []) 0 ≡ refused 16 2)
+    × (write 1 1 (128 ∷ 0 ∷ []) "a" (0 ∷ 0 ∷ []) (1 ∷ 1 ∷ []) 0 ≡ refused 18 1)
 unfolding write
-writer-order = (refl, refl, refl, refl)
+writer-order = (refl, refl, refl, refl, refl)

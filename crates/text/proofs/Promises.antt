@@ -13,7 +13,7 @@ use Rattle.grammar.specs.Table.{encode, decode}
 use Rattle.grammar.specs.Refusal.{Answer, done, refused}
 use Rattle.grammar.proofs.Rules.{decode-encode}
 use Rattle.text.specs.Read.{Source, symbolNames}
-use Rattle.text.specs.Rules.{readInto}
+use Rattle.text.specs.Rules.{checkText, readInto}
 use Rattle.text.specs.Print.{gather, writeInto}
 use Rattle.text.specs.Promise.{nameStarts, nameLengths, textRead, textWritten, afterwards, ReadsText, WritesText, SameAgain}
 use Rattle.text.specs.declared.TextRead.{TextRead}
@@ -105,6 +105,24 @@ read-write text table starts lengths table′ starts′ lengths′ t n e q out o
     ∙ limits-read-then-write (length table) (length starts) (length lengths) text s room (a .whole) h in
     (w .answer ∙ ap textWritten o, w .out-after ∙ ap (λ o. afterwards o (λ text. text) out) o)
 
+-- what was written stands at the output's front
+written-front : (t n : ℕ) (table bytes starts lengths out : List ℕ) (m : ℕ) (out′ : List ℕ) → WritesText t n table bytes starts lengths out (Written m) out′
+    → (text : List ℕ) × (writeInto limits t n table bytes starts lengths (length out) ≡ done text) × (take m out′ ≡ text)
+written-front t n table bytes starts lengths out m out′ w =
+    let b = written-as _ m (w .answer) in (
+      b .0,
+      b .1,
+      ap (take m) (after-done _ (λ text. text) out out′ (b .0) (b .1) (w .out-after)) ∙ take-at (b .0) (drop (length (b .0)) out) m (b .2),
+    )
+
+-- and passes the reader's tests
+pub written-passes : (t n : ℕ) (table bytes starts lengths out : List ℕ) (m : ℕ) (out′ : List ℕ)
+    → WritesText t n table bytes starts lengths out (Written m) out′ → (s : Source) × (checkText limits (take m out′) ≡ done s)
+written-passes t n table bytes starts lengths out m out′ w =
+    let b = written-front t n table bytes starts lengths out m out′ w in
+    let g = limits-write-then-read t n table bytes starts lengths (length out) (b .0) (length table) (t + n) (t + n) (b .1) (omega arith) (omega arith) (omega arith) in
+    (g .0, ap (checkText limits) (b .2) ∙ into-checked limits (length table) (t + n) (t + n) (b .0) (g .0) (g .1))
+
 -- a table and names written and read again with enough room are the same
 pub write-read : (t n : ℕ) (table bytes starts lengths out : List ℕ) (m : ℕ) (out′ table₂ starts₂ lengths₂ : List ℕ)
     (r : TextRead) (table′ starts′ lengths′ : List ℕ)
@@ -113,12 +131,10 @@ pub write-read : (t n : ℕ) (table bytes starts lengths out : List ℕ) (m : �
     → length table ≤ length table₂ → t + n ≤ length starts₂ → t + n ≤ length lengths₂
     → SameAgain t n table bytes starts lengths (take m out′) r table′ starts′ lengths′
 write-read t n table bytes starts lengths out m out′ table₂ starts₂ lengths₂ r table′ starts′ lengths′ w p ke ka kb =
-    let b = written-as _ m (w .answer) in
+    let b = written-front t n table bytes starts lengths out m out′ w in
     let whole = b .0 in
     let text = take m out′ in
-    let f : text ≡ whole
-    = ap (take m) (after-done _ (λ text. text) out out′ whole (b .1) (w .out-after))
-    ∙ take-at whole (drop (length whole) out) m (b .2) in
+    let f : text ≡ whole = b .2 in
     let g = limits-write-then-read t n table bytes starts lengths (length out) whole (length table₂) (length starts₂)
     (length lengths₂) (b .1) ke ka kb in
     let s = g .0 in

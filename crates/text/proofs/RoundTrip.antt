@@ -12,11 +12,13 @@ use lib.Seq.{length-take-le, take-append-seam, drop-append-seam}
 use Rattle.grammar.specs.Limits.{Limits, limits}
 use Rattle.grammar.specs.Grammar.{Rule, Grammar, stateCount, WellFormed}
 use Rattle.grammar.specs.Table.{encode}
+use Rattle.grammar.specs.Live.{hasSentence}
 use Rattle.grammar.specs.Refusal.{done, refuseUnless, andThen}
 use Rattle.grammar.specs.TableCheck.{checkTable}
 use Rattle.grammar.proofs.Answers.{done-inj, unless-done, then-done}
 use Rattle.grammar.proofs.Steps.{grammarOf}
-use Rattle.grammar.proofs.WellFormed.{takes-all, takes-only, room}
+use Rattle.grammar.proofs.WellFormed.{room}
+use Rattle.grammar.proofs.Sentence.{passed-stored, takes-all, takes-only}
 use Rattle.text.specs.Names.{all, isName, hasDouble}
 use Rattle.text.specs.Read.{Source, symbolNames, readText}
 use Rattle.text.specs.Rules.{checkText, readInto}
@@ -139,6 +141,7 @@ record Named (L : Limits) (t n : ℕ) (names : List (List ℕ)) (G : Grammar) : 
   size-n : length (drop t names) ≡ n
   both : take t names ++ drop t names ≡ names
   formed : WellFormed L G
+  sentence : hasSentence L G ≡ true
   grammar-t : G .terminals ≡ length (take t names)
   grammar-n : G .nonterminals ≡ length (drop t names)
 
@@ -155,6 +158,7 @@ module _ (L : Limits) (four : 4 ≤ L .maxStates) where
         size-n = q;
         both = take-append-drop t names;
         formed = a .wellFormed;
+        sentence = passed-stored L t n table G e .1;
         grammar-t = a .terminals ∙ sym p;
         grammar-n = a .nonterminals ∙ sym q;
       }
@@ -182,7 +186,7 @@ module _ (L : Limits) (four : 4 ≤ L .maxStates) where
       ≡ done (grammarOf (length (take t names)) (length (drop t names)) (G .rules))
   source-passes t n names G d =
       subst₂ (λ t n. checkTable L t n (encode (G .rules)) ≡ done (grammarOf t n (G .rules))) (d .grammar-t) (d .grammar-n)
-      (takes-all L G (d .formed))
+      (takes-all L G (d .formed) (d .sentence))
 
   -- what is written is never longer than the reader takes
   pub write-short : Wide L → (t n : ℕ) (table bytes starts lengths : List ℕ) (room : ℕ) (text : List ℕ)

@@ -13,24 +13,24 @@ use Rattle.grammar.specs.Basics.{Mem, here, there}
 use Rattle.grammar.specs.Limits.{Limits, limits}
 use Rattle.grammar.specs.Grammar.{Rule, Grammar, stateCount}
 use Rattle.grammar.specs.Table.{encode}
-use Rattle.grammar.specs.Refusal.{Answer, done, refused, refuseUnless, andThen}
+use Rattle.grammar.specs.Refusal.{Answer, done, refused, refuseUnless, andThen, noSentence}
+use Rattle.grammar.specs.Live.{hasSentence}
 use Rattle.grammar.specs.Record.{recordOf}
 use Rattle.grammar.specs.TableCheck.{isAmong, checkTable, tableChecked}
 use Rattle.grammar.specs.declared.TableChecked.{TableChecked}
 use Rattle.grammar.specs.declared.TableVerdict.the-variants.{Passed, Refused as TableRefused}
 use Rattle.grammar.proofs.Answers.{no-answer, done-inj, unless-holds, unless-fails, unless-done, then-done, then-goes, then-stops}
-use Rattle.grammar.proofs.Steps.{grammarOf}
 use Rattle.text.specs.Pieces.{splitOn, join, endedBy}
 use Rattle.text.specs.Keys.{key}
-use Rattle.text.specs.Read.{Source, symbolNames, namesOf, ruleLines, readLines, readText}
-use Rattle.text.specs.Rules.{admit, checkText}
+use Rattle.text.specs.Read.{Source, symbolNames, grammarOf, namesOf, ruleLines, readLines, readText}
+use Rattle.text.specs.Rules.{admit, lastTests, checkText}
 use Rattle.text.specs.Print.{printLine, printRule, printed}
 use Rattle.text.specs.Promise.{startsFrom, nameStarts, nameLengths, textRead}
 use Rattle.text.specs.declared.TextRead.{TextRead}
 use Rattle.text.specs.declared.TextRead.the-variants.{Read, Refused}
 use Rattle.text.proofs.WellNamed.{WellNamedSource, mem-each, mem-none}
 use Rattle.text.proofs.PrintRead.{read-well, join-names}
-use Rattle.text.proofs.Admit.{admit-same, table-admit, text-checked}
+use Rattle.text.proofs.Admit.{table-tests, passed-said, text-checked}
 use Rattle.text.proofs.RoundTrip.{apart}
 use Rattle.text.proofs.Spans.{spelled, lengths-append}
 use Rattle.names.specs.Found.{part}
@@ -117,46 +117,63 @@ first-well k s w = record {
 
 -- ---- the last tests of a text that was read
 
--- an answer of the table check of the first 101 rules
-module _ (text : List ℕ) (s : Source) (read : readText limits text ≡ done s) where
-  first-admit : checkTable limits (length (s .terminals)) (length (s .nonterminals)) (encode (take 101 (s .rules)))
-      ≡ andThen (admit limits 100 [] 0 (s .rules))
-      (λ rules. done (grammarOf (length (s .terminals)) (length (s .nonterminals)) rules))
-  first-admit =
-      table-admit limits (firstRules 101 s) (first-well 101 s (read-well limits apart text s read))
-      ∙ ap (λ o. andThen o (λ rules. done (grammarOf (length (s .terminals)) (length (s .nonterminals)) rules)))
-      (admit-first limits 100 [] 0 (s .rules))
+-- the last tests of the first 101 rules are those of all: with more than 100 the answer is 7 either way
+module _ (s : Source) where
+  few-first : (rules : List Rule) → admit limits 100 [] 0 (s .rules) ≡ done rules → take 101 (s .rules) ≡ s .rules
+  few-first rules e = let few = admit-few limits 100 [] 0 (s .rules) rules e in take-all 101 (s .rules) (omega arith)
 
-  check-on : checkText limits text ≡ andThen (admit limits 100 [] 0 (s .rules)) (λ rules. done s)
+  first-tests : lastTests limits (firstRules 101 s) ≡ lastTests limits s
+  unfolding lastTests
+  first-tests =
+      ap (λ o. andThen o (λ rules. refuseUnless noSentence 0 (hasSentence limits (grammarOf (firstRules 101 s))) (done (grammarOf (firstRules 101 s)))))
+      (admit-first limits 100 [] 0 (s .rules))
+      ∙ go (admit limits 100 [] 0 (s .rules)) refl
+    where
+      go : (o : Answer (List Rule)) → admit limits 100 [] 0 (s .rules) ≡ o
+          → andThen o (λ rules. refuseUnless noSentence 0 (hasSentence limits (grammarOf (firstRules 101 s))) (done (grammarOf (firstRules 101 s))))
+          ≡ andThen o (λ rules. refuseUnless noSentence 0 (hasSentence limits (grammarOf s)) (done (grammarOf s)))
+      go (refused c i) e = unfold andThen in refl
+      go (done rules) e =
+          unfold andThen in
+          ap (λ (rs : List Rule). let G = grammarOf (record { terminals = s .terminals; nonterminals = s .nonterminals; rules = rs }) in
+          refuseUnless noSentence 0 (hasSentence limits G) (done G)) (few-first rules e)
+
+  -- where they pass all rules are among the first 101
+  passed-first : (G : Grammar) → lastTests limits s ≡ done G → take 101 (s .rules) ≡ s .rules
+  unfolding lastTests
+  passed-first G e = let a = then-done _ _ _ e in few-first (a .0) (a .1)
+
+module _ (text : List ℕ) (s : Source) (read : readText limits text ≡ done s) where
+  check-on : checkText limits text ≡ andThen (lastTests limits s) (λ G. done s)
   unfolding checkText
-  check-on = then-goes (readText limits text) (λ s. andThen (admit limits 100 [] 0 (s .rules)) (λ rules. done s)) s read
+  check-on = then-goes (readText limits text) (λ s. andThen (lastTests limits s) (λ G. done s)) s read
 
   module _ (t n end : ℕ) (row : List ℕ) (r : TextRead) (p : t ≡ length (s .terminals)) (q : n ≡ length (s .nonterminals))
       (used : end ≡ length (encode (take 101 (s .rules)))) (front : take end row ≡ encode (take 101 (s .rules)))
       (told : r ≡ tableRead t n end (checkTable limits t n (take end row))) where
-    table-is : checkTable limits t n (take end row)
-        ≡ andThen (admit limits 100 [] 0 (s .rules)) (λ rules. done (grammarOf (length (s .terminals)) (length (s .nonterminals)) rules))
-    table-is = (λ d. checkTable limits (p d) (q d) (front d)) ∙ first-admit
+    table-is : checkTable limits t n (take end row) ≡ lastTests limits s
+    table-is =
+        (λ d. checkTable limits (p d) (q d) (front d))
+        ∙ table-tests limits (firstRules 101 s) (first-well 101 s (read-well limits apart text s read)) ∙ first-tests s
 
     pub last-told : TableTold text r row
-    last-told = go (admit limits 100 [] 0 (s .rules)) refl
+    last-told = go (lastTests limits s) refl
       where
-        go : (o : Answer (List Rule)) → admit limits 100 [] 0 (s .rules) ≡ o → TableTold text r row
+        go : (o : Answer Grammar) → lastTests limits s ≡ o → TableTold text r row
         go (refused c i) e =
             let x : checkText limits text ≡ refused c i = check-on ∙ then-stops _ _ c i e in
             record {
-              answer = told ∙ ap (tableRead t n end) (table-is ∙ then-stops _ _ c i e) ∙ sym (ap textRead x);
+              answer = told ∙ ap (tableRead t n end) (table-is ∙ e) ∙ sym (ap textRead x);
               table = λ z w. no-answer (sym x ∙ w);
             }
-        go (done rules) e =
-            let same : rules ≡ s .rules = admit-same limits 100 [] 0 (s .rules) rules e in
-            let few = admit-few limits 100 [] 0 (s .rules) rules e in
-            let all : take 101 (s .rules) ≡ s .rules = take-all 101 (s .rules) (omega arith) in
-            let x : checkText limits text ≡ done s = check-on ∙ then-goes _ _ rules e in
+        go (done G) e =
+            let same : G ≡ grammarOf s = passed-said limits s G e in
+            let all = passed-first s G e in
+            let x : checkText limits text ≡ done s = check-on ∙ then-goes _ _ G e in
             let size : end ≡ length (encode (s .rules)) = used ∙ ap (λ rs. length (encode rs)) all in
             record {
-              answer = told ∙ ap (tableRead t n end) (table-is ∙ then-goes _ _ rules e)
-                  ∙ (λ d. Read (p d) (q d) (size d) (stateCount (same d))) ∙ sym (ap textRead x);
+              answer = told ∙ ap (tableRead t n end) (table-is ∙ e)
+                  ∙ (λ d. Read (p d) (q d) (size d) (stateCount (same d .rules))) ∙ sym (ap textRead x);
               table = λ z w. subst (λ (z : Source). take (length (encode (z .rules))) row ≡ encode (z .rules)) (done-inj (sym x ∙ w))
                   (ap (λ m. take m row) (sym size) ∙ front ∙ ap encode all);
             }

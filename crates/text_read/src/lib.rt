@@ -1,4 +1,4 @@
-// The reader of grammar text: any bytes to a table and the places of the names, or to document 01's first refusal.
+// The reader of grammar text: any bytes to a table and the places of the names, or to the first refusal.
 // Everything is checked over local rows before a lent row is written.
 mod declaring;
 mod rules;
@@ -74,7 +74,7 @@ pub enum Kept {
     Fault(u8, usize),
 }
 
-// 7, 6, 8 rule by rule: the table check of the rules that are kept.
+// 7, 6, 8 rule by rule, and 19: the table check of the rules that are kept.
 fn last_tests(t: usize, n: usize, row: &[u8], end: usize) -> TextRead
     requires { ⌜ end ≤ length (now row) ⌝ }
     ensures { λ r. ⌜ r ≡ tableRead t n end (checkTable limits t n (take end (now (row .entry)))) ⌝ }
@@ -178,7 +178,7 @@ fn copy_words(front: &[u32], out: &mut [u32])
 }
 
 // The reader: t, n, the number of the table's entries and Q, with the table and the start and length of each name at the fronts
-// of the lent rows; or the first refusal in document 01's order, which changes nothing.
+// of the lent rows; or the first refusal in the documents' order, which changes nothing.
 pub fn read_text(text: &[u8], table: &mut [u8], starts: &mut [u32], lengths: &mut [u32]) -> TextRead
     ensures { λ r. ⌜ ReadsText (now (text .entry)) (now (table .entry)) (now (starts .entry)) (now (lengths .entry)) r (now (table .exit)) (now (starts .exit)) (now (lengths .exit)) ⌝ }
 {

@@ -15,7 +15,8 @@ use Rattle.grammar.specs.Table.{encode, decode}
 use Rattle.grammar.specs.Refusal.{done}
 use Rattle.grammar.specs.TableCheck.{checkTable}
 use Rattle.grammar.proofs.Rules.{rule-path, decode-encode, stands}
-use Rattle.grammar.proofs.WellFormed.{Taken, takes-only, room}
+use Rattle.grammar.proofs.WellFormed.{Taken, room}
+use Rattle.grammar.proofs.Sentence.{takes-only}
 use Rattle.text.specs.Read.{symbolOf}
 use Rattle.text.proofs.Names.{left-number, right-number}
 use Rattle.text_write.specs.Contracts.{Known, Coded}

@@ -1,4 +1,4 @@
-// The writer of grammar text: any t, n, table and lent names to the text, or to document 01's first refusal.
+// The writer of grammar text: any t, n, table and lent names to the text, or to the first refusal.
 // All is checked before a byte is written, so a refusal leaves the output as it was.
 mod lent;
 mod lines;

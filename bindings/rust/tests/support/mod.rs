@@ -20,6 +20,11 @@ pub fn refused<T>(cause: Cause, at: usize) -> Result<T, Refusal> {
     Err(Refusal { cause, at })
 }
 
+/// The bytes that hexadecimal digits stand for.
+pub fn bytes_of(digits: &str) -> Vec<u8> {
+    (0..digits.len()).step_by(2).map(|place| u8::from_str_radix(&digits[place..place + 2], 16).unwrap()).collect()
+}
+
 fn move_text(side: Move) -> String {
     match side {
         Move::Still => "-".to_string(),

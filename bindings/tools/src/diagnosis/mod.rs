@@ -1,6 +1,7 @@
 //! What is wrong with a grammar's text or with the lines of two strings, where, and what to do. The library's refusal decides; the
 //! text is looked at only to put it into words.
 
+mod endless;
 mod malformed;
 mod nearest;
 mod strings;
@@ -66,6 +67,7 @@ pub fn of(text: &[u8], refusal: Refusal) -> Finding {
         Cause::NameRepeated => (at, repeated_name(&lines, at)),
         Cause::OutOfRange => (at, too_many_names(&lines, at)),
         Cause::RuleTooLong => (at, too_many_symbols(lines[at - 1])),
+        Cause::NoSentence => (LISTS, endless::found(&lines)),
         cause => of_rule(&lines, cause, at),
     };
     Finding { line, column: place + 1, message }
@@ -97,16 +99,19 @@ fn rule_words(line: &[u8]) -> Vec<Word<'_>> {
     words.into_iter().filter(|word| !word.bytes.is_empty()).collect()
 }
 
+fn is_among(names: &[Word], word: &Word) -> bool {
+    names.iter().any(|name| name.bytes == word.bytes)
+}
+
 fn unknown_name(lines: &[&[u8]], number: usize) -> Found {
     let (terminals, nonterminals) = (declared(lines, 1), declared(lines, 2));
-    let is_in = |names: &[Word], word: &Word| names.iter().any(|name| name.bytes == word.bytes);
     let words = rule_words(lines[number - 1]);
     let Some(left) = words.first() else { return (0, "a name is not declared".to_string()) };
-    if is_in(&terminals, left) {
+    if is_among(&terminals, left) {
         let message = format!("{} is a terminal, declared on line 1; only a nonterminal has rules", left.quoted());
         return (left.at, message);
     }
-    let unknown = words.iter().find(|word| !is_in(&terminals, word) && !is_in(&nonterminals, word)).unwrap_or(left);
+    let unknown = words.iter().find(|word| !is_among(&terminals, word) && !is_among(&nonterminals, word)).unwrap_or(left);
     let names = if unknown.at == left.at { nonterminals } else { [terminals, nonterminals].concat() };
     let remedy = match nearest::nearest(unknown.bytes, names.iter().map(|name| name.bytes)) {
         Some(place) => format!("is {} meant?", names[place].quoted()),

@@ -39,17 +39,17 @@ pub struct Items {
 }
 
 impl Items {
-    /// The items of the rules that some sentence uses; none if there is no sentence.
-    pub fn new(grammar: &Grammar) -> Option<Items> {
+    /// The items of the rules that some sentence uses; rule 0 is one of them, for a grammar that was read has a sentence.
+    pub fn new(grammar: &Grammar) -> Items {
         let live = holes::live_rules(grammar);
         let by_code = || vec![Vec::new(); CODES];
         let visible = holes::visible(grammar);
         let mut items = Items { items: vec![None; FIRST], openings: by_code(), ends: by_code(), callers: by_code(), visible };
-        items.add(0, PRIMED, &[START], holes::productive(grammar)[START as usize]);
+        items.add(0, PRIMED, &[START], true);
         for (place, rule) in grammar.rules().iter().enumerate() {
             items.add(place + 1, rule.left, &rule.right, live[place]);
         }
-        (!items.ends[PRIMED as usize].is_empty()).then_some(items)
+        items
     }
 
     fn add(&mut self, rule: usize, left: Code, right: &[Code], live: bool) {
@@ -142,11 +142,10 @@ mod tests {
     #[test]
     fn numbered_as_the_states() {
         let text = b"terminals=a\nnonterminals=S,U\nrule=S: a S\nrule=U: S\nrule=S:\n";
-        let items = Items::new(&Grammar::read(text).unwrap()).unwrap();
+        let items = Items::new(&Grammar::read(text).unwrap());
         assert_eq!(items.states(), 10);
         assert_eq!((items.opened(FIRST), items.opened(5)), (&[4, 9][..], &[4, 9][..]));
         assert_eq!((items.openers(4), items.ends(START), items.ends(PRIMED)), (&[FIRST, 5][..], &[6, 9][..], &[FIRST + 1][..]));
         assert_eq!((items.next(7), items.shifter(6), items.returned(6)), (None, Some((5, START)), Some(START)));
-        assert!(Items::new(&Grammar::read(b"terminals=\nnonterminals=S\nrule=S: S\n").unwrap()).is_none());
     }
 }

@@ -38,8 +38,7 @@ pub enum Extent {
 
 /// Looks for two trees. Those that are found are shown only if the check confirms them.
 pub fn look(grammar: &Grammar, limits: Limits) -> Outcome {
-    let Some(items) = Items::new(grammar) else { return Outcome::NotFound(Extent::All { pairs: 0 }) };
-    let found = match search::search(&items, limits) {
+    let found = match search::search(&Items::new(grammar), limits) {
         Ok((left, right)) => finishing::finished(grammar, left, right),
         Err(extent) => return Outcome::NotFound(extent),
     };

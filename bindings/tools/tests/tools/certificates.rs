@@ -155,6 +155,27 @@ fn certificates_that_are_refused() {
     assert_eq!(empty.err, "<stdin>:4:1: the certificate lacks layer 0, left 'start', right 'start' (refused=11 at=0)\n");
 }
 
+/// Certificates of grammars without a sentence, and two strings: the grammar is refused, and told of its file.
+#[test]
+fn certificates_of_grammars_without_a_sentence() {
+    let words = "there is no sentence: 'S' has no finite tree; give it a rule without it on the right side";
+    for (rules, lines) in [
+        (&[][..], "certificate-form=1\nstates=4\nrules=0\nsize=1\n0000: 01 00 00 00\n"),
+        (&[], "certificate-form=1\nstates=4\nrules=0\nsize=5\n0000: 05 85 00 00\n"),
+        (&["S: S"], "certificate-form=1\nstates=6\nrules=1\nsize=1\n0000: 01 00 00 00 00 00 00 00 00\n"),
+        (&["S: S"], "certificate-form=2\n"),
+    ] {
+        let grammar = file("without-sentence", &text("", "S", rules));
+        let ran = check(&grammar, lines);
+        assert_eq!((ran.status, ran.out.as_str()), (1, ""));
+        assert_eq!(ran.err, format!("{grammar}:2:14: {words} (refused=19 at=0)\n"), "{lines}");
+        let refused = said(1, "refused=19\nat=0\n");
+        assert_eq!(run(CHECK, &["--quiet", &grammar, "-"], lines.as_bytes()), refused);
+        let strings = b"left=(0 S )0\nright=(0 (1 S )1 )0\n";
+        assert_eq!(run(CHECK, &["--quiet", "--lines", &grammar, "-"], strings), refused);
+    }
+}
+
 /// A grammar of the corpus with its certificate in the second form.
 fn certified() -> Vec<(Grammar, String)> {
     let of = |text: &str| {

@@ -132,7 +132,6 @@ fn false_alarms() {
     // Rules that no sentence uses have no moves, so that no strings part.
     let unused = look(text("a", "S,W", &["S: a S", "S:", "W: S S"]));
     assert_eq!(unused, Outcome::NotFound(Extent::All { pairs: 0 }));
-    assert_eq!(look(text("", "S", &["S: S"])), Outcome::NotFound(Extent::All { pairs: 0 }));
     let few = pairs::look(&Grammar::read(dangling().as_bytes()).unwrap(), Limits { pairs: 1_000_000, moves: 10 });
     assert!(matches!(few, Outcome::NotFound(Extent::Limit { .. })));
 }

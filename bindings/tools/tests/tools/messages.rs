@@ -2,7 +2,7 @@
 
 use std::collections::BTreeMap;
 
-use crate::support::{certify, corpus, file, folder, one_a, run, text, CERTIFY, CHECK};
+use crate::support::{certify, corpus, file, folder, one_a, run, said, text, without_sentence, CERTIFY, CHECK};
 use ambig_tools::holes;
 use ambiguity::{Grammar, Searched};
 
@@ -38,7 +38,7 @@ fn messages_differ() {
     let all = messages.len();
     messages.sort();
     messages.dedup();
-    assert!(all >= 58 && messages.len() >= 52, "{} of {all}", messages.len());
+    assert!(all >= 61 && messages.len() >= 54, "{} of {all}", messages.len());
 }
 
 #[test]
@@ -59,13 +59,44 @@ fn damaged_texts() {
             damaged[place] = byte;
             let Err(refusal) = ambiguity::Grammar::read(&damaged) else { continue };
             let finding = ambig_tools::diagnosis::of(&damaged, refusal);
-            let by_offset = matches!(refusal.cause.number(), 6..=8);
-            assert!(by_offset || finding.line == refusal.at, "{finding:?}");
+            let has_line = !matches!(refusal.cause.number(), 6..=8 | 19);
+            assert!(!has_line || finding.line == refusal.at, "{finding:?}");
             let line = damaged.split(|byte| *byte == b'\n').nth(finding.line - 1).unwrap_or_default();
             assert!((1..=line.len() + 1).contains(&finding.column), "{finding:?}");
             assert!(finding.message.is_ascii() && !finding.message.contains('\n'));
         }
     }
+}
+
+/// The corpus has grammars without a sentence. In each of them the start alone has no finite tree.
+#[test]
+fn grammars_without_a_sentence() {
+    let entries = without_sentence();
+    assert_eq!(entries.len(), 5);
+    let words = "there is no sentence: 'S' has no finite tree; give it a rule without it on the right side";
+    for entry in entries {
+        let ran = certify(&entry.text);
+        assert_eq!((ran.status, ran.out.as_str()), (1, ""));
+        assert_eq!(ran.err, format!("<stdin>:2:14: {words} (refused=19 at=0)\n"), "{}", entry.name);
+        assert_eq!(run(CERTIFY, &["--html", "-"], entry.text.as_bytes()), ran);
+        assert_eq!(run(CERTIFY, &["--quiet", "-"], entry.text.as_bytes()), said(1, "refused=19\nat=0\n"));
+    }
+}
+
+/// Half of 127 nonterminals lead to one without a rule, the others to the start; then that one gets a rule.
+#[test]
+fn many_nonterminals_without_a_tree() {
+    let names: Vec<String> = (0..127).map(|i| format!("N{i}")).collect();
+    let rules: Vec<String> = (1..100).rev().map(|i| format!("N{i}: N{}", if i % 2 == 0 { 126 } else { 0 })).collect();
+    let text = text("a", &names.join(","), &rules.iter().map(String::as_str).collect::<Vec<_>>());
+    let named = |has_tree: &dyn Fn(usize) -> bool| {
+        let quoted: Vec<String> = (0..127).filter(|i| !has_tree(*i)).map(|i| format!("'N{i}'")).collect();
+        let (last, front) = quoted.split_last().unwrap();
+        format!("<stdin>:2:14: there is no sentence: {} and {last} have no finite tree; ", front.join(", "))
+    };
+    assert!(certify(&text).err.starts_with(&named(&|_| false)));
+    let mended = certify(&(text + "rule=N126: a\n"));
+    assert!(mended.err.starts_with(&named(&|i| i == 126 || (1..100).contains(&i) && i % 2 == 0)), "{}", mended.err);
 }
 
 /// What the search says of a text: the verdict, with the size or the number of the witness's entries.
@@ -82,8 +113,8 @@ fn unused_rules_change_no_verdict() {
     let mut texts: Vec<String> = corpus().into_iter().map(|entry| entry.text).collect();
     texts.extend([
         text("a", "S,A", &["S: a", "S: A", "A: A"]),
-        text("", "S", &["S: S"]),
-        text("a,b", "S,A,B", &["S: A", "A: B", "B: S b", "A: B a"]),
+        text("a,b", "S,A,B", &["S: A", "A: B", "B: A b", "A: B a", "S: a"]),
+        text("a", "S,A,B", &["A: A a", "S: S", "S: A B", "S:", "B: a"]),
         text("a", "S,A,B,C", &["C: S S", "S: a S a", "B: a", "S: A B", "S: a", "A: B A", "C: a"]),
         text("a", "S,A,B", &["B: a B", "S: S S", "A: S A", "S: a", "B: S", "A: B A"]),
     ]);
@@ -96,7 +127,7 @@ fn unused_rules_change_no_verdict() {
         assert_eq!(searched(&text), searched(&without), "{text}");
         unused += usize::from(text != without);
     }
-    assert!(unused >= 10, "{unused}");
+    assert!(unused >= 8, "{unused}");
 }
 
 #[test]

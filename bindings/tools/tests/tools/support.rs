@@ -51,8 +51,20 @@ pub struct Entry {
     pub text: String,
 }
 
-/// The corpus, by its index.
+/// The grammars of the corpus that have a sentence.
 pub fn corpus() -> Vec<Entry> {
+    entries().into_iter().filter(|entry| entry.truth != NO_SENTENCE).collect()
+}
+
+/// Those that have none.
+pub fn without_sentence() -> Vec<Entry> {
+    entries().into_iter().filter(|entry| entry.truth == NO_SENTENCE).collect()
+}
+
+const NO_SENTENCE: &str = "no-sentence";
+
+/// The corpus, by its index.
+fn entries() -> Vec<Entry> {
     let read = |name: &str| std::fs::read_to_string(folder("corpus").join(name)).unwrap();
     let entry = |line: &str| {
         let columns: Vec<&str> = line.split('\t').collect();
@@ -80,7 +92,6 @@ pub fn one_a() -> String {
 /// Unambiguous grammars: document 01's rows, and such as papers have.
 pub fn unambiguous() -> Vec<String> {
     vec![
-        text("", "S", &[]),
         text("", "S", &["S:"]),
         one_a(),
         text("a", "S", &["S: S a", "S: a"]),
@@ -93,7 +104,7 @@ pub fn unambiguous() -> Vec<String> {
         text("a,b", "S,A,B", &["S: A B", "A: a A", "A:", "B: b B", "B:"]),
         text("a,b,c", "S", &["S: a S a", "S: b S b", "S: c"]),
         text("a,b", "S,A", &["S: a", "A: b"]),
-        text("a", "S,A", &["A: a"]),
+        text("a", "S,A", &["A: a", "S:"]),
         text("x", "S,A,B,C", &["S: A", "A: B", "B: C", "C: x"]),
         text("a", "S", &["S: a a a a a a a a a a a a"]),
         text("plus,times,open,close,id", "E,T,F", &["E: E plus T", "E: T", "T: T times F", "T: F", "F: open E close", "F: id"]),

@@ -1,0 +1,202 @@
+//! Grammars in which S has no finite tree: every entry refuses them with 19 at 0, after 1 to 8 and before it looks at a certificate, a
+//! witness, names, lines or the length of a row. Nothing that is lent changes.
+
+mod support;
+
+use ambiguity::{certificate_bytes, row_entries, Cause, Names, Part, PartRefusal, Refusal, Table, TripleRecord};
+use ambiguity::{MAX_NAMES, MAX_REPORT_BYTES, MAX_REPORT_TEXT_BYTES, MAX_STATES, MAX_TABLE_ENTRIES};
+use support::{bytes_of, grammar, refused, Lent};
+
+const NO_SENTENCE: Refusal = Refusal { cause: Cause::NoSentence, at: 0 };
+
+/// A grammar as table and as text, with Q.
+struct Endless {
+    table: Table<'static>,
+    text: &'static str,
+    states: usize,
+}
+
+/// No rule; none of S; rules that need S again, at once or by A; a tree for A and none for B.
+const ENDLESS: [Endless; 7] = [
+    endless(0, 1, &[], "terminals=\nnonterminals=S\n", 4),
+    endless(1, 2, &[129, 1, 1, 129, 0], "terminals=a\nnonterminals=S,A\nrule=A: a\nrule=A:\n", 7),
+    endless(0, 1, &[128, 1, 128], "terminals=\nnonterminals=S\nrule=S: S\n", 6),
+    endless(1, 1, &[128, 2, 1, 128], "terminals=a\nnonterminals=S\nrule=S: a S\n", 7),
+    endless(0, 1, &[128, 2, 128, 128], "terminals=\nnonterminals=S\nrule=S: S S\n", 7),
+    endless(1, 2, &[128, 1, 129, 129, 2, 1, 128], "terminals=a\nnonterminals=S,A\nrule=S: A\nrule=A: a S\n", 9),
+    endless(
+        1,
+        3,
+        &[128, 2, 129, 130, 129, 0, 130, 2, 1, 130],
+        "terminals=a\nnonterminals=S,A,B\nrule=S: A B\nrule=A:\nrule=B: a B\n",
+        11,
+    ),
+];
+
+const fn endless(terminals: usize, nonterminals: usize, rules: &'static [u8], text: &'static str, states: usize) -> Endless {
+    Endless { table: Table { terminals, nonterminals, rules }, text, states }
+}
+
+#[test]
+fn tables_and_step_records() {
+    for Endless { table, states, .. } in ENDLESS {
+        assert_eq!(ambiguity::check_table(table), Err(NO_SENTENCE));
+        for (layer, left, right, nth) in [(0, 0, 0, 0), (1, 1, 1, 0), (0, 2, 2, 1), (0, states, 0, 0), (2, 0, 0, usize::MAX)] {
+            assert_eq!(ambiguity::nth_step(table, layer, left, right, nth), Err(NO_SENTENCE));
+        }
+    }
+}
+
+/// Bytes and rows of every kind: too short, acceptable over no moves at all, with all bits set, too long.
+#[test]
+fn certificates_and_witnesses() {
+    for Endless { table, states, .. } in ENDLESS {
+        let bytes = certificate_bytes(states);
+        for certificate in [vec![], vec![0; bytes], [vec![1], vec![0; bytes - 1]].concat(), vec![0xFF; bytes + 1]] {
+            assert_eq!(ambiguity::check_certificate(table, &certificate), Err(NO_SENTENCE));
+        }
+        for row in [&[][..], &[0], &[1], &[0, u32::MAX]] {
+            assert_eq!(ambiguity::check_witness(table, row), Err(NO_SENTENCE));
+            let records: Vec<_> = row.iter().map(|entry| TripleRecord { layer: *entry, left: 0, right: 0 }).collect();
+            assert_eq!(ambiguity::check_witness_records(table, &records), Err(NO_SENTENCE));
+        }
+    }
+}
+
+/// Certificates that are acceptable for such grammars, were they taken: with moves for the rules that sentences use, which are none,
+/// and with moves for every rule, as document 01 has them.
+#[test]
+fn acceptable_certificates() {
+    for (table, certificates) in [
+        (grammar(0, 1, &[]), ["01000000", "05850000"]),
+        (grammar(1, 2, &[129, 1, 1, 129, 0]), ["01000000000000000000000000", "05400101000000000000000000"]),
+    ] {
+        for certificate in certificates {
+            assert_eq!(ambiguity::check_certificate(table, &bytes_of(certificate)), Err(NO_SENTENCE), "{certificate}");
+        }
+    }
+    assert_eq!(ambiguity::check_certificate(grammar(0, 1, &[128, 1, 128]), &bytes_of("010000000000000000")), Err(NO_SENTENCE));
+}
+
+#[test]
+fn searches() {
+    for Endless { table, states, .. } in ENDLESS {
+        for (bytes, entries) in [(0, 0), (certificate_bytes(states), row_entries(states))] {
+            let mut certificate = Lent::new(&vec![7; bytes], 0xFF);
+            let [mut queue, mut parents, mut witness] = [0; 3].map(|_| Lent::new(&vec![7; entries], u32::MAX));
+            let rows = (queue.row_mut(), parents.row_mut(), witness.row_mut());
+            assert_eq!(ambiguity::search(table, certificate.row_mut(), rows.0, rows.1, rows.2), Err(NO_SENTENCE));
+            assert!(certificate.kept() && queue.kept() && parents.kept() && witness.kept());
+        }
+    }
+}
+
+/// The reader, and reading back of lines that are at fault.
+#[test]
+fn texts() {
+    for Endless { text, .. } in ENDLESS {
+        for (entries, names) in [(0, 0), (MAX_TABLE_ENTRIES, MAX_NAMES)] {
+            let mut table = Lent::new(&vec![7; entries], 0xFF);
+            let [mut starts, mut lengths] = [0; 2].map(|_| Lent::new(&vec![7; names], u32::MAX));
+            let answer = ambiguity::read_text(text.as_bytes(), table.row_mut(), starts.row_mut(), lengths.row_mut());
+            assert_eq!(answer, Err(NO_SENTENCE), "{text}");
+            assert!(table.kept() && starts.kept() && lengths.kept());
+        }
+        for lines in ["", "left=\nright=\n", "left=(9\nright=z\n"] {
+            let [mut left, mut right] = [0; 2].map(|_| Lent::new(&[7; 3], u32::MAX));
+            let answer = ambiguity::read_back(text.as_bytes(), lines.as_bytes(), left.row_mut(), right.row_mut());
+            assert_eq!(answer, Err(PartRefusal { part: Part::Grammar, refusal: NO_SENTENCE }), "{text}{lines}");
+            assert!(left.kept() && right.kept());
+        }
+    }
+}
+
+/// Names that are missing, malformed, doubled or right.
+#[test]
+fn texts_written() {
+    for Endless { table, text, .. } in ENDLESS {
+        for (starts, lengths) in [([0; 4], [0; 4]), ([u32::MAX; 4], [1; 4]), ([0; 4], [1; 4]), ([0, 2, 4, 6], [1; 4])] {
+            for (given, room) in [(0, 0), (4, 0), (4, text.len())] {
+                let names = Names { bytes: b"a,S,A,B", starts: &starts[..given], lengths: &lengths[..given] };
+                let mut out = Lent::new(&vec![7; room], 0xFF);
+                assert_eq!(ambiguity::write_text(table, names, out.row_mut()), Err(NO_SENTENCE));
+                assert!(out.kept());
+            }
+        }
+    }
+}
+
+/// What the program prints: 14 for a longer text, 19, then 14 for more states.
+#[test]
+fn reports() {
+    let report = |text: &str| {
+        let mut out = vec![7; MAX_REPORT_BYTES];
+        let length = ambiguity::report(text.as_bytes(), &mut out).unwrap();
+        assert!(out[length..].iter().all(|byte| *byte == 7));
+        String::from_utf8(out[..length].to_vec()).unwrap()
+    };
+    let rules: String = (1..=12).map(|length| format!("rule=S:{}\n", " S".repeat(length))).collect();
+    let of_94_states = format!("terminals=\nnonterminals=S\n{rules}");
+    for text in ENDLESS.iter().map(|endless| endless.text).chain([of_94_states.as_str()]) {
+        assert_eq!(report(text), "refused=19\nat=0\n", "{text}");
+    }
+    assert_eq!(report(&format!("{of_94_states}rule=S:\n")), "refused=14\nat=0\n");
+    let names = |front: &str| (0..127).map(|i| format!("{front}{i:04}")).collect::<Vec<_>>().join(",");
+    let lists = format!("terminals={}\nnonterminals={}\n", names("terminal-a-"), names("Nonterminal"));
+    let long = lists + "rule=Nonterminal0000: Nonterminal0000\n";
+    assert!(long.len() > MAX_REPORT_TEXT_BYTES);
+    assert_eq!(report(&long), "refused=14\nat=0\n");
+    assert_eq!(ambiguity::read_text(long.as_bytes(), &mut [], &mut [], &mut []), Err(NO_SENTENCE));
+}
+
+/// Tables without a sentence that have another fault too, at the end.
+#[test]
+fn other_faults_come_first() {
+    let with = |more: &[u8]| [&[128, 1, 128], more].concat();
+    let of_each = |count: u8, length: u8| -> Vec<u8> {
+        (128..128 + count).flat_map(|left| [vec![left, length], vec![128; length.into()]].concat()).collect()
+    };
+    for (nonterminals, rules, expected) in [
+        (128, with(&[]), refused(Cause::OutOfRange, 0)),
+        (1, with(&[128]), refused(Cause::Truncated, 3)),
+        (1, with(&[128, 2, 128]), refused(Cause::Truncated, 3)),
+        (1, with(&[129, 0]), refused(Cause::LeftUndeclared, 3)),
+        (1, with(&[128, 13]), refused(Cause::RuleTooLong, 3)),
+        (1, with(&[128, 2, 128, 1]), refused(Cause::CodeUndeclared, 6)),
+        (1, with(&[128, 1, 128]), refused(Cause::RuleRepeated, 3)),
+        (127, of_each(101, 1), refused(Cause::TooManyRules, 300)),
+        (127, of_each(20, 12), refused(Cause::TooManyStates, 266)),
+        (127, of_each(100, 1), Err(NO_SENTENCE)),
+        (127, of_each(19, 12), Err(NO_SENTENCE)),
+        // With a rule more there is a sentence.
+        (127, [of_each(19, 12), vec![128, 0]].concat(), Ok(MAX_STATES - 4)),
+    ] {
+        assert_eq!(ambiguity::check_table(grammar(0, nonterminals, &rules)), expected, "{rules:?}");
+    }
+}
+
+/// Texts without a sentence that have another fault too.
+#[test]
+fn other_faults_of_texts_come_first() {
+    let names = |count: usize| (1..count).map(|i| format!(",N{i}")).collect::<String>();
+    let rules = |count: usize, length: usize| -> String {
+        let left = |i: usize| if i == 0 { "S".to_string() } else { format!("N{i}") };
+        (0..count).map(|i| format!("rule={}:{}\n", left(i), " S".repeat(length))).collect()
+    };
+    let text = |count: usize, rules: String| format!("terminals=\nnonterminals=S{}\n{rules}", names(count));
+    for (text, cause, at) in [
+        (text(1, rules(1, 1) + "rule=S: S "), Cause::Malformed, 4),
+        (text(1, rules(1, 1) + "rule=S: z\n"), Cause::NameUnknown, 4),
+        (text(1, rules(1, 1)).replace("=S\n", "=S,S\n"), Cause::NameRepeated, 2),
+        (text(128, rules(1, 1)), Cause::OutOfRange, 2),
+        (text(1, rules(1, 13)), Cause::RuleTooLong, 3),
+        (text(1, rules(1, 1).repeat(2)), Cause::RuleRepeated, 3),
+        (text(101, rules(101, 1)), Cause::TooManyRules, 300),
+        (text(20, rules(20, 12)), Cause::TooManyStates, 266),
+        (text(100, rules(100, 1)), Cause::NoSentence, 0),
+        (text(19, rules(19, 12)), Cause::NoSentence, 0),
+    ] {
+        let answer = ambiguity::read_text(text.as_bytes(), &mut [], &mut [], &mut []);
+        assert_eq!(answer, refused(cause, at), "{text}");
+    }
+}
