@@ -6,15 +6,12 @@
  * grammar a line is printed: name, Q, verdict, count, size of the reached set; medians in nanoseconds of the search by the library,
  * plain C, plain C that finishes the set, the same algorithm in C; of the certificate check by the library, plain C, the same
  * algorithm in C, or 0 0 0 where there is no certificate. It stops at the first disagreement, with status 1. */
-#include <stdio.h>
-#include <stdlib.h>
-#include <time.h>
-
 #include "library.h"
+#include "timing.h"
 #include "witness.h"
 
-enum { SEARCHES = 4, CHECKS = 3, MOST_TURNS = 4000, FEWEST_TURNS = 25 };
-enum { ENTRIES = 2 * MAX_STATES * MAX_STATES, BYTES = ENTRIES / 8, TABLE = 4096 };
+enum { SEARCHES = 4, CHECKS = 3 };
+enum { ENTRIES = 2 * MAX_STATES * MAX_STATES, BYTES = ENTRIES / 8 };
 
 static search_function *const searches[SEARCHES] = {library_search, plain_search, plain_search_whole, same_search};
 static check_function *const checks[CHECKS] = {library_check, plain_check, same_check};
@@ -23,72 +20,6 @@ static const char *const names[SEARCHES] = {"library", "plain C", "plain C, whol
 static uint8_t certificate[BYTES], right[BYTES];
 static uint32_t queue[ENTRIES], parents[ENTRIES], witness[ENTRIES], garbage[2 * ENTRIES];
 static double spent[SEARCHES][MOST_TURNS];
-
-struct input {
-    char name[64];
-    size_t t, n, len;
-    uint8_t table[TABLE];
-    struct grammar g;
-};
-
-static void stop(const char *name, const char *who, const char *what)
-{
-    fprintf(stderr, "%s: %s: %s\n", name, who, what);
-    exit(1);
-}
-
-/* Short calls are timed by the wall clock, whose reading is cheap; long ones by this thread's processor time, which does not run
- * while another process has the processor. */
-static clockid_t timer = CLOCK_MONOTONIC;
-enum { LONG_CALL = 20000 };
-
-static double now(void)
-{
-    struct timespec t;
-    clock_gettime(timer, &t);
-    return (double)t.tv_sec * 1e9 + (double)t.tv_nsec;
-}
-
-static int ascending(const void *a, const void *b)
-{
-    double x = *(const double *)a, y = *(const double *)b;
-    return (x > y) - (x < y);
-}
-
-static double median(double *times, size_t count)
-{
-    qsort(times, count, sizeof *times, ascending);
-    return times[count / 2];
-}
-
-/* What taking the time itself takes. */
-static double clock_cost(void)
-{
-    static double times[MOST_TURNS];
-    for (size_t i = 0; i < MOST_TURNS; i++) {
-        double begin = now();
-        times[i] = now() - begin;
-    }
-    return median(times, MOST_TURNS);
-}
-
-static int read_input(FILE *file, struct input *in)
-{
-    static char hex[2 * TABLE + 1];
-    int found = fscanf(file, "%63s %zu %zu %8192s", in->name, &in->t, &in->n, hex);
-    if (found == EOF)
-        return 0;
-    in->len = strlen(hex) / 2;
-    for (size_t i = 0; i < in->len; i++) {
-        unsigned byte = 0;
-        if (found != 4 || sscanf(hex + 2 * i, "%2x", &byte) != 1)
-            stop(in->name, "input", "not a line of four words");
-        in->table[i] = (uint8_t)byte;
-    }
-    if (check_table(in->t, in->n, in->table, in->len, &in->g).cause != 0)
-        stop(in->name, "input", "the table is refused");
-    return 1;
-}
 
 /* All that is lent is garbage before a call, not the same each time. */
 static void refill(size_t entries, size_t turn)
@@ -138,8 +69,7 @@ static void time_searches(const struct input *in, search_reply expected, double 
     size_t q = in->g.states, entries = 2 * q * q, turns = 0;
     double begin = now(), cost;
     call(plain_search, in);
-    timer = now() - begin < LONG_CALL ? CLOCK_MONOTONIC : CLOCK_THREAD_CPUTIME_ID;
-    cost = clock_cost();
+    cost = choose_clock(now() - begin);
     begin = now();
     while (turns < MOST_TURNS && (turns < FEWEST_TURNS || now() - begin < budget)) {
         for (size_t k = 0; k < SEARCHES; k++) {

@@ -110,6 +110,8 @@ CLASSICS: Dict[str, Table] = {
 }
 
 COURSE = CLASSICS["left-in-a-course"]      # document 02, [3]
+EIGHT_CHANNELS = spelled(                  # document 02, [14]
+    "P: | P K", "K: take L vol | give L vol | repeat num P close", "L: ch | L sep ch")
 
 
 def operators(levels: int) -> Table:

@@ -26,9 +26,11 @@ make certificates certificate_cases.py
 make witnesses witness_cases.py
 make records record_cases.py
 make searches search_cases.py
+make rooms room_cases.py
 make corpus corpus_cases.py
 make reads text_cases.py read-
 make writes text_cases.py write-
+make lengths length_cases.py
 make reports report_cases.py
 make backs back_cases.py
 

@@ -1,6 +1,7 @@
 /* The library for C: the table check, the step records, the certificate check, the witness check over indices and over records, the
- * search, the reader and the writer of grammar text, the report that the program prints, and reading back of the two strings that
- * it prints. Each function answers as its entry promises; crates/ambiguity_c/src/lib.rt has the promises, proved.
+ * search, the reader and the writer of grammar text, what search and writer are to be lent, told beforehand, the report that the program
+ * prints, and reading back of the two strings that it prints. Each function answers as its entry promises;
+ * crates/ambiguity_c/src/lib.rt has the promises, proved.
  * "Document 01" is the paper that the library follows: it has the tables, the certificates and the causes of refusal. Cause 19 is
  * document 02's, which has the requests after it.
  *
@@ -34,7 +35,8 @@
 #define AMBIGUITY_MAX_STATES 256
 #define AMBIGUITY_MAX_TEXT_BYTES 65536
 
-/* Sizes by Q, the number of states: the triples, so the entries of a row with one for each; the bytes of a certificate. */
+/* Sizes by Q, the number of states: the triples, so the entries of a row with one for each; the bytes of a certificate. They serve
+ * where memory is set aside when a program is compiled; ambiguity_search_room tells the same of a table, at run time. */
 #define AMBIGUITY_ROW_ENTRIES(states) ((size_t)2 * (states) * (states))
 #define AMBIGUITY_CERTIFICATE_BYTES(states) ((AMBIGUITY_ROW_ENTRIES(states) + 7) / 8)
 
@@ -140,6 +142,15 @@ typedef struct {
 typedef struct {
     uint64_t cause;
     uint64_t at;
+    uint64_t states;      /* Q */
+    uint64_t certificate; /* bytes of the certificate */
+    uint64_t entries;     /* of each of the rows queue, parents and witness */
+    uint64_t moves;       /* M, the moves of the automaton */
+} ambiguity_room_reply;
+
+typedef struct {
+    uint64_t cause;
+    uint64_t at;
     uint64_t terminals;    /* t */
     uint64_t nonterminals; /* n */
     uint64_t entries;      /* of the table */
@@ -151,6 +162,12 @@ typedef struct {
     uint64_t at;
     uint64_t length; /* bytes written */
 } ambiguity_write_reply;
+
+typedef struct {
+    uint64_t cause;
+    uint64_t at;
+    uint64_t length; /* bytes that would be written */
+} ambiguity_length_reply;
 
 typedef struct {
     uint64_t cause;
@@ -194,12 +211,25 @@ ambiguity_check_reply ambiguity_check_witness(size_t t, size_t n, const uint8_t 
 ambiguity_check_reply ambiguity_check_witness_records(size_t t, size_t n, const uint8_t *table, size_t table_entries,
                                                       const ambiguity_triple_record *records, size_t records_entries);
 
+/* What a search of this table is to be lent, from the table alone: no search is made. Back come Q, the bytes of the certificate, the
+ * entries of each of the rows queue, parents and witness, 4 bytes each, and M, the number of moves of the automaton: from each state
+ * by each letter to each state that it leads to, the shifts of terminals and of nonterminals among them. Refuses with the causes of
+ * the table alone. ambiguity_search, lent so much, is never refused with 14; lent less for the certificate or in any row it always
+ * is. So a caller lends as follows, and looks at `room.cause` first:
+ *
+ *     ambiguity_room_reply room = ambiguity_search_room(t, n, table, table_entries);
+ *     uint8_t *certificate = malloc(room.certificate);
+ *     uint32_t *queue = malloc(room.entries * sizeof *queue);     ... and so parents and witness
+ *
+ * That is room.certificate + 12 * room.entries bytes in all. */
+ambiguity_room_reply ambiguity_search_room(size_t t, size_t n, const uint8_t *table, size_t table_entries);
+
 /* Searches: the smallest acceptable certificate, or the shortest witness, which has the fewest entries and, among those, the smaller
  * index where two first differ. Lent are AMBIGUITY_CERTIFICATE_BYTES(Q) bytes of certificate, and
- * AMBIGUITY_ROW_ENTRIES(Q) entries of each row; Q comes from ambiguity_check_table or ambiguity_read_text. What they hold before
- * does not matter. Unambiguous writes the certificate and keeps the witness row. Potential writes `count` entries of the witness
- * row, and keeps the certificate and the rest of that row. The first AMBIGUITY_ROW_ENTRIES(Q) entries of queue and parents are
- * then 0. Refuses with 14. */
+ * AMBIGUITY_ROW_ENTRIES(Q) entries of each row, as ambiguity_search_room tells them; Q comes from ambiguity_check_table or
+ * ambiguity_read_text too. What they hold before does not matter. Unambiguous writes the certificate and keeps the witness row.
+ * Potential writes `count` entries of the witness row, and keeps the certificate and the rest of that row. The first
+ * AMBIGUITY_ROW_ENTRIES(Q) entries of queue and parents are then 0. Refuses with 14. */
 ambiguity_search_reply ambiguity_search(size_t t, size_t n, const uint8_t *table, size_t table_entries, uint8_t *certificate,
                                         size_t certificate_bytes, uint32_t *queue, size_t queue_entries, uint32_t *parents,
                                         size_t parents_entries, uint32_t *witness, size_t witness_entries);
@@ -211,8 +241,16 @@ ambiguity_search_reply ambiguity_search(size_t t, size_t n, const uint8_t *table
 ambiguity_read_reply ambiguity_read_text(const uint8_t *text, size_t text_bytes, uint8_t *table, size_t table_entries,
                                          uint32_t *starts, size_t starts_entries, uint32_t *lengths, size_t lengths_entries);
 
+/* How many bytes ambiguity_write_text would write, from what it would be given; nothing is written. Refuses as the writer does, but
+ * never with 14: with the causes of the table, then with 16, 18. The writer, lent so many bytes, writes as many; lent fewer it always
+ * refuses with 14. */
+ambiguity_length_reply ambiguity_written_length(size_t t, size_t n, const uint8_t *table, size_t table_entries, const uint8_t *names,
+                                                size_t names_bytes, const uint32_t *starts, size_t starts_entries,
+                                                const uint32_t *lengths, size_t lengths_entries);
+
 /* Writes grammar text. The name of symbol i, terminals first, is the part of `names` that starts at starts[i] and has lengths[i]
- * bytes; the text that was read serves as `names`. AMBIGUITY_MAX_TEXT_BYTES is always enough. Refuses with 16, 18, 14. */
+ * bytes; the text that was read serves as `names`. Lent are as many bytes as ambiguity_written_length tells;
+ * AMBIGUITY_MAX_TEXT_BYTES is always enough. Refuses with 16, 18, 14. */
 ambiguity_write_reply ambiguity_write_text(size_t t, size_t n, const uint8_t *table, size_t table_entries, const uint8_t *names,
                                            size_t names_bytes, const uint32_t *starts, size_t starts_entries,
                                            const uint32_t *lengths, size_t lengths_entries, uint8_t *out, size_t out_bytes);

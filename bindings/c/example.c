@@ -17,7 +17,7 @@ static int refused(uint64_t cause, uint64_t at)
     return 2;
 }
 
-/* The rows of the search, for so many states. */
+/* The rows of the search. */
 struct rows {
     size_t bytes;
     size_t entries;
@@ -25,10 +25,12 @@ struct rows {
     uint32_t *queue, *parents, *witness;
 };
 
-static int lend(struct rows *rows, size_t states)
+/* As much as the search of this grammar is to be lent, and no more. */
+static int lend(struct rows *rows, ambiguity_read_reply grammar)
 {
-    rows->bytes = AMBIGUITY_CERTIFICATE_BYTES(states);
-    rows->entries = AMBIGUITY_ROW_ENTRIES(states);
+    ambiguity_room_reply room = ambiguity_search_room(grammar.terminals, grammar.nonterminals, table, grammar.entries);
+    rows->bytes = room.certificate;
+    rows->entries = room.entries;
     rows->certificate = malloc(rows->bytes);
     rows->queue = malloc(rows->entries * sizeof *rows->queue);
     rows->parents = malloc(rows->entries * sizeof *rows->parents);
@@ -119,7 +121,7 @@ int main(void)
     if (grammar.cause != AMBIGUITY_NOT_REFUSED)
         return refused(grammar.cause, grammar.at);
     struct rows rows;
-    int status = lend(&rows, grammar.states) ? judge(grammar, &rows) : refused(AMBIGUITY_BUFFER_TOO_SHORT, 0);
+    int status = lend(&rows, grammar) ? judge(grammar, &rows) : refused(AMBIGUITY_BUFFER_TOO_SHORT, 0);
     give_back(&rows);
     return status;
 }

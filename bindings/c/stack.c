@@ -67,6 +67,8 @@ static void run_search(void)
     verdict = reply.verdict;
 }
 
+static void run_room(void) { ambiguity_search_room(grammar.terminals, grammar.nonterminals, table, grammar.entries); }
+
 static void run_read(void)
 {
     grammar = ambiguity_read_text(text, strlen((char *)text), table, sizeof table, starts, AMBIGUITY_MAX_NAMES, lengths,
@@ -77,6 +79,12 @@ static void run_write(void)
 {
     ambiguity_write_text(grammar.terminals, grammar.nonterminals, table, grammar.entries, text, strlen((char *)text), starts,
                          AMBIGUITY_MAX_NAMES, lengths, AMBIGUITY_MAX_NAMES, out, sizeof out);
+}
+
+static void run_length(void)
+{
+    ambiguity_written_length(grammar.terminals, grammar.nonterminals, table, grammar.entries, text, strlen((char *)text), starts,
+                             AMBIGUITY_MAX_NAMES, lengths, AMBIGUITY_MAX_NAMES);
 }
 
 static void run_read_back(void)
@@ -157,6 +165,8 @@ int main(void)
     wrong += measure("ambiguity_read_back", run_read_back, AMBIGUITY_READ_BACK_STACK_BYTES);
     wrong += read_back.cause != AMBIGUITY_NOT_REFUSED || read_back.left != LETTERS;
     wrong += measure("ambiguity_write_text", run_write, AMBIGUITY_STACK_BYTES);
+    wrong += measure("ambiguity_written_length", run_length, AMBIGUITY_STACK_BYTES);
+    wrong += measure("ambiguity_search_room", run_room, AMBIGUITY_STACK_BYTES);
     wrong += measure("ambiguity_check_table", run_table, AMBIGUITY_STACK_BYTES);
     wrong += measure("ambiguity_nth_step", run_step, AMBIGUITY_STACK_BYTES);
     wrong += measure("ambiguity_check_certificate", run_certificate, AMBIGUITY_STACK_BYTES);

@@ -1,6 +1,6 @@
 /* The certificate check on document 01's cases of S -> a, the witness check over records on those of S -> S; S -> a, the report,
- * and reading its two strings back; and all ten functions on grammars without a sentence. Exits with 0 if every answer is document
- * 01's and document 02's. */
+ * and reading its two strings back; searches and texts lent just what is told beforehand, and one less; and all twelve functions on
+ * grammars without a sentence. Exits with 0 if every answer is document 01's and document 02's. */
 #include <stdio.h>
 #include <string.h>
 
@@ -139,18 +139,35 @@ static const uint8_t ENDLESS_CERTIFICATE[BYTES] = {0x01};
 /* So with no rules; and what is acceptable of them in document 01's automaton, where every rule has moves, rule 0 too. */
 static const uint8_t NONE_CERTIFICATES[][4] = {{0x01}, {0x05, 0x85}};
 
-#define LENT AMBIGUITY_ROW_ENTRIES(STATES)
+/* Rows for grammars of up to 27 states. */
+#define LENT AMBIGUITY_ROW_ENTRIES(27)
 
 static uint8_t lent_bytes[LENT];
 static uint32_t lent_rows[3][LENT];
 
+static void fill_lent(void)
+{
+    size_t i;
+    memset(lent_bytes, 7, sizeof lent_bytes);
+    for (i = 0; i < 3 * LENT; i++)
+        lent_rows[i / LENT][i % LENT] = 7;
+}
+
+/* Nothing that is lent has changed past these fronts. */
+static int is_kept(size_t bytes, size_t queue, size_t parents, size_t witness)
+{
+    size_t i;
+    for (i = 0; i < LENT; i++)
+        if ((i >= bytes && lent_bytes[i] != 7) || (i >= queue && lent_rows[0][i] != 7) || (i >= parents && lent_rows[1][i] != 7)
+            || (i >= witness && lent_rows[2][i] != 7))
+            return 0;
+    return 1;
+}
+
 /* 19 at 0; no other field of the reply is set, and nothing that is lent has changed. */
 static void expect_no_sentence(const char *what, uint64_t cause, uint64_t at, uint64_t others)
 {
-    int right = cause == AMBIGUITY_NO_SENTENCE && at == 0 && others == 0;
-    size_t i;
-    for (i = 0; i < LENT; i++)
-        right = right && lent_bytes[i] == 7 && lent_rows[0][i] == 7 && lent_rows[1][i] == 7 && lent_rows[2][i] == 7;
+    int right = cause == AMBIGUITY_NO_SENTENCE && at == 0 && others == 0 && is_kept(0, 0, 0, 0);
     printf("%s: no sentence, %s, cause %llu at %llu\n", right ? "ok" : "WRONG", what, (unsigned long long)cause,
            (unsigned long long)at);
     wrong += !right;
@@ -168,6 +185,9 @@ static void expect_table_without_sentence(size_t lent)
                                                      lent_rows[1], lent, lent_rows[2], lent);
     ambiguity_write_reply written = ambiguity_write_text(0, 1, ENDLESS, sizeof ENDLESS, ENDLESS, 0, lent_rows[0], lent,
                                                          lent_rows[1], lent, lent_bytes, lent);
+    ambiguity_room_reply room = ambiguity_search_room(0, 1, ENDLESS, sizeof ENDLESS);
+    ambiguity_length_reply length = ambiguity_written_length(0, 1, ENDLESS, sizeof ENDLESS, ENDLESS, 0, lent_rows[0], lent,
+                                                             lent_rows[1], lent);
     expect_no_sentence("table check", table.cause, table.at, table.states);
     expect_no_sentence("step record", step.cause, step.at,
                        step.kind | step.layer | step.left | step.right | step.on_left.moved | step.on_right.moved);
@@ -176,6 +196,8 @@ static void expect_table_without_sentence(size_t lent)
     expect_no_sentence("witness check over records", records.cause, records.at, 0);
     expect_no_sentence("search", search.cause, search.at, search.verdict | search.count);
     expect_no_sentence("writer", written.cause, written.at, written.length);
+    expect_no_sentence("room of a search", room.cause, room.at, room.states | room.certificate | room.entries | room.moves);
+    expect_no_sentence("written length", length.cause, length.at, length.length);
 }
 
 /* Both functions that take a text and refuse it, with rows of so many entries; the two lines are at fault too. */
@@ -192,9 +214,7 @@ static void expect_text_without_sentence(size_t lent)
 static void expect_without_sentence(void)
 {
     size_t i;
-    memset(lent_bytes, 7, sizeof lent_bytes);
-    for (i = 0; i < 3 * LENT; i++)
-        lent_rows[i / LENT][i % LENT] = 7;
+    fill_lent();
     expect_table_without_sentence(0);
     expect_table_without_sentence(LENT);
     expect_text_without_sentence(0);
@@ -241,6 +261,110 @@ static void expect_order(void)
     expect_report(text, "refused=19\nat=0\n");
 }
 
+/* A table, with what a search of it is to be lent. */
+struct told {
+    const char *name;
+    size_t t, n, entries;
+    const uint8_t *table;
+    ambiguity_room_reply room;
+};
+
+/* Of S -> a; S -> A; A -> A only the first rule has moves. */
+static const uint8_t DEAD[] = {128, 1, 1, 128, 1, 129, 129, 1, 129};
+
+/* Document 02's eight-channel command set: P -> , P -> P K; K -> take L vol, give L vol, repeat num P close; L -> ch, L sep ch. */
+static const uint8_t CHANNELS[] = {128, 0, 128, 2, 128, 129, 129, 3, 1, 130, 2, 129, 3, 3, 130, 2, 129, 4, 4, 5, 128, 6,
+                                   130, 1, 7, 130, 3, 130, 8, 7};
+
+static const struct told TOLD[] = {
+    {"room of S -> a", 1, 1, sizeof TABLE, TABLE, {0, 0, 6, 9, 72, 6}},
+    {"room of S -> S; S -> a", 1, 1, sizeof CYCLE, CYCLE, {0, 0, 8, 16, 128, 13}},
+    {"room of S -> a; S -> A; A -> A", 1, 2, sizeof DEAD, DEAD, {0, 0, 10, 25, 200, 6}},
+    {"room of the eight-channel command set", 8, 3, sizeof CHANNELS, CHANNELS, {0, 0, 27, 183, 1458, 49}},
+};
+
+static int expect_room(const char *what, ambiguity_room_reply room, ambiguity_room_reply expected)
+{
+    int right = room.cause == expected.cause && room.at == expected.at && room.states == expected.states
+        && room.certificate == expected.certificate && room.entries == expected.entries && room.moves == expected.moves;
+    printf("%s: %s, cause %llu at %llu, %llu states, %llu bytes, %llu entries, %llu moves\n", right ? "ok" : "WRONG", what,
+           (unsigned long long)room.cause, (unsigned long long)room.at, (unsigned long long)room.states,
+           (unsigned long long)room.certificate, (unsigned long long)room.entries, (unsigned long long)room.moves);
+    wrong += !right;
+    return right;
+}
+
+/* A search that is lent just its room; or, with `less` from 1 to 4, one less of certificate, queue, parents or witness. */
+static void expect_search(const struct told *told, ambiguity_room_reply room, int less)
+{
+    size_t bytes = room.certificate - (less == 1), queue = room.entries - (less == 2), parents = room.entries - (less == 3),
+           witness = room.entries - (less == 4);
+    fill_lent();
+    ambiguity_search_reply reply = ambiguity_search(told->t, told->n, told->table, told->entries, lent_bytes, bytes, lent_rows[0],
+                                                    queue, lent_rows[1], parents, lent_rows[2], witness);
+    int refused = reply.cause == AMBIGUITY_BUFFER_TOO_SHORT && reply.at == 0 && reply.verdict == AMBIGUITY_NO_VERDICT
+        && reply.count == 0 && is_kept(0, 0, 0, 0);
+    int right = less != 0 ? refused : reply.cause == AMBIGUITY_NOT_REFUSED && is_kept(bytes, queue, parents, witness);
+    printf("%s: %s, lent %zu, %zu, %zu, %zu, cause %llu at %llu\n", right ? "ok" : "WRONG", told->name, bytes, queue, parents, witness,
+           (unsigned long long)reply.cause, (unsigned long long)reply.at);
+    wrong += !right;
+}
+
+static void expect_rooms(void)
+{
+    size_t i;
+    int less;
+    for (i = 0; i < sizeof TOLD / sizeof TOLD[0]; i++) {
+        const struct told *told = &TOLD[i];
+        ambiguity_room_reply room = ambiguity_search_room(told->t, told->n, told->table, told->entries);
+        if (expect_room(told->name, room, told->room))
+            for (less = 0; less <= 4; less++)
+                expect_search(told, room, less);
+    }
+    expect_room("the room of a table cut", ambiguity_search_room(1, 1, CYCLE, 5), (ambiguity_room_reply){2, 3, 0, 0, 0, 0});
+    expect_room("the room with 128 terminals", ambiguity_search_room(128, 1, CYCLE, 5), (ambiguity_room_reply){1, 0, 0, 0, 0, 0});
+}
+
+/* The names of S -> S; S -> a in CYCLE_TEXT, and such as are malformed or doubled. */
+static const uint32_t STARTS[] = {10, 25}, PAST_THE_END[] = {10, 1000}, TWICE[] = {10, 10}, LENGTHS[] = {1, 1};
+
+static ambiguity_length_reply length_of(size_t entries, const uint32_t *starts)
+{
+    return ambiguity_written_length(1, 1, CYCLE, entries, (const uint8_t *)CYCLE_TEXT, strlen(CYCLE_TEXT), starts, 2, LENGTHS, 2);
+}
+
+/* The writer that is lent so many bytes. */
+static ambiguity_write_reply write_in(size_t bytes)
+{
+    fill_lent();
+    return ambiguity_write_text(1, 1, CYCLE, sizeof CYCLE, (const uint8_t *)CYCLE_TEXT, strlen(CYCLE_TEXT), STARTS, 2, LENGTHS, 2,
+                                lent_bytes, bytes);
+}
+
+static void expect_length(const char *what, ambiguity_length_reply reply, uint64_t cause, uint64_t at, uint64_t length)
+{
+    int right = reply.cause == cause && reply.at == at && reply.length == length;
+    printf("%s: %s, cause %llu at %llu, length %llu\n", right ? "ok" : "WRONG", what, (unsigned long long)reply.cause,
+           (unsigned long long)reply.at, (unsigned long long)reply.length);
+    wrong += !right;
+}
+
+static void expect_lengths(void)
+{
+    size_t length = strlen(CYCLE_TEXT);
+    expect_length("the length of a text", length_of(sizeof CYCLE, STARTS), AMBIGUITY_NOT_REFUSED, 0, length);
+    expect_length("a name past the end", length_of(sizeof CYCLE, PAST_THE_END), AMBIGUITY_MALFORMED, 1, 0);
+    expect_length("a name that stands twice", length_of(sizeof CYCLE, TWICE), AMBIGUITY_NAME_REPEATED, 1, 0);
+    expect_length("the table cut", length_of(sizeof CYCLE - 1, TWICE), AMBIGUITY_TRUNCATED, 3, 0);
+    ambiguity_write_reply written = write_in(length);
+    int right = written.cause == AMBIGUITY_NOT_REFUSED && written.length == length && memcmp(lent_bytes, CYCLE_TEXT, length) == 0
+        && is_kept(length, 0, 0, 0);
+    ambiguity_write_reply refused = write_in(length - 1);
+    right = right && refused.cause == AMBIGUITY_BUFFER_TOO_SHORT && refused.at == 0 && refused.length == 0 && is_kept(0, 0, 0, 0);
+    printf("%s: the writer, lent that length and one less\n", right ? "ok" : "WRONG");
+    wrong += !right;
+}
+
 int main(void)
 {
     uint8_t longer[BYTES + 1] = {0};
@@ -272,6 +396,8 @@ int main(void)
     expect_read_back("a name that is not there", CYCLE_TEXT, "left=\nright=b\n", 0,
                      (ambiguity_read_back_reply){17, 2, AMBIGUITY_LINES, 0, 0});
     expect_read_back("a fault of the grammar", "", CYCLE_LINES, 0, (ambiguity_read_back_reply){16, 1, AMBIGUITY_GRAMMAR, 0, 0});
+    expect_rooms();
+    expect_lengths();
     expect_report(ENDLESS_TEXT, "refused=19\nat=0\n");
     expect_without_sentence();
     expect_order();

@@ -1,7 +1,7 @@
 //! A grammar that owns its table and its names, for callers who want no rows to lend.
 
-use crate::{certificate_bytes, check_certificate, read_text, row_entries, search, write_text};
-use crate::{Names, Refusal, Table, Verdict, MAX_NAMES, MAX_TABLE_ENTRIES, MAX_TEXT_BYTES};
+use crate::{check_certificate, read_text, search, search_room, write_text, written_length};
+use crate::{Names, Refusal, Room, Table, Verdict, MAX_NAMES, MAX_TABLE_ENTRIES};
 
 /// A symbol's code: terminals are 1 to t, nonterminals [`START`] and up.
 pub type Code = u8;
@@ -109,17 +109,33 @@ impl Grammar {
         let starts: Vec<u32> = lengths.iter().scan(0, |end, length| Some(std::mem::replace(end, *end + length))).collect();
         let bytes = self.names.concat();
         let names = Names { bytes: bytes.as_bytes(), starts: &starts, lengths: &lengths };
-        let mut text = vec![0; MAX_TEXT_BYTES];
-        let length = write_text(self.table(), names, &mut text).expect("a grammar that was read is written");
-        text.truncate(length);
+        let written = "a grammar that was read is written";
+        let mut text = vec![0; written_length(self.table(), names).expect(written)];
+        write_text(self.table(), names, &mut text).expect(written);
         String::from_utf8(text).expect("grammar text is ASCII")
     }
 
-    /// Searches the grammar; the rows are lent here.
+    /// What a search of the grammar is lent, and how many moves its automaton has. [`search`](Grammar::search) lends that itself: four
+    /// bytes for each entry of three rows, and the certificate.
+    ///
+    /// ```
+    /// let grammar = ambiguity::Grammar::read(b"terminals=a\nnonterminals=S\nrule=S: S a\nrule=S: a\n")?;
+    /// let room = grammar.room();
+    /// assert_eq!((room.states, room.moves), (9, 14));
+    /// assert_eq!(room.certificate + 3 * 4 * room.entries, 1965);
+    /// # Ok::<(), ambiguity::Refusal>(())
+    /// ```
+    #[must_use]
+    pub fn room(&self) -> Room {
+        search_room(self.table()).expect("a grammar that was read has a room")
+    }
+
+    /// Searches the grammar; the rows are lent here, just as long as they must be.
     #[must_use]
     pub fn search(&self) -> Searched {
-        let mut certificate = vec![0; certificate_bytes(self.states)];
-        let row = || vec![0; row_entries(self.states)];
+        let room = self.room();
+        let mut certificate = vec![0; room.certificate];
+        let row = || vec![0; room.entries];
         let (mut queue, mut parents, mut witness) = (row(), row(), row());
         let verdict = search(self.table(), &mut certificate, &mut queue, &mut parents, &mut witness);
         match verdict.expect("a search that is lent enough is not refused") {

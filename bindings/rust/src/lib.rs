@@ -1,7 +1,8 @@
 //! The library for Rust: the table check, the step records, the certificate check, the witness check over indices and over records,
-//! the search, the reader and the writer of grammar text, the report that the program prints, and reading back of the two strings
-//! that it prints. bindings/c/ambiguity.h says of each what is lent and what comes back; here slices stand for pointers, and enums for
-//! numbers. Rows that are written cannot overlap others: the borrow rules see to that.
+//! the search, the reader and the writer of grammar text, what search and writer are to be lent, told beforehand, the report that the
+//! program prints, and reading back of the two strings that it prints. bindings/c/ambiguity.h says of each what is lent and what comes
+//! back; here slices stand for pointers, and enums for numbers. Rows that are written cannot overlap others: the borrow rules see to
+//! that.
 //!
 //! Every input is taken. A refusal changes no lent row. A written row may be longer than needed: its rest stays as it was.
 //!
@@ -17,11 +18,13 @@ mod grammar;
 mod letters;
 mod raw;
 mod refusal;
+mod room;
 mod strings;
 
 pub use grammar::{Code, Grammar, Rule, Searched, START};
 pub use letters::{Letter, Part, PartRefusal, ReadBack};
 pub use refusal::{Cause, Refusal};
+pub use room::{search_room, written_length, Room};
 pub use strings::Strings;
 
 /// Document 01's limit of terminals.
@@ -245,9 +248,10 @@ pub fn check_witness_records(table: Table, records: &[TripleRecord]) -> Result<(
     refusal::or_else(reply.cause, reply.at, || ())
 }
 
-/// Searches: `certificate_bytes(Q)` bytes and `row_entries(Q)` entries of each row are just enough. Unambiguous leaves the smallest
-/// acceptable certificate at the front of `certificate` and keeps the witness row; potential leaves the shortest witness at the front
-/// of that row and keeps the certificate. The fronts of queue and parents are 0 afterwards. Uses up to 80 KiB of stack.
+/// Searches: `certificate_bytes(Q)` bytes and `row_entries(Q)` entries of each row are just enough, as [`search_room`] tells them.
+/// Unambiguous leaves the smallest acceptable certificate at the front of `certificate` and keeps the witness row; potential leaves the
+/// shortest witness at the front of that row and keeps the certificate. The fronts of queue and parents are 0 afterwards. Uses up to
+/// 80 KiB of stack.
 ///
 /// # Errors
 ///
@@ -306,7 +310,8 @@ pub fn read_text(text: &[u8], table: &mut [u8], starts: &mut [u32], lengths: &mu
     })
 }
 
-/// Writes grammar text to the front of `out`; back comes its length. `MAX_TEXT_BYTES` are always enough.
+/// Writes grammar text to the front of `out`; back comes its length, which [`written_length`] tells beforehand. `MAX_TEXT_BYTES` are
+/// always enough.
 ///
 /// # Errors
 ///

@@ -42,6 +42,16 @@ pub struct SearchReply {
 }
 
 #[repr(C)]
+pub struct RoomReply {
+    pub cause: u64,
+    pub at: u64,
+    pub states: u64,
+    pub certificate: u64,
+    pub entries: u64,
+    pub moves: u64,
+}
+
+#[repr(C)]
 pub struct ReadReply {
     pub cause: u64,
     pub at: u64,
@@ -53,6 +63,13 @@ pub struct ReadReply {
 
 #[repr(C)]
 pub struct WriteReply {
+    pub cause: u64,
+    pub at: u64,
+    pub length: u64,
+}
+
+#[repr(C)]
+pub struct LengthReply {
     pub cause: u64,
     pub at: u64,
     pub length: u64,
@@ -115,6 +132,8 @@ extern "C" {
         records_entries: usize,
     ) -> CheckReply;
 
+    pub fn ambiguity_search_room(t: usize, n: usize, table: *const u8, table_entries: usize) -> RoomReply;
+
     pub fn ambiguity_search(
         t: usize,
         n: usize,
@@ -140,6 +159,19 @@ extern "C" {
         lengths: *mut u32,
         lengths_entries: usize,
     ) -> ReadReply;
+
+    pub fn ambiguity_written_length(
+        t: usize,
+        n: usize,
+        table: *const u8,
+        table_entries: usize,
+        names: *const u8,
+        names_bytes: usize,
+        starts: *const u32,
+        starts_entries: usize,
+        lengths: *const u32,
+        lengths_entries: usize,
+    ) -> LengthReply;
 
     pub fn ambiguity_write_text(
         t: usize,

@@ -38,9 +38,10 @@ const fn endless(terminals: usize, nonterminals: usize, rules: &'static [u8], te
 }
 
 #[test]
-fn tables_and_step_records() {
+fn tables_rooms_and_step_records() {
     for Endless { table, states, .. } in ENDLESS {
         assert_eq!(ambiguity::check_table(table), Err(NO_SENTENCE));
+        assert_eq!(ambiguity::search_room(table), Err(NO_SENTENCE));
         for (layer, left, right, nth) in [(0, 0, 0, 0), (1, 1, 1, 0), (0, 2, 2, 1), (0, states, 0, 0), (2, 0, 0, usize::MAX)] {
             assert_eq!(ambiguity::nth_step(table, layer, left, right, nth), Err(NO_SENTENCE));
         }
@@ -121,6 +122,7 @@ fn texts_written() {
                 let mut out = Lent::new(&vec![7; room], 0xFF);
                 assert_eq!(ambiguity::write_text(table, names, out.row_mut()), Err(NO_SENTENCE));
                 assert!(out.kept());
+                assert_eq!(ambiguity::written_length(table, names), Err(NO_SENTENCE));
             }
         }
     }

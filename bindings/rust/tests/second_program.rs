@@ -1,11 +1,12 @@
-//! The library's answers on the second program's cases, for each of the ten entries: damaged, short and long inputs, each row lent
-//! between guards; of a search all that it wrote is compared, the witness entry by entry, and of lines read back every letter.
+//! The library's answers on the second program's cases, for each of the twelve entries: damaged, short and long inputs, each row lent
+//! between guards; of a search all that it wrote is compared, the witness entry by entry, and of lines read back every letter. What is
+//! told beforehand is compared, and held to every search and every text that is written.
 
 mod support;
 
-use ambiguity::{certificate_bytes, row_entries, Grammar, Letter, Names, Part, PartRefusal, Refusal, Strings, Table};
+use ambiguity::{certificate_bytes, row_entries, Cause, Grammar, Letter, Names, Part, PartRefusal, Refusal, Strings, Table};
 use ambiguity::{TripleRecord, Verdict};
-use support::{all_steps, Cases, Comparison, Lent};
+use support::{all_steps, lent_room, refused, Cases, Comparison, Lent};
 
 /// The causes of a table that is refused.
 const TABLE_CAUSES: [usize; 9] = [1, 2, 3, 4, 5, 6, 7, 8, 19];
@@ -106,6 +107,17 @@ impl Searched {
         ambiguity::search(table, certificate, queue, self.parents.row_mut(), self.witness.row_mut())
     }
 
+    /// What is told beforehand: the refusals but 14, and 14 exactly where less is lent.
+    fn told(&self, table: Table) -> Result<(), Refusal> {
+        let room = ambiguity::search_room(table)?;
+        let rows = [&self.queue, &self.parents, &self.witness];
+        let less = rows.iter().any(|row| row.row().len() < room.entries);
+        if less || self.certificate.row().len() < room.certificate {
+            return refused(Cause::BufferTooShort, 0);
+        }
+        Ok(())
+    }
+
     fn kept(&self) -> bool {
         self.certificate.kept() && self.queue.kept() && self.parents.kept() && self.witness.kept()
     }
@@ -124,7 +136,9 @@ impl Searched {
 fn search_line(cases: &mut Cases, guard: u8) -> String {
     with_table(cases, guard, |cases, table| {
         let mut lent = Searched::new(cases, guard);
-        let verdict = match lent.ask(table) {
+        let answer = lent.ask(table);
+        assert_eq!(lent.told(table), answer.map(|_| ()));
+        let verdict = match answer {
             Ok(verdict) => verdict,
             Err(refusal) => {
                 assert!(lent.kept());
@@ -150,6 +164,22 @@ fn search_line(cases: &mut Cases, guard: u8) -> String {
     })
 }
 
+/// A search that is lent the room is not refused, and one that is lent less is.
+fn room_line(cases: &mut Cases, guard: u8) -> String {
+    with_table(cases, guard, |_, table| {
+        let answer = ambiguity::search_room(table);
+        if answer.is_ok() {
+            lent_room(table);
+        }
+        line_of(answer.map(|room| {
+            format!(
+                "room states={} certificate={} entries={} moves={}",
+                room.states, room.certificate, room.entries, room.moves
+            )
+        }))
+    })
+}
+
 fn read_line(cases: &mut Cases, guard: u8) -> String {
     let text = Lent::new(&cases.bytes(), guard);
     let mut table = Lent::new(&vec![guard ^ 0x5A; cases.number()], guard);
@@ -171,6 +201,15 @@ fn read_line(cases: &mut Cases, guard: u8) -> String {
     }))
 }
 
+/// What is told beforehand of a text for which so many bytes are lent.
+fn told_of_text(table: Table, names: Names, lent: usize) -> Result<usize, Refusal> {
+    let length = ambiguity::written_length(table, names)?;
+    if lent < length {
+        return refused(Cause::BufferTooShort, 0);
+    }
+    Ok(length)
+}
+
 fn write_line(cases: &mut Cases, guard: u8) -> String {
     with_table(cases, guard, |cases, table| {
         let bytes = Lent::new(&cases.bytes(), guard);
@@ -179,9 +218,28 @@ fn write_line(cases: &mut Cases, guard: u8) -> String {
         let mut out = Lent::new(&vec![guard ^ 0x5A; cases.number()], guard);
         let names = Names { bytes: bytes.row(), starts: starts.row(), lengths: lengths.row() };
         let answer = ambiguity::write_text(table, names, out.row_mut());
+        assert_eq!(told_of_text(table, names, out.row().len()), answer);
         let length = answer.unwrap_or(0);
         assert!(bytes.kept() && starts.kept() && lengths.kept() && out.kept_past(length));
         line_of(answer.map(|length| format!("written={length} text={}", hex(&out.row()[..length]))))
+    })
+}
+
+/// The writer that is lent so many bytes writes as many, and is refused with one less.
+fn length_line(cases: &mut Cases, guard: u8) -> String {
+    with_table(cases, guard, |cases, table| {
+        let bytes = Lent::new(&cases.bytes(), guard);
+        let starts = Lent::new(&cases.words(), word(guard));
+        let lengths = Lent::new(&cases.words(), word(guard));
+        let names = Names { bytes: bytes.row(), starts: starts.row(), lengths: lengths.row() };
+        let answer = ambiguity::written_length(table, names);
+        if let Ok(length) = answer {
+            assert_eq!(ambiguity::write_text(table, names, &mut vec![guard; length]), answer);
+            let less = ambiguity::write_text(table, names, &mut vec![guard; length - 1]);
+            assert_eq!(less, refused(Cause::BufferTooShort, 0));
+        }
+        assert!(bytes.kept() && starts.kept() && lengths.kept());
+        line_of(answer.map(|length| format!("length={length}")))
     })
 }
 
@@ -264,6 +322,11 @@ fn search_of_the_corpus() {
 }
 
 #[test]
+fn rooms() {
+    comparison("rooms", "room_cases.py", &TABLE_CAUSES).agrees(room_line);
+}
+
+#[test]
 fn reader() {
     let causes = [1, 4, 6, 7, 8, 14, 16, 17, 18, 19];
     Comparison { verb: "read-", ..comparison("reads", "text_cases.py", &causes) }.agrees(read_line);
@@ -273,6 +336,12 @@ fn reader() {
 fn writer() {
     let causes = [1, 2, 3, 4, 5, 6, 7, 8, 14, 16, 18, 19];
     Comparison { verb: "write-", ..comparison("writes", "text_cases.py", &causes) }.agrees(write_line);
+}
+
+#[test]
+fn written_lengths() {
+    let causes = [1, 2, 3, 4, 5, 6, 7, 8, 16, 18, 19];
+    comparison("lengths", "length_cases.py", &causes).agrees(length_line);
 }
 
 #[test]

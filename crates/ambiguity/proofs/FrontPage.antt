@@ -13,8 +13,8 @@ use Rattle.grammar.specs.declared.TableVerdict.the-variants.{Refused}
 use Rattle.grammar.specs.Live.{live-start}
 use Rattle.grammar.proofs.Live.{is-live}
 use Rattle.grammar.proofs.Answers.{then-goes, then-stops}
-use Rattle.grammar.proofs.WellFormed.{Taken, room}
-use Rattle.grammar.proofs.Sentence.{passes-exactly, refuses-exactly}
+use Rattle.grammar.proofs.WellFormed.{room}
+use Rattle.grammar.proofs.Sentence.{refuses-exactly}
 use Rattle.automaton.specs.Items.{states}
 use Rattle.automaton.specs.Position.{position}
 use Rattle.automaton.specs.PositionMoves.{movesOf}
@@ -33,12 +33,13 @@ use Rattle.witness_records.specs.Records.{triples, RecordsAnswer}
 use Rattle.witness_records.specs.declared.TripleRecord.{TripleRecord}
 use Rattle.witness_records.proofs.Ranges.{entries-are, records-alike, records-inside}
 use Rattle.table_check.proofs.Callers.{passed-table, refused-table}
-use Rattle.ambiguity.proofs.Searches.{is-taken, checked, regular, lists, search-theorems}
+use Rattle.ambiguity.proofs.Searches.{is-taken, is-table, stores, checked, regular, lists, search-theorems}
+use Rattle.ambiguity.proofs.Rooms.{room-theorems, length-theorems}
 use Rattle.ambiguity.proofs.Readings.{reading-theorems, back-theorems}
 use Rattle.ambiguity.proofs.Reports.{report-theorems}
 use Rattle.ambiguity.proofs.Steps.{step-theorems}
 use Rattle.ambiguity.proofs.Texts.{text-theorems}
-use Rattle.ambiguity.specs.Entries.{IsTableOf, Stores}
+use Rattle.ambiguity.specs.Entries.{Stores}
 use Rattle.ambiguity.specs.Automata.{AutomatonTheorems}
 use Rattle.ambiguity.specs.FrontPage.{TableTheorems, WitnessTheorems, RecordTheorems, CertificateTheorems, FrontPage}
 
@@ -74,18 +75,14 @@ module _ (t n : ℕ) (table : List ℕ) where
       let w : v ≡ checkVerdict (go G) = h ∙ ap checkVerdict e in
       (λ x. a .0 (sym w ∙ x), λ x. w ∙ a .1 x)
 
-  is-table : (G : Grammar) → Taken limits t n table G → IsTableOf t n table G
-  is-table G a = record { wellFormed = a .wellFormed; terminals = a .terminals; nonterminals = a .nonterminals; stored = a .table }
-
   table-theorems : (r : TableChecked) → TableAnswer t n table r → TableTheorems t n table r
   table-theorems r e = record {
     passes = λ G s. let h : r ≡ tableChecked (done G) = e ∙ ap tableChecked (checked t n table G s) in
         (ap (λ (r : TableChecked). r .verdict) h, ap (λ (r : TableChecked). r .grammar) h);
     passes-only = λ v. let p = passed-table t n table r e v in
-        let a = passes-exactly limits room (omega arith) t n table (p .grammar) .0 (p .checked) in
-        (p .grammar, record { isTable = is-table (p .grammar) (a .0); sentence = a .1 }, p .same);
+        (p .grammar, stores t n table (p .grammar) (p .checked), p .same);
     without = λ at. let w = refuses-exactly limits room (omega arith) t n table at in (
-      λ v. let x = w .0 (refused-table t n table r e noSentence at v) in (x .0, (x .1 .0, is-table (x .1 .0) (x .1 .1), x .1 .2)),
+      λ v. let x = w .0 (refused-table t n table r e noSentence at v) in (x .0, (x .1 .0, is-table t n table (x .1 .0) (x .1 .1), x .1 .2)),
       λ (z, x). ap (λ (r : TableChecked). r .verdict) (e ∙ ap tableChecked (w .1 (z, (x .0, is-taken t n table (x .0) (x .1), x .2)))),
     );
     rule-0-live = λ G s. live-start (s .sentence .2);
@@ -163,7 +160,9 @@ front-page = record {
   records = record-theorems;
   certificates = certificate-theorems;
   searches = search-theorems;
+  rooms = room-theorems;
   texts = text-theorems;
+  text-lengths = length-theorems;
   reports = report-theorems;
   readings = reading-theorems;
   backs = back-theorems;

@@ -1,4 +1,5 @@
 pub mod Searches
+pub mod Rooms
 pub mod Steps
 pub mod Texts
 pub mod Readings

@@ -71,6 +71,15 @@ same-grammar G H e = cc
 pub is-taken : (t n : ℕ) (table : List ℕ) (G : Grammar) → IsTableOf t n table G → Taken limits t n table G
 is-taken t n table G s = record { wellFormed = s .wellFormed; terminals = s .terminals; nonterminals = s .nonterminals; table = s .stored }
 
+pub is-table : (t n : ℕ) (table : List ℕ) (G : Grammar) → Taken limits t n table G → IsTableOf t n table G
+is-table t n table G a = record { wellFormed = a .wellFormed; terminals = a .terminals; nonterminals = a .nonterminals; stored = a .table }
+
+-- a table that passes, and back
+pub stores : (t n : ℕ) (table : List ℕ) (G : Grammar) → checkTable limits t n table ≡ done G → Stores t n table G
+stores t n table G e =
+    let a = passes-exactly limits room (omega arith) t n table G .0 e in
+    record { isTable = is-table t n table G (a .0); sentence = a .1 }
+
 pub checked : (t n : ℕ) (table : List ℕ) (G : Grammar) → Stores t n table G → checkTable limits t n table ≡ done G
 checked t n table G s = passes-exactly limits room (omega arith) t n table G .1 (is-taken t n table G (s .isTable), s .sentence)
 

@@ -27,7 +27,7 @@ use Rattle.text.specs.declared.TextWritten.the-variants.{Written}
 use Rattle.text.proofs.Spans.{length-lengths, length-name-starts}
 use Rattle.text.proofs.Admit.{read-tests, Checked, text-checked}
 use Rattle.text.proofs.Gather.{gather-front, gather-read}
-use Rattle.text.proofs.RoundTrip.{apart, reads-into, into-checked, limits-short}
+use Rattle.text.proofs.RoundTrip.{apart, table-refuses, into-refused, reads-into, into-checked, limits-short}
 use Rattle.text.proofs.Promises.{written-as, refuses-as, written-passes, read-write, write-read, read-as, after-done}
 use Rattle.ambiguity.specs.Texts.{TextTheorems}
 
@@ -138,10 +138,10 @@ write-refused : (t n : ℕ) (table bytes starts lengths out : List ℕ) (r : Tex
     → WritesText t n table bytes starts lengths out r out′
     → (c : TableChecked) (cause at : ℕ) → TableAnswer t n table c → c .verdict ≡ Refused cause at
     → (r ≡ writer.Refused cause at) × (out′ ≡ out)
-unfolding writeInto
 write-refused t n table bytes starts lengths out r out′ w c cause at h e =
     let o : writeInto limits t n table bytes starts lengths (length out) ≡ refused cause at
-    = then-stops (checkTable limits t n table) _ cause at (refused-table t n table c h cause at e) in
+    = into-refused limits t n table bytes starts lengths (length out) cause at
+    (table-refuses limits t n table bytes starts lengths cause at (refused-table t n table c h cause at e)) in
     (w .answer ∙ ap textWritten o, w .out-after ∙ ap (λ (o : Answer (List ℕ)). afterwards o (λ text. text) out) o)
 
 pub text-theorems : TextTheorems

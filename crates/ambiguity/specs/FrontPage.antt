@@ -1,7 +1,7 @@
 -- What holds of the library, whatever the input: theorems over what the public entries promise. A promise is the entry's
 -- `ensures`; it determines the answer and all that was lent. Each promise is one definition: specs/Entries.antt says where.
--- specs/Searches.antt, specs/Texts.antt, specs/Reports.antt and specs/Readings.antt have what follows for the search, for texts, for
--- the program and for the two lines of a witness, specs/Automata.antt whose moves the promises compute with, proofs/FrontPage.antt
+-- specs/Searches.antt, specs/Rooms.antt, specs/Texts.antt, specs/Reports.antt and specs/Readings.antt have what follows for the
+-- search, for room told beforehand, for texts, for the program and for the two lines of a witness, specs/Automata.antt whose moves the promises compute with, proofs/FrontPage.antt
 -- the value of the record. Source: document 01 and document 02's requests; README.md has the demands. Of demand 1, that a refusal is
 -- the first in the documents' order is in the definitions that the promises equal.
 -- Assumes nothing.
@@ -35,6 +35,10 @@ use Rattle.steps.specs.declared.StepAnswer.{StepAnswer}
 use Rattle.steps.specs.declared.StepAnswer.the-variants as step
 use Rattle.search.specs.Promise.{Lent, Searches}
 use Rattle.search.specs.declared.SearchVerdict.{SearchVerdict}
+use Rattle.rooms.specs.Room.{RoomAnswer}
+use Rattle.rooms.specs.declared.SearchRoom.{SearchRoom}
+use Rattle.text.specs.Promise.{LengthAnswer}
+use Rattle.text.specs.declared.TextLength.{TextLength}
 use Rattle.grammar.specs.Refusal.{done, noSentence}
 use Rattle.text.specs.Read.{Source}
 use Rattle.text.specs.Rules.{checkText}
@@ -48,6 +52,7 @@ use Rattle.ambiguity.specs.Texts.{TextTheorems}
 use Rattle.ambiguity.specs.Readings.{ReadingTheorems, BackTheorems}
 use Rattle.ambiguity.specs.Reports.{ReportTheorems}
 use Rattle.ambiguity.specs.Automata.{AutomatonTheorems}
+use Rattle.ambiguity.specs.Rooms.{RoomTheorems, LengthTheorems}
 
 module _ (t n : ℕ) (table : List ℕ) where
   pub record TableTheorems (r : TableChecked) : Type 0 where
@@ -116,7 +121,10 @@ pub record FrontPage : Type 1 where
   pub certificates : (t n : ℕ) (table bytes : List ℕ) (v : CheckVerdict) → CertificateAnswer t n table bytes v → CertificateTheorems t n table bytes v
   pub searches : (t n : ℕ) (table : List ℕ) (before : Lent) (r : SearchVerdict) (after : Lent) → Searches t n table before r after
       → SearchTheorems t n table before r after
+  pub rooms : (t n : ℕ) (table : List ℕ) (r : SearchRoom) → RoomAnswer t n table r → RoomTheorems t n table r
   pub texts : TextTheorems
+  pub text-lengths : (t n : ℕ) (table bytes starts lengths : List ℕ) (r : TextLength) → LengthAnswer t n table bytes starts lengths r
+      → LengthTheorems t n table bytes starts lengths r
   pub reports : (text out : List ℕ) (r : Reported) (out′ : List ℕ) → Reports text out r out′ → ReportTheorems text out r out′
   pub readings : (text : List ℕ) (s : Source) → checkText limits text ≡ done s → ReadingTheorems s
   pub backs : (text lines left right : List ℕ) (r : ReadBack) (left′ right′ : List ℕ) → ReadsBack text lines left right r left′ right′

@@ -1,5 +1,6 @@
 pub mod Entries
 pub mod Searches
+pub mod Rooms
 pub mod Texts
 pub mod Readings
 pub mod Reports

@@ -25,18 +25,20 @@ use Rattle.readings.specs.Promise.{stringsInto, readBackInto, readBack}
 use Rattle.readings.specs.declared.ReadBack.the-variants as back
 use Rattle.report.specs.Report.{reported}
 use Rattle.report.specs.declared.Reported.the-variants as report
+use Rattle.rooms.specs.Room.{Room, roomTold}
 use Rattle.search.specs.Promise.{Lent, isPotential, Told, Answers}
 use Rattle.search.specs.declared.SearchVerdict.{SearchVerdict}
 use Rattle.steps.specs.Steps.{stepAnswer}
 use Rattle.text.specs.Read.{Source}
 use Rattle.text.specs.Rules.{checkText}
-use Rattle.text.specs.Promise.{textRead, textWritten}
+use Rattle.text.specs.Promise.{textRead, textLength, textWritten}
+use Rattle.text.specs.declared.TextLength.the-variants as length
 use Rattle.text.specs.declared.TextWritten.the-variants.{Written}
 use Rattle.witness_records.specs.Records.{triples}
-use Rattle.ambiguity_c.specs.Replies.{tableReply, stepReply, checkReply, searchReply, readReply, writeReply, reportReply, readBackReply}
-use Rattle.ambiguity_c.specs.Causes.{Tells, IsRead, IsVerdict, IsStep, CauseTheorems}
+use Rattle.ambiguity_c.specs.Replies.{tableReply, stepReply, checkReply, searchReply, roomReply, readReply, writeReply, lengthReply, reportReply, readBackReply}
+use Rattle.ambiguity_c.specs.Causes.{Tells, IsRead, IsRoom, IsVerdict, IsStep, CauseTheorems}
 use Rattle.grammar.proofs.Causes.{cause}
-use Rattle.ambiguity_c.proofs.Refusals.{isCause, Caused, check-table, nth-step, check-witness, check-records, check-certificate, search-asked, check-text, read-into, write-into, report-into, strings-into}
+use Rattle.ambiguity_c.proofs.Refusals.{isCause, Caused, check-table, nth-step, check-witness, check-records, check-certificate, search-asked, search-room, check-text, read-into, text-from, write-into, report-into, strings-into}
 
 -- nothing is refused
 tells-done : {X : Type 0} → X → Tells 0 X
@@ -79,6 +81,10 @@ search-tells (done G) before v after h a = told-tells (isPotential (movesOf limi
 search-tells (refused c p) before v after (cause h) a =
     subst (λ v. Tells (searchReply v .cause) (IsVerdict v)) (sym (a .0)) (tells-refused c h)
 
+room-tells : (o : Answer Room) → Caused o → Tells (roomReply (roomTold o) .cause) (IsRoom (roomTold o))
+room-tells (done m) h = tells-done refl
+room-tells (refused c p) (cause h) = tells-refused c h
+
 read-tells : (o : Answer Source) → Caused o → Tells (readReply (textRead o) .cause) (IsRead (textRead o))
 read-tells (done s) h = tells-done refl
 read-tells (refused c p) (cause h) = tells-refused c h
@@ -87,6 +93,10 @@ write-tells : (o : Answer (List ℕ)) → Caused o
     → Tells (writeReply (textWritten o) .cause) (textWritten o ≡ Written (writeReply (textWritten o) .length))
 write-tells (done s) h = tells-done refl
 write-tells (refused c p) (cause h) = tells-refused c h
+
+length-tells : (o : Answer (List ℕ)) → Caused o → Tells (lengthReply (textLength o) .cause) (textLength o ≡ length.Bytes (lengthReply (textLength o) .length))
+length-tells (done s) h = tells-done refl
+length-tells (refused c p) (cause h) = tells-refused c h
 
 report-tells : (o : Answer (List ℕ)) → Caused o
     → Tells (reportReply (reported o) .cause) (reported o ≡ report.Written (reportReply (reported o) .length))
@@ -120,11 +130,14 @@ cause-theorems = record {
   records = λ t n table entries v a. verdict-tells _ v (check-records limits t n table (triples entries)) a;
   certificates = λ t n table bytes v a. verdict-tells _ v (check-certificate limits t n table bytes) a;
   searches = λ t n table before v after a. search-tells _ before v after (search-asked limits t n table before) a;
+  rooms = λ t n table v a. subst (λ v. Tells (roomReply v .cause) (IsRoom v)) (sym a) (room-tells _ (search-room limits t n table));
   reads = λ text table starts lengths v table′ starts′ lengths′ a.
       subst (λ v. Tells (readReply v .cause) (IsRead v)) (sym (a .answer)) (read-tells _ (read-into limits _ _ _ text));
   writes = λ t n table bytes starts lengths out v out′ a.
       subst (λ v. Tells (writeReply v .cause) (v ≡ Written (writeReply v .length))) (sym (a .answer))
       (write-tells _ (write-into limits t n table bytes starts lengths _));
+  text-lengths = λ t n table bytes starts lengths v a.
+      subst (λ v. Tells (lengthReply v .cause) (v ≡ length.Bytes (lengthReply v .length))) (sym a) (length-tells _ (text-from limits t n table bytes starts lengths));
   reports = λ text out v out′ a.
       subst (λ v. Tells (reportReply v .cause) (v ≡ report.Written (reportReply v .length))) (sym (a .answer))
       (report-tells _ (report-into _ text));

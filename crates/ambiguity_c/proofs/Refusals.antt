@@ -21,13 +21,15 @@ use Rattle.automaton.specs.PositionMoves.{movesOf}
 use Rattle.triples.specs.Certificate.{checkBytes, checkCertificate}
 use Rattle.triples.specs.Witness.{checkOn, checkRow, checkWitness, checkWitnessRecords}
 use Rattle.report.specs.Report.{reportInto}
+use Rattle.rooms.specs.Room.{searchRoom}
 use Rattle.search.specs.Promise.{Lent, searchable}
 use Rattle.steps.specs.Steps.{nthStep}
 use Rattle.readings.specs.Readings.{readWords, readStrings}
 use Rattle.readings.specs.Promise.{stringsInto}
 use Rattle.text.specs.Read.{Source, refuseNone, declaration, ruleLine, ruleLines, wholeLine, readLines, readText}
 use Rattle.text.specs.Rules.{admit, lastTests, checkText, readInto}
-use Rattle.text.specs.Print.{gather, writeInto}
+use Rattle.text.specs.Print.{textFrom, writeInto}
+use Rattle.text.proofs.Causes.{or-none, gather-causes}
 
 -- the documents' causes
 abbrev pub isCause : ℕ → Bool
@@ -36,11 +38,6 @@ isCause = upTo noSentence
 -- a result, or a refusal with one of the causes
 abbrev pub Caused : {A : Type 0} → Answer A → Type 0
 Caused o = CausedBy isCause o
-
-or-none : {A B : Type 0} (c p : ℕ) (o : Option A) (go : A → Answer B) → isCause c ≡ true → ((a : A) → Caused (go a)) → Caused (refuseNone c p o go)
-unfolding refuseNone
-or-none c p none go h k = cause h
-or-none c p (some a) go h k = k a
 
 -- 1 to 8 are among them
 more : (c : ℕ) → upTo 8 c ≡ true → isCause c ≡ true
@@ -91,6 +88,10 @@ check-records L t n table entries = next _ _ (check-table L t n table) (λ G. ch
 pub search-asked : (L : Limits) (t n : ℕ) (table : List ℕ) (l : Lent) → Caused (searchable L t n table l)
 unfolding searchable
 search-asked L t n table l = next _ _ (check-table L t n table) (λ G. unless bufferTooShort _ _ _ refl result)
+
+pub search-room : (L : Limits) (t n : ℕ) (table : List ℕ) → Caused (searchRoom L t n table)
+unfolding searchRoom
+search-room L t n table = next _ _ (check-table L t n table) (λ G. result)
 
 declares : (at k lo hi : ℕ) (earlier : List (List ℕ)) (line : List ℕ) → Caused (declaration at k lo hi earlier line)
 unfolding declaration
@@ -149,19 +150,15 @@ pub read-into : (L : Limits) (e s l : ℕ) (text : List ℕ) → Caused (readInt
 unfolding readInto
 read-into L e s l text = next _ _ (check-text L text) (λ source. unless bufferTooShort _ _ _ refl result)
 
-gathers : (bytes starts lengths : List ℕ) (i m : ℕ) → Caused (gather bytes starts lengths i m)
-unfolding gather
-gathers bytes starts lengths i zero = result
-gathers bytes starts lengths i (suc m) =
-    or-none malformed _ _ _ refl (λ x.
-    unless malformed _ _ _ refl (next _ _ (gathers bytes starts lengths (suc i) m) (λ xs. result)))
+pub text-from : (L : Limits) (t n : ℕ) (table bytes starts lengths : List ℕ) → Caused (textFrom L t n table bytes starts lengths)
+unfolding textFrom
+text-from L t n table bytes starts lengths =
+    next _ _ (check-table L t n table) (λ G. next _ _ (gather-causes refl bytes starts lengths 0 (t + n)) (λ names. unless nameRepeated _ _ _ refl result))
 
 pub write-into : (L : Limits) (t n : ℕ) (table bytes starts lengths : List ℕ) (room : ℕ) → Caused (writeInto L t n table bytes starts lengths room)
 unfolding writeInto
 write-into L t n table bytes starts lengths room =
-    next _ _ (check-table L t n table) (λ G.
-    next _ _ (gathers bytes starts lengths 0 (t + n)) (λ names.
-    unless nameRepeated _ _ _ refl (unless bufferTooShort _ _ _ refl result)))
+    next _ _ (text-from L t n table bytes starts lengths) (λ text. unless bufferTooShort _ _ _ refl result)
 
 pub report-into : (room : ℕ) (text : List ℕ) → Caused (reportInto room text)
 unfolding reportInto

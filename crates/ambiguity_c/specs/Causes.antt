@@ -18,12 +18,17 @@ use Rattle.readings.specs.declared.ReadBack.the-variants as back
 use Rattle.report.specs.Report.{Reports}
 use Rattle.report.specs.declared.Reported.{Reported}
 use Rattle.report.specs.declared.Reported.the-variants as report
+use Rattle.rooms.specs.Room.{RoomAnswer}
+use Rattle.rooms.specs.declared.SearchRoom.{SearchRoom}
+use Rattle.rooms.specs.declared.SearchRoom.the-variants as room
 use Rattle.search.specs.Promise.{Lent, Searches}
 use Rattle.search.specs.declared.SearchVerdict.{SearchVerdict}
 use Rattle.search.specs.declared.SearchVerdict.the-variants.{Unambiguous, Potential}
 use Rattle.steps.specs.declared.StepAnswer.{StepAnswer}
 use Rattle.steps.specs.declared.StepAnswer.the-variants.{Record, NoMore}
-use Rattle.text.specs.Promise.{ReadsText, WritesText}
+use Rattle.text.specs.Promise.{ReadsText, WritesText, LengthAnswer}
+use Rattle.text.specs.declared.TextLength.{TextLength}
+use Rattle.text.specs.declared.TextLength.the-variants as length
 use Rattle.text.specs.declared.TextRead.{TextRead}
 use Rattle.text.specs.declared.TextRead.the-variants.{Read}
 use Rattle.text.specs.declared.TextWritten.{TextWritten}
@@ -31,7 +36,7 @@ use Rattle.text.specs.declared.TextWritten.the-variants.{Written}
 use Rattle.witness_records.specs.Records.{RecordsAnswer}
 use Rattle.witness_records.specs.declared.TripleRecord.{TripleRecord}
 use Rattle.ambiguity.specs.Entries.{Usize, StepAnswers}
-use Rattle.ambiguity_c.specs.Replies.{tableReply, stepReply, checkReply, searchReply, readReply, writeReply, reportReply, readBackReply}
+use Rattle.ambiguity_c.specs.Replies.{tableReply, stepReply, checkReply, searchReply, roomReply, readReply, writeReply, lengthReply, reportReply, readBackReply}
 
 -- the cause is none that the documents do not have, and 0 tells that something is answered
 pub record Tells (cause : ℕ) (Answered : Type 0) : Type 0 where
@@ -41,6 +46,9 @@ pub record Tells (cause : ℕ) (Answered : Type 0) : Type 0 where
 -- the numbers of the reply are the answer
 abbrev pub IsRead : TextRead → Type 0
 IsRead v = v ≡ Read (readReply v .terminals) (readReply v .nonterminals) (readReply v .entries) (readReply v .states)
+
+abbrev pub IsRoom : SearchRoom → Type 0
+IsRoom v = v ≡ room.Room (roomReply v .states) (roomReply v .certificate) (roomReply v .entries) (roomReply v .moves)
 
 abbrev pub IsVerdict : SearchVerdict → Type 0
 IsVerdict v =
@@ -66,10 +74,13 @@ pub record CauseTheorems : Type 0 where
       → Tells (checkReply v .cause) (v ≡ Accepted)
   pub searches : (t n : ℕ) (table : List ℕ) (before : Lent) (v : SearchVerdict) (after : Lent) → Searches t n table before v after
       → Tells (searchReply v .cause) (IsVerdict v)
+  pub rooms : (t n : ℕ) (table : List ℕ) (v : SearchRoom) → RoomAnswer t n table v → Tells (roomReply v .cause) (IsRoom v)
   pub reads : (text table starts lengths : List ℕ) (v : TextRead) (table′ starts′ lengths′ : List ℕ)
       → ReadsText text table starts lengths v table′ starts′ lengths′ → Tells (readReply v .cause) (IsRead v)
   pub writes : (t n : ℕ) (table bytes starts lengths out : List ℕ) (v : TextWritten) (out′ : List ℕ)
       → WritesText t n table bytes starts lengths out v out′ → Tells (writeReply v .cause) (v ≡ Written (writeReply v .length))
+  pub text-lengths : (t n : ℕ) (table bytes starts lengths : List ℕ) (v : TextLength) → LengthAnswer t n table bytes starts lengths v
+      → Tells (lengthReply v .cause) (v ≡ length.Bytes (lengthReply v .length))
   pub reports : (text out : List ℕ) (v : Reported) (out′ : List ℕ) → Reports text out v out′
       → Tells (reportReply v .cause) (v ≡ report.Written (reportReply v .length))
   pub backs : (text lines left right : List ℕ) (v : ReadBack) (left′ right′ : List ℕ) → ReadsBack text lines left right v left′ right′

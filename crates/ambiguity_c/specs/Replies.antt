@@ -1,5 +1,5 @@
 -- The entries' answers as C has them: for each case of an enum document 01's number and values. `cause` 0 says that nothing is
--- refused; fields that a case does not have are 0. Source: document 01, "Causes of refusal"; document 02, [2]. Assumes nothing.
+-- refused; fields that a case does not have are 0. Source: document 01, "Causes of refusal"; document 02, [2] and [5]. Assumes nothing.
 use Prim.Native.Nat.{ℕ}
 use Rattle.grammar.specs.declared.TableChecked.{TableChecked}
 use Rattle.grammar.specs.declared.TableVerdict.{TableVerdict}
@@ -8,10 +8,14 @@ use Rattle.readings.specs.declared.ReadBack.{ReadBack}
 use Rattle.readings.specs.declared.ReadBack.the-variants as back
 use Rattle.report.specs.declared.Reported.{Reported}
 use Rattle.report.specs.declared.Reported.the-variants as report
+use Rattle.rooms.specs.declared.SearchRoom.{SearchRoom}
+use Rattle.rooms.specs.declared.SearchRoom.the-variants as room
 use Rattle.search.specs.declared.SearchVerdict.{SearchVerdict}
 use Rattle.search.specs.declared.SearchVerdict.the-variants as search
 use Rattle.steps.specs.declared.StepAnswer.{StepAnswer}
 use Rattle.steps.specs.declared.StepAnswer.the-variants as step
+use Rattle.text.specs.declared.TextLength.{TextLength}
+use Rattle.text.specs.declared.TextLength.the-variants as length
 use Rattle.text.specs.declared.TextRead.{TextRead}
 use Rattle.text.specs.declared.TextRead.the-variants as reader
 use Rattle.text.specs.declared.TextWritten.{TextWritten}
@@ -26,8 +30,10 @@ use Rattle.ambiguity_c.specs.declared.MoveReply.{MoveReply}
 use Rattle.ambiguity_c.specs.declared.StepReply.{StepReply}
 use Rattle.ambiguity_c.specs.declared.CheckReply.{CheckReply}
 use Rattle.ambiguity_c.specs.declared.SearchReply.{SearchReply}
+use Rattle.ambiguity_c.specs.declared.RoomReply.{RoomReply}
 use Rattle.ambiguity_c.specs.declared.ReadReply.{ReadReply}
 use Rattle.ambiguity_c.specs.declared.WriteReply.{WriteReply}
+use Rattle.ambiguity_c.specs.declared.LengthReply.{LengthReply}
 use Rattle.ambiguity_c.specs.declared.ReportReply.{ReportReply}
 use Rattle.ambiguity_c.specs.declared.ReadBackReply.{ReadBackReply}
 
@@ -71,6 +77,11 @@ searchReply (search.Unambiguous size) = record { cause = 0; at = 0; verdict = 1;
 searchReply (search.Potential entries) = record { cause = 0; at = 0; verdict = 2; count = entries }
 searchReply (search.Refused cause at) = record { cause = cause; at = at; verdict = 0; count = 0 }
 
+-- the room of a search: Q, the certificate's bytes, the entries of each row, and the number of moves
+abbrev pub roomReply : SearchRoom → RoomReply
+roomReply (room.Room q b e m) = record { cause = 0; at = 0; states = q; certificate = b; entries = e; moves = m }
+roomReply (room.Refused cause at) = record { cause = cause; at = at; states = 0; certificate = 0; entries = 0; moves = 0 }
+
 -- the reader: t, n, the number of the table's entries and Q
 abbrev pub readReply : TextRead → ReadReply
 readReply (reader.Read t n e q) = record { cause = 0; at = 0; terminals = t; nonterminals = n; entries = e; states = q }
@@ -80,6 +91,11 @@ readReply (reader.Refused cause at) = record { cause = cause; at = at; terminals
 abbrev pub writeReply : TextWritten → WriteReply
 writeReply (writer.Written m) = record { cause = 0; at = 0; length = m }
 writeReply (writer.Refused cause at) = record { cause = cause; at = at; length = 0 }
+
+-- the length told beforehand
+abbrev pub lengthReply : TextLength → LengthReply
+lengthReply (length.Bytes m) = record { cause = 0; at = 0; length = m }
+lengthReply (length.Refused cause at) = record { cause = cause; at = at; length = 0 }
 
 -- what the program prints: how many bytes were written
 abbrev pub reportReply : Reported → ReportReply

@@ -3,11 +3,13 @@
 mod replies;
 
 ghost use Rattle.grammar.specs.TableCheck.{TableAnswer};
+ghost use Rattle.rooms.specs.Room.{RoomAnswer};
 ghost use Rattle.search.specs.Promise.{lent};
 ghost use Rattle.steps.specs.Steps.{NthAnswer};
+ghost use Rattle.text.specs.Promise.{LengthAnswer};
 ghost use Rattle.triples.specs.Verdict.{CertificateAnswer, WitnessAnswer};
 ghost use Rattle.witness_records.specs.Records.{RecordsAnswer};
-ghost use Rattle.ambiguity_c.specs.Replies.{tableReply, stepReply, checkReply};
+ghost use Rattle.ambiguity_c.specs.Replies.{tableReply, stepReply, checkReply, roomReply, lengthReply};
 ghost use Rattle.ambiguity_c.specs.Lent.{Replies, RepliesSearch, RepliesRead, RepliesWritten, RepliesReport, RepliesBack};
 use ambiguity::TripleRecord;
 
@@ -54,6 +56,17 @@ pub struct SearchReply {
     pub count: u64,
 }
 
+// Q, the certificate's bytes, the entries of each row, the number of moves.
+#[repr(C)]
+pub struct RoomReply {
+    pub cause: u64,
+    pub at: u64,
+    pub states: u64,
+    pub certificate: u64,
+    pub entries: u64,
+    pub moves: u64,
+}
+
 #[repr(C)]
 pub struct ReadReply {
     pub cause: u64,
@@ -66,6 +79,13 @@ pub struct ReadReply {
 
 #[repr(C)]
 pub struct WriteReply {
+    pub cause: u64,
+    pub at: u64,
+    pub length: u64,
+}
+
+#[repr(C)]
+pub struct LengthReply {
     pub cause: u64,
     pub at: u64,
     pub length: u64,
@@ -197,6 +217,29 @@ pub extern "C" fn ambiguity_write_text(
 {
     let answer = ambiguity::write_text(t, n, table, bytes, starts, lengths, out);
     replies::write_told(answer)
+}
+
+#[no_mangle]
+pub extern "C" fn ambiguity_search_room(t: usize, n: usize, table: &[u8]) -> RoomReply
+    ensures { λ r. ⌜ Replies (RoomAnswer t n (now (table .entry))) roomReply r ⌝ }
+{
+    let answer = ambiguity::search_room(t, n, table);
+    replies::room_told(answer)
+}
+
+#[no_mangle]
+pub extern "C" fn ambiguity_written_length(
+    t: usize,
+    n: usize,
+    table: &[u8],
+    bytes: &[u8],
+    starts: &[u32],
+    lengths: &[u32],
+) -> LengthReply
+    ensures { λ r. ⌜ Replies (LengthAnswer t n (now (table .entry)) (now (bytes .entry)) (now (starts .entry)) (now (lengths .entry))) lengthReply r ⌝ }
+{
+    let answer = ambiguity::written_length(t, n, table, bytes, starts, lengths);
+    replies::length_told(answer)
 }
 
 #[no_mangle]

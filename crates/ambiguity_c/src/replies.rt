@@ -1,11 +1,13 @@
 // The answers of the entries, told in numbers: an arm for each case of specs/Replies.antt.
 ghost use mathlib.Core.Path.{_≡_};
-ghost use Rattle.ambiguity_c.specs.Replies.{verdictReply, moveReply, recordReply, noRecord, stepReply, checkReply, searchReply, readReply, writeReply, reportReply, readBackReply};
+ghost use Rattle.ambiguity_c.specs.Replies.{verdictReply, moveReply, recordReply, noRecord, stepReply, checkReply, searchReply, readReply, writeReply, reportReply, readBackReply, roomReply, lengthReply};
 use super::CheckReply;
+use super::LengthReply;
 use super::MoveReply;
 use super::ReadBackReply;
 use super::ReadReply;
 use super::ReportReply;
+use super::RoomReply;
 use super::SearchReply;
 use super::StepReply;
 use super::TableReply;
@@ -14,10 +16,12 @@ use ambiguity::CheckVerdict;
 use ambiguity::Move;
 use ambiguity::ReadBack;
 use ambiguity::Reported;
+use ambiguity::SearchRoom;
 use ambiguity::SearchVerdict;
 use ambiguity::Step;
 use ambiguity::StepAnswer;
 use ambiguity::TableVerdict;
+use ambiguity::TextLength;
 use ambiguity::TextRead;
 use ambiguity::TextWritten;
 
@@ -186,6 +190,51 @@ pub fn write_told(answer: TextWritten) -> WriteReply
             length: length as u64,
         },
         TextWritten::Refused(cause, at) => WriteReply {
+            cause: cause as u64,
+            at: at as u64,
+            length: 0,
+        },
+    }
+}
+
+pub fn room_told(answer: SearchRoom) -> RoomReply
+    ensures { λ r. ⌜ r ≡ roomReply answer ⌝ }
+{
+    match answer {
+        SearchRoom::Room {
+            states,
+            certificate,
+            entries,
+            moves,
+        } => RoomReply {
+            cause: 0,
+            at: 0,
+            states: states as u64,
+            certificate: certificate as u64,
+            entries: entries as u64,
+            moves: moves as u64,
+        },
+        SearchRoom::Refused(cause, at) => RoomReply {
+            cause: cause as u64,
+            at: at as u64,
+            states: 0,
+            certificate: 0,
+            entries: 0,
+            moves: 0,
+        },
+    }
+}
+
+pub fn length_told(answer: TextLength) -> LengthReply
+    ensures { λ r. ⌜ r ≡ lengthReply answer ⌝ }
+{
+    match answer {
+        TextLength::Bytes(length) => LengthReply {
+            cause: 0,
+            at: 0,
+            length: length as u64,
+        },
+        TextLength::Refused(cause, at) => LengthReply {
             cause: cause as u64,
             at: at as u64,
             length: 0,

@@ -4,3 +4,7 @@ pub mod Found
 pub mod Row
 pub mod OneRecord
 pub mod SidesLaws
+pub mod Sums
+pub mod Lengths
+pub mod MovesExact
+pub mod Position

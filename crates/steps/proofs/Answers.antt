@@ -11,10 +11,10 @@ use Rattle.triples.specs.declared.Step.{Step}
 use Rattle.triple_laws.proofs.Members.{place-mem}
 use Rattle.moves.specs.Tables.{segment, Tables}
 use Rattle.moves.specs.Shows.{Shows}
+use Rattle.moves.proofs.Places.{ascends-mem}
 use Rattle.steps.specs.declared.StepAnswer.the-variants.{NoMore}
 use Rattle.steps.specs.Steps.{nth, nthRecord, recordAnswer}
 use Rattle.steps.specs.Plan.{Laid, planned, rowsOf}
-use Rattle.steps.proofs.Between.{ascends-mem}
 use Rattle.steps.proofs.Says.{shown-says}
 use Rattle.steps.proofs.Planned.{planned-is, none-left, none-right}
 use Rattle.steps.proofs.Nth.{no-more}

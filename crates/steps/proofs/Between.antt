@@ -72,11 +72,3 @@ ascends-past a b (x ∷ l) s n = elim (lt-or-le a x) [
   | inl h ↦ (omega arith, s .1, s .2)
   | inr h ↦ absurd (n (element-as (let e : a ≡ x = omega (arith, s .0) in e) here))
 ]
-
--- an entry of an ascending list
-pub ascends-mem : (a b : ℕ) (l : List ℕ) (u : ℕ) → Ascends a b l → Mem u l → (a ≤ u) × (u < b)
-ascends-mem a b [] u s m = absurd (no-element m)
-ascends-mem a b (x ∷ l) u s m = elim (first-or m) [
-  | inl e ↦ (omega (arith, s .0), omega (arith, s .1))
-  | inr m ↦ let r = ascends-mem (x + 1) b l u (s .2) m in (omega (arith, s .0, r .0), r .1)
-]

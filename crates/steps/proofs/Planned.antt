@@ -19,8 +19,8 @@ use Rattle.triples.specs.declared.Move.{Move}
 use Rattle.triples.specs.declared.Move.the-variants.{Opening, Closing, Still}
 use Rattle.triples.specs.declared.Step.{Step}
 use Rattle.triple_laws.proofs.Placed.{records-only}
+use Rattle.moves.proofs.Places.{ascends-mem}
 use Rattle.steps.specs.Plan.{Rows, aheadOf, ends, targetsOf, isRead, leftTo, rightTo, sides, planZero, planOne, planAt, planned}
-use Rattle.steps.proofs.Between.{ascends-mem}
 use Rattle.steps.proofs.Ways.{Zero, open-l, open-r, shift-z, part-b, part-l, part-r, One, alone-l, alone-r, shift-o, Fits, plan-zero, plan-one}
 use Rattle.steps.proofs.Ranks.{zero-rises, one-rises}
 use Rattle.steps.proofs.Says.{Say}

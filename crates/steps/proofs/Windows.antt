@@ -9,7 +9,7 @@ use Rattle.grammar.specs.Basics.{Mem, when, each}
 use Rattle.triple_laws.proofs.Members.{no-element, only-one, mem-either, of-map}
 use Rattle.triple_laws.proofs.Pairs.{Rising, pairs-none, pairs-more, pairs-append}
 use Rattle.moves.specs.Tables.{Ascends}
-use Rattle.steps.proofs.Between.{ascends-mem}
+use Rattle.moves.proofs.Places.{ascends-mem}
 
 -- the list rises by P, from a on and below b
 pub record Window {A : Type 0} (P : A → ℕ) (a b : ℕ) (l : List A) : Type 0 where

@@ -1,5 +1,5 @@
 -- Small closed cases of the definitions at document 01's limits, and at small ones where a number is large: texts with their
--- sources, each refusal of the reader and the writer with its position, and the order of the refusals.
+-- sources, each refusal of the reader and the writer with its position, the order of the refusals, and lengths told beforehand.
 -- An edit of a definition in specs/ fails here.
 -- Assumes nothing.
 use mathlib.Core.Path.{_≡_, refl}
@@ -22,8 +22,10 @@ use Rattle.text.specs.Keys.{keyTable, keyLengths, key, valueOf}
 use Rattle.text.specs.Read.{Source, refuseNone, namesOf, declaration, bodyOf, sidesOf, numberOf, isKnown}
 use Rattle.text.specs.Read.{codeOf, symbolOf, ruleOf, ruleLine, ruleLines, wholeLine, readLines, readText}
 use Rattle.text.specs.Rules.{admit, lastTests, checkText, readInto}
-use Rattle.text.specs.Print.{printLine, nameOf, printRule, printed, nameAt, gather, firstDouble, writeInto}
-use Rattle.text.specs.Promise.{startsFrom, nameStarts, nameLengths}
+use Rattle.text.specs.Print.{printLine, nameOf, printRule, printed, nameAt, gather, firstDouble, textFrom, writeInto}
+use Rattle.text.specs.Promise.{startsFrom, nameStarts, nameLengths, textLength}
+use Rattle.text.specs.declared.TextLength.{TextLength}
+use Rattle.text.specs.declared.TextLength.the-variants.{Bytes, Refused}
 
 -- the bytes of an ASCII text
 bytes : String → List ℕ
@@ -83,10 +85,14 @@ print : Source → List ℕ
 unfolding bytes printed printRule nameOf symbolOf printLine endedBy join ledBy key keyTable keyLengths
 print s = printed limits s
 
-write : ℕ → ℕ → List ℕ → String → List ℕ → List ℕ → ℕ → Answer (List ℕ)
-unfolding print writeInto gather nameAt firstDouble refuseNone isName isNameByte all any sameName folded refuseUnless
+toldLength : ℕ → ℕ → List ℕ → String → List ℕ → List ℕ → TextLength
+unfolding print textFrom gather nameAt firstDouble refuseNone isName isNameByte all any sameName folded refuseUnless
     andThen checkTable storedTable checkFrom nextRule readRule declaredFront isAmong sameCodes stateCount encode
     has hasAll concluded waiting rounds nonterminalsOf productive hasSentence
+toldLength t n table lent starts lengths = textLength (textFrom limits t n table (bytes lent) starts lengths)
+
+write : ℕ → ℕ → List ℕ → String → List ℕ → List ℕ → ℕ → Answer (List ℕ)
+unfolding toldLength writeInto
 write t n table lent starts lengths room = writeInto limits t n table (bytes lent) starts lengths room
 
 -- ---- names
@@ -310,3 +316,22 @@ writer-order : (write 1 0 [] "" [] [] 0 ≡ refused 1 0)
     × (write 1 1 (128 ∷ 0 ∷ []) "a" (0 ∷ 0 ∷ []) (1 ∷ 1 ∷ []) 0 ≡ refused 18 1)
 unfolding write
 writer-order = (refl, refl, refl, refl, refl)
+
+-- ---- the length told beforehand
+
+-- the bytes that the writer writes, the last line's end counted; a name one byte longer in each of its two lines; an empty right side
+told-lengths : (toldLength 1 1 (128 ∷ 1 ∷ 1 ∷ []) "Sa" (1 ∷ 0 ∷ []) (1 ∷ 1 ∷ []) ≡ Bytes 37)
+    × (toldLength 1 1 (128 ∷ 1 ∷ 1 ∷ []) "Sab" (1 ∷ 0 ∷ []) (2 ∷ 1 ∷ []) ≡ Bytes 39)
+    × (toldLength 0 1 (128 ∷ 0 ∷ []) "S" (0 ∷ []) (1 ∷ []) ≡ Bytes 34)
+unfolding toldLength
+told-lengths = (refl, refl, refl)
+
+-- the writer's refusals but 14, in its order: table faults, 19 the last of them, then 16, then 18
+told-refusals : (toldLength 1 0 [] "" [] [] ≡ Refused 1 0)
+    × (toldLength 1 1 (128 ∷ 1 ∷ 2 ∷ []) "" [] [] ≡ Refused 5 2)
+    × (toldLength 1 1 [] "" [] [] ≡ Refused 19 0)
+    × (toldLength 1 1 (128 ∷ 0 ∷ []) "aS" (0 ∷ 1 ∷ []) (1 ∷ []) ≡ Refused 16 1)
+    × (toldLength 2 1 (128 ∷ 0 ∷ []) "a_" (0 ∷ 0 ∷ 1 ∷ []) (1 ∷ 1 ∷ 1 ∷ []) ≡ Refused 16 2)
+    × (toldLength 1 1 (128 ∷ 0 ∷ []) "a" (0 ∷ 0 ∷ []) (1 ∷ 1 ∷ []) ≡ Refused 18 1)
+unfolding toldLength
+told-refusals = (refl, refl, refl, refl, refl, refl)

@@ -15,9 +15,10 @@ use Rattle.grammar.proofs.Rules.{decode-encode}
 use Rattle.text.specs.Read.{Source, symbolNames}
 use Rattle.text.specs.Rules.{checkText, readInto}
 use Rattle.text.specs.Print.{gather, writeInto}
-use Rattle.text.specs.Promise.{nameStarts, nameLengths, textRead, textWritten, afterwards, ReadsText, WritesText, SameAgain}
+use Rattle.text.specs.Promise.{nameStarts, nameLengths, textRead, textWritten, textLength, afterwards, ReadsText, WritesText, SameAgain}
 use Rattle.text.specs.declared.TextRead.{TextRead}
 use Rattle.text.specs.declared.TextRead.the-variants.{Read, Refused}
+use Rattle.text.specs.declared.TextLength.the-variants.{Bytes, Refused as LengthRefused}
 use Rattle.text.specs.declared.TextWritten.{TextWritten}
 use Rattle.text.specs.declared.TextWritten.the-variants.{Written}
 use Rattle.text.proofs.Spans.{length-lengths, length-name-starts}
@@ -48,6 +49,15 @@ refuses-as (refused d q) c p h = cc
 pub written-as : (o : Answer (List ℕ)) (m : ℕ) → Written m ≡ textWritten o → (text : List ℕ) × (o ≡ done text) × (length text ≡ m)
 written-as (done text) m h = (text, refl, cc)
 written-as (refused c p) m h = absurd (let z : _≡_ {A = ℕ} 0 1 = cc in omega arith)
+
+-- a length that is told is that of a text; a refusal that is told is that of the text
+pub told-as : (o : Answer (List ℕ)) (m : ℕ) → Bytes m ≡ textLength o → (text : List ℕ) × (o ≡ done text) × (length text ≡ m)
+told-as (done text) m h = (text, refl, cc)
+told-as (refused c p) m h = absurd (let z : _≡_ {A = ℕ} 0 1 = cc in omega arith)
+
+pub told-refused : (o : Answer (List ℕ)) (c p : ℕ) → LengthRefused c p ≡ textLength o → o ≡ refused c p
+told-refused (done text) c p h = absurd (let z : _≡_ {A = ℕ} 0 1 = cc in omega arith)
+told-refused (refused d q) c p h = cc
 
 -- a row after a result has it at its front
 pub after-done : {A : Type 0} (o : Answer A) (front : A → List ℕ) (old new : List ℕ) (a : A) → o ≡ done a

@@ -6,23 +6,23 @@ use mathlib.Core.Path.{_≡_, ap, sym, subst, subst₂, _∙_}
 use mathlib.Core.List.{List, [], _++_}
 use mathlib.Core.Bool.{true, false}
 use native.Mathlib.Omega.{arith}
-use borrow.Author.Tests.{le-leb, leb-true, eq-eqb, eqb-true}
+use borrow.Author.Tests.{le-leb, lt-leb, leb-true, eq-eqb, eqb-true}
 use lib.ListN.{length, take, drop, length-drop, take-append-drop}
 use lib.Seq.{length-take-le, take-append-seam, drop-append-seam}
 use Rattle.grammar.specs.Limits.{Limits, limits}
 use Rattle.grammar.specs.Grammar.{Rule, Grammar, stateCount, WellFormed}
 use Rattle.grammar.specs.Table.{encode}
 use Rattle.grammar.specs.Live.{hasSentence}
-use Rattle.grammar.specs.Refusal.{done, refuseUnless, andThen}
+use Rattle.grammar.specs.Refusal.{done, refused, refuseUnless, andThen, bufferTooShort}
 use Rattle.grammar.specs.TableCheck.{checkTable}
-use Rattle.grammar.proofs.Answers.{done-inj, unless-done, then-done}
+use Rattle.grammar.proofs.Answers.{done-inj, unless-holds, unless-fails, unless-done, then-done, then-goes, then-stops}
 use Rattle.grammar.proofs.Steps.{grammarOf}
 use Rattle.grammar.proofs.WellFormed.{room}
 use Rattle.grammar.proofs.Sentence.{passed-stored, takes-all, takes-only}
 use Rattle.text.specs.Names.{all, isName, hasDouble}
 use Rattle.text.specs.Read.{Source, symbolNames, readText}
 use Rattle.text.specs.Rules.{checkText, readInto}
-use Rattle.text.specs.Print.{printed, gather, firstDouble, writeInto}
+use Rattle.text.specs.Print.{printed, gather, firstDouble, textFrom, writeInto}
 use Rattle.text.specs.Promise.{nameStarts, nameLengths}
 use Rattle.text.proofs.WellNamed.{RuleFits, WellNamedSource}
 use Rattle.text.proofs.PrintRead.{print-read}
@@ -53,54 +53,90 @@ source-again s = λ i. record {
 module _ (L : Limits) where
   -- ---- the writer
 
-  -- the writer writes where the table passes, the names are lent whole and well formed, none twice, and there is room
-  pub writes : (t n : ℕ) (table bytes starts lengths : List ℕ) (room : ℕ) (G : Grammar) (names : List (List ℕ))
+  -- there is a text where the table passes, the names are lent whole and well formed, and none stands twice
+  pub text-made : (t n : ℕ) (table bytes starts lengths : List ℕ) (G : Grammar) (names : List (List ℕ))
       → checkTable L t n table ≡ done G → gather bytes starts lengths 0 (t + n) ≡ done names → hasDouble names ≡ false
-      → length (printed L (sourceOf t names (G .rules))) ≤ room
-      → writeInto L t n table bytes starts lengths room ≡ done (printed L (sourceOf t names (G .rules)))
-  unfolding writeInto refuseUnless andThen
-  writes t n table bytes starts lengths room G names c g o h =
+      → textFrom L t n table bytes starts lengths ≡ done (printed L (sourceOf t names (G .rules)))
+  unfolding textFrom refuseUnless andThen
+  text-made t n table bytes starts lengths G names c g o =
       let f : firstDouble [] names ≡ length names = first-double names .1 o in
-      rw (c, g, eq-eqb (firstDouble [] names) (length names) f, le-leb (length (printed L (sourceOf t names (G .rules)))) room h)
+      rw (c, g, eq-eqb (firstDouble [] names) (length names) f)
+
+  -- the faults of the table come first
+  pub table-refuses : (t n : ℕ) (table bytes starts lengths : List ℕ) (c p : ℕ) → checkTable L t n table ≡ refused c p
+      → textFrom L t n table bytes starts lengths ≡ refused c p
+  unfolding textFrom
+  table-refuses t n table bytes starts lengths c p e = then-stops (checkTable L t n table) _ c p e
+
+  module _ (t n : ℕ) (table bytes starts lengths : List ℕ) (room : ℕ) where
+    -- where there is none, the writer refuses for the same cause
+    pub into-refused : (c p : ℕ) → textFrom L t n table bytes starts lengths ≡ refused c p
+        → writeInto L t n table bytes starts lengths room ≡ refused c p
+    unfolding writeInto
+    into-refused c p e = then-stops _ _ c p e
+
+    -- lent too little for it, the writer answers 14; lent enough, it writes it
+    pub into-short : (text : List ℕ) → textFrom L t n table bytes starts lengths ≡ done text → room < length text
+        → writeInto L t n table bytes starts lengths room ≡ refused bufferTooShort 0
+    unfolding writeInto
+    into-short text e h = then-goes _ _ text e ∙ unless-fails bufferTooShort 0 _ (done text) (lt-leb (length text) room h)
+
+    pub into-done : (text : List ℕ) → textFrom L t n table bytes starts lengths ≡ done text → length text ≤ room
+        → writeInto L t n table bytes starts lengths room ≡ done text
+    unfolding writeInto
+    into-done text e h = then-goes _ _ text e ∙ unless-holds bufferTooShort 0 _ (done text) (le-leb (length text) room h)
+
+    -- the writer writes where the table passes, the names are lent whole and well formed, none twice, and there is room
+    pub writes : (G : Grammar) (names : List (List ℕ)) → checkTable L t n table ≡ done G
+        → gather bytes starts lengths 0 (t + n) ≡ done names → hasDouble names ≡ false
+        → length (printed L (sourceOf t names (G .rules))) ≤ room
+        → writeInto L t n table bytes starts lengths room ≡ done (printed L (sourceOf t names (G .rules)))
+    writes G names c g o h = into-done _ (text-made t n table bytes starts lengths G names c g o) h
 
   -- entries of the rows past t + n do not count
   pub write-front : (t n : ℕ) (table bytes xs ys xs′ ys′ : List ℕ) (room : ℕ) → t + n ≤ length xs → t + n ≤ length ys
       → writeInto L t n table bytes (xs ++ xs′) (ys ++ ys′) room ≡ writeInto L t n table bytes xs ys room
-  unfolding writeInto
+  unfolding writeInto textFrom
   write-front t n table bytes xs ys xs′ ys′ room h k =
       simp (gather-front bytes xs ys xs′ ys′ 0 (t + n) (omega arith) (omega arith))
 
-  -- what the writer wrote
-  pub record Wrote (t n : ℕ) (table bytes starts lengths : List ℕ) (room : ℕ) (text : List ℕ) : Type 0 where
+  -- what a text is made of
+  pub record Made (t n : ℕ) (table bytes starts lengths text : List ℕ) : Type 0 where
     pub grammar : Grammar
     pub names : List (List ℕ)
     pub passed : checkTable L t n table ≡ done grammar
     pub lent : gather bytes starts lengths 0 (t + n) ≡ done names
     pub once : hasDouble names ≡ false
     pub whole : text ≡ printed L (sourceOf t names (grammar .rules))
-    pub enough : length text ≤ room
 
-  -- a result of the writer is that
-  pub wrote : (t n : ℕ) (table bytes starts lengths : List ℕ) (room : ℕ) (text : List ℕ)
-      → writeInto L t n table bytes starts lengths room ≡ done text → Wrote t n table bytes starts lengths room text
-  unfolding writeInto
-  wrote t n table bytes starts lengths room text e =
+  pub made : (t n : ℕ) (table bytes starts lengths text : List ℕ) → textFrom L t n table bytes starts lengths ≡ done text
+      → Made t n table bytes starts lengths text
+  unfolding textFrom
+  made t n table bytes starts lengths text e =
       let a = then-done _ _ _ e in
       let b = then-done _ _ _ (a .2) in
       let c = unless-done _ _ _ _ _ (b .2) in
-      let d = unless-done _ _ _ _ _ (c .1) in
-      let names = b .0 in
-      let p = printed L (sourceOf t names (a .0 .rules)) in
-      let q : p ≡ text = done-inj (d .1) in
       record {
         grammar = a .0;
-        names = names;
+        names = b .0;
         passed = a .1;
         lent = b .1;
-        once = first-double names .0 (eqb-true (firstDouble [] names) (length names) (c .0));
-        whole = sym q;
-        enough = subst (λ w. length w ≤ room) q (leb-true (length p) room (d .0));
+        once = first-double (b .0) .0 (eqb-true (firstDouble [] (b .0)) (length (b .0)) (c .0));
+        whole = sym (done-inj (c .1));
       }
+
+  -- what the writer wrote, and there was room
+  pub wrote : (t n : ℕ) (table bytes starts lengths : List ℕ) (room : ℕ) (text : List ℕ)
+      → writeInto L t n table bytes starts lengths room ≡ done text
+      → Made t n table bytes starts lengths text × (length text ≤ room)
+  unfolding writeInto
+  wrote t n table bytes starts lengths room text e =
+      let w = then-done _ _ _ e in
+      let d = unless-done _ _ _ _ _ (w .2) in
+      let q : w .0 ≡ text = done-inj (d .1) in (
+        made t n table bytes starts lengths text (w .1 ∙ ap done q),
+        subst (λ text. length text ≤ room) q (leb-true (length (w .0)) room (d .0)),
+      )
 
   -- ---- the reader
 
@@ -192,7 +228,7 @@ module _ (L : Limits) (four : 4 ≤ L .maxStates) where
   pub write-short : Wide L → (t n : ℕ) (table bytes starts lengths : List ℕ) (room : ℕ) (text : List ℕ)
       → writeInto L t n table bytes starts lengths room ≡ done text → length text ≤ L .maxText
   write-short wide t n table bytes starts lengths room text e =
-      let x = wrote L t n table bytes starts lengths room text e in
+      let x = wrote L t n table bytes starts lengths room text e .0 in
       let G = x .grammar in
       let names = x .names in
       let g = gathered bytes starts lengths 0 (t + n) names (x .lent) in
@@ -216,7 +252,7 @@ module _ (L : Limits) (apart : L .maxTerminals < L .nonterminalBase) (four : 4 �
       → writeInto L t n table bytes starts lengths room ≡ done text → length table ≤ e → t + n ≤ a → t + n ≤ b
       → (s : Source) × (readInto L e a b text ≡ done s) × SourceOf t n table bytes starts lengths s
   write-then-read t n table bytes starts lengths room text e a b h ke ka kb =
-      let x = wrote L t n table bytes starts lengths room text h in
+      let x = wrote L t n table bytes starts lengths room text h .0 in
       let G = x .grammar in
       let names = x .names in
       let g = gathered bytes starts lengths 0 (t + n) names (x .lent) in

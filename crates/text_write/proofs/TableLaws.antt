@@ -110,3 +110,10 @@ passed t n table G e =
       rules = d;
       taken = k;
     }
+
+-- its symbols are within the limits
+pub symbols-most : (t n : ℕ) (table : List ℕ) (G : Grammar) → checkTable limits t n table ≡ done G
+    → t + n ≤ limits .maxTerminals + limits .maxNonterminals
+symbols-most t n table G e =
+    let w = passed t n table G e .taken in
+    omega (arith, w .terminals, w .nonterminals, w .wellFormed .terminals, w .wellFormed .nonterminals)

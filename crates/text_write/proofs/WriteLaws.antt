@@ -1,4 +1,4 @@
--- The writer's answer, refusal by refusal.
+-- The length that is told and the writer's answer, refusal by refusal.
 -- Assumes nothing.
 use Prim.Native.Nat.{ℕ, _+_, _≤_, _<_}
 use mathlib.Core.Path.{_≡_, refl, ap, sym, subst, _∙_}
@@ -6,107 +6,71 @@ use mathlib.Core.List.{List, [], _++_}
 use mathlib.Core.Bool.{true}
 use native.Mathlib.Omega.{arith}
 use native.Mathlib.Nat.{zero-add}
-use borrow.Author.Tests.{le-leb, lt-leb, eq-eqb, ne-eqb}
-use lib.Dec.{eqb}
+use borrow.Author.Tests.{eq-eqb, ne-eqb}
 use lib.ListN.{length, take, drop, take-append-drop}
 use lib.Seq.{length-take-le}
 use Rattle.grammar.specs.Basics.{over}
 use Rattle.grammar.specs.Limits.{limits}
 use Rattle.grammar.specs.Grammar.{Rule, Grammar}
 use Rattle.grammar.specs.Table.{decode}
-use Rattle.grammar.specs.Refusal.{Answer, done, refused, refuseUnless, andThen}
+use Rattle.grammar.specs.Refusal.{Answer, done, refused, bufferTooShort, malformed, nameRepeated}
 use Rattle.grammar.specs.TableCheck.{checkTable, tableChecked}
 use Rattle.grammar.specs.declared.TableChecked.{TableChecked}
 use Rattle.grammar.specs.declared.TableVerdict.the-variants.{Passed as AllPassed, Refused as TableRefused}
+use Rattle.grammar.proofs.Answers.{unless-holds, unless-fails, then-goes, then-stops}
 use Rattle.text.specs.Names.{all, isName}
-use Rattle.text.specs.Print.{gather, firstDouble, writeInto}
-use Rattle.text.specs.Promise.{WritesText}
+use Rattle.text.specs.Print.{gather, firstDouble, textFrom, writeInto}
+use Rattle.text.specs.Promise.{textWritten, textLength, afterwards, WritesText, LengthAnswer}
+use Rattle.text.specs.declared.TextLength.{TextLength}
+use Rattle.text.specs.declared.TextLength.the-variants as told
 use Rattle.text.specs.declared.TextWritten.{TextWritten}
 use Rattle.text.specs.declared.TextWritten.the-variants.{Written, Refused}
 use Rattle.text.proofs.Spans.{spelled}
 use Rattle.text.proofs.Sizes.{printed-most}
-use Rattle.text_write.specs.Contracts.{Coded, Wrote, textOf, Checked, Ready, namedInto, Answers, stopsAt}
+use Rattle.text.proofs.RoundTrip.{made, into-refused, into-short, into-done}
+use Rattle.text.proofs.Promises.{told-as, told-refused}
+use Rattle.text_write.specs.Contracts.{Coded, Wrote, textOf, Checked, Ready, namedText, NamedAnswer, stopsAt}
 use Rattle.text_write.proofs.LentLaws.{gather-refused, Cut, cut}
 use Rattle.text_write.proofs.DoubleLaws.{double-most}
 use Rattle.text_write.proofs.TableLaws.{Passed, passed}
 
--- ---- 18 and 14
+-- ---- 18
 
-answers-refused : (o : Answer (List ℕ)) (out : List ℕ) (c p : ℕ) → o ≡ refused c p → Answers o out (Refused c p) out
-answers-refused o out c p e =
-    subst (λ o. Answers o out (Refused c p) out) (sym e) (record { answer = refl; out-after = refl })
+module _ (t : ℕ) (names : List (List ℕ)) (rules : List Rule) where
+  pub named-double : (i : ℕ) → i ≡ firstDouble [] names → i < length names → NamedAnswer t names rules (told.Refused nameRepeated i)
+  named-double i e h =
+      let q : firstDouble [] names ≡ length names → ⊥ = λ f. (let z : ⊥ = omega arith in z) in
+      ap (told.Refused nameRepeated) e
+      ∙ sym (ap textLength (unless-fails nameRepeated (firstDouble [] names) _ (done (textOf t names rules)) (ne-eqb _ _ q)))
 
-answers-done : (o : Answer (List ℕ)) (out text : List ℕ) (n : ℕ) (out′ : List ℕ) → o ≡ done text → Wrote 0 text out n out′
-    → Answers o out (Written n) out′
-unfolding over
-answers-done o out text n out′ e w =
-    let k : n ≡ length text = w .place ∙ zero-add (length text) in
-    subst (λ o. Answers o out (Written n) out′) (sym e)
-    (record { answer = ap Written k; out-after = w .row ∙ ap (λ i. text ++ drop i out) (zero-add (length text)) })
-
--- a refusal at the same position
-pub answers-at : {o : Answer (List ℕ)} {out out′ : List ℕ} {c p q : ℕ} → p ≡ q → Answers o out (Refused c p) out′
-    → Answers o out (Refused c q) out′
-answers-at {o} {out} {out′} {c} e a = subst (λ p. Answers o out (Refused c p) out′) e a
-
-module _ (t : ℕ) (names : List (List ℕ)) (rules : List Rule) (out : List ℕ) where
-  pub named-double : firstDouble [] names < length names
-      → Answers (namedInto t names rules (length out)) out (Refused 18 (firstDouble [] names)) out
-  unfolding refuseUnless
-  named-double h =
-      let q : firstDouble [] names ≡ length names → ⊥ = λ e. (let z : ⊥ = omega arith in z) in
-      answers-refused (namedInto t names rules (length out)) out 18 (firstDouble [] names)
-      (rw (ne-eqb (firstDouble [] names) (length names) q))
-
-  module _ (once : length names ≤ firstDouble [] names) where
-    same : eqb (firstDouble [] names) (length names) ≡ true
-    same = eq-eqb (firstDouble [] names) (length names) (omega (arith, double-most [] names))
-
-    pub named-short : length out < length (textOf t names rules)
-        → Answers (namedInto t names rules (length out)) out (Refused 14 0) out
-    unfolding refuseUnless
-    named-short h =
-        answers-refused (namedInto t names rules (length out)) out 14 0
-        (rw (same, lt-leb (length (textOf t names rules)) (length out) h))
-
-    pub named-done : (n : ℕ) (out′ : List ℕ) → length (textOf t names rules) ≤ length out
-        → Wrote 0 (textOf t names rules) out n out′
-        → Answers (namedInto t names rules (length out)) out (Written n) out′
-    unfolding refuseUnless
-    named-done n out′ h w =
-        answers-done (namedInto t names rules (length out)) out (textOf t names rules) n out′
-        (rw (same, le-leb (length (textOf t names rules)) (length out) h)) w
+  pub named-bytes : (i k : ℕ) → i ≡ firstDouble [] names → length names ≤ i → k ≡ length (textOf t names rules)
+      → NamedAnswer t names rules (told.Bytes k)
+  named-bytes i k e h q =
+      let once : firstDouble [] names ≡ length names = omega (arith, double-most [] names) in
+      ap told.Bytes q
+      ∙ sym (ap textLength (unless-holds nameRepeated (firstDouble [] names) _ (done (textOf t names rules)) (eq-eqb _ _ once)))
 
 -- ---- table faults and 16
 
-module _ (t n : ℕ) (table bytes starts lengths out : List ℕ) where
-  write-as : (o : Answer (List ℕ)) (r : TextWritten) (out′ : List ℕ)
-      → writeInto limits t n table bytes starts lengths (length out) ≡ o
-      → Answers o out r out′ → WritesText t n table bytes starts lengths out r out′
-  write-as o r out′ e a =
-      let b : Answers (writeInto limits t n table bytes starts lengths (length out)) out r out′
-      = subst (λ o. Answers o out r out′) (sym e) a in
-      record { answer = b .answer; out-after = b .out-after }
-
-  pub write-table : (c p : ℕ) → checkTable limits t n table ≡ refused c p
-      → WritesText t n table bytes starts lengths out (Refused c p) out
-  unfolding writeInto andThen
-  write-table c p e = write-as (refused c p) (Refused c p) out (rw e) (answers-refused (refused c p) out c p refl)
+module _ (t n : ℕ) (table bytes starts lengths : List ℕ) where
+  pub length-table : (c p : ℕ) → checkTable limits t n table ≡ refused c p
+      → LengthAnswer t n table bytes starts lengths (told.Refused c p)
+  unfolding textFrom
+  length-table c p e = sym (ap textLength (then-stops _ _ c p e))
 
   module _ (G : Grammar) (passes : checkTable limits t n table ≡ done G) where
-    pub write-bad : (i : ℕ) → i ≡ stopsAt (t + n) (gather bytes starts lengths 0 (t + n)) → i < t + n
-        → WritesText t n table bytes starts lengths out (Refused 16 i) out
-    unfolding writeInto andThen
-    write-bad i e h = go (gather bytes starts lengths 0 (t + n)) refl e
+    pub length-bad : (i : ℕ) → i ≡ stopsAt (t + n) (gather bytes starts lengths 0 (t + n)) → i < t + n
+        → LengthAnswer t n table bytes starts lengths (told.Refused malformed i)
+    unfolding textFrom
+    length-bad i e h = go (gather bytes starts lengths 0 (t + n)) refl e
       where
         go : (o : Answer (List (List ℕ))) → gather bytes starts lengths 0 (t + n) ≡ o → i ≡ stopsAt (t + n) o
-            → WritesText t n table bytes starts lengths out (Refused 16 i) out
+            → LengthAnswer t n table bytes starts lengths (told.Refused malformed i)
         go (done names) q e = absurd (omega arith)
         go (refused c p) q e =
             let k = gather-refused bytes starts lengths 0 (t + n) c p q in
-            let z : writeInto limits t n table bytes starts lengths (length out) ≡ refused 16 i
-            = rw (passes, q) (λ d. refused (k .0 d) (sym e d)) in
-            write-as (refused 16 i) (Refused 16 i) out z (answers-refused (refused 16 i) out 16 i refl)
+            let z : textFrom limits t n table bytes starts lengths ≡ refused c p = then-goes _ _ G passes ∙ then-stops _ _ c p q in
+            sym (ap textLength z ∙ (λ d. told.Refused (k .0 d) (sym e d)))
 
     -- gathering stopped after the last name, so all are lent and well formed
     pub record Lent : Type 0 where
@@ -127,12 +91,12 @@ module _ (t n : ℕ) (table bytes starts lengths out : List ℕ) where
       cut-length : length (take (t + n) starts) ≡ t + n
       cut-length = length-take-le (t + n) starts (l .rows .starts-most)
 
-      short : length (textOf t (l .names) (decode table)) ≤ 65536
+      short : length (textOf t (l .names) (decode table)) ≤ limits .maxText
       short =
           let w = l .checked .taken .wellFormed in
           let s = take t (l .names) in
           let q : s ++ drop t (l .names) ≡ l .names = take-append-drop t (l .names) in
-          subst (λ rules. length (textOf t (l .names) rules) ≤ 65536) (sym (l .checked .rules))
+          subst (λ rules. length (textOf t (l .names) rules) ≤ limits .maxText) (sym (l .checked .rules))
           (omega (
             arith,
             ap length q,
@@ -151,21 +115,81 @@ module _ (t n : ℕ) (table bytes starts lengths out : List ℕ) where
         rows = l .rows .rows;
         coded = subst (λ m. Coded t m table) (sym cut-length) (l .checked .coded);
         terminals = omega (arith, cut-length);
-        short = subst (λ names. length (textOf t names (decode table)) ≤ 65536) (l .rows .spells) short;
+        short = subst (λ names. length (textOf t names (decode table)) ≤ limits .maxText) (l .rows .spells) short;
       }
 
-      -- what is answered for the names of the cut rows is the writer's answer
-      pub write-named : (r : TextWritten) (out′ : List ℕ)
-          → Answers (namedInto t (spelled bytes (take (t + n) starts) (take (t + n) lengths)) (decode table) (length out)) out r out′
-          → WritesText t n table bytes starts lengths out r out′
-      unfolding writeInto andThen
-      write-named r out′ a =
-          let q : writeInto limits t n table bytes starts lengths (length out) ≡ namedInto t (l .names) (G .rules) (length out)
-          = rw (passes, l .gathers) in
-          let k : namedInto t (l .names) (G .rules) (length out)
-          ≡ namedInto t (spelled bytes (take (t + n) starts) (take (t + n) lengths)) (decode table) (length out)
-          = λ d. namedInto t (l .rows .spells d) (sym (l .checked .rules) d) (length out) in
-          write-as _ r out′ (q ∙ k) a
+      -- what is answered for the names of the cut rows is the answer
+      pub length-named : (r : TextLength) → NamedAnswer t (spelled bytes (take (t + n) starts) (take (t + n) lengths)) (decode table) r
+          → LengthAnswer t n table bytes starts lengths r
+      unfolding textFrom
+      length-named r a =
+          let q : textFrom limits t n table bytes starts lengths ≡ namedText t (l .names) (G .rules)
+          = then-goes _ _ G passes ∙ then-goes _ _ (l .names) (l .gathers) in
+          let k : namedText t (l .names) (G .rules)
+          ≡ namedText t (spelled bytes (take (t + n) starts) (take (t + n) lengths)) (decode table)
+          = λ d. namedText t (l .rows .spells d) (sym (l .checked .rules) d) in
+          a ∙ sym (ap textLength (q ∙ k))
+
+  -- ---- where a length is told, and 14
+
+  -- the table passes and the names are lent, and so long is their text
+  pub record Told (k : ℕ) : Type 0 where
+    pub grammar : Grammar
+    pub passes : checkTable limits t n table ≡ done grammar
+    pub names : Lent grammar passes
+    pub text : textFrom limits t n table bytes starts lengths
+        ≡ done (textOf t (spelled bytes (take (t + n) starts) (take (t + n) lengths)) (decode table))
+    pub size : length (textOf t (spelled bytes (take (t + n) starts) (take (t + n) lengths)) (decode table)) ≡ k
+
+  pub told-bytes : (k : ℕ) → LengthAnswer t n table bytes starts lengths (told.Bytes k) → Told k
+  told-bytes k e =
+      let a = told-as _ k e in
+      let m = made limits t n table bytes starts lengths (a .0) (a .1) in
+      let c = cut bytes starts lengths (t + n) (m .names) (m .lent) in
+      let p = passed t n table (m .grammar) (m .passed) in
+      let q : a .0 ≡ textOf t (spelled bytes (take (t + n) starts) (take (t + n) lengths)) (decode table)
+      = m .whole ∙ (λ d. textOf t (c .spells d) (sym (p .rules) d)) in
+      record {
+        grammar = m .grammar;
+        passes = m .passed;
+        names = record { names = m .names; gathers = m .lent; rows = c; checked = p };
+        text = a .1 ∙ ap done q;
+        size = ap length (sym q) ∙ a .2;
+      }
+
+  module _ (out : List ℕ) where
+    refuses : (c p : ℕ) → writeInto limits t n table bytes starts lengths (length out) ≡ refused c p
+        → WritesText t n table bytes starts lengths out (Refused c p) out
+    refuses c p e = record {
+      answer = sym (ap textWritten e);
+      out-after = sym (ap (λ (o : Answer (List ℕ)). afterwards o (λ text. text) out) e);
+    }
+
+    pub write-refused : (c p : ℕ) → LengthAnswer t n table bytes starts lengths (told.Refused c p)
+        → WritesText t n table bytes starts lengths out (Refused c p) out
+    write-refused c p e =
+        refuses c p (into-refused limits t n table bytes starts lengths (length out) c p (told-refused _ c p e))
+
+    pub write-short : (k : ℕ) → LengthAnswer t n table bytes starts lengths (told.Bytes k) → length out < k
+        → WritesText t n table bytes starts lengths out (Refused bufferTooShort 0) out
+    write-short k e h =
+        let a = told-as _ k e in
+        refuses bufferTooShort 0
+        (into-short limits t n table bytes starts lengths (length out) (a .0) (a .1) (omega (arith, a .2)))
+
+    pub write-done : (k : ℕ) → Told k → k ≤ length out → (end : ℕ) (out′ : List ℕ)
+        → Wrote 0 (textOf t (spelled bytes (take (t + n) starts) (take (t + n) lengths)) (decode table)) out end out′
+        → WritesText t n table bytes starts lengths out (Written end) out′
+    unfolding over
+    write-done k l h end out′ w =
+        let text = textOf t (spelled bytes (take (t + n) starts) (take (t + n) lengths)) (decode table) in
+        let e : writeInto limits t n table bytes starts lengths (length out) ≡ done text
+        = into-done limits t n table bytes starts lengths (length out) text (l .text) (omega (arith, l .size)) in
+        record {
+          answer = ap Written (w .place ∙ zero-add (length text)) ∙ sym (ap textWritten e);
+          out-after = w .row ∙ ap (λ i. text ++ drop i out) (zero-add (length text))
+              ∙ sym (ap (λ (o : Answer (List ℕ)). afterwards o (λ text. text) out) e);
+        }
 
 -- ---- what the table check's verdict says
 

@@ -1,24 +1,24 @@
--- What the contracts of the writer's inner functions say. The public entry cites the definitions of `text` alone.
+-- What the contracts of the writer's inner functions say. The public entries cite the definitions of `text` alone.
 -- The names that rows lend are `spelled bytes starts lengths`. Assumes nothing.
 use Prim.Native.Nat.{ℕ, _+_, _≤_, _<_}
 use mathlib.Core.Path.{_≡_}
 use mathlib.Core.Bool.{Bool, false}
 use mathlib.Core.List.{List, [], _∷_, _++_, map}
 use mathlib.Core.Option.{Option, none, some}
-use lib.Dec.{eqb, leb}
+use lib.Dec.{eqb}
 use lib.ListN.{length, take, drop, getD}
 use Rattle.grammar.specs.Basics.{Mem}
 use Rattle.grammar.specs.Limits.{limits}
 use Rattle.grammar.specs.Grammar.{Rule, Grammar}
 use Rattle.grammar.specs.Table.{encode, decode}
-use Rattle.grammar.specs.Refusal.{Answer, done, refused, refuseUnless, bufferTooShort, nameRepeated}
+use Rattle.grammar.specs.Refusal.{Answer, done, refused, refuseUnless, nameRepeated}
 use Rattle.grammar.specs.TableCheck.{checkTable}
 use Rattle.text.specs.Pieces.{lineEnd, space, ledBy, endedBy}
 use Rattle.text.specs.Names.{isName}
 use Rattle.text.specs.Read.{symbolOf}
 use Rattle.text.specs.Print.{printLine, nameOf, printRule, printed, firstDouble}
-use Rattle.text.specs.Promise.{textWritten, afterwards}
-use Rattle.text.specs.declared.TextWritten.{TextWritten}
+use Rattle.text.specs.Promise.{textLength}
+use Rattle.text.specs.declared.TextLength.{TextLength}
 use Rattle.text.proofs.Spans.{spelled}
 
 -- ---- names
@@ -89,13 +89,11 @@ pub record Ready (t : ℕ) (table bytes starts lengths : List ℕ) : Type 0 wher
   pub terminals : t ≤ length starts
   pub short : length (textOf t (spelled bytes starts lengths) (decode table)) ≤ limits .maxText
 
--- 18 and 14 for a checked table and well-formed names
-abbrev pub namedInto : ℕ → List (List ℕ) → List Rule → ℕ → Answer (List ℕ)
-namedInto t names rules room =
-    refuseUnless nameRepeated (firstDouble [] names) (eqb (firstDouble [] names) (length names))
-    (refuseUnless bufferTooShort 0 (leb (length (textOf t names rules)) room) (done (textOf t names rules)))
+-- the text of a checked table and well-formed names, or 18
+abbrev pub namedText : ℕ → List (List ℕ) → List Rule → Answer (List ℕ)
+namedText t names rules =
+    refuseUnless nameRepeated (firstDouble [] names) (eqb (firstDouble [] names) (length names)) (done (textOf t names rules))
 
--- the code's answer is this one, and so is the output
-pub record Answers (o : Answer (List ℕ)) (out : List ℕ) (r : TextWritten) (out′ : List ℕ) : Type 0 where
-  pub answer : r ≡ textWritten o
-  pub out-after : out′ ≡ afterwards o (λ text. text) out
+-- the code's answer is its length, or that refusal
+abbrev pub NamedAnswer : ℕ → List (List ℕ) → List Rule → TextLength → Type 0
+NamedAnswer t names rules r = r ≡ textLength (namedText t names rules)

@@ -1,4 +1,4 @@
-// The writer of grammar text: any t, n, table and lent names to the text, or to the first refusal.
+// The writer of grammar text: any t, n, table and lent names to the text or to its length alone, or to the first refusal.
 // All is checked before a byte is written, so a refusal leaves the output as it was.
 mod lent;
 mod lines;
@@ -9,66 +9,72 @@ pub use put::put_byte;
 pub use put::put_bytes;
 pub use put::put_name;
 pub use size::symbol;
-ghost use lib.ListN.{length};
 ghost use Rattle.grammar.specs.Table.{decode};
-ghost use Rattle.text.specs.Promise.{WritesText};
+ghost use Rattle.text.specs.Promise.{WritesText, LengthAnswer};
 ghost use Rattle.text.proofs.Spans.{spelled};
-ghost use Rattle.text_write.specs.Contracts.{Checked, Ready, namedInto, Answers};
+ghost use Rattle.text_write.specs.Contracts.{Checked, Ready, NamedAnswer};
 use grammar::BUFFER_TOO_SHORT;
 use grammar::MALFORMED;
 use grammar::NAME_REPEATED;
 use grammar::TableVerdict;
+use text::TextLength;
 use text::TextWritten;
 
-// 18 and 14, then the text, for a checked table and well-formed names.
-fn write_named(
-    t: usize,
-    table: &[u8],
-    bytes: &[u8],
-    starts: &[u32],
-    lengths: &[u32],
-    out: &mut [u8],
-) -> TextWritten
+// 18, then the length of the text, for a checked table and well-formed names.
+fn named_length(t: usize, table: &[u8], bytes: &[u8], starts: &[u32], lengths: &[u32]) -> TextLength
     requires { ⌜ Ready t (now table) (now bytes) (now starts) (now lengths) ⌝ }
-    ensures { λ r. ⌜ Answers (namedInto t (spelled (now (bytes .entry)) (now (starts .entry)) (now (lengths .entry)))
-        (decode (now (table .entry))) (length (now (out .entry)))) (now (out .entry)) r (now (out .exit)) ⌝ }
+    ensures { λ r. ⌜ NamedAnswer t (spelled (now (bytes .entry)) (now (starts .entry)) (now (lengths .entry)))
+        (decode (now (table .entry))) r ⌝ }
 {
     let m = starts.len();
     let double = lent::first_double(bytes, starts, lengths);
     if double < m {
-        return TextWritten::Refused(NAME_REPEATED, double);
+        return TextLength::Refused(NAME_REPEATED, double);
     }
-    let size = size::text_length(table, t, lengths);
-    if out.len() < size {
-        return TextWritten::Refused(BUFFER_TOO_SHORT, 0);
-    }
-    let end = lines::put_text(out, table, t, bytes, starts, lengths);
-    TextWritten::Written(end)
+    TextLength::Bytes(size::text_length(table, t, lengths))
 }
 
-// 16, 18 and 14 for a checked table.
-fn write_checked(
+// 16, then 18 and the length, for a checked table.
+fn checked_length(
     t: usize,
     n: usize,
     table: &[u8],
     bytes: &[u8],
     starts: &[u32],
     lengths: &[u32],
-    out: &mut [u8],
-) -> TextWritten
+) -> TextLength
     requires { ⌜ Checked t n (now table) ⌝ }
-    ensures { λ r. ⌜ WritesText t n (now (table .entry)) (now (bytes .entry)) (now (starts .entry)) (now (lengths .entry))
-        (now (out .entry)) r (now (out .exit)) ⌝ }
+    ensures { λ r. ⌜ LengthAnswer t n (now (table .entry)) (now (bytes .entry)) (now (starts .entry)) (now (lengths .entry)) r ⌝ }
 {
     let m = t + n;
     let bad = lent::first_bad(m, bytes, starts, lengths);
     if bad < m {
-        return TextWritten::Refused(MALFORMED, bad);
+        return TextLength::Refused(MALFORMED, bad);
     }
-    write_named(t, table, bytes, &starts[..m], &lengths[..m], out)
+    named_length(t, table, bytes, &starts[..m], &lengths[..m])
+}
+
+// How many bytes the writer would write, from what it would be given. No text is made.
+pub fn written_length(
+    t: usize,
+    n: usize,
+    table: &[u8],
+    bytes: &[u8],
+    starts: &[u32],
+    lengths: &[u32],
+) -> TextLength
+    ensures { λ r. ⌜ LengthAnswer t n (now (table .entry)) (now (bytes .entry)) (now (starts .entry)) (now (lengths .entry)) r ⌝ }
+{
+    let checked = table_check::check_table(t, n, table);
+    let verdict = checked.verdict;
+    match verdict {
+        TableVerdict::Refused(cause, at) => TextLength::Refused(cause, at),
+        TableVerdict::Passed => checked_length(t, n, table, bytes, starts, lengths),
+    }
 }
 
 // The writer: the name of symbol i, terminals first, is the part of `bytes` that starts at `starts[i]` and has `lengths[i]` bytes.
+// The length is known before a byte is written: 14 where the output is shorter.
 pub fn write_text(
     t: usize,
     n: usize,
@@ -81,10 +87,16 @@ pub fn write_text(
     ensures { λ r. ⌜ WritesText t n (now (table .entry)) (now (bytes .entry)) (now (starts .entry)) (now (lengths .entry))
         (now (out .entry)) r (now (out .exit)) ⌝ }
 {
-    let checked = table_check::check_table(t, n, table);
-    let verdict = checked.verdict;
-    match verdict {
-        TableVerdict::Refused(cause, at) => TextWritten::Refused(cause, at),
-        TableVerdict::Passed => write_checked(t, n, table, bytes, starts, lengths, out),
+    let told = written_length(t, n, table, bytes, starts, lengths);
+    match told {
+        TextLength::Refused(cause, at) => TextWritten::Refused(cause, at),
+        TextLength::Bytes(size) => {
+            if out.len() < size {
+                return TextWritten::Refused(BUFFER_TOO_SHORT, 0);
+            }
+            let m = t + n;
+            let end = lines::put_text(out, table, t, bytes, &starts[..m], &lengths[..m]);
+            TextWritten::Written(end)
+        }
     }
 }

@@ -6,13 +6,8 @@ use mathlib.Core.Logic.{inl, inr}
 use mathlib.Core.List.{List, [], _∷_}
 use Prim.Native.Nat.{ℕ}
 use native.Mathlib.Omega.{arith}
-use Rattle.grammar.specs.Basics.{each}
-use Rattle.grammar.specs.Limits.{limits}
-use Rattle.grammar.specs.Grammar.{rule, stateCount}
-use Rattle.grammar.specs.Table.{decodeUpTo, decode}
-use Rattle.grammar.specs.Live.{has, hasAll, concluded, waiting, rounds, nonterminalsOf, productive, usable, reachable, hasSentence, isLive}
-use Rattle.automaton.specs.Moves.{Moves}
-use Rattle.automaton.specs.PositionMoves.{movesOf, shown, aheads, rulesOf, completed, past, aheadRow, openings, closings}
+use Rattle.grammar.specs.Grammar.{stateCount}
+use Rattle.automaton.proofs.AllMovePins.{moves, live}
 use Rattle.triples.specs.Records.{leftAlone, rightAlone, bothShift, bothClose, choices, insert, ordered, records}
 use Rattle.triples.specs.Smallest.{successors}
 use Rattle.triples.specs.Shortest.{ComesBefore, firstRow, rowOf, fewest, shortest}
@@ -34,14 +29,7 @@ not-itself h = elim h [
   | inr (e, inr (d, inr (c, x))) ↦ x
 ]
 
-abbrev moves : ℕ → ℕ → List ℕ → Moves
-moves t n table = movesOf limits (record { terminals = t; nonterminals = n; rules = decode table })
-
--- to unfold one of these is to unfold all that it uses
-live : ℕ → ℕ → List ℕ → Moves
-unfolding decodeUpTo rule each has hasAll concluded waiting rounds nonterminalsOf productive usable reachable hasSentence isLive shown aheads rulesOf completed past aheadRow openings closings
-live t n table = moves t n table
-
+-- to unfold this is to unfold all that it uses
 row : ℕ → ℕ → List ℕ → List ℕ
 unfolding live stateCount leftAlone rightAlone bothShift bothClose choices insert ordered records successors firstRow rowOf fewest shortest
 row t n table = shortest (moves t n table)

@@ -1,8 +1,8 @@
-//! What the tests share: short words for tables, answers and step records, rows between guards, and the second program's cases with
-//! its answers.
+//! What the tests share: short words for tables, answers and step records, rows between guards, searches that are lent their room and
+//! less, and the second program's cases with its answers.
 #![allow(dead_code)]
 
-use ambiguity::{Cause, Move, Refusal, Step, Table, TripleRecord};
+use ambiguity::{Cause, Move, Refusal, Room, Step, Table, TripleRecord, Verdict};
 use std::collections::BTreeMap;
 use std::fmt::Debug;
 use std::fs;
@@ -80,6 +80,32 @@ impl<T: Copy + PartialEq + Debug> Lent<T> {
 
     pub fn kept(&self) -> bool {
         self.kept_past(0)
+    }
+}
+
+/// Searches with rows of these lengths, certificate, queue, parents, witness; back comes also whether nothing that was lent has changed.
+fn lent_search(table: Table, lengths: [usize; 4]) -> (Result<Verdict, Refusal>, bool) {
+    let mut certificate = Lent::new(&vec![7; lengths[0]], 0xFF);
+    let [mut queue, mut parents, mut witness] = [1, 2, 3].map(|row| Lent::new(&vec![7; lengths[row]], u32::MAX));
+    let rows = (queue.row_mut(), parents.row_mut(), witness.row_mut());
+    let answer = ambiguity::search(table, certificate.row_mut(), rows.0, rows.1, rows.2);
+    (answer, certificate.kept() && queue.kept() && parents.kept() && witness.kept())
+}
+
+/// A search that is lent so little is refused with 14, and changes nothing.
+pub fn lent_less(table: Table, lengths: [usize; 4]) {
+    assert_eq!(lent_search(table, lengths), (refused(Cause::BufferTooShort, 0), true), "{table:?} {lengths:?}");
+}
+
+/// A search of a table without a fault that is lent its room is not refused; lent one less of any, it is.
+pub fn lent_room(table: Table) {
+    let Room { certificate, entries, .. } = ambiguity::search_room(table).unwrap();
+    let enough = [certificate, entries, entries, entries];
+    assert!(lent_search(table, enough).0.is_ok(), "{table:?}");
+    for row in 0..enough.len() {
+        let mut less = enough;
+        less[row] -= 1;
+        lent_less(table, less);
     }
 }
 

@@ -112,8 +112,7 @@ pub fn read(grammar: &Grammar, text: &[u8]) -> Result<Certificate, Malformed> {
     line(2).known("states=", grammar.states(), by_grammar)?;
     line(3).known("rules=", grammar.rules().len(), by_grammar)?;
     let size = line(HEAD).number("size=")?;
-    let mut certificate =
-        Certificate { bytes: vec![0; ambiguity::certificate_bytes(grammar.states())], form, lines: Vec::new() };
+    let mut certificate = Certificate { bytes: vec![0; grammar.room().certificate], form, lines: Vec::new() };
     for number in HEAD + 1..=lines.len() {
         line(number).bytes(&mut certificate)?;
     }

@@ -1,0 +1,237 @@
+//! What is told beforehand: the room of a search and the length of a text. Lent just so much, search and writer are not refused with
+//! 14; lent one less, in any row, they are, and nothing that was lent has changed.
+
+mod support;
+
+use ambiguity::{certificate_bytes, check_table, row_entries, search_room, write_text, written_length};
+use ambiguity::{Cause, Grammar, Move, Names, Refusal, Room, Searched, Table, MAX_RULES, MAX_STATES, START};
+use std::fs;
+use std::path::Path;
+use support::{grammar, lent_less, lent_room, refused, Lent};
+
+/// The room of Q states, with so many moves.
+fn room(states: usize, moves: usize) -> Room {
+    Room { states, certificate: certificate_bytes(states), entries: row_entries(states), moves }
+}
+
+/// t, n and a table, Q, openings and shifts: the moves are two for each opening, which some closing leads back from, and the shifts.
+type Counted = (usize, usize, Vec<u8>, usize, usize, usize);
+
+/// Document 01's "Grammars on file" with a sentence, one with rules that no sentence uses, and document 02's command set.
+fn counted() -> [Counted; 10] {
+    let two = [128, 1, 129, 128, 1, 130, 129, 0, 130, 0];
+    let last = [128, 1, 129, 128, 1, 130, 129, 3, 129, 1, 1, 129, 1, 1, 130, 2, 1, 1];
+    let channels = [
+        [128, 0, 128, 2, 128, 129].to_vec(),
+        [129, 3, 1, 130, 2, 129, 3, 3, 130, 2, 129, 4, 4, 5, 128, 6].to_vec(),
+        [130, 1, 7, 130, 3, 130, 8, 7].to_vec(),
+    ];
+    [
+        (0, 1, vec![128, 0], 5, 2, 1),
+        (1, 1, vec![128, 1, 1], 6, 2, 2),
+        (1, 1, vec![128, 2, 128, 1, 128, 1, 1], 9, 5, 4),
+        (2, 1, vec![128, 3, 1, 128, 2, 128, 0], 9, 5, 4),
+        (1, 1, vec![128, 1, 128, 128, 1, 1], 8, 5, 3),
+        (1, 1, vec![128, 3, 1, 128, 1, 128, 1, 1], 10, 5, 5),
+        (0, 3, two.to_vec(), 10, 5, 3),
+        (1, 3, last.to_vec(), 17, 8, 9),
+        (1, 2, vec![128, 1, 1, 128, 1, 129, 129, 1, 129], 10, 2, 2),
+        (8, 3, channels.concat(), 27, 16, 17),
+    ]
+}
+
+/// The rules of S with the most moves that were found at 256 states: the empty one, those of 1 to 12 symbols S, and others that begin
+/// with a terminal of their own; 66 rules, with 133 symbols S among the 186 on right sides.
+fn most_moves() -> Vec<u8> {
+    let rule = |right: Vec<u8>| [vec![START, right.len() as u8], right].concat();
+    let alone = (0..=12).flat_map(|length| rule(vec![START; length]));
+    let led = (1..=53).flat_map(|first: u8| rule([vec![first], vec![START; usize::from(first <= 2) + 1]].concat()));
+    alone.chain(led).collect()
+}
+
+#[test]
+fn figures() {
+    assert_eq!(search_room(grammar(1, 1, &[128, 1, 1])), Ok(Room { states: 6, certificate: 9, entries: 72, moves: 6 }));
+    for (terminals, nonterminals, rules, states, openings, shifts) in counted() {
+        let table = grammar(terminals, nonterminals, &rules);
+        assert_eq!(search_room(table), Ok(room(states, 2 * openings + shifts)), "{table:?}");
+    }
+}
+
+/// The moves of a state by its step records: those that it makes alone in layer 1, beside the end, which makes none, and the symbol
+/// that it passes together with itself in layer 0.
+fn moves_of(table: Table, state: usize) -> usize {
+    let steps = |layer, right| (0..).map_while(move |nth| ambiguity::nth_step(table, layer, state, right, nth).unwrap());
+    let alone = steps(1, 1).filter(|step| step.on_right == Move::Still).count();
+    alone + steps(0, state).filter(|step| matches!(step.on_left, Move::Symbol(_))).count()
+}
+
+fn counts_its_moves(table: Table) {
+    let room = search_room(table).unwrap();
+    assert_eq!(room.states, check_table(table).unwrap());
+    assert_eq!(room.moves, (0..room.states).map(|state| moves_of(table, state)).sum::<usize>(), "{table:?}");
+}
+
+#[test]
+fn moves_are_those_of_step_records() {
+    for (terminals, nonterminals, rules, ..) in counted() {
+        counts_its_moves(grammar(terminals, nonterminals, &rules));
+    }
+    for (_, grammar) in corpus() {
+        counts_its_moves(grammar.table());
+    }
+}
+
+/// Q is at its limit, and so many moves are told in the same way.
+#[test]
+fn rooms_at_the_limits() {
+    let most = most_moves();
+    let table = grammar(53, 1, &most);
+    let openings = 1 + 66 * (133 + 1);
+    assert_eq!(search_room(table), Ok(room(MAX_STATES, 2 * openings + 187)));
+    counts_its_moves(table);
+    lent_room(table);
+    let units: Vec<u8> = (1..=MAX_RULES as u8).flat_map(|code| [START, 1, code]).collect();
+    let table = grammar(MAX_RULES, 1, &units);
+    assert_eq!(search_room(table), Ok(room(204, 2 * (1 + MAX_RULES) + MAX_RULES + 1)));
+    lent_room(table);
+}
+
+/// Every refusal is the table's.
+#[test]
+fn rooms_of_refused_tables() {
+    let long: Vec<u8> = (128..148).flat_map(|left| [vec![left, 12], vec![1; 12]].concat()).collect();
+    let many: Vec<u8> = (1..=101).flat_map(|code| [128, 1, code]).collect();
+    for (terminals, nonterminals, rules, cause, at) in [
+        (128, 1, vec![128, 0], Cause::OutOfRange, 0),
+        (0, usize::MAX, vec![128, 0], Cause::OutOfRange, 0),
+        (1, 1, vec![128, 1], Cause::Truncated, 0),
+        (1, 1, vec![128, 0, 129, 0], Cause::LeftUndeclared, 2),
+        (1, 1, [vec![128, 13], vec![1; 13]].concat(), Cause::RuleTooLong, 0),
+        (1, 1, vec![128, 2, 1, 2], Cause::CodeUndeclared, 3),
+        (1, 1, vec![128, 0, 128, 1, 1, 128, 0], Cause::RuleRepeated, 5),
+        (101, 1, many, Cause::TooManyRules, 300),
+        (1, 127, long, Cause::TooManyStates, 266),
+        (1, 1, vec![], Cause::NoSentence, 0),
+        (1, 1, vec![128, 1, 128], Cause::NoSentence, 0),
+    ] {
+        let table = grammar(terminals, nonterminals, &rules);
+        assert_eq!(check_table(table), refused(cause, at));
+        assert_eq!(search_room(table), refused(cause, at));
+        for names in
+            [Names { bytes: b"", starts: &[], lengths: &[] }, Names { bytes: b"aa", starts: &[0, 1], lengths: &[1; 2] }]
+        {
+            assert_eq!(written_length(table, names), refused(cause, at));
+        }
+    }
+}
+
+#[test]
+fn searches_lent_their_room_and_less() {
+    for (terminals, nonterminals, rules, ..) in counted() {
+        lent_room(grammar(terminals, nonterminals, &rules));
+    }
+    for (_, grammar) in corpus() {
+        lent_room(grammar.table());
+    }
+}
+
+/// Of the room of S→a nothing is lent, or only a part, or one less of all.
+#[test]
+fn searches_lent_a_part_of_their_room() {
+    let table = grammar(1, 1, &[128, 1, 1]);
+    for lent in [[0, 0, 0, 0], [9, 0, 0, 0], [0, 72, 72, 72], [9, 0, 72, 72], [9, 72, 0, 72], [9, 72, 72, 0], [8, 71, 71, 71]] {
+        lent_less(table, lent);
+    }
+}
+
+/// The texts of the corpus that are read, with their grammars.
+fn corpus() -> Vec<(String, Grammar)> {
+    let folder = Path::new(env!("CARGO_MANIFEST_DIR")).join("../../corpus");
+    let files = fs::read_dir(folder).unwrap().map(|entry| entry.unwrap().path());
+    let texts = files.filter(|path| path.extension().is_some_and(|ending| ending == "grammar"));
+    let read: Vec<_> = texts
+        .map(|path| fs::read_to_string(path).unwrap())
+        .filter_map(|text| Grammar::read(text.as_bytes()).ok().map(|grammar| (text, grammar)))
+        .collect();
+    assert!(read.len() > 100, "{} texts", read.len());
+    read
+}
+
+/// The writer that is lent just the length, and every length below `most` that is shorter.
+fn written(table: Table, names: Names, text: &str, most: usize) {
+    assert_eq!(written_length(table, names), Ok(text.len()), "{text}");
+    let mut out = Lent::new(&vec![7; text.len()], 0xFF);
+    assert_eq!(write_text(table, names, out.row_mut()), Ok(text.len()));
+    assert!(out.row() == text.as_bytes() && out.kept_past(text.len()), "{text}");
+    for room in (text.len().saturating_sub(most)..text.len()).rev() {
+        let mut out = Lent::new(&vec![7; room], 0xFF);
+        assert_eq!(write_text(table, names, out.row_mut()), refused(Cause::BufferTooShort, 0));
+        assert!(out.kept());
+    }
+}
+
+#[test]
+fn texts_lent_their_length_and_less() {
+    for (text, grammar) in corpus() {
+        let names: Vec<&String> = grammar.terminals().iter().chain(grammar.nonterminals()).collect();
+        let lengths: Vec<u32> = names.iter().map(|name| name.len() as u32).collect();
+        let bytes: String = names.into_iter().map(String::as_str).collect();
+        let starts: Vec<u32> = lengths.iter().scan(0, |end, length| Some(std::mem::replace(end, *end + length))).collect();
+        written(grammar.table(), Names { bytes: bytes.as_bytes(), starts: &starts, lengths: &lengths }, &text, 1);
+        assert_eq!(grammar.write(), text);
+    }
+    let names = Names { bytes: b"Sa", starts: &[1, 0], lengths: &[1, 1] };
+    written(grammar(1, 1, &[128, 1, 1]), names, "terminals=a\nnonterminals=S\nrule=S: a\n", 100);
+    written(
+        grammar(0, 1, &[128, 0]),
+        Names { starts: &[0], lengths: &[1], ..names },
+        "terminals=\nnonterminals=S\nrule=S:\n",
+        100,
+    );
+}
+
+/// 16 and 18 come in the writer's order, at the symbol's number; no length of the output is looked at.
+#[test]
+fn lengths_that_are_refused() {
+    let rules = [128, 1, 1];
+    let table = grammar(1, 1, &rules);
+    for (bytes, starts, lengths, expected) in [
+        (&b"aS"[..], &[0, 1][..], &[1, 1][..], Ok(37)),
+        (b"aS", &[0], &[1, 1], refused(Cause::Malformed, 1)),
+        (b"aS", &[0, 1], &[1], refused(Cause::Malformed, 1)),
+        (b"aS", &[], &[], refused(Cause::Malformed, 0)),
+        (b"aS", &[0, 2], &[1, 1], refused(Cause::Malformed, 1)),
+        (b"aS", &[0, 1], &[1, 2], refused(Cause::Malformed, 1)),
+        (b"aS", &[0, 1], &[0, 1], refused(Cause::Malformed, 0)),
+        (b"aS", &[u32::MAX, 1], &[u32::MAX, 1], refused(Cause::Malformed, 0)),
+        (b"a_", &[0, 1], &[1, 1], refused(Cause::Malformed, 1)),
+        (b"sixteen-letters-", &[0, 1], &[16, 1], refused(Cause::Malformed, 0)),
+        (b"sixteen-letters", &[0, 1], &[15, 1], Ok(37 + 2 * 14)),
+        (b"aa", &[0, 1], &[1, 1], refused(Cause::NameRepeated, 1)),
+        (b"aa", &[1, 1], &[1, 1], refused(Cause::NameRepeated, 1)),
+        // What stands behind the symbols is not looked at.
+        (b"aS", &[0, 1, 7], &[1, 1, 0, 99], Ok(37)),
+    ] {
+        let names = Names { bytes, starts, lengths };
+        assert_eq!(written_length(table, names), expected, "{names:?}");
+        let mut out = vec![7; expected.unwrap_or(100)];
+        assert_eq!(write_text(table, names, &mut out), expected);
+        let shorter = &mut out[..expected.map_or(0, |length: usize| length - 1)];
+        let less: Result<usize, Refusal> = write_text(table, names, shorter);
+        assert_eq!(less, expected.and(refused(Cause::BufferTooShort, 0)));
+    }
+}
+
+/// What the owned grammar lends is what is told: its certificate has that many bytes, and what it writes has that length.
+#[test]
+fn owned_grammars() {
+    for (_, grammar) in corpus() {
+        let room = grammar.room();
+        assert_eq!((Ok(room), room.states), (search_room(grammar.table()), grammar.states()));
+        match grammar.search() {
+            Searched::Unambiguous { certificate, .. } => assert_eq!(certificate.len(), room.certificate),
+            Searched::Potential { witness } => assert!(witness.len() <= room.entries),
+        }
+    }
+}

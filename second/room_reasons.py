@@ -1,0 +1,138 @@
+"""Sorts the cases of room told beforehand by reasons finer than the causes.
+
+M is counted here in another way than in rooms.py: from the right sides alone. A
+misreading tells other numbers than document 02's [5]; a case in which it does is
+counted for that.
+"""
+
+from typing import Callable, Dict, List, Tuple
+
+import dead_rules
+import sentence_reasons
+from automaton import Automaton, move_count
+from case_files import TABLE_REASONS
+from corpus_cases import corpus_tables
+from dead_rules import kind_of
+from derivations import used_rules
+from live_misreadings import MISREAD, TOLD, told
+from rooms import Room, room_of
+from tables import FIXED_STATES, MAX_RULES, MAX_STATES, START, Grammar, Refusal, check_table
+from triples import BYTE, triples_of
+
+FEWEST = 50                        # cases of each cause, and of rooms that are told
+
+
+# M in another way.
+
+def moves_by_rules(grammar: Grammar) -> int:
+    """M from the right sides of live rules, that of rule 0 among them.
+
+    A rule of B opens before each B of a right side, and closes past it: M is
+    2 × openings + shifts.
+    """
+    live = [rule for rule, used in zip(grammar.rules, used_rules(grammar)) if used]
+    lefts = [rule.left for rule in live]
+    codes = bytes([START]) + b"".join(rule.right for rule in live)
+    openings = 1 + sum(map(lefts.count, codes))
+    return 2 * openings + len(codes)
+
+
+# Misreadings of [5].
+
+def without_nonterminal_shifts(grammar: Grammar, automaton: Automaton, room: Room) -> Room:
+    shifts = [shift for shift in automaton.shifts if shift is not None and shift[0] >= START]
+    return room._replace(moves=room.moves - len(shifts))
+
+
+def by_letters(grammar: Grammar, automaton: Automaton, room: Room) -> Room:
+    """A closing counted once, though it leads to several items."""
+    more = sum(len(arrows) - 1 for arrows in automaton.closings if arrows)
+    return room._replace(moves=room.moves - more)
+
+
+def by_nonterminals(grammar: Grammar, automaton: Automaton, room: Room) -> Room:
+    """The openings before a nonterminal counted once, though several rules open."""
+    more = sum(len(arrows) - 1 for arrows in automaton.openings if arrows)
+    return room._replace(moves=room.moves - more)
+
+
+def live_states(grammar: Grammar, automaton: Automaton, room: Room) -> Room:
+    """Only items of live rules have states."""
+    used = zip(grammar.rules, used_rules(grammar))
+    states = FIXED_STATES + sum(len(rule.right) + 1 for rule, live in used if live)
+    return room._replace(states=states)
+
+
+def rounded_down(grammar: Grammar, automaton: Automaton, room: Room) -> Room:
+    return room._replace(certificate=room.row // BYTE)
+
+
+def a_byte_more(grammar: Grammar, automaton: Automaton, room: Room) -> Room:
+    return room._replace(certificate=room.row // BYTE + 1)
+
+
+ROOMS: Dict[str, Callable[[Grammar, Automaton, Room], Room]] = {
+    "nonterminal-shifts-are-left-out": without_nonterminal_shifts,
+    "a-closing-is-counted-once": by_letters,
+    "openings-before-a-nonterminal-are-counted-once": by_nonterminals,
+    "dead-rules-have-no-states": live_states,
+    "bytes-are-rounded-down": rounded_down,
+    "there-is-always-a-byte-more": a_byte_more,
+}
+TOLD_ROOMS = {name: "told-from-" + name for name in ROOMS}
+
+# The misreadings of [3] that have other moves.
+MOVES = [name for name in MISREAD if name != "dead-items-stand-before-terminals"]
+
+
+# Reasons.
+
+REASONS = TABLE_REASONS + [
+    "room",
+    "room-of-the-corpus",
+    "room-odd-states",
+    "room-even-states",
+    "room-over-60-states",
+    "room-256-states",
+    "room-100-rules",
+    "room-over-255-moves",
+    "room-over-4096-moves",
+    "room-every-rule-used",
+] + dead_rules.REASONS + list(TOLD_ROOMS.values()) + [
+    TOLD[name] for name in MOVES
+] + sentence_reasons.REASONS
+
+ENOUGH = {**{name: FEWEST for name in TABLE_REASONS + ["room"]}, **dead_rules.ENOUGH}
+
+
+def reasons_of(case: Tuple[int, int, bytes]) -> List[str]:
+    """Every reason of REASONS that this case meets."""
+    sentences = list(sentence_reasons.of_table(*case))
+    grammar = check_table(*case)
+    room = room_of(*case)
+    if isinstance(grammar, Refusal) or isinstance(room, Refusal):
+        assert room == grammar, "the table's fault"
+        return sentences + [str(room.cause)]
+    assert room.moves == moves_by_rules(grammar), "M is 2 × openings + shifts"
+    met = [
+        ("room", True),
+        ("room-of-the-corpus", case in corpus_tables()),
+        ("room-odd-states", room.states % 2 == 1),
+        ("room-even-states", room.states % 2 == 0),
+        ("room-over-60-states", room.states > 60),
+        ("room-256-states", room.states == MAX_STATES),
+        ("room-100-rules", len(grammar.rules) == MAX_RULES),
+        ("room-over-255-moves", room.moves > 255),
+        ("room-over-4096-moves", room.moves > 4096),
+        ("room-every-rule-used", kind_of(grammar) is None),
+    ]
+    found = sentences + [name for name, holds in met if holds]
+    return found + dead_rules.reasons_of(grammar) + told_reasons(grammar, room)
+
+
+def told_reasons(grammar: Grammar, room: Room) -> List[str]:
+    """The reasons of those misreadings that tell other numbers."""
+    automaton = triples_of(grammar).automaton
+    found = [TOLD_ROOMS[name] for name, misread in ROOMS.items()
+             if misread(grammar, automaton, room) != room]
+    return found + told(grammar, MOVES, lambda triples: move_count(triples.automaton))
