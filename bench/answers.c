@@ -76,6 +76,13 @@ static int all(const void *memory, size_t from, size_t to, int fill)
     return 1;
 }
 
+/* From a search that does not finish the set it is 0, and not told. */
+static void print_looked(uint64_t looked)
+{
+    if (looked != 0)
+        printf(" looked=%lu", (unsigned long)looked);
+}
+
 static void answer_search(search_function *search, size_t t, size_t n, const uint8_t *table, size_t len, FILE *found)
 {
     size_t c_len = next_number(4), q_len = next_number(4), p_len = next_number(4), w_len = next_number(4);
@@ -100,11 +107,15 @@ static void answer_search(search_function *search, size_t t, size_t n, const uin
         printf("refused=%lu at=%lu\n", (unsigned long)r.cause, (unsigned long)r.at);
     } else if (r.verdict == POTENTIAL) {
         uint32_t count = (uint32_t)r.count;
-        printf("potential\n");
+        printf("potential");
+        print_looked(r.looked);
+        printf("\n");
         fwrite(&count, 4, 1, found);
         fwrite(w, 4, count, found);
     } else {
-        printf("unambiguous size=%lu certificate=", (unsigned long)r.count);
+        printf("unambiguous size=%lu", (unsigned long)r.count);
+        print_looked(r.looked);
+        printf(" certificate=");
         for (size_t i = 0; i < certificate; i++)
             printf("%02x", c[i]);
         printf("\n");

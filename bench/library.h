@@ -1,5 +1,5 @@
 /* The library's two functions, as the benchmark calls them: the one place to change if the exported functions change.
- * The replies have the layout of searches.h: cause, at, verdict (0 refused, 1 unambiguous, 2 potential) and count; cause, at.
+ * The replies have the layout of searches.h: cause, at, verdict (0 refused, 1 unambiguous, 2 potential), count and looked; cause, at.
  * With STAND_IN defined, same.c stands in for the library, so that the benchmark itself can be tried without it. */
 #ifndef LIBRARY_H
 #define LIBRARY_H

@@ -104,10 +104,12 @@ static inline size_t find(uint64_t *restrict seen, uint32_t *restrict queue, uin
     return tail + 1;
 }
 
-/* Explores until nothing is left, or, if `stops`, until (1,1,1) is seen; the number of triples that are seen then. */
+/* Explores until nothing is left, or, if `stops`, until (1,1,1) is seen; the number of triples that are seen then. Unless it stops, the
+ * successors are counted. */
 static inline size_t explore(const struct moves *restrict m, size_t states, uint64_t *restrict seen, uint32_t *restrict queue,
-                             uint32_t *restrict parents, int stops)
+                             uint32_t *restrict parents, int stops, uint64_t *restrict looked)
 {
+    uint64_t tried = 0;
     const uint16_t *targets = m->targets;
     size_t square = states * states, goal = square + states + 1;
     size_t head = 0, tail = 1;
@@ -127,12 +129,15 @@ static inline size_t explore(const struct moves *restrict m, size_t states, uint
                 left = left_f = 1;
             if (b->kind == CLOSES && a->kind == READS)
                 right = right_f = 1;
-            if (a->kind == CLOSES && b->kind == CLOSES && a->rule != b->rule)
+            if (a->kind == CLOSES && b->kind == CLOSES && a->rule != b->rule) {
+                tried += (unsigned)(a->to - a->from) * (unsigned)(b->to - b->from);
                 for (unsigned i = a->from; i < a->to; i++)
                     for (unsigned j = b->from; j < b->to; j++)
                         tail = find(seen, queue, parents, tail, square + targets[i] * states + targets[j],
                                     packed(1, targets[i], targets[j]), from);
+            }
         }
+        tried += (left ? (unsigned)(a->to - a->from) : 0) + (right ? (unsigned)(b->to - b->from) : 0);
         if (left)
             for (unsigned i = a->from; i < a->to; i++)
                 tail = find(seen, queue, parents, tail, left_f * square + targets[i] * states + q,
@@ -141,11 +146,14 @@ static inline size_t explore(const struct moves *restrict m, size_t states, uint
             for (unsigned j = b->from; j < b->to; j++)
                 tail = find(seen, queue, parents, tail, right_f * square + p * states + targets[j],
                             packed(right_f, p, targets[j]), from);
-        if (a->ahead != 0 && a->ahead == b->ahead && (f == 0 || a->kind == READS))
+        if (a->ahead != 0 && a->ahead == b->ahead && (f == 0 || a->kind == READS)) {
+            tried++;
             tail = find(seen, queue, parents, tail, from + states + 1, packed(f, p + 1, q + 1), from);
+        }
         if (stops && is_seen(seen, goal))
             break;
     }
+    *looked = stops ? 0 : tried;
     return tail;
 }
 
@@ -165,9 +173,8 @@ static inline search_reply search(size_t t, size_t n, const uint8_t *table, size
     build(&g, &m);
     uint64_t seen[2 * MAX_STATES * MAX_STATES / 64];
     memset(seen, 0, (count + 63) / 64 * 8);
-    size_t size = explore(&m, states, seen, queue, parents, stops);
-
-    search_reply reply = {0, 0, UNAMBIGUOUS, size};
+    search_reply reply = {0, 0, UNAMBIGUOUS, 0, 0};
+    reply.count = explore(&m, states, seen, queue, parents, stops, &reply.looked);
     size_t goal = square + states + 1;
     if (is_seen(seen, goal)) {
         size_t entries = 1;
@@ -207,7 +214,8 @@ size_t plain_reached(const struct grammar *g, uint32_t *queue, uint32_t *parents
     struct moves m;
     build(g, &m);
     uint64_t seen[2 * MAX_STATES * MAX_STATES / 64] = {0};
-    return explore(&m, g->states, seen, queue, parents, 0);
+    uint64_t looked;
+    return explore(&m, g->states, seen, queue, parents, 0, &looked);
 }
 
 static inline int is_held(const uint8_t *certificate, size_t index)

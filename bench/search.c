@@ -39,12 +39,15 @@ static search_reply call(search_function *search, const struct input *in)
 }
 
 /* One call's answer and all that it left, against the size and the certificate that plain C found for the whole set. */
-static void judge(const struct input *in, const char *who, search_reply r, search_reply expected, size_t turn)
+static void judge(const struct input *in, size_t number, search_reply r, search_reply expected, size_t turn)
 {
+    const char *who = names[number];
     size_t q = in->g.states, entries = 2 * q * q, bytes = (entries + 7) / 8;
     const uint32_t *from = garbage + turn * 97 % ENTRIES;
     if (r.cause != 0 || r.verdict != expected.verdict || r.count != expected.count)
         stop(in->name, who, "another verdict or count");
+    if (r.looked != (searches[number] == plain_search ? 0 : expected.looked))
+        stop(in->name, who, "another number of successors looked at");
     for (size_t i = 0; i < entries; i++)
         if (queue[i] != 0 || parents[i] != 0)
             stop(in->name, who, "queue or parents is not 0 after");
@@ -79,7 +82,7 @@ static void time_searches(const struct input *in, search_reply expected, double 
             search_reply r = call(searches[who], in);
             spent[who][turns] = now() - start - cost;
             if (turns < 4)
-                judge(in, names[who], r, expected, turns);
+                judge(in, who, r, expected, turns);
         }
         turns++;
     }

@@ -11,9 +11,10 @@ enum { MAX_TERMINALS = 127, MAX_NONTERMINALS = 127, START = 128, MAX_LENGTH = 12
 
 enum { REFUSED = 0, UNAMBIGUOUS = 1, POTENTIAL = 2 };
 
-/* cause 0: not refused. count: the size of the smallest set, or the witness's number of entries. */
+/* cause 0: not refused. count: the size of the smallest set, or the witness's number of entries. looked: the number of successors of
+ * all triples reached, each choice of moves counted; 0 with a refusal, and from plain_search, which does not finish the set. */
 typedef struct {
-    uint64_t cause, at, verdict, count;
+    uint64_t cause, at, verdict, count, looked;
 } search_reply;
 
 /* cause 0: accepted. */
@@ -48,7 +49,7 @@ struct grammar {
 
 static inline search_reply search_refused(uint64_t cause, uint64_t at)
 {
-    return (search_reply){cause, at, REFUSED, 0};
+    return (search_reply){cause, at, REFUSED, 0, 0};
 }
 
 static inline int is_declared(unsigned t, unsigned n, unsigned code)

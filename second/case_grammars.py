@@ -112,6 +112,9 @@ CLASSICS: Dict[str, Table] = {
 COURSE = CLASSICS["left-in-a-course"]      # document 02, [3]
 EIGHT_CHANNELS = spelled(                  # document 02, [14]
     "P: | P K", "K: take L vol | give L vol | repeat num P close", "L: ch | L sep ch")
+MUCH_LOOKED_AT = spelled(                  # of the bound of [6] 0.60, found by changing grammars
+    "S: A a a a", "A: B | A S a a a a | a S a a a a a | | a | a a | a a a | a a a a",
+    "B: A | S S | | a | a a a | a a a a")
 
 
 def operators(levels: int) -> Table:
@@ -167,6 +170,16 @@ def small_random(rng: Rng) -> Table:
         t, n = rng.randrange(4), 1 + rng.randrange(3)
         lengths = [rng.randrange(5) for _ in range(1 + rng.randrange(6))]
         table = t, n, encode(random_rules(rng, t, n, lengths))
+        if any(used_rules(grammar_of(table))):
+            return table
+
+
+def dense(rng: Rng) -> Table:
+    """Few short rules of nonterminals alone, with a sentence: much to look at."""
+    while True:
+        n = 1 + rng.randrange(3)
+        lengths = [rng.randrange(4) for _ in range(1 + rng.randrange(6))]
+        table = 0, n, encode(random_rules(rng, 0, n, lengths))
         if any(used_rules(grammar_of(table))):
             return table
 

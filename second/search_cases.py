@@ -17,8 +17,9 @@ from case_files import (
     numbers, read_cases, refused,
 )
 from case_grammars import (
-    CLASSICS, ROWS, STATEMENTS, Table, faulty_tables, keywords, larger_random, largest_random,
-    operators, rules_before_the_fault, small_random, some, states_of,
+    CLASSICS, EIGHT_CHANNELS, MUCH_LOOKED_AT, ROWS, STATEMENTS, Table, dense, faulty_tables,
+    keywords, larger_random, largest_random, operators, rules_before_the_fault, small_random,
+    some, spelled, states_of,
 )
 from certificates import check_witness, checked_triples
 from dead_grammars import chains, dead_larger, dead_tables, telling_tables
@@ -27,6 +28,8 @@ from derivations import used_rules
 from live_misreadings import (
     MOST_STATES, TOLD_BY_SEARCH, former_triples, found_by_search, told_by_search,
 )
+from looked_misreadings import TOLD as TOLD_LOOKED
+from looked_misreadings import told_by_figure
 from random_tables import encode
 from searches import Lent, Potential, Unambiguous, needed, search
 from sentence_grammars import (
@@ -212,10 +215,17 @@ def faulty_without(rng: Rng) -> Iterator[Case]:
         yield Case(*table, rng.choice([need, Lent(0, 0, 0, 0)]), fill(rng))
 
 
+def much_looked_at(rng: Rng) -> Iterator[Case]:
+    """Grammars with known figures of [6], and small ones that are much looked at."""
+    tables = [EIGHT_CHANNELS, spelled("S: | S S"), MUCH_LOOKED_AT]
+    for table in tables + [dense(rng) for _ in range(60)]:
+        yield from exact_and_longer(rng, table)
+
+
 GROUPS = [
     rows_and_classics, random_grammars, random_short, much_longer, larger, largest, faulty,
     many_ways, dead, telling, dead_short, dead_and_larger, without_a_sentence, nearly_without,
-    faulty_without,
+    faulty_without, much_looked_at,
 ]
 
 
@@ -227,8 +237,9 @@ def answer(case: Case) -> str:
     if isinstance(result, Refusal):
         return refused(result)
     if isinstance(result, Potential):
-        return "potential witness=%s" % numbers(result.witness)
-    return "unambiguous size=%d certificate=%s" % (result.size, result.certificate.hex())
+        return "potential looked=%d witness=%s" % (result.looked, numbers(result.witness))
+    return "unambiguous size=%d looked=%d certificate=%s" % (
+        result.size, result.looked, result.certificate.hex())
 
 
 # Reasons.
@@ -260,7 +271,7 @@ REASONS = TABLE_REASONS + [
     "potential-formerly-with-another-witness",
     "potential-formerly-with-the-same-witness",
     "over-60-states-with-dead-rules",
-] + TOLD_BY_SEARCH + [
+] + TOLD_BY_SEARCH + list(TOLD_LOOKED.values()) + [
     "19-lent-enough",
     "19-with-nothing-lent",
     "order-19-before-14",
@@ -286,7 +297,9 @@ def reasons_of(case: Case) -> List[str]:
     if kind_of(grammar) is not None:
         met += dead_reasons(grammar, result)
     found = sentences + [name for name, holds in met if holds]
-    return found if isinstance(result, Refusal) else found + list(told_by_search(grammar))
+    if isinstance(result, Refusal):
+        return found
+    return found + list(told_by_search(grammar)) + list(told_by_figure(grammar))
 
 
 def none_reasons(case: Case) -> List[str]:

@@ -1,11 +1,13 @@
 """The search of document 01: what it must be lent, and what it answers.
 
-Which witness comes with a potential verdict is document 02's [1]: shortest.py.
+Which witness comes with a potential verdict is document 02's [1]: shortest.py. With
+either verdict the search reports how much it looked at, [6]: looked.py.
 """
 
 from typing import NamedTuple, Tuple, Union
 
 from certificates import checked_triples
+from looked import looked_at
 from shortest import shortest_witness
 from tables import Refusal
 from triples import LAYERS, certificate_length, certificate_of, reached
@@ -26,12 +28,14 @@ class Unambiguous(NamedTuple):
     """"With unambiguous the search returns the size", and writes the certificate."""
 
     size: int
+    looked: int
     certificate: bytes
 
 
 class Potential(NamedTuple):
     """The search writes the shortest witness, and returns its number of entries."""
 
+    looked: int
     witness: Tuple[int, ...]
 
 
@@ -50,9 +54,9 @@ def search(
         return triples
     if any(given < need for given, need in zip(lent, needed(triples.states))):
         return Refusal(ROW_TOO_SHORT, 0)
-    held = reached(triples)
+    held, looked = reached(triples), looked_at(triples)
     if triples.last in held:
         witness = shortest_witness(triples)
         assert witness is not None
-        return Potential(witness)
-    return Unambiguous(len(held), certificate_of(triples.states, held))
+        return Potential(looked, witness)
+    return Unambiguous(len(held), looked, certificate_of(triples.states, held))

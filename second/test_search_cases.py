@@ -7,8 +7,9 @@ from contextlib import redirect_stderr, redirect_stdout
 from io import StringIO
 
 from case_files import encode_entries
-from case_grammars import COURSE, CYCLE, ENDLESS, NO_RULES, ONE_A, ROWS, spelled
+from case_grammars import COURSE, CYCLE, ENDLESS, NO_RULES, ONE_A, ROWS, good, spelled
 from file_tests import TABLE, TABLE_BYTES, WAY, FileTests, without_sentences
+from looked_misreadings import TOLD, told_by_figure
 from search_cases import KIND, REASONS, Case, answer, encode_case, reasons_of, run
 from searches import Lent
 
@@ -18,16 +19,16 @@ CYCLE_ENOUGH = Lent(16, 128, 128, 128)
 
 class FileTest(FileTests, unittest.TestCase):
     KIND = KIND
-    DIGEST = "3f5e9ce41008cb744526458c3508b4cadd7dbbc6fbdc882a77ac56acb2fbc6b8"
+    DIGEST = "41c70acf76d05282f13f3fdc79a2ba3fe22007ff04383913011419f26004e6d3"
     CASE = Case(*TABLE, Lent(258, 3, 4, 5), 255)
     BYTES = (TABLE_BYTES + b"\x02\x01\0\0" + b"\x03\0\0\0" + b"\x04\0\0\0" + b"\x05\0\0\0"
              + b"\xff")
 
     def test_answer_lines(self):
         self.assertEqual(answer(Case(*ONE_A, ENOUGH, 7)),
-                         "unambiguous size=11 certificate=155021150800000000")
+                         "unambiguous size=11 looked=14 certificate=155021150800000000")
         self.assertEqual(answer(Case(*CYCLE, CYCLE_ENOUGH, 7)),
-                         "potential witness=0,2,4,20,29,75,73")
+                         "potential looked=55 witness=0,2,4,20,29,75,73")
         for short in ENOUGH._fields:
             lent = CYCLE_ENOUGH._replace(**{short: getattr(CYCLE_ENOUGH, short) - 1})
             self.assertEqual(answer(Case(*CYCLE, lent, 7)), "refused=14 at=0")
@@ -38,9 +39,19 @@ class FileTest(FileTests, unittest.TestCase):
 
 class ReasonsTest(unittest.TestCase):
     def reasons(self, table, lent, *names):
+        """The reasons but those of sentences and figures, which other tests are about."""
         found = reasons_of(Case(*table, lent, 0))
-        self.assertEqual(without_sentences(found), sorted(names))
+        others = [name for name in found if name not in TOLD.values()]
+        self.assertEqual(without_sentences(others), sorted(names))
         self.assertLessEqual(set(found), set(REASONS))
+
+    def test_figures(self):
+        for table, lent in [(ONE_A, ENOUGH), (CYCLE, CYCLE_ENOUGH)]:
+            told = told_by_figure(good(table))
+            self.assertNotEqual(told, ())
+            self.assertLessEqual(set(told), set(reasons_of(Case(*table, lent, 0))))
+            short = reasons_of(Case(*table, lent._replace(queue=0), 0))
+            self.assertFalse(set(TOLD.values()) & set(short))
 
     def test_verdicts(self):
         self.reasons(ONE_A, ENOUGH, "unambiguous-exactly-enough",

@@ -52,7 +52,7 @@ class LentTest(unittest.TestCase):
 class VerdictTest(unittest.TestCase):
     def test_one_a(self):
         for lent in (needed(6), PLENTY):
-            self.assertEqual(search(*ONE_A, lent), Unambiguous(11, ONE_A_BYTES))
+            self.assertEqual(search(*ONE_A, lent), Unambiguous(11, 14, ONE_A_BYTES))
 
     def test_rows(self):
         results = [search(*row, PLENTY) for row in GOOD_ROWS]

@@ -194,7 +194,7 @@ static void expect_table_without_sentence(size_t lent)
     expect_no_sentence("certificate check", certificate.cause, certificate.at, 0);
     expect_no_sentence("witness check", witness.cause, witness.at, 0);
     expect_no_sentence("witness check over records", records.cause, records.at, 0);
-    expect_no_sentence("search", search.cause, search.at, search.verdict | search.count);
+    expect_no_sentence("search", search.cause, search.at, search.verdict | search.count | search.looked);
     expect_no_sentence("writer", written.cause, written.at, written.length);
     expect_no_sentence("room of a search", room.cause, room.at, room.states | room.certificate | room.entries | room.moves);
     expect_no_sentence("written length", length.cause, length.at, length.length);
@@ -261,13 +261,17 @@ static void expect_order(void)
     expect_report(text, "refused=19\nat=0\n");
 }
 
-/* A table, with what a search of it is to be lent. */
+/* A table, with what a search of it is to be lent, its verdict, and how much it looks at. */
 struct told {
     const char *name;
     size_t t, n, entries;
     const uint8_t *table;
     ambiguity_room_reply room;
+    uint64_t verdict, looked;
 };
+
+/* S -> ; S -> S S. */
+static const uint8_t PAIRS[] = {128, 0, 128, 2, 128, 128};
 
 /* Of S -> a; S -> A; A -> A only the first rule has moves. */
 static const uint8_t DEAD[] = {128, 1, 1, 128, 1, 129, 129, 1, 129};
@@ -277,10 +281,11 @@ static const uint8_t CHANNELS[] = {128, 0, 128, 2, 128, 129, 129, 3, 1, 130, 2, 
                                    130, 1, 7, 130, 3, 130, 8, 7};
 
 static const struct told TOLD[] = {
-    {"room of S -> a", 1, 1, sizeof TABLE, TABLE, {0, 0, 6, 9, 72, 6}},
-    {"room of S -> S; S -> a", 1, 1, sizeof CYCLE, CYCLE, {0, 0, 8, 16, 128, 13}},
-    {"room of S -> a; S -> A; A -> A", 1, 2, sizeof DEAD, DEAD, {0, 0, 10, 25, 200, 6}},
-    {"room of the eight-channel command set", 8, 3, sizeof CHANNELS, CHANNELS, {0, 0, 27, 183, 1458, 49}},
+    {"room of S -> a", 1, 1, sizeof TABLE, TABLE, {0, 0, 6, 9, 72, 6}, AMBIGUITY_UNAMBIGUOUS, 14},
+    {"room of S -> S; S -> a", 1, 1, sizeof CYCLE, CYCLE, {0, 0, 8, 16, 128, 13}, AMBIGUITY_POTENTIAL, 55},
+    {"room of S -> ; S -> S S", 0, 1, sizeof PAIRS, PAIRS, {0, 0, 8, 16, 128, 17}, AMBIGUITY_POTENTIAL, 235},
+    {"room of S -> a; S -> A; A -> A", 1, 2, sizeof DEAD, DEAD, {0, 0, 10, 25, 200, 6}, AMBIGUITY_UNAMBIGUOUS, 14},
+    {"room of the eight-channel command set", 8, 3, sizeof CHANNELS, CHANNELS, {0, 0, 27, 183, 1458, 49}, AMBIGUITY_UNAMBIGUOUS, 163},
 };
 
 static int expect_room(const char *what, ambiguity_room_reply room, ambiguity_room_reply expected)
@@ -294,7 +299,8 @@ static int expect_room(const char *what, ambiguity_room_reply room, ambiguity_ro
     return right;
 }
 
-/* A search that is lent just its room; or, with `less` from 1 to 4, one less of certificate, queue, parents or witness. */
+/* A search that is lent just its room, and looks at no more than the room tells; or, with `less` from 1 to 4, one less of certificate,
+ * queue, parents or witness. */
 static void expect_search(const struct told *told, ambiguity_room_reply room, int less)
 {
     size_t bytes = room.certificate - (less == 1), queue = room.entries - (less == 2), parents = room.entries - (less == 3),
@@ -303,10 +309,12 @@ static void expect_search(const struct told *told, ambiguity_room_reply room, in
     ambiguity_search_reply reply = ambiguity_search(told->t, told->n, told->table, told->entries, lent_bytes, bytes, lent_rows[0],
                                                     queue, lent_rows[1], parents, lent_rows[2], witness);
     int refused = reply.cause == AMBIGUITY_BUFFER_TOO_SHORT && reply.at == 0 && reply.verdict == AMBIGUITY_NO_VERDICT
-        && reply.count == 0 && is_kept(0, 0, 0, 0);
-    int right = less != 0 ? refused : reply.cause == AMBIGUITY_NOT_REFUSED && is_kept(bytes, queue, parents, witness);
-    printf("%s: %s, lent %zu, %zu, %zu, %zu, cause %llu at %llu\n", right ? "ok" : "WRONG", told->name, bytes, queue, parents, witness,
-           (unsigned long long)reply.cause, (unsigned long long)reply.at);
+        && reply.count == 0 && reply.looked == 0 && is_kept(0, 0, 0, 0);
+    int found = reply.cause == AMBIGUITY_NOT_REFUSED && reply.verdict == told->verdict && reply.looked == told->looked
+        && reply.looked <= room.moves * room.moves + 2 * room.states * room.moves && is_kept(bytes, queue, parents, witness);
+    int right = less != 0 ? refused : found;
+    printf("%s: %s, lent %zu, %zu, %zu, %zu, cause %llu at %llu, looked at %llu\n", right ? "ok" : "WRONG", told->name, bytes, queue,
+           parents, witness, (unsigned long long)reply.cause, (unsigned long long)reply.at, (unsigned long long)reply.looked);
     wrong += !right;
 }
 

@@ -9,11 +9,11 @@ fn main() -> Result<(), Box<dyn Error>> {
     let grammar = Grammar::read(&std::fs::read(path)?).map_err(|refusal| format!("{refusal:#}"))?;
     println!("states={}", grammar.states());
     match grammar.search() {
-        Searched::Unambiguous { certificate, size } => {
+        Searched::Unambiguous { certificate, size, .. } => {
             grammar.check(&certificate)?;
             println!("verdict=unambiguous\nreached={size}");
         }
-        Searched::Potential { witness } => {
+        Searched::Potential { witness, .. } => {
             let strings = grammar.strings(&witness).ok_or("the witness is none of this grammar")?;
             print!("verdict=potential\n{}", grammar.lines(&strings).ok_or("a letter is none of this grammar")?);
         }

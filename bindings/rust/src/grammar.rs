@@ -27,12 +27,26 @@ pub enum Searched {
         certificate: Vec<u8>,
         /// The number of triples that it holds.
         size: usize,
+        /// The number of successors that the search looked at, as [`Verdict`] has it.
+        looked: usize,
     },
     /// Two strings of the position automaton part.
     Potential {
         /// The indices of triples from (0,0,0) to (1,1,1), each a successor of the one before.
         witness: Vec<u32>,
+        /// The number of successors that the search looked at, as [`Verdict`] has it.
+        looked: usize,
     },
+}
+
+impl Searched {
+    /// The number of successors that the search looked at, with either verdict.
+    #[must_use]
+    pub const fn looked(&self) -> usize {
+        match self {
+            Searched::Unambiguous { looked, .. } | Searched::Potential { looked, .. } => *looked,
+        }
+    }
 }
 
 /// A grammar that the reader took.
@@ -41,8 +55,8 @@ pub enum Searched {
 /// use ambiguity::{Grammar, Searched};
 ///
 /// let grammar = Grammar::read(b"terminals=a\nnonterminals=S\nrule=S: a\n")?;
-/// let Searched::Unambiguous { certificate, size } = grammar.search() else { panic!("S: a has one tree") };
-/// assert_eq!((grammar.states(), size), (6, 11));
+/// let Searched::Unambiguous { certificate, size, looked } = grammar.search() else { panic!("S: a has one tree") };
+/// assert_eq!((grammar.states(), size, looked), (6, 11, 14));
 /// grammar.check(&certificate)?;
 /// # Ok::<(), ambiguity::Refusal>(())
 /// ```
@@ -139,10 +153,10 @@ impl Grammar {
         let (mut queue, mut parents, mut witness) = (row(), row(), row());
         let verdict = search(self.table(), &mut certificate, &mut queue, &mut parents, &mut witness);
         match verdict.expect("a search that is lent enough is not refused") {
-            Verdict::Unambiguous { size } => Searched::Unambiguous { certificate, size },
-            Verdict::Potential { entries } => {
+            Verdict::Unambiguous { size, looked } => Searched::Unambiguous { certificate, size, looked },
+            Verdict::Potential { entries, looked } => {
                 witness.truncate(entries);
-                Searched::Potential { witness }
+                Searched::Potential { witness, looked }
             }
         }
     }
@@ -211,7 +225,7 @@ mod tests {
     #[test]
     fn a_witness_is_accepted() {
         let grammar = Grammar::read(b"terminals=a\nnonterminals=S\nrule=S: S\nrule=S: a\n").unwrap();
-        let Searched::Potential { witness } = grammar.search() else { panic!("S: S is taken any number of times") };
+        let Searched::Potential { witness, .. } = grammar.search() else { panic!("S: S is taken any number of times") };
         assert_eq!(crate::check_witness(grammar.table(), &witness), Ok(()));
         assert_eq!(grammar.check(&[]).unwrap_err().cause.number(), 9);
     }

@@ -113,19 +113,36 @@ pub struct TripleRecord {
     pub right: u32,
 }
 
-/// What the search found: the certificate holds `size` triples, or the witness has so many entries.
+/// What the search found: the certificate holds `size` triples, or the witness has so many entries; and how much it looked at.
+///
+/// `looked` is the number of choices of moves that give a successor, each choice counted, over all triples that are reached from
+/// (0,0,0); each of these is taken up once. It depends on the table alone, and is at most [`Room::most_looked`].
 #[derive(Clone, Copy, Debug, PartialEq, Eq)]
 pub enum Verdict {
     /// No sentence has two derivation trees.
     Unambiguous {
         /// The number of triples that the certificate holds.
         size: usize,
+        /// The number of successors that the search looked at.
+        looked: usize,
     },
     /// Two strings part.
     Potential {
         /// The number of the witness's entries.
         entries: usize,
+        /// The number of successors that the search looked at.
+        looked: usize,
     },
+}
+
+impl Verdict {
+    /// The number of successors that the search looked at, with either verdict.
+    #[must_use]
+    pub const fn looked(self) -> usize {
+        match self {
+            Verdict::Unambiguous { looked, .. } | Verdict::Potential { looked, .. } => looked,
+        }
+    }
 }
 
 /// What a text says: t, n, the number of the table's entries, and Q.
@@ -163,10 +180,10 @@ fn move_of(reply: &raw::MoveReply) -> Move {
 }
 
 fn verdict_of(reply: &raw::SearchReply) -> Verdict {
-    let count = reply.count as usize;
+    let (count, looked) = (reply.count as usize, reply.looked as usize);
     match reply.verdict {
-        1 => Verdict::Unambiguous { size: count },
-        2 => Verdict::Potential { entries: count },
+        1 => Verdict::Unambiguous { size: count, looked },
+        2 => Verdict::Potential { entries: count, looked },
         other => unreachable!("no verdict has the number {other}"),
     }
 }

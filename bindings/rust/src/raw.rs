@@ -39,6 +39,7 @@ pub struct SearchReply {
     pub at: u64,
     pub verdict: u64,
     pub count: u64,
+    pub looked: u64,
 }
 
 #[repr(C)]

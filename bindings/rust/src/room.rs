@@ -15,6 +15,14 @@ pub struct Room {
     pub moves: usize,
 }
 
+impl Room {
+    /// M² + 2×Q×M: a search looks at no more successors than that, whatever its verdict.
+    #[must_use]
+    pub const fn most_looked(self) -> usize {
+        self.moves * self.moves + 2 * self.states * self.moves
+    }
+}
+
 /// What a search of this table is to be lent, from the table alone: no search is made. [`search`](crate::search), lent so much, is
 /// never refused with 14; lent less for the certificate or in any row it always is.
 ///
@@ -31,7 +39,8 @@ pub struct Room {
 /// let mut certificate = vec![0; room.certificate];
 /// let [mut queue, mut parents, mut witness] = [0; 3].map(|_| vec![0; room.entries]);
 /// let verdict = search(table, &mut certificate, &mut queue, &mut parents, &mut witness)?;
-/// assert_eq!(verdict, Verdict::Unambiguous { size: 11 });
+/// assert_eq!(verdict, Verdict::Unambiguous { size: 11, looked: 14 });
+/// assert!(verdict.looked() <= room.most_looked());
 /// # Ok::<(), ambiguity::Refusal>(())
 /// ```
 pub fn search_room(table: Table) -> Result<Room, Refusal> {

@@ -63,7 +63,7 @@ impl Grammar {
     /// use ambiguity::{Grammar, Searched};
     ///
     /// let grammar = Grammar::read(b"terminals=a\nnonterminals=S\nrule=S: a S a\nrule=S: a\n")?;
-    /// let Searched::Potential { witness } = grammar.search() else { panic!("the middle is not seen") };
+    /// let Searched::Potential { witness, .. } = grammar.search() else { panic!("the middle is not seen") };
     /// let strings = grammar.strings(&witness).unwrap();
     /// let lines = grammar.lines(&strings).unwrap();
     /// assert_eq!(lines, "left=(0 (2 a )2 a )1 )0\nright=(0 (1 a (2 a )2 )0\n");
@@ -99,7 +99,7 @@ mod tests {
     #[test]
     fn strings_and_words() {
         let grammar = Grammar::read(b"terminals=a\nnonterminals=S\nrule=S: S\nrule=S: a\n").unwrap();
-        let Searched::Potential { witness } = grammar.search() else { panic!("S: S is taken any number of times") };
+        let Searched::Potential { witness, .. } = grammar.search() else { panic!("S: S is taken any number of times") };
         let strings = grammar.strings(&witness).unwrap();
         let lines = grammar.lines(&strings).unwrap();
         assert_eq!(lines, "left=(0 S )0\nright=(0 (1 S )1 )0\n");

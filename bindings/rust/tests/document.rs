@@ -103,7 +103,7 @@ fn search_with(lengths: [isize; 4]) {
         assert!(certificate.kept() && queue.kept() && parents.kept() && witness.kept());
         return;
     }
-    assert_eq!(answer, Ok(Verdict::Unambiguous { size: 11 }));
+    assert_eq!(answer, Ok(Verdict::Unambiguous { size: 11, looked: 14 }));
     assert_eq!(
         (&certificate.row()[..9], &queue.row()[..72], &parents.row()[..72]),
         (&CERTIFICATE[..], &[0; 72][..], &[0; 72][..])

@@ -11,32 +11,32 @@ use support::{bytes_of, grammar, refused};
 /// S→S a; S→a
 const LEFT_RECURSION: [u8; 7] = [128, 2, 128, 1, 128, 1, 1];
 
-/// Terminals, nonterminals, rules, Q, and the size if the verdict is unambiguous, else the two strings.
-type OnFile = (&'static str, &'static str, &'static str, usize, Result<usize, &'static str>);
+/// Terminals, nonterminals, rules, Q, how much the search looks at, and the size if the verdict is unambiguous, else the two strings.
+type OnFile = (&'static str, &'static str, &'static str, usize, usize, Result<usize, &'static str>);
 
 /// Document 01's "Grammars on file" with a sentence, and document 02's, with the size of the row of 17 states and the strings of the
 /// potential ones, and the report of each.
 #[test]
 fn grammars_on_file() {
     let rows: [OnFile; 9] = [
-        ("", "S", "S:", 5, Ok(10)),
-        ("a", "S", "S: a", 6, Ok(11)),
-        ("a", "S", "S: S a;S: a", 9, Ok(24)),
-        ("a,b", "S", "S: a S b;S:", 9, Ok(30)),
-        ("a", "S", "S: S;S: a", 8, Err("left=(0 S )0\nright=(0 (1 S )1 )0\n")),
-        ("a", "S", "S: a S a;S: a", 10, Err("left=(0 (2 a )2 a )1 )0\nright=(0 (1 a (2 a )2 )0\n")),
-        ("", "S,A,B", "S: A;S: B;A:;B:", 10, Err("left=(0 (2 (4 )4 )2 )0\nright=(0 (1 (3 )3 )1 )0\n")),
-        ("a", "S,A,B", "S: A;S: B;A: A a a;A: a;B: a a", 17, Ok(82)),
-        ("a", "S,A", "S: a;S: A;A: A", 10, Ok(11)),
+        ("", "S", "S:", 5, 13, Ok(10)),
+        ("a", "S", "S: a", 6, 14, Ok(11)),
+        ("a", "S", "S: S a;S: a", 9, 48, Ok(24)),
+        ("a,b", "S", "S: a S b;S:", 9, 46, Ok(30)),
+        ("a", "S", "S: S;S: a", 8, 55, Err("left=(0 S )0\nright=(0 (1 S )1 )0\n")),
+        ("a", "S", "S: a S a;S: a", 10, 140, Err("left=(0 (2 a )2 a )1 )0\nright=(0 (1 a (2 a )2 )0\n")),
+        ("", "S,A,B", "S: A;S: B;A:;B:", 10, 85, Err("left=(0 (2 (4 )4 )2 )0\nright=(0 (1 (3 )3 )1 )0\n")),
+        ("a", "S,A,B", "S: A;S: B;A: A a a;A: a;B: a a", 17, 145, Ok(82)),
+        ("a", "S,A", "S: a;S: A;A: A", 10, 14, Ok(11)),
     ];
-    for (terminals, nonterminals, rules, states, found) in rows {
+    for (terminals, nonterminals, rules, states, looked, found) in rows {
         let text = text_of(terminals, nonterminals, rules);
         let expected = match found {
             Ok(size) => format!("states={states}\nverdict=unambiguous\nreached={size}\n"),
             Err(strings) => format!("states={states}\nverdict=potential\n{strings}"),
         };
         assert_eq!(report_of(&text), expected, "{text}");
-        search_text(text.as_bytes(), states, found.ok());
+        search_text(text.as_bytes(), states, looked, found.ok());
         if let Err(lines) = found {
             strings_of(text.as_bytes(), lines);
         }
@@ -65,8 +65,37 @@ fn grammars_on_file_without_a_sentence() {
     }
 }
 
-/// The reader's Q, and what the search says of the table; its certificate or its witness is accepted.
-fn search_text(text: &[u8], states: usize, size: Option<usize>) {
+/// How many step records the triples have that step records lead to from (0,0,0): each choice of moves is one record.
+fn records_reached(table: Table, states: usize) -> usize {
+    let mut reached = vec![[0, 0, 0]];
+    let mut records = 0;
+    let mut taken = 0;
+    while let Some([layer, left, right]) = reached.get(taken).copied() {
+        taken += 1;
+        for step in (0..).map_while(|nth| ambiguity::nth_step(table, layer, left, right, nth).unwrap()) {
+            records += 1;
+            let next = [step.layer, step.left, step.right];
+            if !reached.contains(&next) {
+                reached.push(next);
+            }
+        }
+    }
+    assert!(taken <= row_entries(states));
+    records
+}
+
+/// How much the search looks at: figures that were worked out twice, of S→ and S→S S, and of document 02's eight-channel command set.
+#[test]
+fn looked_at() {
+    let channels = "P:;P: P K;K: take L vol;K: give L vol;K: repeat num P close;L: ch;L: L sep ch";
+    let terminals = "take,vol,give,repeat,num,close,ch,sep";
+    search_text(text_of("", "S", "S:;S: S S").as_bytes(), 8, 235, None);
+    search_text(text_of(terminals, "P,K,L", channels).as_bytes(), 27, 163, Some(90));
+}
+
+/// The reader's Q, and what the search says of the table; its certificate or its witness is accepted, and it has looked at the step
+/// records of all that is reached, no more than the room tells.
+fn search_text(text: &[u8], states: usize, looked: usize, size: Option<usize>) {
     let mut rules = [0; MAX_TABLE_ENTRIES];
     let read = ambiguity::read_text(text, &mut rules, &mut [0; MAX_NAMES], &mut [0; MAX_NAMES]).unwrap();
     assert_eq!(read.states, states);
@@ -74,13 +103,16 @@ fn search_text(text: &[u8], states: usize, size: Option<usize>) {
     assert_eq!(ambiguity::check_table(table), Ok(states));
     let mut certificate = vec![0; certificate_bytes(states)];
     let [mut queue, mut parents, mut witness] = [0; 3].map(|_| vec![0; row_entries(states)]);
-    match ambiguity::search(table, &mut certificate, &mut queue, &mut parents, &mut witness).unwrap() {
-        Verdict::Unambiguous { size: found } => {
+    let verdict = ambiguity::search(table, &mut certificate, &mut queue, &mut parents, &mut witness).unwrap();
+    assert_eq!((verdict.looked(), records_reached(table, states)), (looked, looked));
+    assert!(looked <= ambiguity::search_room(table).unwrap().most_looked());
+    match verdict {
+        Verdict::Unambiguous { size: found, .. } => {
             assert_eq!(Some(found), size);
             assert_eq!(certificate.iter().map(|byte| byte.count_ones() as usize).sum::<usize>(), found);
             assert_eq!(ambiguity::check_certificate(table, &certificate), Ok(()));
         }
-        Verdict::Potential { entries } => {
+        Verdict::Potential { entries, .. } => {
             assert_eq!(size, None);
             assert_eq!(ambiguity::check_witness(table, &witness[..entries]), Ok(()));
         }
@@ -90,7 +122,7 @@ fn search_text(text: &[u8], states: usize, size: Option<usize>) {
 /// The strings of the witness that the search writes are those of the lines, and read back they give the same lines.
 fn strings_of(text: &[u8], lines: &str) {
     let grammar = Grammar::read(text).unwrap();
-    let Searched::Potential { witness } = grammar.search() else { panic!("{lines}") };
+    let Searched::Potential { witness, .. } = grammar.search() else { panic!("{lines}") };
     let strings = grammar.strings(&witness).unwrap();
     assert_eq!(grammar.lines(&strings).unwrap(), lines);
     assert_eq!(grammar.read_back(lines.as_bytes()), Ok(strings));
@@ -101,7 +133,7 @@ fn witness_of(table: Table, states: usize) -> Vec<u32> {
     let mut certificate = vec![0; certificate_bytes(states)];
     let [mut queue, mut parents, mut witness] = [0; 3].map(|_| vec![0; row_entries(states)]);
     let found = ambiguity::search(table, &mut certificate, &mut queue, &mut parents, &mut witness);
-    let Ok(Verdict::Potential { entries }) = found else { panic!("{found:?}") };
+    let Ok(Verdict::Potential { entries, .. }) = found else { panic!("{found:?}") };
     witness.truncate(entries);
     witness
 }
@@ -199,13 +231,13 @@ fn search_in(table: Table, lengths: [usize; 4]) -> (Result<Verdict, Refusal>, Ve
 fn certificates_that_are_found() {
     let last = [128, 1, 129, 128, 1, 130, 129, 3, 129, 1, 1, 129, 1, 1, 130, 2, 1, 1];
     let cases = [
-        (grammar(0, 1, &[128, 0]), [7, 50, 50, 50], 10, "15545401000000"),
-        (grammar(1, 1, &[128, 1, 1]), [9, 72, 72, 72], 11, "155021150800000000"),
-        (grammar(1, 3, &last), [76, 582, 583, 584], 82, CERTIFICATE_OF_82),
+        (grammar(0, 1, &[128, 0]), [7, 50, 50, 50], 10, 13, "15545401000000"),
+        (grammar(1, 1, &[128, 1, 1]), [9, 72, 72, 72], 11, 14, "155021150800000000"),
+        (grammar(1, 3, &last), [76, 582, 583, 584], 82, 145, CERTIFICATE_OF_82),
     ];
-    for (table, lengths, size, expected) in cases {
+    for (table, lengths, size, looked, expected) in cases {
         let (answer, certificate) = search_in(table, lengths);
-        assert_eq!(answer, Ok(Verdict::Unambiguous { size }));
+        assert_eq!(answer, Ok(Verdict::Unambiguous { size, looked }));
         let hex: String = certificate.iter().map(|byte| format!("{byte:02x}")).collect();
         // All that is lent past the certificate is 0xAA still.
         assert_eq!(hex, format!("{expected:a<0$}", 2 * lengths[0]));

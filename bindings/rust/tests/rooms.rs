@@ -223,15 +223,18 @@ fn lengths_that_are_refused() {
     }
 }
 
-/// What the owned grammar lends is what is told: its certificate has that many bytes, and what it writes has that length.
+/// What the owned grammar lends is what is told: its certificate has that many bytes, and what it writes has that length. Its search
+/// looks at no more than is told.
 #[test]
 fn owned_grammars() {
     for (_, grammar) in corpus() {
         let room = grammar.room();
         assert_eq!((Ok(room), room.states), (search_room(grammar.table()), grammar.states()));
-        match grammar.search() {
+        let searched = grammar.search();
+        assert!(searched.looked() <= room.most_looked());
+        match searched {
             Searched::Unambiguous { certificate, .. } => assert_eq!(certificate.len(), room.certificate),
-            Searched::Potential { witness } => assert!(witness.len() <= room.entries),
+            Searched::Potential { witness, .. } => assert!(witness.len() <= room.entries),
         }
     }
 }

@@ -1,6 +1,6 @@
 //! The library's answers on the second program's cases, for each of the twelve entries: damaged, short and long inputs, each row lent
 //! between guards; of a search all that it wrote is compared, the witness entry by entry, and of lines read back every letter. What is
-//! told beforehand is compared, and held to every search and every text that is written.
+//! told beforehand is compared, and held to every search and every text that is written, and to how much a search looked at.
 
 mod support;
 
@@ -107,15 +107,15 @@ impl Searched {
         ambiguity::search(table, certificate, queue, self.parents.row_mut(), self.witness.row_mut())
     }
 
-    /// What is told beforehand: the refusals but 14, and 14 exactly where less is lent.
-    fn told(&self, table: Table) -> Result<(), Refusal> {
+    /// What is told beforehand: the refusals but 14, and 14 exactly where less is lent; else the most that the search looks at.
+    fn told(&self, table: Table) -> Result<usize, Refusal> {
         let room = ambiguity::search_room(table)?;
         let rows = [&self.queue, &self.parents, &self.witness];
         let less = rows.iter().any(|row| row.row().len() < room.entries);
         if less || self.certificate.row().len() < room.certificate {
             return refused(Cause::BufferTooShort, 0);
         }
-        Ok(())
+        Ok(room.most_looked())
     }
 
     fn kept(&self) -> bool {
@@ -137,28 +137,30 @@ fn search_line(cases: &mut Cases, guard: u8) -> String {
     with_table(cases, guard, |cases, table| {
         let mut lent = Searched::new(cases, guard);
         let answer = lent.ask(table);
-        assert_eq!(lent.told(table), answer.map(|_| ()));
+        let told = lent.told(table);
         let verdict = match answer {
             Ok(verdict) => verdict,
             Err(refusal) => {
+                assert_eq!(told, answer.map(|_| 0));
                 assert!(lent.kept());
                 return refusal.to_string();
             }
         };
+        assert!(told.is_ok_and(|most| verdict.looked() <= most));
         let states = ambiguity::check_table(table).unwrap();
         match verdict {
-            Verdict::Unambiguous { size } => {
+            Verdict::Unambiguous { size, looked } => {
                 let bytes = certificate_bytes(states);
                 assert!(lent.written(states, bytes, 0));
                 let certificate = &lent.certificate.row()[..bytes];
                 assert_eq!(ambiguity::check_certificate(table, certificate), Ok(()));
-                format!("unambiguous size={size} certificate={}", hex(certificate))
+                format!("unambiguous size={size} looked={looked} certificate={}", hex(certificate))
             }
-            Verdict::Potential { entries } => {
+            Verdict::Potential { entries, looked } => {
                 assert!(lent.written(states, 0, entries));
                 let witness = &lent.witness.row()[..entries];
                 assert_eq!(ambiguity::check_witness(table, witness), Ok(()));
-                format!("potential witness={}", joined(witness))
+                format!("potential looked={looked} witness={}", joined(witness))
             }
         }
     })

@@ -60,15 +60,15 @@ const STRINGS: &str =
 /// The page of a grammar that was read from a file.
 pub fn of(file: &str, text: &[u8], grammar: &Grammar, searched: &Searched) -> String {
     let parts = match searched {
-        Searched::Unambiguous { certificate, size } => {
+        Searched::Unambiguous { certificate, size, looked } => {
             let lines = lines::written(grammar, *size, certificate, Form::Checked);
-            [unambiguous(grammar, *size), grammar_part(text, &[]), certificate_part(&lines)]
+            [unambiguous(grammar, *size, *looked), grammar_part(text, &[]), certificate_part(&lines)]
         }
-        Searched::Potential { witness } => {
+        Searched::Potential { witness, looked } => {
             let explanation = explanation::of(grammar, witness);
             let strings = strings_part(&strings::printed(text, grammar, witness));
             let text = grammar_part(text, &parting_lines(&explanation));
-            [potential(grammar, &explanation), trees_part(grammar, &explanation), text + &strings]
+            [potential(grammar, &explanation, *looked), trees_part(grammar, &explanation), text + &strings]
         }
     };
     let (name, parts) = (escaped(file), parts.concat());
@@ -89,13 +89,13 @@ fn figures(grammar: &Grammar) -> String {
     format!("States Q = {}, rules {}", grammar.states(), grammar.rules().len())
 }
 
-fn unambiguous(grammar: &Grammar, size: usize) -> String {
-    let figures = format!("{}, size of the certificate {size}.", figures(grammar));
+fn unambiguous(grammar: &Grammar, size: usize, looked: usize) -> String {
+    let figures = format!("{}, size of the certificate {size}, successors looked at {looked}.", figures(grammar));
     banner("yes", "Unambiguous", &["No sentence has two derivation trees.".to_string(), figures])
 }
 
-fn potential(grammar: &Grammar, explanation: &Explanation) -> String {
-    let figures = format!("{}.", figures(grammar));
+fn potential(grammar: &Grammar, explanation: &Explanation, looked: usize) -> String {
+    let figures = format!("{}, successors looked at {looked}.", figures(grammar));
     let (title, said) = match &explanation.outcome {
         Outcome::Two { row, .. } => {
             ("Ambiguous", capital(&explanation::ambiguous(grammar, row).replacen("ambiguous: ", "", 1)) + ".")

@@ -1,3 +1,4 @@
+pub mod Choices
 pub mod Searches
 pub mod Rooms
 pub mod Steps

@@ -1,5 +1,5 @@
 -- What follows from the promises of the room told beforehand. Assumes nothing.
-use Prim.Native.Nat.{ℕ, _+_, _≤_, _<_}
+use Prim.Native.Nat.{ℕ, _+_, _*_, _≤_, _<_}
 use mathlib.Core.Path.{_≡_, refl, ap, sym, subst, subst₂, _∙_}
 use mathlib.Core.Bool.{Bool, true, false, not}
 use mathlib.Core.List.{List}
@@ -82,9 +82,22 @@ less-short Q l h = go (isEnough Q l) refl
 
 -- a verdict is no refusal
 verdict-given : (t n : ℕ) (table : List ℕ) (G : Grammar) (v : SearchVerdict) (written : List ℕ)
-    → ((k : ℕ) × (v ≡ search.Potential k)) ⊎ Certifies t n table G v written → (c p : ℕ) → ¬ (v ≡ search.Refused c p)
-verdict-given t n table G v written (inl (k, q)) c p e = let z : search.Potential k ≡ search.Refused c p = sym q ∙ e in absurd (let y : _≡_ {A = ℕ} 0 1 = cc in omega arith)
+    → ((k l : ℕ) × (v ≡ search.Potential k l)) ⊎ Certifies t n table G v written → (c p : ℕ) → ¬ (v ≡ search.Refused c p)
+verdict-given t n table G v written (inl (k, l, q)) c p e = let z : search.Potential k l ≡ search.Refused c p = sym q ∙ e in absurd (let y : _≡_ {A = ℕ} 0 1 = cc in omega arith)
 verdict-given t n table G v written (inr k) c p e = let z = sym (k .verdict) ∙ e in absurd (let y : _≡_ {A = ℕ} 0 1 = cc in omega arith)
+
+-- where the search gave a verdict, it was lent enough
+answered : (t n : ℕ) (table : List ℕ) (G : Grammar) → Stores t n table G → (before : Lent) (v : SearchVerdict) (after : Lent) → Searches t n table before v after
+    → (k l : ℕ) → (v ≡ search.Unambiguous k l) ⊎ (v ≡ search.Potential k l) → isEnough (states G) before ≡ true
+answered t n table G s before v after a k l y = go (isEnough (states G) before) refl
+  where
+    apart : (v ≡ search.Unambiguous k l) ⊎ (v ≡ search.Potential k l) → v ≡ search.Refused bufferTooShort 0 → ⊥
+    apart (inl q) e = let z : search.Unambiguous k l ≡ search.Refused bufferTooShort 0 = sym q ∙ e in let o : _≡_ {A = ℕ} 0 1 = cc in omega arith
+    apart (inr q) e = let z : search.Potential k l ≡ search.Refused bufferTooShort 0 = sym q ∙ e in let o : _≡_ {A = ℕ} 0 1 = cc in omega arith
+
+    go : (b : Bool) → isEnough (states G) before ≡ b → b ≡ true
+    go true e = refl
+    go false e = absurd (apart y (search-theorems t n table before v after a .short G s e .0))
 
 module _ (t n : ℕ) (table : List ℕ) (r : SearchRoom) (h : RoomAnswer t n table r) where
   room-passed : (G : Grammar) → checkTable limits t n table ≡ done G → r ≡ roomTold (done (roomOf (movesOf limits G)))
@@ -120,6 +133,11 @@ module _ (t n : ℕ) (table : List ℕ) (r : SearchRoom) (h : RoomAnswer t n tab
         let G = k .0 in
         search-theorems t n table before v after a .short G (k .1)
         (less-short (states G) before (subst₂ (λ b e. LentLess b e before) (k .2 .certificate) (k .2 .entries) l));
+    looked = λ q b e m x before v after a k l y.
+        let g = room-of q b e m x in
+        let G = g .0 in
+        let w = search-theorems t n table before v after a .enough G (g .1) (answered t n table G (g .1) before v after a k l y) in
+        subst₂ (λ q m. l ≤ m * m + 2 * (q * m)) (sym (g .2 .size)) (sym (g .2 .moves)) (w .looked k l y .1);
     listed = λ G s. let W = s .isTable .wellFormed in
         (allMoves (movesOf limits G), record { distinct = moves-distinct (movesOf limits G) (regular G W); moves = position-moves limits G W (omega arith) });
     number = λ G s q b e m x l d.

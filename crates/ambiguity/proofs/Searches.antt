@@ -27,6 +27,7 @@ use Rattle.triples.specs.Smallest.{isElement, smallest, size}
 use Rattle.triples.specs.Certificate.{byteCount, Holds, SmallestCertificate, certificateOf, checkBytes, checkCertificate}
 use Rattle.triples.specs.Witness.{checkRow, checkWitness}
 use Rattle.triples.specs.Shortest.{ShortestWitness, shortest}
+use Rattle.triples.specs.Looked.{lookedAt, lookedLimit}
 use Rattle.triples.specs.Verdict.{checkVerdict, WitnessAnswer}
 use Rattle.triples.specs.declared.CheckVerdict.{CheckVerdict}
 use Rattle.triples.specs.declared.CheckVerdict.the-variants as check
@@ -38,6 +39,8 @@ use Rattle.triple_laws.proofs.CertificateOf.{bytes-length, certificate-bit}
 use Rattle.triple_laws.proofs.Laws.{smallest-distinct, size-cardinal, smallest-below, certificates-of, witnesses-of, reached-of, end-of, smallest-of, lacks-of}
 use Rattle.triple_laws.proofs.Position.{position-listed, position-regular}
 use Rattle.figures.proofs.ShortestLaws.{shortest-of, one-shortest}
+use Rattle.figures.specs.Choice.{Choice}
+use Rattle.figures.proofs.Position.{position-limit}
 use Rattle.parting.proofs.Position.{potential-reached}
 use Rattle.soundness.proofs.Position.{one-tree}
 use Rattle.table_check.proofs.Callers.{refused-table}
@@ -46,7 +49,8 @@ use Rattle.search.specs.Promise.{Lent, isPotential, isEnough, searchable, Told,
 use Rattle.search.specs.declared.SearchVerdict.{SearchVerdict}
 use Rattle.search.specs.declared.SearchVerdict.the-variants as search
 use Rattle.ambiguity.specs.Entries.{IsTableOf, Stores}
-use Rattle.ambiguity.specs.Searches.{ListsHeld, Certifies, VerdictTheorems, SearchTheorems}
+use Rattle.ambiguity.specs.Searches.{ListsHeld, ListsChoices, Certifies, VerdictTheorems, SearchTheorems}
+use Rattle.ambiguity.proofs.Choices.{choices-listed, choices-counted}
 
 -- what is written over the front of a row
 front-of : (front old : List ℕ) (k : ℕ) → length front ≡ k → take k (over front old) ≡ front
@@ -54,14 +58,18 @@ unfolding over
 front-of front old k e = ap (λ (n : ℕ). take n (over front old)) (sym e) ∙ take-append-seam front (drop (length front) old)
 
 -- the verdicts are apart
-no-two : {A : Type 0} (n k : ℕ) → search.Unambiguous n ≡ search.Potential k → A
-no-two n k e = let z : _≡_ {A = ℕ} 0 1 = cc in absurd (let o : ⊥ = omega arith in o)
+no-two : {A : Type 0} {n m k l : ℕ} → search.Unambiguous n m ≡ search.Potential k l → A
+no-two e = let z : _≡_ {A = ℕ} 0 1 = cc in absurd (let o : ⊥ = omega arith in o)
 
-no-refusal : {A : Type 0} (cause at k : ℕ) → search.Refused cause at ≡ search.Potential k → A
-no-refusal cause at k e = let z : _≡_ {A = ℕ} 0 1 = cc in absurd (let o : ⊥ = omega arith in o)
+no-refusal : {A : Type 0} {cause at k l : ℕ} → search.Refused cause at ≡ search.Potential k l → A
+no-refusal e = let z : _≡_ {A = ℕ} 0 1 = cc in absurd (let o : ⊥ = omega arith in o)
 
-same-number : (n k : ℕ) → search.Potential n ≡ search.Potential k → n ≡ k
-same-number n k e = cc
+-- and tell their numbers
+same-potential : {n m k l : ℕ} → search.Potential n m ≡ search.Potential k l → (n ≡ k) × (m ≡ l)
+same-potential e = (cc, cc)
+
+same-unambiguous : {n m k l : ℕ} → search.Unambiguous n m ≡ search.Unambiguous k l → (n ≡ k) × (m ≡ l)
+same-unambiguous e = (cc, cc)
 
 same-grammar : (G H : Grammar) → _≡_ {A = Answer Grammar} (done G) (done H) → G ≡ H
 same-grammar G H e = cc
@@ -157,7 +165,7 @@ module _ (G : Grammar) (W : WellFormed limits G) where
 module _ (t n : ℕ) (table : List ℕ) where
   module _ (G : Grammar) (s : Stores t n table G) where
     -- unambiguous with the certificate of the smallest set
-    certifies : (r : SearchVerdict) → isPotential (movesOf limits G) ≡ false → r ≡ search.Unambiguous (size (movesOf limits G))
+    certifies : (r : SearchVerdict) → isPotential (movesOf limits G) ≡ false → r ≡ search.Unambiguous (size (movesOf limits G)) (lookedAt (movesOf limits G))
         → Certifies t n table G r (bytes G (s .isTable .wellFormed))
     unfolding bytes checkCertificate
     certifies r e c =
@@ -171,7 +179,7 @@ module _ (t n : ℕ) (table : List ℕ) where
           reached = held-reached G W small;
           least-closed = λ C k f p q h. reached-held (position limits G) k (held-reached G W small f p q .0 h);
           listed = (smallest (movesOf limits G), held-list G W small);
-          number = λ l d. c ∙ ap search.Unambiguous (sym (held-number G W small l d));
+          number = λ l d. c ∙ ap (λ (n : ℕ). search.Unambiguous n (lookedAt (movesOf limits G))) (sym (held-number G W small l d));
         }
 
     module _ (before : Lent) (r : SearchVerdict) (after : Lent) where
@@ -185,27 +193,53 @@ module _ (t n : ℕ) (table : List ℕ) where
           ∙ front-of (bytes G (s .isTable .wellFormed)) (before .certificate) (byteCount (states G)) (bytes-length (smallest (movesOf limits G)) 0 (byteCount (states G)))))
           (certifies r e (c .verdict))
 
+      -- what was looked at is within its limit
+      within : (l : ℕ) → l ≡ lookedAt (movesOf limits G) → (l ≡ lookedAt (movesOf limits G)) × (l ≤ lookedLimit (movesOf limits G))
+      within l e = (e, subst (λ (n : ℕ). n ≤ lookedLimit (movesOf limits G)) (sym e) (position-limit limits G (s .isTable .wellFormed) (omega arith)))
+
+      -- and is the number of choices
+      counted : (l : List Choice) → ListsChoices G l → lookedAt (movesOf limits G) ≡ length l
+      counted = choices-counted G (regular G (s .isTable .wellFormed)) (lists G (s .isTable .wellFormed))
+
       verdict-theorems : (b : Bool) → isPotential (movesOf limits G) ≡ b → Told b (movesOf limits G) before r after
           → VerdictTheorems t n table G r (take (byteCount (states G)) (after .certificate))
       verdict-theorems true e w =
           let p = parting G (s .isTable .wellFormed) e in
-          let k : (k : ℕ) × (r ≡ search.Potential k) = (length (shortest (movesOf limits G)), w .verdict) in
+          let k : (k l : ℕ) × (r ≡ search.Potential k l) = (length (shortest (movesOf limits G)), lookedAt (movesOf limits G), w .verdict) in
           record {
             potential = (λ q. p, λ q. k);
             otherwise = λ u. absurd (u p);
             one-of-two = inl k;
             certificates = λ l a. absurd (lacks-of (position limits G) (movesOf limits G) (regular G (s .isTable .wellFormed)) (lists G (s .isTable .wellFormed)) l a
                 (is-element (index (states G) 1 1 1) (smallest (movesOf limits G)) .0 e));
-            one-tree = λ n q. no-two n (length (shortest (movesOf limits G))) (sym q ∙ w .verdict);
+            looked = λ n m q. elim q [
+              | inl a ↦ no-two (sym a ∙ w .verdict)
+              | inr a ↦ within m (same-potential (sym a ∙ w .verdict) .1)
+            ];
+            choices = (_, choices-listed G (regular G (s .isTable .wellFormed)) (lists G (s .isTable .wellFormed)));
+            looked-number = λ n m q l h. elim q [
+              | inl a ↦ no-two (sym a ∙ w .verdict)
+              | inr a ↦ same-potential (sym a ∙ w .verdict) .1 ∙ counted l h
+            ];
+            one-tree = λ n m q. no-two (sym q ∙ w .verdict);
           }
       verdict-theorems false e c =
           let k = certified e c in
           record {
-            potential = (λ (n, q). no-two (size (movesOf limits G)) n (sym (c .verdict) ∙ q), λ q. absurd (not-parting G (s .isTable .wellFormed) e q));
+            potential = (λ (n, m, q). no-two (sym (c .verdict) ∙ q), λ q. absurd (not-parting G (s .isTable .wellFormed) e q));
             otherwise = λ u. k;
             one-of-two = inr k;
             certificates = λ l a. k;
-            one-tree = λ n q. one-tree limits G (s .isTable .wellFormed) (omega arith) _ (k .smallest .acceptable .acceptable);
+            looked = λ n m q. elim q [
+              | inl a ↦ within m (same-unambiguous (sym a ∙ c .verdict) .1)
+              | inr a ↦ no-two (sym (c .verdict) ∙ a)
+            ];
+            choices = (_, choices-listed G (regular G (s .isTable .wellFormed)) (lists G (s .isTable .wellFormed)));
+            looked-number = λ n m q l h. elim q [
+              | inl a ↦ same-unambiguous (sym a ∙ c .verdict) .1 ∙ counted l h
+              | inr a ↦ no-two (sym (c .verdict) ∙ a)
+            ];
+            one-tree = λ n m q. one-tree limits G (s .isTable .wellFormed) (omega arith) _ (k .smallest .acceptable .acceptable);
           }
 
   module _ (before : Lent) (r : SearchVerdict) (after : Lent) (h : Searches t n table before r after) where
@@ -222,14 +256,14 @@ module _ (t n : ℕ) (table : List ℕ) where
     Shortest G k = ShortestWitness (position limits G) (take k (after .witness)) × (k ≤ tripleCount (states G))
 
     written : (G : Grammar) → WellFormed limits G → (b : Bool) → isPotential (movesOf limits G) ≡ b → Told b (movesOf limits G) before r after
-        → (k : ℕ) → r ≡ search.Potential k → Shortest G k
-    written G W true e y k q =
+        → (k l : ℕ) → r ≡ search.Potential k l → Shortest G k
+    written G W true e y k m q =
         let row = shortest (movesOf limits G) in
-        let z : length row ≡ k = same-number (length row) k (sym (y .verdict) ∙ q) in
+        let z : length row ≡ k = same-potential (sym (y .verdict) ∙ q) .0 in
         let l : take k (after .witness) ≡ row = ap (take k) (y .witness) ∙ front-of row (before .witness) k z in
         let s = shortest-of (position limits G) (movesOf limits G) (regular G W) (lists G W) (is-element (index (states G) 1 1 1) (smallest (movesOf limits G)) .0 e) in
         (subst (ShortestWitness (position limits G)) (sym l) (s .0), subst (λ (j : ℕ). j ≤ tripleCount (states G)) z (s .1))
-    written G W false e y k q = no-two (size (movesOf limits G)) k (sym (y .verdict) ∙ q)
+    written G W false e y k m q = no-two (sym (y .verdict) ∙ q)
 
     passed : (G : Grammar) → searchable limits t n table before ≡ done G → checkTable limits t n table ≡ done G
     unfolding searchable
@@ -238,24 +272,24 @@ module _ (t n : ℕ) (table : List ℕ) where
         x .1 ∙ unless-done bufferTooShort 0 (isEnough (states (x .0)) before) (done (x .0)) G (x .2) .1
 
     row-written : (G : Grammar) → searchable limits t n table before ≡ done G → Answers (done G) before r after
-        → (k : ℕ) → r ≡ search.Potential k → Shortest G k
-    row-written G e a k q = written G (takes-only limits room t n table G (passed G e) .wellFormed) (isPotential (movesOf limits G)) refl a k q
+        → (k l : ℕ) → r ≡ search.Potential k l → Shortest G k
+    row-written G e a k l q = written G (takes-only limits room t n table G (passed G e) .wellFormed) (isPotential (movesOf limits G)) refl a k l q
 
     -- the witness check accepts it
     witness-accepted : (o : Answer Grammar) → searchable limits t n table before ≡ o → Answers o before r after
-        → (k : ℕ) → r ≡ search.Potential k → (v : CheckVerdict) → WitnessAnswer t n table (take k (after .witness)) v → v ≡ check.Accepted
+        → (k l : ℕ) → r ≡ search.Potential k l → (v : CheckVerdict) → WitnessAnswer t n table (take k (after .witness)) v → v ≡ check.Accepted
     unfolding checkWitness
-    witness-accepted (refused cause at) e a k q v w = no-refusal cause at k (sym (a .0) ∙ q)
-    witness-accepted (done G) e a k q v w =
+    witness-accepted (refused cause at) e a k l q v w = no-refusal (sym (a .0) ∙ q)
+    witness-accepted (done G) e a k l q v w =
         let W = takes-only limits room t n table G (passed G e) .wellFormed in
         w ∙ ap checkVerdict (then-goes (checkTable limits t n table) (λ G. checkRow (movesOf limits G) (take k (after .witness))) G (passed G e)
-        ∙ witnesses-of (position limits G) (movesOf limits G) (regular G W) (lists G W) (take k (after .witness)) .1 (row-written G e a k q .0 .witness))
+        ∙ witnesses-of (position limits G) (movesOf limits G) (regular G W) (lists G W) (take k (after .witness)) .1 (row-written G e a k l q .0 .witness))
 
     shortest-written : (o : Answer Grammar) → searchable limits t n table before ≡ o → Answers o before r after
-        → (G : Grammar) → Stores t n table G → (k : ℕ) → r ≡ search.Potential k → Shortest G k
-    shortest-written (refused cause at) e a G s k q = no-refusal cause at k (sym (a .0) ∙ q)
-    shortest-written (done H) e a G s k q =
-        subst (λ (G : Grammar). Shortest G k) (same-grammar H G (sym (passed H e) ∙ checked t n table G s)) (row-written H e a k q)
+        → (G : Grammar) → Stores t n table G → (k l : ℕ) → r ≡ search.Potential k l → Shortest G k
+    shortest-written (refused cause at) e a G s k l q = no-refusal (sym (a .0) ∙ q)
+    shortest-written (done H) e a G s k l q =
+        subst (λ (G : Grammar). Shortest G k) (same-grammar H G (sym (passed H e) ∙ checked t n table G s)) (row-written H e a k l q)
 
     pub search-theorems : SearchTheorems t n table before r after
     unfolding searchable
@@ -268,6 +302,6 @@ module _ (t n : ℕ) (table : List ℕ) where
           (then-goes (checkTable limits t n table) go-on G (checked t n table G s) ∙ unless-holds bufferTooShort 0 (isEnough (states G) before) (done G) e));
       witness = witness-accepted (searchable limits t n table before) refl h;
       shortest = shortest-written (searchable limits t n table before) refl h;
-      only = λ G s k q row x. one-shortest (position limits G) row (take k (after .witness)) x
-          (shortest-written (searchable limits t n table before) refl h G s k q .0);
+      only = λ G s k l q row x. one-shortest (position limits G) row (take k (after .witness)) x
+          (shortest-written (searchable limits t n table before) refl h G s k l q .0);
     }

@@ -1,5 +1,6 @@
--- What follows from the promises of the room told beforehand, whatever the input. Source: document 02, [5]. Assumes nothing.
-use Prim.Native.Nat.{ℕ, _≤_, _<_}
+-- What follows from the promises of the room told beforehand, whatever the input. Source: document 02, [5] and [6]. Assumes
+-- nothing.
+use Prim.Native.Nat.{ℕ, _+_, _*_, _≤_, _<_}
 use mathlib.Core.Path.{_≡_}
 use mathlib.Core.List.{List}
 use mathlib.Core.Logic.{_⊎_, _↔_}
@@ -52,6 +53,9 @@ module _ (t n : ℕ) (table : List ℕ) where
     -- one lent less always does, and nothing is changed
     pub short : (q b e m : ℕ) → r ≡ room.Room q b e m → (before : Lent) (v : SearchVerdict) (after : Lent) → Searches t n table before v after
         → LentLess b e before → (v ≡ search.Refused bufferTooShort 0) × (after ≡ before)
+    -- document 02, [6]: what the search then says it looked at is at most M² + 2×Q×M, by these numbers
+    pub looked : (q b e m : ℕ) → r ≡ room.Room q b e m → (before : Lent) (v : SearchVerdict) (after : Lent) → Searches t n table before v after
+        → (k l : ℕ) → (v ≡ search.Unambiguous k l) ⊎ (v ≡ search.Potential k l) → l ≤ m * m + 2 * (q * m)
     -- the last number is that of the moves: some list has each of them once, and the number is the length of every such list
     pub listed : (G : Grammar) → Stores t n table G → (l : List Moved) × ListsMoves G l
     pub number : (G : Grammar) → Stores t n table G → (q b e m : ℕ) → r ≡ room.Room q b e m → (l : List Moved) → ListsMoves G l → m ≡ length l

@@ -1,4 +1,4 @@
--- What follows from the promise of the search, whatever the input. Source: document 01, document 02's [1]; README.md has
+-- What follows from the promise of the search, whatever the input. Source: document 01, document 02's [1] and [6]; README.md has
 -- the demands.
 -- Assumes nothing.
 use Prim.Native.Nat.{ℕ, _≤_}
@@ -20,10 +20,12 @@ use Rattle.automaton.specs.Items.{states}
 use Rattle.automaton.specs.Position.{position}
 use Rattle.automaton.specs.PositionMoves.{movesOf}
 use Rattle.triples.specs.Index.{index, tripleCount}
-use Rattle.triples.specs.Successor.{Reached, Closed}
+use Rattle.triples.specs.Successor.{StepTo, Reached, Closed}
 use Rattle.triples.specs.Smallest.{size}
 use Rattle.triples.specs.Certificate.{byteCount, Holds, AcceptableCertificate, SmallestCertificate}
 use Rattle.triples.specs.Shortest.{ShortestWitness}
+use Rattle.triples.specs.Looked.{lookedAt, lookedLimit}
+use Rattle.figures.specs.Choice.{Choice}
 use Rattle.triples.specs.declared.CheckVerdict.{CheckVerdict}
 use Rattle.triples.specs.declared.CheckVerdict.the-variants as check
 use Rattle.triples.specs.Verdict.{WitnessAnswer, CertificateAnswer}
@@ -37,10 +39,17 @@ pub record ListsHeld (Q : ℕ) (bytes l : List ℕ) : Type 0 where
   pub distinct : Distinct l
   pub indices : (i : ℕ) → Mem i l ↔ ((f p q : ℕ) × (i ≡ index Q f p q) × Holds Q bytes f p q)
 
+-- the list has each choice of moves at a triple reached, once, and no other
+pub record ListsChoices (G : Grammar) (l : List Choice) : Type 0 where
+  pub distinct : Distinct l
+  pub choices : (c : Choice) → Mem c l
+      ↔ (Reached (position limits G) (c .layer) (c .left) (c .right)
+      × StepTo (position limits G) (c .layer) (c .left) (c .right) (c .step .layer) (c .step .left) (c .step .right) (c .step .«on_left») (c .step .«on_right»))
+
 module _ (t n : ℕ) (table : List ℕ) where
   -- unambiguous: the bytes are an acceptable certificate, contained in every other, and the certificate check accepts them
   pub record Certifies (G : Grammar) (r : SearchVerdict) (bytes : List ℕ) : Type 1 where
-    pub verdict : r ≡ search.Unambiguous (size (movesOf limits G))
+    pub verdict : r ≡ search.Unambiguous (size (movesOf limits G)) (lookedAt (movesOf limits G))
     pub smallest : SmallestCertificate (position limits G) bytes
     pub accepted : (v : CheckVerdict) → CertificateAnswer t n table bytes v → v ≡ check.Accepted
     -- they are the smallest closed set: they hold exactly what is reached from (0,0,0)
@@ -49,17 +58,22 @@ module _ (t n : ℕ) (table : List ℕ) where
     pub least-closed : (C : ℕ → ℕ → ℕ → Type 0) → Closed (position limits G) C → (f p q : ℕ) → Holds (states G) bytes f p q → C f p q
     -- and the number is its size: some list has the indices held, and the number is the length of every such list
     pub listed : (l : List ℕ) × ListsHeld (states G) bytes l
-    pub number : (l : List ℕ) → ListsHeld (states G) bytes l → r ≡ search.Unambiguous (length l)
+    pub number : (l : List ℕ) → ListsHeld (states G) bytes l → r ≡ search.Unambiguous (length l) (lookedAt (movesOf limits G))
 
   pub record VerdictTheorems (G : Grammar) (r : SearchVerdict) (written : List ℕ) : Type 1 where
     -- demand 2: potential precisely when two strings part, otherwise unambiguous with the smallest closed set and its size
-    pub potential : ((k : ℕ) × (r ≡ search.Potential k)) ↔ Potential (position limits G)
+    pub potential : ((k l : ℕ) × (r ≡ search.Potential k l)) ↔ Potential (position limits G)
     pub otherwise : Unambiguous (position limits G) → Certifies G r written
-    pub one-of-two : ((k : ℕ) × (r ≡ search.Potential k)) ⊎ Certifies G r written
+    pub one-of-two : ((k l : ℕ) × (r ≡ search.Potential k l)) ⊎ Certifies G r written
     -- demand 3: where some bytes are an acceptable certificate it answers unambiguous, and writes one contained in every other
     pub certificates : (bytes : List ℕ) → AcceptableCertificate (position limits G) bytes → Certifies G r written
+    -- document 02, [6]: with either verdict the second number is the computed figure, at most M² + 2×Q×M
+    pub looked : (k l : ℕ) → (r ≡ search.Unambiguous k l) ⊎ (r ≡ search.Potential k l) → (l ≡ lookedAt (movesOf limits G)) × (l ≤ lookedLimit (movesOf limits G))
+    -- it is the number of choices of moves at the triples reached: some list has each of them once, and it is the length of every such list
+    pub choices : (l : List Choice) × ListsChoices G l
+    pub looked-number : (k m : ℕ) → (r ≡ search.Unambiguous k m) ⊎ (r ≡ search.Potential k m) → (l : List Choice) → ListsChoices G l → m ≡ length l
     -- where it answers unambiguous no sentence has two derivation trees
-    pub one-tree : (k : ℕ) → r ≡ search.Unambiguous k → (sentence : List ℕ) → ¬ HasTwoTrees limits G sentence
+    pub one-tree : (k l : ℕ) → r ≡ search.Unambiguous k l → (sentence : List ℕ) → ¬ HasTwoTrees limits G sentence
 
   pub record SearchTheorems (before : Lent) (r : SearchVerdict) (after : Lent) : Type 1 where
     -- the faults of the table come first, as the table check gives them, then 14; demand 1: these refusals change nothing
@@ -70,11 +84,11 @@ module _ (t n : ℕ) (table : List ℕ) where
     -- lent enough, it answers; the certificate is the front of what was lent
     pub enough : (G : Grammar) → Stores t n table G → isEnough (states G) before ≡ true → VerdictTheorems G r (take (byteCount (states G)) (after .certificate))
     -- demand 2: the witness check accepts the row that it wrote
-    pub witness : (k : ℕ) → r ≡ search.Potential k → (v : CheckVerdict) → WitnessAnswer t n table (take k (after .witness)) v → v ≡ check.Accepted
+    pub witness : (k l : ℕ) → r ≡ search.Potential k l → (v : CheckVerdict) → WitnessAnswer t n table (take k (after .witness)) v → v ≡ check.Accepted
     -- of all witnesses that is the one with the fewest entries and, among those, the smaller index where they first differ; it has
     -- at most 2Q² entries
-    pub shortest : (G : Grammar) → Stores t n table G → (k : ℕ) → r ≡ search.Potential k
+    pub shortest : (G : Grammar) → Stores t n table G → (k l : ℕ) → r ≡ search.Potential k l
         → ShortestWitness (position limits G) (take k (after .witness)) × (k ≤ tripleCount (states G))
     -- and no other row is
-    pub only : (G : Grammar) → Stores t n table G → (k : ℕ) → r ≡ search.Potential k
+    pub only : (G : Grammar) → Stores t n table G → (k l : ℕ) → r ≡ search.Potential k l
         → (row : List ℕ) → ShortestWitness (position limits G) row → row ≡ take k (after .witness)

@@ -52,8 +52,8 @@ IsRoom v = v ≡ room.Room (roomReply v .states) (roomReply v .certificate) (roo
 
 abbrev pub IsVerdict : SearchVerdict → Type 0
 IsVerdict v =
-    ((searchReply v .verdict ≡ 1) × (v ≡ Unambiguous (searchReply v .count)))
-    ⊎ ((searchReply v .verdict ≡ 2) × (v ≡ Potential (searchReply v .count)))
+    ((searchReply v .verdict ≡ 1) × (v ≡ Unambiguous (searchReply v .count) (searchReply v .looked)))
+    ⊎ ((searchReply v .verdict ≡ 2) × (v ≡ Potential (searchReply v .count) (searchReply v .looked)))
 
 -- 1 a record, or 2 no more
 abbrev pub IsStep : StepAnswer → Type 0

@@ -71,11 +71,12 @@ abbrev pub checkReply : CheckVerdict → CheckReply
 checkReply check.Accepted = record { cause = 0; at = 0 }
 checkReply (check.Refused cause at) = record { cause = cause; at = at }
 
--- the search: 1 unambiguous with the size, 2 potential with the witness's number of entries; 0 with a refusal
+-- the search: 1 unambiguous with the size, 2 potential with the witness's number of entries, either with how many successors were
+-- looked at; 0 with a refusal
 abbrev pub searchReply : SearchVerdict → SearchReply
-searchReply (search.Unambiguous size) = record { cause = 0; at = 0; verdict = 1; count = size }
-searchReply (search.Potential entries) = record { cause = 0; at = 0; verdict = 2; count = entries }
-searchReply (search.Refused cause at) = record { cause = cause; at = at; verdict = 0; count = 0 }
+searchReply (search.Unambiguous size looked) = record { cause = 0; at = 0; verdict = 1; count = size; looked = looked }
+searchReply (search.Potential entries looked) = record { cause = 0; at = 0; verdict = 2; count = entries; looked = looked }
+searchReply (search.Refused cause at) = record { cause = cause; at = at; verdict = 0; count = 0; looked = 0 }
 
 -- the room of a search: Q, the certificate's bytes, the entries of each row, and the number of moves
 abbrev pub roomReply : SearchRoom → RoomReply

@@ -47,13 +47,14 @@ pub struct CheckReply {
     pub at: u64,
 }
 
-// 0 refused, 1 unambiguous, 2 potential; the size, or the witness's number of entries.
+// 0 refused, 1 unambiguous, 2 potential; the size, or the witness's number of entries; how many successors were looked at.
 #[repr(C)]
 pub struct SearchReply {
     pub cause: u64,
     pub at: u64,
     pub verdict: u64,
     pub count: u64,
+    pub looked: u64,
 }
 
 // Q, the certificate's bytes, the entries of each row, the number of moves.

@@ -131,23 +131,26 @@ pub fn search_told(answer: SearchVerdict) -> SearchReply
     ensures { λ r. ⌜ r ≡ searchReply answer ⌝ }
 {
     match answer {
-        SearchVerdict::Unambiguous(size) => SearchReply {
+        SearchVerdict::Unambiguous(size, looked) => SearchReply {
             cause: 0,
             at: 0,
             verdict: 1,
             count: size as u64,
+            looked: looked as u64,
         },
-        SearchVerdict::Potential(entries) => SearchReply {
+        SearchVerdict::Potential(entries, looked) => SearchReply {
             cause: 0,
             at: 0,
             verdict: 2,
             count: entries as u64,
+            looked: looked as u64,
         },
         SearchVerdict::Refused(cause, at) => SearchReply {
             cause: cause as u64,
             at: at as u64,
             verdict: 0,
             count: 0,
+            looked: 0,
         },
     }
 }

@@ -6,5 +6,8 @@ pub mod OneRecord
 pub mod SidesLaws
 pub mod Sums
 pub mod Lengths
+pub mod Opened
+pub mod Bound
 pub mod MovesExact
 pub mod Position
+pub mod Choices

@@ -28,7 +28,7 @@ use Rattle.moves.specs.Shows.{Opened, Closed, Alone, Shows}
 use Rattle.plans.specs.declared.Side.{Side}
 use Rattle.plans.specs.declared.Plan.{Plan}
 use Rattle.plans.specs.Plan.{Rows, rows, sideOf, aloneOf, layerAfter, shiftOf, pairsOf, planFor, planOf, nextOf}
-use Rattle.plans.specs.Contracts.{SideFits, Safe, Verified, Lists, Planned}
+use Rattle.plans.specs.Contracts.{SideFits, Safe, Verified, Lists}
 use Rattle.plans.proofs.PlanLaws.{alone-le, layer-le, pairs-le, layer-times, product-le, next-left, next-right, next-shift, next-pair}
 use Rattle.plans.proofs.BlockLaws.{alone-opens, alone-later, alone-beside, alone-reads, layer-opens, layer-closes, layer-later, shift-facts, shift-is, any-symbol, a-terminal, terminal-a, pairs-facts, pairs-is, pairs-later, opens-layer}
 
@@ -106,7 +106,7 @@ module _ (M : Moves) (R : Regular M) (t m : ℕ) (new : Tables) (X : Shows M t m
   pub closes-kind : {i p u : ℕ} → p < Q → Closed M i p u → side p .kind < m
   closes-kind {i} {p} {u} h o = X .closes-class i p u h o
 
-  reads-is : (p : ℕ) → p < Q → readsAt (new .ahead) t p ≡ terminalAhead M p
+  pub reads-is : (p : ℕ) → p < Q → readsAt (new .ahead) t p ≡ terminalAhead M p
   reads-is p h = ap (λ (x : ℕ). leb 1 x && leb x t) (X .ahead p h) ∙ ap (λ (t : ℕ). leb 1 (M .ahead p) && leb (M .ahead p) t) (X .terminals)
 
   pub reads-before : (p : ℕ) → p < Q → readsAt (new .ahead) t p ≡ true → BeforeTerminal (listed M) p
@@ -407,8 +407,3 @@ module _ (M : Moves) (R : Regular M) (t m Q : ℕ) (size : Q ≡ M .states) (new
   verified-of =
       subst (λ (Q : ℕ). Verified (rows (new .ahead) (new .number) (new .member) (new .first)) (new .targets) t m Q) (sym size)
       (verified M R t m new X long)
-
-  pub planned-of : Planned M (rows (new .ahead) (new .number) (new .member) (new .first)) (new .targets) t m Q
-  planned-of =
-      subst (λ (Q : ℕ). Planned M (rows (new .ahead) (new .number) (new .member) (new .first)) (new .targets) t m Q) (sym size)
-      (record { size = refl; lists = lists M R t m new X long })

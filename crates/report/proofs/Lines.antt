@@ -51,15 +51,15 @@ module _ (t n : ℕ) (table : List ℕ) (q : ℕ) (text starts lengths : List �
       omega (arith, ap length lines-are, grammar-most G (k .wellFormed) (omega (arith, s .counted, s .few)) names (c .named) many)
 
   module _ (before : Lent) (v : SearchVerdict) (after : Lent) (l : Rows before) (h : Searches t n table before v after) where
-    pub unambiguous-lines : (k : ℕ) → v ≡ search.Unambiguous k → unambiguousLines q k ≡ tableLines (checkTable limits t n table) names
-    unambiguous-lines k e =
-        let a = is-unambiguous t n table q text starts lengths s before v after l h k e in
+    pub unambiguous-lines : (k looked : ℕ) → v ≡ search.Unambiguous k looked → unambiguousLines q k ≡ tableLines (checkTable limits t n table) names
+    unambiguous-lines k looked e =
+        let a = is-unambiguous t n table q text starts lengths s before v after l h k looked e in
         ap₂ unambiguousLines (sym (s .counted)) (a .1)
         ∙ ap (λ (b : Bool). line statesIs (decimal (states G)) ++ verdictLines b (size M) (witnessLines G names)) (sym (a .0)) ∙ sym lines-are
 
-    module _ (k : ℕ) (e : v ≡ search.Potential k) where
+    module _ (k looked : ℕ) (e : v ≡ search.Potential k looked) where
       known : (isPotential M ≡ true) × (k ≤ length (after .witness)) × (take k (after .witness) ≡ shortest M)
-      known = is-potential t n table q text starts lengths s before v after l h k e
+      known = is-potential t n table q text starts lengths s before v after l h k looked e
 
       pub potential-lines : tableLines (checkTable limits t n table) names ≡ potentialLines q ++ sidesLines (checkTable limits t n table) names
       potential-lines =

@@ -37,15 +37,15 @@ pub record Rows (before : Lent) : Type 0 where
   pub parents : length (before .parents) ≡ 4608
   pub witness : length (before .witness) ≡ 4608
 
--- the number of a verdict: the size, or the witness's entries; and which verdict it is
+-- the first number of a verdict: the size, or the witness's entries; and which verdict it is
 abbrev numberIn : SearchVerdict → ℕ
-numberIn (search.Unambiguous n) = n
-numberIn (search.Potential n) = n
+numberIn (search.Unambiguous n looked) = n
+numberIn (search.Potential n looked) = n
 numberIn (search.Refused c p) = 0
 
 abbrev kindIn : SearchVerdict → ℕ
-kindIn (search.Unambiguous n) = 0
-kindIn (search.Potential n) = 1
+kindIn (search.Unambiguous n looked) = 0
+kindIn (search.Potential n looked) = 1
 kindIn (search.Refused c p) = 2
 
 module _ (t n : ℕ) (table : List ℕ) (q : ℕ) (text starts lengths : List ℕ) (s : Tellable t n table q text starts lengths)
@@ -67,18 +67,18 @@ module _ (t n : ℕ) (table : List ℕ) (q : ℕ) (text starts lengths : List �
       subst (λ (o : Answer Grammar). Answers o before v after) (search-enough t n table before G (s .passes) e) h
 
   -- unambiguous with the size
-  pub is-unambiguous : (k : ℕ) → v ≡ search.Unambiguous k → (isPotential M ≡ false) × (k ≡ size M)
-  is-unambiguous k e = go (isPotential M) refl told
+  pub is-unambiguous : (k looked : ℕ) → v ≡ search.Unambiguous k looked → (isPotential M ≡ false) × (k ≡ size M)
+  is-unambiguous k looked e = go (isPotential M) refl told
     where
       go : (b : Bool) → isPotential M ≡ b → Told b M before v after → (isPotential M ≡ false) × (k ≡ size M)
       go true d w = absurd (let z : _≡_ {A = ℕ} 0 1 = ap kindIn (sym e ∙ w .verdict) in omega (arith, z))
       go false d w = (d, ap numberIn (sym e ∙ w .verdict))
 
   -- potential with the shortest witness at the front of its row
-  pub is-potential : (k : ℕ) → v ≡ search.Potential k
+  pub is-potential : (k looked : ℕ) → v ≡ search.Potential k looked
       → (isPotential M ≡ true) × (k ≤ length (after .witness)) × (take k (after .witness) ≡ shortest M)
   unfolding over
-  is-potential k e = go (isPotential M) refl told
+  is-potential k looked e = go (isPotential M) refl told
     where
       go : (b : Bool) → isPotential M ≡ b → Told b M before v after
           → (isPotential M ≡ true) × (k ≤ length (after .witness)) × (take k (after .witness) ≡ shortest M)

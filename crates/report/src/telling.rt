@@ -83,8 +83,8 @@ fn put_table(
         &mut witness,
     );
     match verdict {
-        SearchVerdict::Unambiguous(reached) => put_unambiguous(out, q, reached),
-        SearchVerdict::Potential(entries) => {
+        SearchVerdict::Unambiguous(reached, _) => put_unambiguous(out, q, reached),
+        SearchVerdict::Potential(entries, _) => {
             let at = put_potential(out, q);
             put_sides(
                 out,

@@ -1,4 +1,5 @@
--- A finished search has found the smallest closed set, and the shortest way to (1,1,1). Assumes nothing.
+-- A finished search has found the smallest closed set, with all its successors counted, and the shortest way to (1,1,1). Assumes
+-- nothing.
 use mathlib.Core.Path.{_≡_, refl, ap, ap₂, sym, subst, _∙_}
 use mathlib.Core.Logic.{_↔_}
 use mathlib.Core.Bool.{Bool, true, false}
@@ -8,7 +9,7 @@ use native.Mathlib.Omega.{arith}
 use native.Mathlib.Nat.{pow-zero, pow-succ', div-one, div-div-eq-div-mul, mul-le-mul}
 use native.Mathlib.Decide.{ℕ-discrete}
 use lib.ListN.{length, getD, take, drop, replicate, length-replicate}
-use lib.Seq.{length-take-le, getD-take, drop-cons}
+use lib.Seq.{length-take-le, getD-take, take-suc, drop-cons}
 use borrow.Author.Tests.{eq-eqb}
 use Rattle.grammar.specs.Basics.{choose, Mem, over, Distinct, more as fresh}
 use Rattle.grammar.specs.Refusal.{done}
@@ -19,13 +20,16 @@ use Rattle.triples.specs.Smallest.{isElement, successors, smallest, size}
 use Rattle.triples.specs.Certificate.{byteCount, bit, isSet, bitsFrom, bytesFrom, certificateOf}
 use Rattle.triples.specs.Witness.{checkOn, checkRow}
 use Rattle.triples.specs.Shortest.{shortest}
+use Rattle.triples.specs.Looked.{total, lookedAt}
 use Rattle.triples.proofs.Index.{index-below}
 use Rattle.triple_laws.proofs.Members.{mem-place, place-mem}
 use Rattle.triple_laws.proofs.Explore.{is-element, not-element, explore-start, explore-closed, explore-least}
 use Rattle.triple_laws.proofs.Lowest.{set-bit, clear-bit}
 use Rattle.triple_laws.proofs.CertificateCheck.{bits-fit, index-zero}
 use Rattle.triple_laws.proofs.Records.{successors-below}
-use Rattle.triple_laws.proofs.Laws.{size-cardinal}
+use Rattle.triple_laws.proofs.Laws.{size-cardinal, smallest-distinct}
+use Rattle.figures.specs.Sum.{sum}
+use Rattle.figures.proofs.Sums.{sum-same, total-append, total-same}
 use Rattle.figures.proofs.Shortest.{Leads}
 use Rattle.figures.proofs.ShortestLaws.{accepted-leads, shortest-only}
 use Rattle.figures.proofs.Found.{Way, start, more}
@@ -33,7 +37,7 @@ use Rattle.figures.proofs.Row.{onto, row-fewest}
 use Rattle.plans.specs.Plan.{Rows}
 use Rattle.plans.specs.Contracts.{Planned}
 use Rattle.search.specs.Promise.{Told, isPotential, lent, cleared}
-use Rattle.explore.specs.State.{State, used, flagBase, NextOf, Marked, Explored}
+use Rattle.explore.specs.State.{State, used, flagBase, plan, lookedIn, NextOf, Marked, Explored}
 use Rattle.search.specs.Finish.{Ahead, here, back, Answered}
 use Rattle.search.specs.declared.SearchVerdict.{SearchVerdict}
 use Rattle.search.specs.declared.SearchVerdict.the-variants.{Unambiguous, Potential, Refused}
@@ -81,6 +85,13 @@ distinct-places (a ∷ l) d zero zero hk hj e = refl
 distinct-places (a ∷ l) (fresh n d) zero (suc j) hk hj e = absurd (n (subst (λ (b : ℕ). Mem b l) (sym e) (place-mem l j 0 (omega arith))))
 distinct-places (a ∷ l) (fresh n d) (suc k) zero hk hj e = absurd (n (subst (λ (b : ℕ). Mem b l) e (place-mem l k 0 (omega arith))))
 distinct-places (a ∷ l) (fresh n d) (suc k) (suc j) hk hj e = ap suc (distinct-places l d k j (omega arith) (omega arith) e)
+
+-- a sum over the first entries of a row, by their places
+total-taken : (f : ℕ → ℕ) (row : List ℕ) (n : ℕ) → n ≤ length row → total f (take n row) ≡ sum (λ k. f (getD row k 0)) n
+unfolding total sum
+total-taken f row zero h = refl
+total-taken f row (suc n) h =
+    ap (total f) (take-suc row n 0 (omega arith)) ∙ total-append f (take n row) (getD row n 0 ∷ []) ∙ omega (arith, total-taken f row n (omega arith))
 
 tail-of : {a b : ℕ} {u v : List ℕ} → _≡_ {A = List ℕ} (a ∷ u) (b ∷ v) → u ≡ v
 tail-of e = ap rest-of e
@@ -263,7 +274,16 @@ module _ (M : Moves) (W : Regular M) (R : Rows) (targets : List ℕ) (t m Q : �
       (ap (λ (n : ℕ). drop n row) (length-replicate (tripleCount Q) 0) ∙ e ∙ ap (λ (n : ℕ). drop n old) (sym (length-replicate (tripleCount Q) 0)))
       ∙ ap (λ (q : ℕ). cleared q old) (p .size)
 
-  module _ (certificate witness : List ℕ) where
+  -- the successors of the indices in the queue are those of the smallest closed set
+  pub looked-is : lookedIn R targets t m Q (s .queue) (s .count) ≡ lookedAt M
+  unfolding lookedAt
+  looked-is =
+      let f : ℕ → ℕ = λ i. length (successors M i) in
+      sum-same (λ k. plan R targets t m Q (getD (s .queue) k 0) .total) (λ k. f (getD (s .queue) k 0)) (s .count) (λ k l. p .counts (getD (s .queue) k 0) (queue-below k l))
+      ∙ sym (total-taken f (s .queue) (s .count) (omega (arith, marked .fits, marked .queue-room)))
+      ∙ total-same f (used s) (smallest M) (tripleCount Q) (marked .distinct) (smallest-distinct M W) (marked .below) found-smallest
+
+  module _ (certificate witness : List ℕ) (looked : ℕ) (count-is : looked ≡ lookedAt M) where
     -- what is lent, before and after
     abbrev told-of : SearchVerdict → List ℕ → List ℕ → Bool → Type 0
     told-of r certificate′ witness′ b =
@@ -271,21 +291,21 @@ module _ (M : Moves) (W : Regular M) (R : Rows) (targets : List ℕ) (t m Q : �
         (lent certificate′ (over (replicate (tripleCount Q) 0) (s .queue)) (over (replicate (tripleCount Q) 0) (s .parents)) witness′)
 
     -- the answer by the marks is the verdict's
-    pub told : (r : SearchVerdict) (certificate′ witness′ : List ℕ) → Answered s Q certificate witness r certificate′ witness′
+    pub told : (r : SearchVerdict) (certificate′ witness′ : List ℕ) → Answered s Q looked certificate witness r certificate′ witness′
         → Told (isPotential M) M (lent certificate queue parents witness) r
         (lent certificate′ (over (replicate (tripleCount Q) 0) (s .queue)) (over (replicate (tripleCount Q) 0) (s .parents)) witness′)
-    told (Unambiguous n) certificate′ witness′ (e, c, b, w) =
-        subst (told-of (Unambiguous n) certificate′ witness′) (sym e ∙ potential-is) (record {
-          verdict = ap Unambiguous (c ∙ size-found);
+    told (Unambiguous n l) certificate′ witness′ (e, c, b, w, o) =
+        subst (told-of (Unambiguous n l) certificate′ witness′) (sym e ∙ potential-is) (record {
+          verdict = ap₂ Unambiguous (c ∙ size-found) (o ∙ count-is);
           certificate = b ∙ ap (λ (l : List ℕ). over l certificate) (certificate-is ∙ ap (λ (q : ℕ). certificateOf q (smallest M)) (p .size));
           queue = row-cleared queue (s .queue) (x .queue-rest);
           parents = row-cleared parents (s .parents) (x .parents-rest);
           witness = w;
         })
-    told (Potential n) certificate′ witness′ (e, b, w) =
+    told (Potential n l) certificate′ witness′ (e, b, w, o) =
         let q = row-shortest (w .place) (w .rest) (w .ahead) (w .entry) in
-        subst (told-of (Potential n) certificate′ witness′) (sym e ∙ potential-is) (record {
-          verdict = ap Potential ((let k : n ≡ suc (length (w .rest)) = omega (arith, w .number-is) in k) ∙ sym (ap length q));
+        subst (told-of (Potential n l) certificate′ witness′) (sym e ∙ potential-is) (record {
+          verdict = ap₂ Potential ((let k : n ≡ suc (length (w .rest)) = omega (arith, w .number-is) in k) ∙ sym (ap length q)) (o ∙ count-is);
           certificate = b;
           queue = row-cleared queue (s .queue) (x .queue-rest);
           parents = row-cleared parents (s .parents) (x .parents-rest);

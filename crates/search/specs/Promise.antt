@@ -1,6 +1,6 @@
 -- What the search promises: its answer, and every lent row afterwards.
 -- Source: document 01, "Triples, certificate, witness", from "The search writes the smallest such set" on, and "Causes of refusal";
--- document 02, [1] (which witness).
+-- document 02, [1] (which witness) and [6] (how many successors it looked at, reported with either verdict).
 -- Assumes nothing.
 use Prim.Native.Nat.{ℕ}
 use mathlib.Core.Path.{_≡_}
@@ -20,6 +20,7 @@ use Rattle.triples.specs.Index.{index, tripleCount}
 use Rattle.triples.specs.Smallest.{isElement, smallest, size}
 use Rattle.triples.specs.Certificate.{byteCount, certificateOf}
 use Rattle.triples.specs.Shortest.{shortest}
+use Rattle.triples.specs.Looked.{lookedAt}
 use Rattle.search.specs.declared.SearchVerdict.{SearchVerdict}
 use Rattle.search.specs.declared.SearchVerdict.the-variants.{Unambiguous, Potential, Refused}
 
@@ -27,15 +28,16 @@ use Rattle.search.specs.declared.SearchVerdict.the-variants.{Unambiguous
 abbrev pub isPotential : Moves → Bool
 isPotential M = isElement (index (M .states) 1 1 1) (smallest M)
 
--- what the search finds: unambiguous with the size, or potential with the witness's number of entries
+-- what the search finds: unambiguous with the size, or potential with the witness's number of entries; and how many successors it
+-- looked at
 pub data Found : Type 0 where
-  unambiguous : ℕ → Found
-  potential : ℕ → Found
+  unambiguous : ℕ → ℕ → Found
+  potential : ℕ → ℕ → Found
 
 -- its answer as the code gives it
 abbrev pub searchVerdict : Answer Found → SearchVerdict
-searchVerdict (done (unambiguous number)) = Unambiguous number
-searchVerdict (done (potential number)) = Potential number
+searchVerdict (done (unambiguous number looked)) = Unambiguous number looked
+searchVerdict (done (potential number looked)) = Potential number looked
 searchVerdict (refused cause at) = Refused cause at
 
 -- what is lent: the certificate's bytes and three rows
@@ -64,7 +66,7 @@ cleared Q row = over (replicate (tripleCount Q) 0) row
 
 -- unambiguous: with the size; the certificate is that of the smallest closed set, the witness row is untouched
 pub record Certified (M : Moves) (before : Lent) (r : SearchVerdict) (after : Lent) : Type 0 where
-  pub verdict : r ≡ searchVerdict (done (unambiguous (size M)))
+  pub verdict : r ≡ searchVerdict (done (unambiguous (size M) (lookedAt M)))
   pub certificate : after .certificate ≡ over (certificateOf (M .states) (smallest M)) (before .certificate)
   pub queue : after .queue ≡ cleared (M .states) (before .queue)
   pub parents : after .parents ≡ cleared (M .states) (before .parents)
@@ -73,7 +75,7 @@ pub record Certified (M : Moves) (before : Lent) (r : SearchVerdict) (after : Le
 -- potential: with the number of entries of the shortest witness, which stands in the front of the witness row; the certificate is
 -- untouched
 pub record Witnessed (M : Moves) (before : Lent) (r : SearchVerdict) (after : Lent) : Type 0 where
-  pub verdict : r ≡ searchVerdict (done (potential (length (shortest M))))
+  pub verdict : r ≡ searchVerdict (done (potential (length (shortest M)) (lookedAt M)))
   pub certificate : after .certificate ≡ before .certificate
   pub queue : after .queue ≡ cleared (M .states) (before .queue)
   pub parents : after .parents ≡ cleared (M .states) (before .parents)

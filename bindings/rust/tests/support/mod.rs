@@ -97,11 +97,13 @@ pub fn lent_less(table: Table, lengths: [usize; 4]) {
     assert_eq!(lent_search(table, lengths), (refused(Cause::BufferTooShort, 0), true), "{table:?} {lengths:?}");
 }
 
-/// A search of a table without a fault that is lent its room is not refused; lent one less of any, it is.
+/// A search of a table without a fault that is lent its room is not refused, and looks at no more than the room tells; lent one less
+/// of any, it is refused.
 pub fn lent_room(table: Table) {
-    let Room { certificate, entries, .. } = ambiguity::search_room(table).unwrap();
+    let room = ambiguity::search_room(table).unwrap();
+    let Room { certificate, entries, .. } = room;
     let enough = [certificate, entries, entries, entries];
-    assert!(lent_search(table, enough).0.is_ok(), "{table:?}");
+    assert!(lent_search(table, enough).0.is_ok_and(|verdict| verdict.looked() <= room.most_looked()), "{table:?}");
     for row in 0..enough.len() {
         let mut less = enough;
         less[row] -= 1;

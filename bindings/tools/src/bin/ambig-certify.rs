@@ -20,6 +20,8 @@ trees. What is refused, and warnings about rules and names that no sentence
 uses, go to standard error.
 
   --steps        print the witness too, entry by entry
+  --looked       print the lines of --quiet, and looked=, the number of
+                 successors that the search looked at
   --html         write one page in HTML, with the trees as drawings (one FILE)
   --form=1       print the certificate without check digits
   --form=2       print it with check digits (this is the default)
@@ -31,7 +33,7 @@ uses, go to standard error.
 Exit status: 0 unambiguous, 1 potential or refused, 2 bad use, or a file that
 cannot be read; of several files the worst.
 ",
-    options: &["--steps", "--html", "--form=1", "--form=2", "-Werror", "--quiet"],
+    options: &["--steps", "--looked", "--html", "--form=1", "--form=2", "-Werror", "--quiet"],
     files: 1,
 };
 
@@ -40,31 +42,37 @@ fn verdict_lines(text: &[u8], grammar: &Grammar, searched: &Searched) -> String 
     let states = grammar.states();
     match searched {
         Searched::Unambiguous { size, .. } => format!("states={states}\nverdict=unambiguous\nreached={size}\n"),
-        Searched::Potential { witness } => {
+        Searched::Potential { witness, .. } => {
             format!("states={states}\nverdict=potential\n{}", strings::printed(text, grammar, witness))
         }
     }
 }
 
-/// What standard output gets: the certificate, or the explanation.
+/// These lines, and how much the search looked at.
+fn long_lines(text: &[u8], grammar: &Grammar, searched: &Searched) -> String {
+    format!("{}looked={}\n", verdict_lines(text, grammar, searched), searched.looked())
+}
+
+/// What standard output gets: the certificate, or the explanation. The certificate's form has no place for other lines.
 fn explained(request: &Request, file: &str, text: &[u8], grammar: &Grammar, searched: &Searched) -> String {
     match searched {
+        _ if request.has("--looked") => long_lines(text, grammar, searched),
         _ if request.has("--quiet") => verdict_lines(text, grammar, searched),
         _ if request.has("--html") => page::of(file, text, grammar, searched),
-        Searched::Unambiguous { certificate, size } => {
+        Searched::Unambiguous { certificate, size, .. } => {
             let form = if request.has("--form=1") { Form::Plain } else { Form::Checked };
             lines::written(grammar, *size, certificate, form)
         }
-        Searched::Potential { witness } => {
+        Searched::Potential { witness, .. } => {
             let explanation = explanation::of(grammar, witness);
             let steps = if request.has("--steps") { format!("\n{}", explanation.steps) } else { String::new() };
-            format!("{}{}{steps}", verdict_lines(text, grammar, searched), explanation.told(grammar))
+            format!("{}{}{steps}", long_lines(text, grammar, searched), explanation.told(grammar))
         }
     }
 }
 
 fn judged(request: &Request, file: &str, text: &[u8]) -> Answer {
-    let quiet = request.has("--quiet");
+    let quiet = request.has("--quiet") || request.has("--looked");
     let grammar = match Grammar::read(text) {
         Ok(grammar) => grammar,
         Err(refusal) if quiet => return Answer { status: Status::No, out: refusals::numbers(refusal), err: String::new() },

@@ -180,7 +180,7 @@ fn certificates_of_grammars_without_a_sentence() {
 fn certified() -> Vec<(Grammar, String)> {
     let of = |text: &str| {
         let grammar = Grammar::read(text.as_bytes()).unwrap();
-        let Searched::Unambiguous { certificate, size } = grammar.search() else { return None };
+        let Searched::Unambiguous { certificate, size, .. } = grammar.search() else { return None };
         let lines = lines::written(&grammar, size, &certificate, Form::Checked);
         Some((grammar, lines))
     };
@@ -192,7 +192,7 @@ fn both_forms_give_the_same_bytes() {
     let certified = certified();
     assert!(certified.len() >= 50);
     for (grammar, checked) in certified {
-        let Searched::Unambiguous { certificate, size } = grammar.search() else { unreachable!() };
+        let Searched::Unambiguous { certificate, size, .. } = grammar.search() else { unreachable!() };
         let plain = lines::written(&grammar, size, &certificate, Form::Plain);
         for lines in [plain, checked] {
             assert_eq!(lines::read(&grammar, lines.as_bytes()).unwrap().bytes, certificate);
@@ -270,7 +270,7 @@ fn every_bit_of_a_certificate_is_needed() {
     assert!(unambiguous().len() >= 20);
     for text in unambiguous() {
         let grammar = Grammar::read(text.as_bytes()).unwrap();
-        let Searched::Unambiguous { certificate: bytes, size } = grammar.search() else { panic!("{text}") };
+        let Searched::Unambiguous { certificate: bytes, size, .. } = grammar.search() else { panic!("{text}") };
         let lines = lines::written(&grammar, size, &bytes, Form::Plain);
         let held: Vec<usize> = (0..8 * bytes.len()).filter(|index| bytes[index / 8] >> (index % 8) & 1 == 1).collect();
         assert_eq!(size, held.len());

@@ -1,6 +1,6 @@
 //! What the tools have in common: options, several files, standard input, exit statuses, lines for scripts.
 
-use crate::support::{certify, corpus, file, one_a, run, said, text, CERTIFY, CHECK};
+use crate::support::{certify, corpus, file, one_a, run, said, text, Ran, CERTIFY, CHECK};
 
 const VERSION: &str = include_str!("../../../../VERSION");
 
@@ -97,6 +97,22 @@ fn lines_for_scripts() {
         said(1, "refused=11\nat=0\n")
     );
     assert_eq!(quiet(""), said(1, "malformed\n"));
+}
+
+/// Where `--looked` is asked for, one line stands behind those of `--quiet`, with either verdict and in every order of the options; a
+/// refusal has none, and neither has a certificate.
+#[test]
+fn how_much_the_search_looked_at() {
+    let pairs = text("", "S", &["S:", "S: S S"]);
+    for (text, looked) in [(one_a(), 14), (text("a", "S", &["S: S", "S: a"]), 55), (pairs, 235)] {
+        let quiet = run(CERTIFY, &["--quiet", "-"], text.as_bytes());
+        let expected = Ran { out: format!("{}looked={looked}\n", quiet.out), ..quiet };
+        for options in [&["--looked", "-"][..], &["-q", "--looked", "-"], &["--looked", "-q", "-"]] {
+            assert_eq!(run(CERTIFY, options, text.as_bytes()), expected);
+        }
+    }
+    assert_eq!(run(CERTIFY, &["--looked", "-"], b""), said(1, "refused=16\nat=1\n"));
+    assert!(!certify(&one_a()).out.contains("looked="));
 }
 
 /// Where `--quiet` is asked for, the tool prints what `ambig` prints, whose lines the index has.

@@ -9,6 +9,7 @@ const DANGLING: &str = "states=14
 verdict=potential
 left=(0 (2 if S else (3 x )3 )0
 right=(0 (1 if S )1 else (3 x )3 )0
+looked=390
 after `if if S`: left ends `S: if S`, line 3, right goes on with `else`
 ambiguous: `if if S else S` has two trees, for example `if if x else x`
 left tree:                  right tree:
@@ -22,6 +23,7 @@ const CYCLE: &str = "states=8
 verdict=potential
 left=(0 S )0
 right=(0 (1 S )1 )0
+looked=55
 after `a`: left ends the sentence, right ends `S: S`, line 3
 ambiguous: `a` has two trees
 left tree:        right tree:
@@ -48,8 +50,8 @@ close S': S  S
              close S': S
 ";
 
-/// Lines of the program before those that explain: states, verdict, two strings.
-const VERDICT: usize = 4;
+/// Lines before those that explain: states, verdict, two strings, and how much the search looked at.
+const VERDICT: usize = 5;
 
 fn dangling() -> String {
     text("if,else,x", "S", &["S: if S", "S: if S else S", "S: x"])

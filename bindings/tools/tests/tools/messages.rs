@@ -99,15 +99,15 @@ fn many_nonterminals_without_a_tree() {
     assert!(mended.err.starts_with(&named(&|i| i == 126 || (1..100).contains(&i) && i % 2 == 0)), "{}", mended.err);
 }
 
-/// What the search says of a text: the verdict, with the size or the number of the witness's entries.
-fn searched(text: &str) -> (bool, usize) {
+/// What the search says of a text: the verdict, with the size or the number of the witness's entries, and how much it looked at.
+fn searched(text: &str) -> (bool, usize, usize) {
     match Grammar::read(text.as_bytes()).unwrap().search() {
-        Searched::Unambiguous { size, .. } => (true, size),
-        Searched::Potential { witness } => (false, witness.len()),
+        Searched::Unambiguous { size, looked, .. } => (true, size, looked),
+        Searched::Potential { witness, looked } => (false, witness.len(), looked),
     }
 }
 
-/// Rules that are warned of have no part in the verdict: it is the same without them.
+/// Rules that are warned of have no part in the verdict: it is the same without them, and the search looks at as much.
 #[test]
 fn unused_rules_change_no_verdict() {
     let mut texts: Vec<String> = corpus().into_iter().map(|entry| entry.text).collect();

@@ -28,7 +28,7 @@ fn a_certificate_on_a_page() {
     let page = page(&one_a());
     well_formed(&page);
     assert!(page.contains("<strong>Unambiguous</strong>"));
-    assert!(page.contains("States Q = 6, rules 1, size of the certificate 11."));
+    assert!(page.contains("States Q = 6, rules 1, size of the certificate 11, successors looked at 14."));
     assert!(page.contains("<td class=\"number\">3</td><td>rule=S: a</td>"));
     assert!(page.contains(&format!("<pre>{}</pre>", certify(&one_a()).out)));
 }

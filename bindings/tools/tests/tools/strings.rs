@@ -10,7 +10,7 @@ fn potential() -> Vec<(String, Grammar, Vec<u32>)> {
     let of = |text: String| {
         let grammar = Grammar::read(text.as_bytes()).unwrap();
         match grammar.search() {
-            Searched::Potential { witness } => Some((text, grammar, witness)),
+            Searched::Potential { witness, .. } => Some((text, grammar, witness)),
             Searched::Unambiguous { .. } => None,
         }
     };

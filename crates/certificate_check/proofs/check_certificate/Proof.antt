@@ -7,7 +7,8 @@ use Rattle.grammar.proofs.Answers.{then-goes, then-stops}
 use Rattle.automaton.specs.PositionMoves.{movesOf}
 use Rattle.triples.specs.Certificate.{checkBytes, checkCertificate}
 use Rattle.triples.specs.Verdict.{checkVerdict}
-use Rattle.plans.proofs.PlannedLaws.{verified-of, planned-of}
+use Rattle.plans.proofs.PlannedLaws.{verified-of}
+use Rattle.plans.proofs.Planned.{planned-of}
 use Rattle.certificate_check.proofs.check_certificate.Statement.{statement}
 use Rattle.certificate_check.proofs.check_certificate.Tie as tie
 

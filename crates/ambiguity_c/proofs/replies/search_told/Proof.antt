@@ -14,8 +14,8 @@ enum-known-answer-2 c = search needs
 enum-known-answer-3 : tie.Need-enum-known-answer-3
 enum-known-answer-3 c = search needs
 
-cast-t9 : tie.Need-cast-t9
-cast-t9 c = search needs
+cast-t13 : tie.Need-cast-t13
+cast-t13 c = search needs
 
 returns : tie.Need-returns
 returns c = sym (ap searchReply (c .before .answer .given .1))
@@ -33,7 +33,7 @@ search-told-spec =
     enum-known-answer
     enum-known-answer-2
     enum-known-answer-3
-    cast-t9
+    cast-t13
     returns
     returns-2
     returns-3)

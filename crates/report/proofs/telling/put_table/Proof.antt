@@ -53,21 +53,26 @@ whole s = tableLines (checkTable limits (s .args .t) (s .args .n) (s .args .tabl
 abbrev sides : tie.Start → List ℕ
 sides s = sidesLines (checkTable limits (s .args .t) (s .args .n) (s .args .table .now)) (spelled (s .args .text .now) (s .args .starts .now) (s .args .lengths .now))
 
-is-size : (k : tie.After-search) (r : ℕ) → k .search .result ≡ search.Unambiguous r → unambiguousLines (start k .args .q) r ≡ whole (start k)
-is-size k r e = unambiguous-lines _ _ _ _ _ _ _ (start k .pre .0) before (k .search .result) (after k) suffice (k .search .ensures) r e
+is-size : (k : tie.After-search) (r l : ℕ) → k .search .result ≡ search.Unambiguous r l → unambiguousLines (start k .args .q) r ≡ whole (start k)
+is-size k r l e = unambiguous-lines _ _ _ _ _ _ _ (start k .pre .0) before (k .search .result) (after k) suffice (k .search .ensures) r l e
 
-is-sides : (k : tie.After-search) (r : ℕ) → k .search .result ≡ search.Potential r → whole (start k) ≡ potentialLines (start k .args .q) ++ sides (start k)
-is-sides k r e = potential-lines _ _ _ _ _ _ _ (start k .pre .0) before (k .search .result) (after k) suffice (k .search .ensures) r e
+is-sides : (k : tie.After-search) (r l : ℕ) → k .search .result ≡ search.Potential r l → whole (start k) ≡ potentialLines (start k .args .q) ++ sides (start k)
+is-sides k r l e = potential-lines _ _ _ _ _ _ _ (start k .pre .0) before (k .search .result) (after k) suffice (k .search .ensures) r l e
 
-fits : (k : tie.After-search) (r : ℕ) → k .search .result ≡ search.Potential r → r ≤ length (after k .witness)
-fits k r e = potential-fits _ _ _ _ _ _ _ (start k .pre .0) before (k .search .result) (after k) suffice (k .search .ensures) r e
+fits : (k : tie.After-search) (r l : ℕ) → k .search .result ≡ search.Potential r l → r ≤ length (after k .witness)
+fits k r l e = potential-fits _ _ _ _ _ _ _ (start k .pre .0) before (k .search .result) (after k) suffice (k .search .ensures) r l e
 
 begins : (k : tie.After-search) → Filling 0 (start k .args .out .now) (whole (start k)) 0 (start k .args .out .now) (whole (start k))
 begins k = filling-start 0 _ _ (omega (arith, lines-most _ _ _ _ _ _ _ (start k .pre .0), start k .pre .1))
 
--- of the second branch: the number of entries, and what is still to be written after the verdict
-abbrev entries : (c : tie.After-known-told2) → (r : ℕ) × (second c .search .result ≡ search.Potential r)
-entries c = (c .before .verdict2 .given .0 .0, c .before .verdict2 .given .1)
+-- of the branches: the verdict's numbers
+abbrev reached : (c : tie.After-known-told) → (r l : ℕ) × (first c .search .result ≡ search.Unambiguous r l)
+reached c = let g = c .before .verdict .given in (g .0 .0, g .0 .1 .0, g .1)
+
+abbrev entries : (c : tie.After-known-told2) → (r l : ℕ) × (second c .search .result ≡ search.Potential r l)
+entries c = let g = c .before .verdict2 .given in (g .0 .0, g .0 .1 .0, g .1)
+
+-- of the second branch: what is still to be written after the verdict
 
 after-potential : (c : tie.After-put-potential) →
     let k = second (c .before .before) in
@@ -75,7 +80,7 @@ after-potential : (c : tie.After-put-potential) →
 after-potential c =
     let b = c .before .before in
     let k = second b in
-    filling-ran (potentialLines (start k .args .q)) (sides (start k)) (is-sides k (entries b .0) (entries b .1)) (c .put-potential .ensures) (begins k)
+    filling-ran (potentialLines (start k .args .q)) (sides (start k)) (is-sides k (entries b .0) (entries b .1) (entries b .2)) (c .put-potential .ensures) (begins k)
 
 slice-aggregate-search : tie.Need-slice-aggregate-search
 slice-aggregate-search c = search needs
@@ -99,7 +104,7 @@ put-unambiguous-requires : tie.Need-put-unambiguous-requires
 put-unambiguous-requires c κs =
     let b = c .before in
     let k = first b in
-    omega (arith, ap length (is-size k (b .before .verdict .given .0 .0) (b .before .verdict .given .1)), lines-most _ _ _ _ _ _ _ (start k .pre .0), start k .pre .1)
+    omega (arith, ap length (is-size k (reached b .0) (reached b .1) (reached b .2)), lines-most _ _ _ _ _ _ _ (start k .pre .0), start k .pre .1)
 
 enum-known-verdict-2 : tie.Need-enum-known-verdict-2
 enum-known-verdict-2 c = search needs
@@ -108,25 +113,25 @@ put-potential-requires : tie.Need-put-potential-requires
 put-potential-requires c κs =
     let b = c .before in
     let k = second b in
-    omega (arith, filling-room (potentialLines (start k .args .q)) (sides (start k)) (is-sides k (entries b .0) (entries b .1)) (begins k))
+    omega (arith, filling-room (potentialLines (start k .args .q)) (sides (start k)) (is-sides k (entries b .0) (entries b .1) (entries b .2)) (begins k))
 
 array-share-prefix-witness : tie.Need-array-share-prefix-witness
 array-share-prefix-witness c =
     let b = c .before .before .before .before .before in
     let k = second b in
-    omega (arith, fits k (entries b .0) (entries b .1), k .search .kept .1 .1 .1 .1 .1 .1 .0, length-replicate {A = ℕ} 4608 0)
+    omega (arith, fits k (entries b .0) (entries b .1) (entries b .2), k .search .kept .1 .1 .1 .1 .1 .1 .0, length-replicate {A = ℕ} 4608 0)
 
 slice-aggregate-put-sides : tie.Need-slice-aggregate-put-sides
 slice-aggregate-put-sides c =
     let b = c .before .before .before .before .before .before in
-    sym (length-take-le _ _ (fits (second b) (entries b .0) (entries b .1)))
+    sym (length-take-le _ _ (fits (second b) (entries b .0) (entries b .1) (entries b .2)))
 
 put-sides-requires : tie.Need-put-sides-requires
 put-sides-requires c κs =
     let p = c .before .before .before .before in
     let b = p .before .before in
     let k = second b in
-    speakable _ _ _ _ _ _ _ (start k .pre .0) before (k .search .result) (after k) suffice (k .search .ensures) (entries b .0) (entries b .1)
+    speakable _ _ _ _ _ _ _ (start k .pre .0) before (k .search .result) (after k) suffice (k .search .ensures) (entries b .0) (entries b .1) (entries b .2)
     (p .put-potential .result) (p .put-potential .last .0) (omega (arith, p .put-potential .ensures .place)) (omega (arith, after-potential p .long, start k .pre .1))
 
 enum-told : tie.Need-enum-told
@@ -139,7 +144,7 @@ returns : tie.Need-returns
 returns c =
     let p = c .before .before in
     let b = p .before .before in
-    wrote-as (is-size (first b) (b .before .verdict .given .0 .0) (b .before .verdict .given .1)) (p .put-unambiguous .ensures)
+    wrote-as (is-size (first b) (reached b .0) (reached b .1) (reached b .2)) (p .put-unambiguous .ensures)
 
 same-length-2 : tie.Need-same-length-2
 same-length-2 c = search needs
