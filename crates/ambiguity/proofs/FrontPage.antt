@@ -24,6 +24,7 @@ use Rattle.triples.specs.Witness.{LeadsOn, ends, goes, Witness, begins, entryOf
 use Rattle.triples.specs.Verdict.{checkVerdict, WitnessAnswer, CertificateAnswer}
 use Rattle.triples.specs.declared.CheckVerdict.{CheckVerdict}
 use Rattle.triples.specs.declared.CheckVerdict.the-variants as check
+use Rattle.triples.proofs.Index.{index-below, index-injective}
 use Rattle.triples.proofs.Reached.{end-not-reached}
 use Rattle.triple_laws.proofs.Laws.{witness-exactly, smallest-distinct, smallest-below, certificates-of, witnesses-of, reached-of}
 use Rattle.parting.proofs.Former.{still-accepted}
@@ -40,7 +41,7 @@ use Rattle.ambiguity.proofs.Reports.{report-theorems}
 use Rattle.ambiguity.proofs.Steps.{step-theorems}
 use Rattle.ambiguity.proofs.Texts.{text-theorems}
 use Rattle.ambiguity.specs.Entries.{Stores}
-use Rattle.ambiguity.specs.Automata.{AutomatonTheorems}
+use Rattle.ambiguity.specs.Automata.{AutomatonTheorems, IndexTheorems}
 use Rattle.ambiguity.specs.FrontPage.{TableTheorems, WitnessTheorems, RecordTheorems, CertificateTheorems, FrontPage}
 
 -- a verdict is accepted exactly if the answer is done
@@ -152,6 +153,12 @@ automaton-theorems G W =
       once = smallest-distinct M (regular G W);
     }
 
+index-theorems : (Q : ℕ) → IndexTheorems Q
+index-theorems Q = record {
+  below = index-below Q;
+  apart = λ f p q g r s hf hp hq hg hr hs n e. n (index-injective Q f p q g r s hp hq hr hs e);
+}
+
 pub front-page : FrontPage
 front-page = record {
   tables = table-theorems;
@@ -167,4 +174,5 @@ front-page = record {
   readings = reading-theorems;
   backs = back-theorems;
   automata = automaton-theorems;
+  indices = index-theorems;
 }

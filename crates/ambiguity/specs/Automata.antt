@@ -1,6 +1,6 @@
 -- What is computed from the lists of moves, and whose moves they are: with this a reader of the promises need not believe the lists
--- (automaton/specs/PositionMoves.antt). Source: document 01, "States and moves", "Triples, certificate, witness"; document 02,
--- [3].
+-- (automaton/specs/PositionMoves.antt). Then the indices of triples. Source: document 01, "States and moves", "Triples, certificate,
+-- witness"; document 02, [3], [7].
 -- Assumes nothing.
 use Prim.Native.Nat.{ℕ, _≤_, _<_}
 use mathlib.Core.Path.{_≡_}
@@ -31,3 +31,9 @@ pub record AutomatonTheorems (G : Grammar) : Type 0 where
       → Reached (position limits G) f p q ↔ Mem (index (states G) f p q) (smallest (movesOf limits G))
   pub inside : (i : ℕ) → Mem i (smallest (movesOf limits G)) → i < tripleCount (states G)
   pub once : Distinct (smallest (movesOf limits G))
+
+-- document 02, [7]: unequal triples have unequal indices, and these are below 2Q²
+pub record IndexTheorems (Q : ℕ) : Type 0 where
+  pub below : (f p q : ℕ) → f < 2 → p < Q → q < Q → index Q f p q < tripleCount Q
+  pub apart : (f p q g r s : ℕ) → f < 2 → p < Q → q < Q → g < 2 → r < Q → s < Q
+      → ¬ ((f ≡ g) × (p ≡ r) × (q ≡ s)) → ¬ (index Q f p q ≡ index Q g r s)

@@ -51,7 +51,7 @@ use Rattle.ambiguity.specs.Searches.{SearchTheorems}
 use Rattle.ambiguity.specs.Texts.{TextTheorems}
 use Rattle.ambiguity.specs.Readings.{ReadingTheorems, BackTheorems}
 use Rattle.ambiguity.specs.Reports.{ReportTheorems}
-use Rattle.ambiguity.specs.Automata.{AutomatonTheorems}
+use Rattle.ambiguity.specs.Automata.{AutomatonTheorems, IndexTheorems}
 use Rattle.ambiguity.specs.Rooms.{RoomTheorems, LengthTheorems}
 
 module _ (t n : ℕ) (table : List ℕ) where
@@ -111,7 +111,7 @@ module _ (t n : ℕ) (table : List ℕ) where
     -- automaton, is still accepted; of a grammar without one it is refused with 19 (`refused`, [4])
     pub former : (G : Grammar) → Stores t n table G → AcceptableCertificate (positionOf limits G every) bytes → v ≡ check.Accepted
 
--- whatever answers as the entries promise; and the automaton with which they are computed
+-- whatever answers as the entries promise; and the automaton and the indices with which they are computed
 pub record FrontPage : Type 1 where
   pub tables : (t n : ℕ) (table : List ℕ) (r : TableChecked) → TableAnswer t n table r → TableTheorems t n table r
   pub steps : (t n : ℕ) (table : List ℕ) (f p q : ℕ) (ask : ℕ → StepAnswer) → StepAnswers t n table f p q ask → StepTheorems t n table f p q ask
@@ -130,3 +130,4 @@ pub record FrontPage : Type 1 where
   pub backs : (text lines left right : List ℕ) (r : ReadBack) (left′ right′ : List ℕ) → ReadsBack text lines left right r left′ right′
       → BackTheorems text lines left right r left′ right′
   pub automata : (G : Grammar) → WellFormed limits G → AutomatonTheorems G
+  pub indices : (Q : ℕ) → IndexTheorems Q

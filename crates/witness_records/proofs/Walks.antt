@@ -28,12 +28,13 @@ use Rattle.triples.specs.declared.CheckVerdict.the-variants.{Accepted, Refused}
 use Rattle.triple_laws.proofs.CertificateCheck.{index-zero}
 use Rattle.prepared.specs.Prepared.{Sized}
 use Rattle.witness_check.specs.Contracts.{stepAt}
-use Rattle.witness_check.proofs.WalkLaws.{index-end, step-element, beyond}
+use Rattle.witness_check.proofs.WalkLaws.{step-element, beyond}
 use Rattle.witness_records.specs.declared.TripleRecord.{TripleRecord}
 use Rattle.witness_records.specs.declared.Board.{Board}
 use Rattle.witness_records.specs.Records.{triple, triples}
 use Rattle.witness_records.specs.Walk.{none, after, walkFrom, endOf, told, ending}
 use Rattle.witness_records.specs.Contracts.{ReadyFor, Begun}
+use Rattle.witness_records.proofs.Entries.{index-end}
 
 -- the test of a step on a board's rows
 abbrev pub follows : Board → ℕ → ℕ → Bool

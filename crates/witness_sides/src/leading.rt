@@ -6,6 +6,7 @@ ghost use Rattle.triples.specs.Index.{index};
 ghost use Rattle.steps.specs.Plan.{rowsOf};
 ghost use Rattle.witness_sides.specs.Contracts.{noStep, stepFound, Searchable};
 use grammar::MAX_STATES;
+use indices::index_of;
 use moves::CLASSES;
 use steps::StepAnswer;
 use triples::Move;
@@ -19,7 +20,7 @@ fn next_index(s: Step, q: usize) -> usize
     requires { ⌜ q ≤ limits .maxStates ⌝ }
     ensures { λ r. ⌜ r ≡ index q (s .layer) (s .left) (s .right) ⌝ }
 {
-    s.layer as usize * (q * q) + s.left as usize * q + s.right as usize
+    index_of(q, s.layer as usize, s.left as usize, s.right as usize)
 }
 
 // A step that stays at index 0.
