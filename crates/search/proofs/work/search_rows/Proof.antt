@@ -5,6 +5,7 @@ use Prim.Native.Nat.{ℕ, _+_, _*_, _≤_}
 use mathlib.Core.Path.{_≡_, ap, sym, subst₂, _∙_}
 use mathlib.Core.List.{List}
 use lib.ListN.{length, getD, drop}
+use Rattle.plans.specs.Contracts.{mostSquare}
 use Rattle.triples.specs.Index.{tripleCount}
 use Rattle.plans.specs.Plan.{Rows, rows}
 use Rattle.plans.proofs.PlanLaws.{square-of}
@@ -39,7 +40,7 @@ answer-place c = c .before .before .before .before .before .before .before .befo
 table : tie.Start → Rows
 table e = rows (e .args .ahead .now) (e .args .number .now) (e .args .member .now) (e .args .first .now)
 
-small : (e : tie.Start) → (16 ≤ e .args .q * e .args .q) × (e .args .q * e .args .q ≤ 65536)
+small : (e : tie.Start) → (16 ≤ e .args .q * e .args .q) × (e .args .q * e .args .q ≤ mostSquare)
 small e = square-of (e .args .q) (e .pre .0 .verified .fits .four) (e .pre .0 .verified .fits .few)
 
 mul-square : tie.Need-mul-square
