@@ -1,5 +1,5 @@
--- The successors of a plan of rows that show an automaton stand in the order in which they are pushed. A side that opens never leads
--- where its shift leads, to the next state; so a shift lies between its targets. Assumes nothing.
+-- The successors of a plan of rows that show an automaton stand in the order in which they are pushed. A shift moves the right side,
+-- which a left block leaves where it is; so the shift's index is none of the block's. Assumes nothing.
 use mathlib.Core.Path.{_≡_, refl, ap, sym, subst, _∙_}
 use mathlib.Core.Logic.{_⊎_, inl, inr}
 use mathlib.Core.List.{List, [], _∷_}
@@ -42,6 +42,16 @@ row-past Q w p u q v hq hv le = elim (lt-or-le u p) [
   | inr l ↦ elim (ℕ-discrete u p) [
     | yes e ↦ inr e
     | no n ↦ inl (omega (arith, n), omega (arith, mul-le-mul-right Q (let z : suc p ≤ u = omega (arith, n) in z), suc-mul p Q))
+  ]
+]
+
+-- indices of one layer with unequal right states differ
+row-apart : (Q w u p v q : ℕ) → v < Q → q < Q → v < q → w + v + u * Q ≡ w + p * Q + q → ⊥
+row-apart Q w u p v q hv hq l e = elim (lt-or-le u p) [
+  | inl h ↦ omega (arith, e, mul-le-mul-right Q h, suc-mul u Q)
+  | inr h ↦ elim (ℕ-discrete u p) [
+    | yes z ↦ omega (arith, e, l, ap (λ (u : ℕ). u * Q) z)
+    | no n ↦ omega (arith, e, mul-le-mul-right Q (let z : suc p ≤ u = omega (arith, n) in z), suc-mul p Q)
   ]
 ]
 
@@ -99,10 +109,9 @@ module _ (M : Moves) (S : Regular M) (t m : ℕ) (new : Tables) (X : Shows M t m
   no-move q u (a, x, (r, s)) (inr c) = S .ahead-no-close (c .0) q u (omega (arith, s .0, s .1)) (c .1)
   no-move q u (a, x, (r, s)) (inl o) = S .terminal-no-open (o .0) q u (omega (arith, s .0, x .0), omega (arith, s .0, x .1)) (o .1)
 
-  -- a state before a symbol opens, if it moves alone, and does not lead to the state past it
-  not-past : (p u : ℕ) → p < Q → 1 ≤ M .ahead p → Alone M p u → ¬ (u ≡ suc p)
-  not-past p u l h (inr c) e = S .ahead-no-close (c .0) p u h (c .1)
-  not-past p u l h (inl o) e = S .opens-apart (o .0) p u h (o .1) (e ∙ sym (X .next p l h))
+  -- the state past one that stands before a symbol
+  below-past : (p : ℕ) → p < Q → 1 ≤ M .ahead p → suc p < Q
+  below-past p l h = omega (arith, S .shifts-below p h, X .next p l h)
 
   -- where both sides have moves alone, both stay in the layer
   layer-left : (f p q k l : ℕ) → f < 2 → p < Q → q < Q → side p .from ≤ k → k < side p .from + aloneOf (new .ahead) t m f (side p) q
@@ -161,18 +170,11 @@ module _ (M : Moves) (S : Regular M) (t m : ℕ) (new : Tables) (X : Shows M t m
       shift-past-right = λ s l c d.
           let v = target q l hq c (omega (arith, right-le)) in
           let y = ap (λ (z : ℕ). z * (Q * Q)) (shift-layers s .1) in omega (arith, e, y, v .0);
-      past-shift = λ s k a b le.
+      shift-apart = λ s k a b z.
           let u = target p k hp a (omega (arith, left-le)) in
           let xx = ap (λ (z : ℕ). z * (Q * Q)) (shift-layers s .0) in
-          let yy = ap (λ (z : ℕ). z * (Q * Q)) (shift-layers s .1) in
           let c = shift-ahead f p q hp hq s in
-          elim (row-past Q (f * (Q * Q)) p (getD ts k 0) q 0 hq (omega (arith, four)) (omega (arith, le, xx, yy))) [
-            | inl h ↦ inl (elim (lt-or-le (getD ts k 0) (suc (suc p))) [
-              | inl w ↦ absurd (not-past p (getD ts k 0) hp (c .0) (u .1) (omega (arith, h .0, w)))
-              | inr w ↦ omega (arith, e, xx, four, mul-le-mul-right Q w, suc-mul (suc p) Q, suc-mul p Q)
-            ])
-            | inr h ↦ inr (omega (arith, e, xx, ap (λ (z : ℕ). z * Q) h))
-          ];
+          row-apart Q (f * (Q * Q)) (getD ts k 0) (suc p) q (suc q) hq (below-past q hq (c .1)) (omega arith) (omega (arith, z, e, xx, suc-mul p Q));
     }
 
     -- where there are pairs, both sides close

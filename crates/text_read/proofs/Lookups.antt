@@ -76,7 +76,7 @@ pub code-low : (t i : ℕ) → i < t → codeOf limits t i ≡ i + 1
 unfolding codeOf
 code-low t i h = rw (lt-ltb i t h)
 
-pub code-high : (t i : ℕ) → t ≤ i → codeOf limits t i ≡ limits .nonterminalBase + (i - t)
+pub code-high : (t i : ℕ) → t ≤ i → codeOf limits t i ≡ 128 + (i - t)
 unfolding codeOf
 code-high t i h = rw (le-ltb i t h)
 

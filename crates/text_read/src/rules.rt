@@ -18,7 +18,6 @@ use super::value::key_split;
 use super::value::rule_shape;
 use grammar::MALFORMED;
 use grammar::MAX_LENGTH;
-use grammar::MAX_RULES;
 use grammar::NAME_UNKNOWN;
 use grammar::RULE_TOO_LONG;
 use names::LINE_END;
@@ -26,7 +25,7 @@ use names::RULE;
 use names::SPACE;
 
 // One rule more than a grammar has: the table check refuses it, so the rules after it need not be kept.
-const KEPT_RULES: usize = MAX_RULES + 1;
+const KEPT_RULES: usize = 101;
 
 // Writes the code of each piece between spaces, from a place on, into a row from entry `at` on.
 fn put_codes(

@@ -62,7 +62,7 @@ pub fn body_known(r: &[u8], text: &[u8], starts: &[u32], lengths: &[u32]) -> boo
 
 // The code of symbol number i, of t terminals.
 pub fn code_of(t: usize, i: usize) -> u8
-    requires { ⌜ (t ≤ limits .maxTerminals) × (i < t + limits .maxNonterminals) ⌝ }
+    requires { ⌜ (t ≤ 127) × (i < t + 127) ⌝ }
     ensures { λ r. ⌜ r ≡ codeOf limits t i ⌝ }
 {
     if i < t {

@@ -1,4 +1,4 @@
--- `text_read::rules::take_rule` meets its contract: the tests of `knownRule` in its order; of a rule after those that are kept nothing is kept. Assumes nothing.
+-- `text_read::rules::take_rule` meets its contract: the tests of `knownRule` in its order; of a rule after 101 others nothing is kept. Assumes nothing.
 use borrow.Author.Needs.{needs}
 use native.Mathlib.Omega.{arith}
 use mathlib.Core.Path.{_≡_, sym, ap, _∙_}
