@@ -182,7 +182,7 @@ module _ (M : Moves) where
     -- and their places are those of a usize
     place-usize : M .states ≤ limits .maxStates → (f p q k : ℕ) → k < length (records M f p q) → Usize k
     place-usize small f p q k h =
-        let m = mul-le-mul {n₁ = M .states} {m₁ = M .states} {n₂ = 256} {m₂ = 256} small small in
+        let m = mul-le-mul {n₁ = M .states} {m₁ = M .states} {n₂ = limits .maxStates} {m₂ = limits .maxStates} small small in
         omega (arith, m, at-most f p q)
 
 -- the records of a triple in range are the steps of the position automaton

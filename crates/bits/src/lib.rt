@@ -66,7 +66,7 @@ pub fn window(bytes: &[u8], i: usize) -> u64
 
 // Where the window from i on ends.
 pub fn window_end(bytes: &[u8], i: usize) -> usize
-    requires { ⌜ (i < 8 * length (now bytes)) × (i < 1048576) ⌝ }
+    requires { ⌜ (i < 8 * length (now bytes)) × (i < 4294967296) ⌝ }
     ensures { λ r. ⌜ r ≡ windowEnd (length (now (bytes .entry))) i ⌝ }
 {
     if i / 8 + 8 <= bytes.len() {

@@ -16,7 +16,7 @@ use Rattle.text.specs.Promise.{ReadsText}
 use Rattle.text.specs.declared.TextRead.{TextRead}
 use Rattle.text.specs.declared.TextRead.the-variants as reader
 use Rattle.text.proofs.Enough.{Enough, ReadRows, rows-refused, read-rows}
-use Rattle.text.proofs.Spans.{spelled}
+use Rattle.text.specs.Spelled.{spelled}
 use Rattle.readings.specs.Promise.{stringsInto, readBackInto, readBack, rowAfter, ReadsBack}
 use Rattle.readings.specs.declared.ReadBack.{ReadBack}
 use Rattle.readings.specs.declared.ReadBack.the-variants.{GrammarRefused}

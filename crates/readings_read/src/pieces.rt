@@ -3,7 +3,7 @@ ghost use mathlib.Core.Path.{_≡_};
 ghost use Prim.Native.Nat.{_+_, _≤_};
 ghost use lib.ListN.{length};
 ghost use Rattle.grammar.specs.Limits.{limits};
-ghost use Rattle.text.proofs.Spans.{spelled};
+ghost use Rattle.text.specs.Spelled.{spelled};
 ghost use Rattle.text_read.specs.Lines.{Spans};
 ghost use Rattle.readings.specs.Readings.{wordOf};
 ghost use Rattle.readings_read.specs.Words.{Symbols, markPiece, namePiece, pieceOf, entryOf};

@@ -1,5 +1,5 @@
 // The two lines: both are checked before a row is written.
-ghost use Rattle.text.proofs.Spans.{spelled};
+ghost use Rattle.text.specs.Spelled.{spelled};
 ghost use Rattle.readings_read.specs.Words.{Symbols};
 ghost use Rattle.readings_read.specs.Lines.{StartTold, LineTold, FirstSaid, LinesTold, BackTold};
 use super::Form;

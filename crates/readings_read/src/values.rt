@@ -4,7 +4,7 @@ ghost use mathlib.Core.List.{map};
 ghost use Prim.Native.Nat.{_≤_};
 ghost use lib.ListN.{length};
 ghost use Rattle.grammar.specs.Basics.{over};
-ghost use Rattle.text.proofs.Spans.{spelled};
+ghost use Rattle.text.specs.Spelled.{spelled};
 ghost use Rattle.readings.specs.Readings.{piecesOf};
 ghost use Rattle.readings_read.specs.Words.{Symbols, worse, pieceForm, ValueTold, entryAt};
 use super::Form;

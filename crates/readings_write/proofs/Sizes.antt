@@ -14,7 +14,7 @@ use Rattle.text.specs.Read.{symbolOf}
 use Rattle.text.specs.Print.{nameOf}
 use Rattle.text.proofs.Pieces.{all-at}
 use Rattle.text.proofs.Names.{name-size, right-number}
-use Rattle.text.proofs.Spans.{spelled}
+use Rattle.text.specs.Spelled.{spelled}
 use Rattle.text_write.proofs.LentLaws.{names-count}
 use Rattle.readings.specs.Readings.{word, words, readingLines, Valid, AllValid}
 use Rattle.readings.specs.Letters.{letterFrom}

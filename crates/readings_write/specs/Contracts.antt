@@ -7,7 +7,7 @@ use lib.ListN.{length, getD}
 use Rattle.grammar.specs.Limits.{limits}
 use Rattle.text.specs.Pieces.{lineEnd, space, ledBy}
 use Rattle.text.specs.Names.{all, isName}
-use Rattle.text.proofs.Spans.{spelled}
+use Rattle.text.specs.Spelled.{spelled}
 use Rattle.text_write.specs.Contracts.{Rows}
 use Rattle.readings.specs.Readings.{Valid, word, words, readingLines}
 use Rattle.readings.specs.Letters.{letterFrom}

@@ -5,7 +5,7 @@ ghost use Prim.Native.Nat.{_+_, _≤_, _<_};
 ghost use lib.ListN.{length, drop};
 ghost use Rattle.grammar.specs.Limits.{limits};
 ghost use Rattle.text.specs.Numbers.{decimal};
-ghost use Rattle.text.proofs.Spans.{spelled};
+ghost use Rattle.text.specs.Spelled.{spelled};
 ghost use Rattle.text_write.specs.Contracts.{Wrote};
 ghost use Rattle.readings.specs.Readings.{word};
 ghost use Rattle.readings.specs.Letters.{letterFrom};

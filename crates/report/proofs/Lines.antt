@@ -17,7 +17,8 @@ use Rattle.automaton.specs.PositionMoves.{movesOf}
 use Rattle.triples.specs.Smallest.{size}
 use Rattle.triples.specs.Shortest.{shortest}
 use Rattle.text.specs.Numbers.{decimal}
-use Rattle.text.proofs.Spans.{spelled, length-spelled}
+use Rattle.text.specs.Spelled.{spelled}
+use Rattle.text.proofs.Spans.{length-spelled}
 use Rattle.search.specs.Promise.{Lent, isPotential, Searches}
 use Rattle.search.specs.declared.SearchVerdict.{SearchVerdict}
 use Rattle.search.specs.declared.SearchVerdict.the-variants as search

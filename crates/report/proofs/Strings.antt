@@ -29,7 +29,7 @@ use Rattle.figures.proofs.ShortestLaws.{potential-shortest}
 use Rattle.figures.proofs.SidesLaws.{sides-few, ShortestSteps, shortest-steps}
 use Rattle.text.specs.Names.{all, isName}
 use Rattle.text.proofs.RoundTrip.{apart}
-use Rattle.text.proofs.Spans.{spelled}
+use Rattle.text.specs.Spelled.{spelled}
 use Rattle.witness_sides.specs.Sides.{Walkable, TwoSides, Walks}
 use Rattle.witness_sides.specs.declared.Lengths.{Lengths}
 use Rattle.readings.specs.Readings.{Valid, AllValid, readingLines}

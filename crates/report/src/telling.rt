@@ -5,7 +5,7 @@ ghost use Prim.Native.Nat.{_≤_};
 ghost use lib.ListN.{length};
 ghost use Rattle.grammar.specs.Limits.{limits};
 ghost use Rattle.grammar.specs.TableCheck.{checkTable};
-ghost use Rattle.text.proofs.Spans.{spelled};
+ghost use Rattle.text.specs.Spelled.{spelled};
 ghost use Rattle.text_write.specs.Contracts.{Wrote};
 ghost use Rattle.report.specs.Report.{reportOf, reportSize};
 ghost use Rattle.report.specs.Contracts.{Tellable, Speakable, tableLines, sidesLines};

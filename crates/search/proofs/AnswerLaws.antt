@@ -101,7 +101,7 @@ tail-of e = ap rest-of e
     rest-of (x ∷ w) = w
 
 module _ (M : Moves) (W : Regular M) (R : Rows) (targets : List ℕ) (t m Q : ℕ) (p : Planned M R targets t m Q)
-    (queue parents : List ℕ) (s : State) (x : Explored R targets t m Q queue parents s) where
+    (queue places marks : List ℕ) (s : State) (x : Explored R targets t m Q queue places marks s) where
   marked : Marked Q s
   marked = x .going .marked
 
@@ -283,23 +283,24 @@ module _ (M : Moves) (W : Regular M) (R : Rows) (targets : List ℕ) (t m Q : �
       ∙ sym (total-taken f (s .queue) (s .count) (omega (arith, marked .fits, marked .queue-room)))
       ∙ total-same f (used s) (smallest M) (tripleCount Q) (marked .distinct) (smallest-distinct M W) (marked .below) found-smallest
 
-  module _ (certificate witness : List ℕ) (looked : ℕ) (count-is : looked ≡ lookedAt M) where
+  module _ (parents row : List ℕ) (row-rest : drop (tripleCount Q) row ≡ drop (tripleCount Q) parents)
+      (certificate witness : List ℕ) (looked : ℕ) (count-is : looked ≡ lookedAt M) where
     -- what is lent, before and after
     abbrev told-of : SearchVerdict → List ℕ → List ℕ → Bool → Type 0
     told-of r certificate′ witness′ b =
         Told b M (lent certificate queue parents witness) r
-        (lent certificate′ (over (replicate (tripleCount Q) 0) (s .queue)) (over (replicate (tripleCount Q) 0) (s .parents)) witness′)
+        (lent certificate′ (over (replicate (tripleCount Q) 0) (s .queue)) (over (replicate (tripleCount Q) 0) row) witness′)
 
     -- the answer by the marks is the verdict's
     pub told : (r : SearchVerdict) (certificate′ witness′ : List ℕ) → Answered s Q looked certificate witness r certificate′ witness′
         → Told (isPotential M) M (lent certificate queue parents witness) r
-        (lent certificate′ (over (replicate (tripleCount Q) 0) (s .queue)) (over (replicate (tripleCount Q) 0) (s .parents)) witness′)
+        (lent certificate′ (over (replicate (tripleCount Q) 0) (s .queue)) (over (replicate (tripleCount Q) 0) row) witness′)
     told (Unambiguous n l) certificate′ witness′ (e, c, b, w, o) =
         subst (told-of (Unambiguous n l) certificate′ witness′) (sym e ∙ potential-is) (record {
           verdict = ap₂ Unambiguous (c ∙ size-found) (o ∙ count-is);
           certificate = b ∙ ap (λ (l : List ℕ). over l certificate) (certificate-is ∙ ap (λ (q : ℕ). certificateOf q (smallest M)) (p .size));
           queue = row-cleared queue (s .queue) (x .queue-rest);
-          parents = row-cleared parents (s .parents) (x .parents-rest);
+          parents = row-cleared parents row row-rest;
           witness = w;
         })
     told (Potential n l) certificate′ witness′ (e, b, w, o) =
@@ -308,7 +309,7 @@ module _ (M : Moves) (W : Regular M) (R : Rows) (targets : List ℕ) (t m Q : �
           verdict = ap₂ Potential ((let k : n ≡ suc (length (w .rest)) = omega (arith, w .number-is) in k) ∙ sym (ap length q)) (o ∙ count-is);
           certificate = b;
           queue = row-cleared queue (s .queue) (x .queue-rest);
-          parents = row-cleared parents (s .parents) (x .parents-rest);
+          parents = row-cleared parents row row-rest;
           witness = w .front ∙ ap (λ (l : List ℕ). over l witness) (sym q);
         })
     told (Refused cause at) certificate′ witness′ e = absurd e

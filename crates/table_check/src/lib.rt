@@ -3,7 +3,6 @@ mod earlier;
 mod reading;
 
 ghost use mathlib.Core.Path.{_≡_};
-ghost use mathlib.Core.List.{[]};
 ghost use Prim.Native.Nat.{_+_, _≤_};
 ghost use lib.ListN.{length};
 ghost use lib.Seq.{paste};
@@ -11,8 +10,7 @@ ghost use Rattle.grammar.specs.Limits.{limits};
 ghost use Rattle.grammar.specs.Record.{recordOf};
 ghost use Rattle.grammar.specs.Refusal.{refused};
 ghost use Rattle.grammar.specs.TableCheck.{inRange, storedTable, tableChecked, TableAnswer};
-ghost use Rattle.grammar.proofs.Steps.{grammarOf};
-ghost use Rattle.table_check.specs.Contracts.{ruleRead, Before, nextOrFull};
+ghost use Rattle.table_check.specs.Contracts.{ruleRead, ruleless, Before, nextOrFull};
 use earlier::repeats;
 use grammar::CheckedGrammar;
 use grammar::MAX_NONTERMINALS;
@@ -80,7 +78,7 @@ fn next_rule<'a>(
 
 // The record of a grammar without rules.
 fn without_rules(t: u16, n: u16) -> CheckedGrammar
-    ensures { λ r. ⌜ r ≡ recordOf (grammarOf t n []) ⌝ }
+    ensures { λ r. ⌜ r ≡ recordOf (ruleless t n) ⌝ }
 {
     CheckedGrammar {
         terminals: t,

@@ -22,7 +22,8 @@ use Rattle.text.specs.Rules.{checkText, readInto}
 use Rattle.text.specs.Promise.{nameStarts, nameLengths, textRead, afterwards, ReadsText}
 use Rattle.text.specs.declared.TextRead.{TextRead}
 use Rattle.text.specs.declared.TextRead.the-variants.{Read, Refused}
-use Rattle.text.proofs.Spans.{spelled, Inside, length-lengths, length-name-starts, read-spelled, read-inside}
+use Rattle.text.specs.Spelled.{spelled, Inside}
+use Rattle.text.proofs.Spans.{length-lengths, length-name-starts, read-spelled, read-inside}
 use Rattle.text.proofs.WellNamed.{WellNamedSource}
 use Rattle.text.proofs.Admit.{text-checked}
 use Rattle.text.proofs.RoundTrip.{apart, reads-into}

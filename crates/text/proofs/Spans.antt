@@ -1,6 +1,4 @@
--- The names stand in the text where their starts and lengths say. `spelled` takes from the text, for each start and length, that
--- many bytes from there on.
--- Assumes nothing.
+-- The names stand in the text where their starts and lengths say. Assumes nothing.
 use Prim.Native.Nat.{ℕ, zero, suc, _+_, _≤_, _<_}
 use mathlib.Core.Path.{_≡_, refl, ap, ap₂, sym, subst, _∙_}
 use mathlib.Core.List.{List, [], _∷_, _++_, append-assoc, append-nil, map}
@@ -15,17 +13,8 @@ use Rattle.text.specs.Keys.{key}
 use Rattle.text.specs.Read.{Source, symbolNames, readText}
 use Rattle.text.specs.Print.{printLine, printRule, printed}
 use Rattle.text.specs.Promise.{startsFrom, nameStarts, nameLengths}
+use Rattle.text.specs.Spelled.{spelled, Inside}
 use Rattle.text.proofs.PrintRead.{print-read}
-
--- what stands in the text at each start, as long as its length says
-unfoldable pub spelled : List ℕ → List ℕ → List ℕ → List (List ℕ)
-spelled text [] lengths = []
-spelled text (at ∷ starts) [] = []
-spelled text (at ∷ starts) (l ∷ lengths) = take l (drop at text) ∷ spelled text starts lengths
-
--- each start with its length lies in the text
-abbrev pub Inside : List ℕ → List ℕ → List ℕ → Type 0
-Inside text starts lengths = (i : ℕ) → i < length starts → getD starts i 0 + getD lengths i 0 ≤ length text
 
 -- there are as many as starts
 pub length-spelled : (text starts lengths : List ℕ) → length starts ≡ length lengths → length (spelled text starts lengths) ≡ length starts

@@ -5,4 +5,5 @@ pub mod Keys
 pub mod Read
 pub mod Rules
 pub mod Print
+pub mod Spelled
 pub mod Promise

@@ -64,16 +64,16 @@ module _ (text : List ℕ) (e : ℕ) (found : e ≡ 0 + index 10 (drop 0 text)) 
 
   module _ (inside : e < length text) where
     first-on : readLines limits (splitOn 10 text)
-        ≡ andThen (declaration 1 0 0 127 [] (part 0 e text)) (λ ts. wholeLine 2 (splitOn 10 (drop (e + 1) text)) (readSecond ts))
+        ≡ andThen (declaration 1 0 0 (limits .maxTerminals) [] (part 0 e text)) (λ ts. wholeLine 2 (splitOn 10 (drop (e + 1) text)) (readSecond ts))
     unfolding readLines
     first-on = ap (readLines limits) (piece-more 10 text 0 e (omega arith) found inside)
         ∙ whole-step 1 (part 0 e text) (splitOn 10 (drop (e + 1) text)) _ (split-pos 10 _)
 
-    pub first-fault : (c p : ℕ) → declaration 1 0 0 127 [] (part 0 e text) ≡ refused c p
+    pub first-fault : (c p : ℕ) → declaration 1 0 0 (limits .maxTerminals) [] (part 0 e text) ≡ refused c p
         → readLines limits (splitOn 10 text) ≡ refused c p
     first-fault c p q = first-on ∙ then-stops _ _ c p q
 
-    pub first-names : (start end count : ℕ) → NamesAt 1 0 0 127 [] (part 0 e text) start end count → length text ≤ 65536
+    pub first-names : (start end count : ℕ) → NamesAt 1 0 0 (limits .maxTerminals) [] (part 0 e text) start end count → length text ≤ (limits .maxText)
         → FirstHead text start e count
     first-names start end count n short =
         let l : length (part 0 e text) ≡ e - 0 = length-piece 10 text 0 e (omega arith) found in
@@ -109,11 +109,11 @@ module _ (text : List ℕ) (a e t : ℕ) (h : FirstHead text a e t) (f : ℕ) (f
         ∙ ap (λ ls. wholeLine 2 ls (readSecond (namesOf (part a e text)))) (piece-more 10 text (e + 1) f (omega (arith, h .ends)) found inside)
         ∙ whole-step 2 (part (e + 1) f text) (splitOn 10 (drop (f + 1) text)) (readSecond (namesOf (part a e text))) (split-pos 10 _)
 
-    pub second-fault : (c p : ℕ) → declaration 2 1 1 127 (namesOf (part a e text)) (part (e + 1) f text) ≡ refused c p
+    pub second-fault : (c p : ℕ) → declaration 2 1 1 (limits .maxNonterminals) (namesOf (part a e text)) (part (e + 1) f text) ≡ refused c p
         → readLines limits (splitOn 10 text) ≡ refused c p
     second-fault c p q = second-on ∙ then-stops _ _ c p q
 
-    pub second-names : (start end count : ℕ) → NamesAt 2 1 1 127 (namesOf (part a e text)) (part (e + 1) f text) start end count
+    pub second-names : (start end count : ℕ) → NamesAt 2 1 1 (limits .maxNonterminals) (namesOf (part a e text)) (part (e + 1) f text) start end count
         → HeadsAt text a e (e + 1 + start) f t count
     second-names start end count n =
         let l : length (part (e + 1) f text) ≡ f - (e + 1) = length-piece 10 text (e + 1) f (omega (arith, h .ends)) found in

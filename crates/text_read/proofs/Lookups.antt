@@ -13,7 +13,8 @@ use Rattle.grammar.specs.Basics.{choose}
 use Rattle.grammar.specs.Limits.{limits}
 use Rattle.text.specs.Names.{all, sameName, place}
 use Rattle.text.specs.Read.{numberOf, isKnown, codeOf}
-use Rattle.text.proofs.Spans.{spelled, spelled-at}
+use Rattle.text.specs.Spelled.{spelled}
+use Rattle.text.proofs.Spans.{spelled-at}
 use Rattle.text.proofs.Names.{known-number}
 use Rattle.text_read.specs.Lines.{codesOf}
 
@@ -76,7 +77,7 @@ pub code-low : (t i : ℕ) → i < t → codeOf limits t i ≡ i + 1
 unfolding codeOf
 code-low t i h = rw (lt-ltb i t h)
 
-pub code-high : (t i : ℕ) → t ≤ i → codeOf limits t i ≡ 128 + (i - t)
+pub code-high : (t i : ℕ) → t ≤ i → codeOf limits t i ≡ limits .nonterminalBase + (i - t)
 unfolding codeOf
 code-high t i h = rw (le-ltb i t h)
 

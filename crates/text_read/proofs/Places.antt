@@ -9,7 +9,8 @@ use Rattle.text.specs.Pieces.{join}
 use Rattle.text.specs.Read.{namesOf}
 use Rattle.text.specs.Promise.{startsFrom, nameLengths}
 use Rattle.text.proofs.PrintRead.{join-names}
-use Rattle.text.proofs.Spans.{spelled, Inside, length-starts, length-lengths, spans-spell, spans-inside, spelled-append, inside-append}
+use Rattle.text.specs.Spelled.{spelled, Inside}
+use Rattle.text.proofs.Spans.{length-starts, length-lengths, spans-spell, spans-inside, spelled-append, inside-append}
 use Rattle.names.specs.Found.{part}
 use Rattle.text_read.specs.Lines.{Spans}
 use Rattle.text_read.specs.Texts.{HeadsAt}

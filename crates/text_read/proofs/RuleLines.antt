@@ -21,12 +21,12 @@ use Rattle.text.specs.Pieces.{splitOn}
 use Rattle.text.specs.Names.{all, sameName, place}
 use Rattle.text.specs.Keys.{key, valueOf}
 use Rattle.text.specs.Read.{refuseNone, Sides, sidesOf, numberOf, isKnown, codeOf, ruleOf, ruleLine, ruleLines}
-use Rattle.text.proofs.Spans.{spelled}
+use Rattle.text.specs.Spelled.{spelled}
 use Rattle.names.specs.Found.{part}
 use Rattle.text_read.specs.declared.Kept.{Kept}
 use Rattle.text_read.specs.declared.Kept.the-variants.{Entries, Fault}
 use Rattle.text_read.specs.Values.{HasValue}
-use Rattle.text_read.specs.Lines.{shaped, knownRule, ruleValue, ShapeAt, codesOf, CodesFit, RuleFits, kept, RuleKept, KeptTold, RulesKept}
+use Rattle.text_read.specs.Lines.{shaped, knownRule, ruleValue, ShapeAt, codesOf, CodesFit, RuleFits, kept, RuleKept, KeptTold, RulesKept, keptRules}
 use Rattle.text_read.proofs.Values.{tail-part}
 use Rattle.text_read.proofs.Rows.{two-put, run-after}
 use Rattle.text_read.proofs.Lookups.{codes-none}
@@ -122,16 +122,16 @@ module _ (left count : ℕ) (r text starts lengths : List ℕ) (t : ℕ) (row : 
         ∙ run-after row row′ at x count (length (splitOn 32 (drop 1 r))) (codesOf t ns (splitOn 32 (drop 1 r))) (omega (arith, h .room)) q
         ∙ ap₂ (λ x ps. take at row ++ (x ∷ count ∷ codesOf t ns ps)) e (ap (drop 1) (sym rest))
 
-kept-some : (k : ℕ) (r : Rule) → k < 101 → kept k r ≡ r ∷ []
+kept-some : (k : ℕ) (r : Rule) → k < keptRules → kept k r ≡ r ∷ []
 unfolding kept
-kept-some k r h = rw (lt-ltb k 101 h)
+kept-some k r h = rw (lt-ltb k keptRules h)
 
-kept-none : (k : ℕ) (r : Rule) → 101 ≤ k → kept k r ≡ []
+kept-none : (k : ℕ) (r : Rule) → keptRules ≤ k → kept k r ≡ []
 unfolding kept
-kept-none k r h = rw (le-ltb k 101 h)
+kept-none k r h = rw (le-ltb k keptRules h)
 
 -- a rule that is not kept
-pub rule-passed : (o : Answer Rule) (r : Rule) (k end : ℕ) (row : List ℕ) → o ≡ done r → 101 ≤ k → end ≤ length row → RuleKept o k end row row end
+pub rule-passed : (o : Answer Rule) (r : Rule) (k end : ℕ) (row : List ℕ) → o ≡ done r → keptRules ≤ k → end ≤ length row → RuleKept o k end row row end
 unfolding encode
 rule-passed o r k end row e h l =
     let q : encode (kept k r) ≡ [] = ap encode (kept-none k r h) in
@@ -146,7 +146,7 @@ rule-passed o r k end row e h l =
 
 -- one that is
 pub rule-kept : (o : Answer Rule) (t : ℕ) (names : List (List ℕ)) (s : Sides) (left count k end : ℕ) (body row row′ : List ℕ)
-    → splitOn 32 body ≡ [] ∷ s .body → o ≡ done (ruleOf limits t names s) → left ≡ place (sameName (s .head)) names → count ≡ length (s .body) → count ≤ 12 → k < 101
+    → splitOn 32 body ≡ [] ∷ s .body → o ≡ done (ruleOf limits t names s) → left ≡ place (sameName (s .head)) names → count ≡ length (s .body) → count ≤ 12 → k < keptRules
     → end + 2 + count ≤ length row′
     → take (end + 2 + count) row′ ≡ take end row ++ (codeOf limits t left ∷ count ∷ codesOf t names (drop 1 (splitOn 32 body)))
     → RuleKept o k end row row′ (end + 2 + count)
@@ -227,8 +227,8 @@ pub record Passed (o : Answer (List Rule)) (text : List ℕ) (t : ℕ) (names : 
   pub rules : List Rule
   pub counts : length rules ≡ k
   pub ahead : o ≡ after rules (ruleLines limits (k + 3) t names (splitOn 10 (drop a text)))
-  pub used : end ≡ length (encode (take 101 rules))
-  pub front : take end row ≡ encode (take 101 rules)
+  pub used : end ≡ length (encode (take keptRules rules))
+  pub front : take end row ≡ encode (take keptRules rules)
   pub near : end ≤ 14 * k
   pub inside : end ≤ length row
 
@@ -289,10 +289,10 @@ module _ (o : Answer (List Rule)) (text : List ℕ) (t : ℕ) (names : List (Lis
       passed-more row′ next r w =
           let rule = r .rule in
           let z : suc (k + 3) ≡ k + 1 + 3 = omega arith in
-          let m : take 101 (h .rules ++ (rule ∷ [])) ≡ take 101 (h .rules) ++ kept k rule
-          = take-kept 101 (h .rules) rule ∙ unfold kept in ap (λ n. take 101 (h .rules) ++ choose (ltb n 101) (rule ∷ []) []) (h .counts) in
-          let x : encode (take 101 (h .rules ++ (rule ∷ []))) ≡ encode (take 101 (h .rules)) ++ encode (kept k rule)
-          = ap encode m ∙ encode-append (take 101 (h .rules)) (kept k rule) in
+          let m : take keptRules (h .rules ++ (rule ∷ [])) ≡ take keptRules (h .rules) ++ kept k rule
+          = take-kept keptRules (h .rules) rule ∙ unfold kept in ap (λ n. take keptRules (h .rules) ++ choose (ltb n keptRules) (rule ∷ []) []) (h .counts) in
+          let x : encode (take keptRules (h .rules ++ (rule ∷ []))) ≡ encode (take keptRules (h .rules)) ++ encode (kept k rule)
+          = ap encode m ∙ encode-append (take keptRules (h .rules)) (kept k rule) in
           record {
             rules = h .rules ++ (rule ∷ []);
             counts = length-append (h .rules) (rule ∷ []) ∙ ap (λ n. n + 1) (h .counts);
@@ -300,7 +300,7 @@ module _ (o : Answer (List Rule)) (text : List ℕ) (t : ℕ) (names : List (Lis
                 ∙ after-more (h .rules) rule (ruleLines limits (suc (k + 3)) t names qs)
                 ∙ ap₂ (λ n ls. after (h .rules ++ (rule ∷ [])) (ruleLines limits n t names ls)) z (sym w);
             used = r .used ∙ ap (λ n. n + length (encode (kept k rule))) (h .used)
-                ∙ sym (ap length x ∙ length-append (encode (take 101 (h .rules))) (encode (kept k rule)));
+                ∙ sym (ap length x ∙ length-append (encode (take keptRules (h .rules))) (encode (kept k rule)));
             front = r .front ∙ ap (λ w. w ++ encode (kept k rule)) (h .front) ∙ sym x;
             near = omega (arith, r .most, h .near);
             inside = r .inside;

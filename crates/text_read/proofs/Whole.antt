@@ -1,4 +1,4 @@
--- The whole text: the last tests look at the first 101 rules only, and what each way through the code says of the reader's answer.
+-- The whole text: the last tests look at the rules that are kept only, and what each way through the code says of the reader's answer.
 -- Assumes nothing.
 use Prim.Native.Nat.{ℕ, zero, suc, _+_, _-_, _≤_, _<_}
 use mathlib.Core.Path.{_≡_, refl, ap, ap₂, sym, subst, _∙_}
@@ -32,14 +32,15 @@ use Rattle.text.proofs.WellNamed.{WellNamedSource, mem-each, mem-none}
 use Rattle.text.proofs.PrintRead.{read-well, join-names}
 use Rattle.text.proofs.Admit.{table-tests, passed-said, text-checked}
 use Rattle.text.proofs.RoundTrip.{apart}
-use Rattle.text.proofs.Spans.{spelled, lengths-append}
+use Rattle.text.specs.Spelled.{spelled}
+use Rattle.text.proofs.Spans.{lengths-append}
 use Rattle.names.specs.Found.{part}
 use Rattle.text_read.specs.declared.Kept.{Kept}
 use Rattle.text_read.specs.declared.Kept.the-variants.{Entries, Fault}
 use Rattle.text_read.specs.declared.Heads.{Heads}
 use Rattle.text_read.specs.declared.Heads.the-variants as H
-use Rattle.text_read.specs.Lines.{RulesReady, RulesKept, RulesTold}
-use Rattle.text_read.specs.Texts.{HeadsAt, HeadsTold, NamesFit, tableRead, Ready, TableTold, ChecksText}
+use Rattle.text_read.specs.Lines.{RulesReady, RulesKept, RulesTold, keptRules, keptEntries}
+use Rattle.text_read.specs.Texts.{HeadsAt, HeadsTold, NamesFit, tableRead, Ready, TableTold, ChecksText, allNames}
 use Rattle.text_read.proofs.Places.{heads-spelled, heads-spans}
 
 -- ---- the first rules
@@ -117,20 +118,20 @@ first-well k s w = record {
 
 -- ---- the last tests of a text that was read
 
--- the last tests of the first 101 rules are those of all: with more than 100 the answer is 7 either way
+-- the last tests of the rules that are kept are those of all: with more than a grammar has the answer is 7 either way
 module _ (s : Source) where
-  few-first : (rules : List Rule) → admit limits 100 [] 0 (s .rules) ≡ done rules → take 101 (s .rules) ≡ s .rules
-  few-first rules e = let few = admit-few limits 100 [] 0 (s .rules) rules e in take-all 101 (s .rules) (omega arith)
+  few-first : (rules : List Rule) → admit limits (limits .maxRules) [] 0 (s .rules) ≡ done rules → take keptRules (s .rules) ≡ s .rules
+  few-first rules e = let few = admit-few limits (limits .maxRules) [] 0 (s .rules) rules e in take-all keptRules (s .rules) (omega arith)
 
-  first-tests : lastTests limits (firstRules 101 s) ≡ lastTests limits s
+  first-tests : lastTests limits (firstRules keptRules s) ≡ lastTests limits s
   unfolding lastTests
   first-tests =
-      ap (λ o. andThen o (λ rules. refuseUnless noSentence 0 (hasSentence limits (grammarOf (firstRules 101 s))) (done (grammarOf (firstRules 101 s)))))
-      (admit-first limits 100 [] 0 (s .rules))
-      ∙ go (admit limits 100 [] 0 (s .rules)) refl
+      ap (λ o. andThen o (λ rules. refuseUnless noSentence 0 (hasSentence limits (grammarOf (firstRules keptRules s))) (done (grammarOf (firstRules keptRules s)))))
+      (admit-first limits (limits .maxRules) [] 0 (s .rules))
+      ∙ go (admit limits (limits .maxRules) [] 0 (s .rules)) refl
     where
-      go : (o : Answer (List Rule)) → admit limits 100 [] 0 (s .rules) ≡ o
-          → andThen o (λ rules. refuseUnless noSentence 0 (hasSentence limits (grammarOf (firstRules 101 s))) (done (grammarOf (firstRules 101 s))))
+      go : (o : Answer (List Rule)) → admit limits (limits .maxRules) [] 0 (s .rules) ≡ o
+          → andThen o (λ rules. refuseUnless noSentence 0 (hasSentence limits (grammarOf (firstRules keptRules s))) (done (grammarOf (firstRules keptRules s))))
           ≡ andThen o (λ rules. refuseUnless noSentence 0 (hasSentence limits (grammarOf s)) (done (grammarOf s)))
       go (refused c i) e = unfold andThen in refl
       go (done rules) e =
@@ -138,8 +139,8 @@ module _ (s : Source) where
           ap (λ (rs : List Rule). let G = grammarOf (record { terminals = s .terminals; nonterminals = s .nonterminals; rules = rs }) in
           refuseUnless noSentence 0 (hasSentence limits G) (done G)) (few-first rules e)
 
-  -- where they pass all rules are among the first 101
-  passed-first : (G : Grammar) → lastTests limits s ≡ done G → take 101 (s .rules) ≡ s .rules
+  -- where they pass all rules are among the first keptRules
+  passed-first : (G : Grammar) → lastTests limits s ≡ done G → take keptRules (s .rules) ≡ s .rules
   unfolding lastTests
   passed-first G e = let a = then-done _ _ _ e in few-first (a .0) (a .1)
 
@@ -149,12 +150,12 @@ module _ (text : List ℕ) (s : Source) (read : readText limits text ≡ done s)
   check-on = then-goes (readText limits text) (λ s. andThen (lastTests limits s) (λ G. done s)) s read
 
   module _ (t n end : ℕ) (row : List ℕ) (r : TextRead) (p : t ≡ length (s .terminals)) (q : n ≡ length (s .nonterminals))
-      (used : end ≡ length (encode (take 101 (s .rules)))) (front : take end row ≡ encode (take 101 (s .rules)))
+      (used : end ≡ length (encode (take keptRules (s .rules)))) (front : take end row ≡ encode (take keptRules (s .rules)))
       (told : r ≡ tableRead t n end (checkTable limits t n (take end row))) where
     table-is : checkTable limits t n (take end row) ≡ lastTests limits s
     table-is =
         (λ d. checkTable limits (p d) (q d) (front d))
-        ∙ table-tests limits (firstRules 101 s) (first-well 101 s (read-well limits apart text s read)) ∙ first-tests s
+        ∙ table-tests limits (firstRules keptRules s) (first-well keptRules s (read-well limits apart text s read)) ∙ first-tests s
 
     pub last-told : TableTold text r row
     last-told = go (lastTests limits s) refl
@@ -193,14 +194,14 @@ refused-checks text c i row starts lengths e = record {
   lengths-front = λ s w. no-answer (sym e ∙ w);
 }
 
-pub text-long : (text : List ℕ) → 65536 < length text → checkText limits text ≡ refused 16 0
+pub text-long : (text : List ℕ) → (limits .maxText) < length text → checkText limits text ≡ refused 16 0
 unfolding checkText readText
-text-long text h = then-stops _ _ 16 0 (unless-fails 16 0 (leb (length text) 65536) (readLines limits (splitOn 10 text)) (lt-leb (length text) 65536 h))
+text-long text h = then-stops _ _ 16 0 (unless-fails 16 0 (leb (length text) (limits .maxText)) (readLines limits (splitOn 10 text)) (lt-leb (length text) (limits .maxText) h))
 
-module _ (text : List ℕ) (short : length text ≤ 65536) where
+module _ (text : List ℕ) (short : length text ≤ (limits .maxText)) where
   read-lines : readText limits text ≡ readLines limits (splitOn 10 text)
   unfolding readText
-  read-lines = unless-holds 16 0 (leb (length text) 65536) (readLines limits (splitOn 10 text)) (le-leb (length text) 65536 short)
+  read-lines = unless-holds 16 0 (leb (length text) (limits .maxText)) (readLines limits (splitOn 10 text)) (le-leb (length text) (limits .maxText) short)
 
   pub lines-refused : (c i : ℕ) → readLines limits (splitOn 10 text) ≡ refused c i → checkText limits text ≡ refused c i
   unfolding checkText
@@ -337,10 +338,10 @@ pub told-headless : (text : List ℕ) (r : Heads) (c i : ℕ) → r ≡ H.Fault 
 told-headless text r c i q h = subst (λ (r : Heads). HeadsTold text r) q h
 
 -- the rows that the names' places were put into
-module _ (text : List ℕ) (a e b f t n : ℕ) (h : HeadsAt text a e b f t n) (short : length text ≤ 65536) (starts lengths : List ℕ)
+module _ (text : List ℕ) (a e b f t n : ℕ) (h : HeadsAt text a e b f t n) (short : length text ≤ (limits .maxText)) (starts lengths : List ℕ)
     (x : take (t + length (namesOf (part b f text))) starts ≡ startsFrom a (namesOf (part a e text)) ++ startsFrom b (namesOf (part b f text)))
     (y : take (t + length (namesOf (part b f text))) lengths ≡ nameLengths (namesOf (part a e text)) ++ nameLengths (namesOf (part b f text))) where
-  pub ready : (row : List ℕ) → 254 ≤ length starts → 254 ≤ length lengths → length row ≡ 1414 → Ready text (f + 1) t n starts lengths row
+  pub ready : (row : List ℕ) → allNames ≤ length starts → allNames ≤ length lengths → length row ≡ keptEntries → Ready text (f + 1) t n starts lengths row
   ready row p q z = record {
     a = a;
     e = e;
@@ -364,8 +365,8 @@ module _ (text : List ℕ) (a e b f t n : ℕ) (h : HeadsAt text a e b f t n) (s
     lengths-front = λ s w. lengths-told text short a e b f t n h starts lengths s w y;
   }
 
-pub names-fit : (text : List ℕ) (a e b f t n : ℕ) (starts lengths : List ℕ) → HeadsAt text a e b f t n → length text ≤ 65536
-    → 254 ≤ length starts → 254 ≤ length lengths → NamesFit text a e b f t starts lengths
+pub names-fit : (text : List ℕ) (a e b f t n : ℕ) (starts lengths : List ℕ) → HeadsAt text a e b f t n → length text ≤ (limits .maxText)
+    → allNames ≤ length starts → allNames ≤ length lengths → NamesFit text a e b f t starts lengths
 names-fit text a e b f t n starts lengths h short p q = record {
   first = h .first-inside;
   second = h .second-inside;

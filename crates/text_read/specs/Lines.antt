@@ -16,7 +16,7 @@ use Rattle.grammar.specs.Refusal.{Answer, done, refused, refuseUnless}
 use Rattle.text.specs.Pieces.{splitOn}
 use Rattle.text.specs.Names.{all, isName}
 use Rattle.text.specs.Read.{refuseNone, Sides, sidesOf, numberOf, isKnown, codeOf, ruleOf}
-use Rattle.text.proofs.Spans.{spelled, Inside}
+use Rattle.text.specs.Spelled.{spelled, Inside}
 use Rattle.text_read.specs.declared.Shape.{Shape}
 use Rattle.text_read.specs.declared.Shape.the-variants.{Found, Malformed}
 use Rattle.text_read.specs.declared.Kept.{Kept}
@@ -71,16 +71,16 @@ codesOf t names xs = map (λ x. codeOf limits t (numberOf names x)) xs
 pub record CodesFit (r : List ℕ) (from : ℕ) (text starts lengths : List ℕ) (t : ℕ) (row : List ℕ) (at : ℕ) : Type 0 where
   pub low : from ≤ length r
   pub spans : Spans text starts lengths
-  pub few : t ≤ 127
-  pub most : length starts ≤ t + 127
+  pub few : t ≤ limits .maxTerminals
+  pub most : length starts ≤ t + limits .maxNonterminals
   pub known : all (isKnown 0 (spelled text starts lengths)) (splitOn 32 (drop from r)) ≡ true
   pub room : at + length (splitOn 32 (drop from r)) ≤ length row
 
 -- a rule of known names, and a row that has room for its entries
 pub record RuleFits (left count : ℕ) (r text starts lengths : List ℕ) (t : ℕ) (row : List ℕ) (at : ℕ) : Type 0 where
   pub spans : Spans text starts lengths
-  pub few : t ≤ 127
-  pub most : length starts ≤ t + 127
+  pub few : t ≤ limits .maxTerminals
+  pub most : length starts ≤ t + limits .maxNonterminals
   pub left-known : left < length starts
   pub names : List (List ℕ)
   pub body : splitOn 32 r ≡ [] ∷ names
@@ -89,18 +89,25 @@ pub record RuleFits (left count : ℕ) (r text starts lengths : List ℕ) (t : �
   pub known : all (isKnown 0 (spelled text starts lengths)) names ≡ true
   pub room : at + 2 + count ≤ length row
 
--- ---- what is kept of the rules: the first 101
+-- ---- what is kept of the rules: the first ones, one more than a grammar has
+
+abbrev pub keptRules : ℕ
+keptRules = limits .maxRules + 1
+
+-- the entries of so many rules
+abbrev pub keptEntries : ℕ
+keptEntries = keptRules * (limits .maxLength + 2)
 
 -- what is kept of a rule after k others
 unfoldable pub kept : ℕ → Rule → List Rule
-kept k r = choose (ltb k 101) (r ∷ []) []
+kept k r = choose (ltb k keptRules) (r ∷ []) []
 
 -- the row for the table has `end` entries in use after k rules
 pub record LineReady (text starts lengths : List ℕ) (t : ℕ) (row : List ℕ) (k end : ℕ) : Type 0 where
   pub spans : Spans text starts lengths
-  pub few : t ≤ 127
-  pub most : length starts ≤ t + 127
-  pub size : length row ≡ 1414
+  pub few : t ≤ limits .maxTerminals
+  pub most : length starts ≤ t + limits .maxNonterminals
+  pub size : length row ≡ keptEntries
   pub near : end ≤ 14 * k
   pub inside : end ≤ length row
 
@@ -121,17 +128,17 @@ KeptTold o k end row row′ (Entries next) = RuleKept o k end row row′ next
 -- before the first rule line
 pub record RulesReady (text starts lengths : List ℕ) (t : ℕ) (row : List ℕ) : Type 0 where
   pub spans : Spans text starts lengths
-  pub few : t ≤ 127
-  pub most : length starts ≤ t + 127
-  pub size : length row ≡ 1414
-  pub short : length text ≤ 65536
+  pub few : t ≤ limits .maxTerminals
+  pub most : length starts ≤ t + limits .maxNonterminals
+  pub size : length row ≡ keptEntries
+  pub short : length text ≤ limits .maxText
 
 -- the rules are read, and what is kept of them stands in the row
 pub record RulesKept (o : Answer (List Rule)) (row : List ℕ) (end : ℕ) : Type 0 where
   pub rules : List Rule
   pub read : o ≡ done rules
-  pub used : end ≡ length (encode (take 101 rules))
-  pub front : take end row ≡ encode (take 101 rules)
+  pub used : end ≡ length (encode (take keptRules rules))
+  pub front : take end row ≡ encode (take keptRules rules)
   pub inside : end ≤ length row
 
 -- all rule lines

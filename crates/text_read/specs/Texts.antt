@@ -18,8 +18,13 @@ use Rattle.text.specs.Promise.{startsFrom, nameStarts, nameLengths, textRead}
 use Rattle.text.specs.declared.TextRead.{TextRead}
 use Rattle.text.specs.declared.TextRead.the-variants.{Read, Refused}
 use Rattle.names.specs.Found.{part}
+use Rattle.text_read.specs.Lines.{keptEntries}
 use Rattle.text_read.specs.declared.Heads.{Heads}
 use Rattle.text_read.specs.declared.Heads.the-variants.{Names, Fault}
+
+-- how many names there are at most
+abbrev pub allNames : ℕ
+allNames = limits .maxTerminals + limits .maxNonterminals
 
 -- what the rule lines make of a text with these names
 abbrev pub readRest : List (List ℕ) → List (List ℕ) → List (List ℕ) → Answer Source
@@ -29,7 +34,7 @@ readRest ts ns rest =
 
 -- what the second line and those after it make of a text with these terminals
 abbrev pub readSecond : List (List ℕ) → List ℕ → List (List ℕ) → Answer Source
-readSecond ts second rest = andThen (declaration 2 1 1 127 ts second) (λ ns. readRest ts ns rest)
+readSecond ts second rest = andThen (declaration 2 1 1 (limits .maxNonterminals) ts second) (λ ns. readRest ts ns rest)
 
 -- the first line is read: its value stands from a to e and has t names; what the lines after it make of the text
 pub record FirstHead (text : List ℕ) (a e t : ℕ) : Type 0 where
@@ -37,9 +42,9 @@ pub record FirstHead (text : List ℕ) (a e t : ℕ) : Type 0 where
   pub inside : a ≤ e
   pub ends : e < length text
   pub counts : t ≡ length (namesOf (part a e text))
-  pub most : t ≤ 127
+  pub most : t ≤ limits .maxTerminals
   pub once : hasDouble (namesOf (part a e text)) ≡ false
-  pub short : length text ≤ 65536
+  pub short : length text ≤ limits .maxText
   pub lines : readLines limits (splitOn 10 text) ≡ wholeLine 2 (splitOn 10 (drop (e + 1) text)) (readSecond (namesOf (part a e text)))
 
 -- both lines are read: their values stand from a to e and from b to f, and have t and n names
@@ -51,8 +56,8 @@ pub record HeadsAt (text : List ℕ) (a e b f t n : ℕ) : Type 0 where
   pub ends : f < length text
   pub terminals : t ≡ length (namesOf (part a e text))
   pub nonterminals : n ≡ length (namesOf (part b f text))
-  pub terminals-most : t ≤ 127
-  pub nonterminals-most : n ≤ 127
+  pub terminals-most : t ≤ limits .maxTerminals
+  pub nonterminals-most : n ≤ limits .maxNonterminals
   pub lines : readLines limits (splitOn 10 text) ≡ readRest (namesOf (part a e text)) (namesOf (part b f text)) (splitOn 10 (drop (f + 1) text))
 
 -- the two declaring lines
@@ -66,7 +71,7 @@ pub record NamesFit (text : List ℕ) (a e b f t : ℕ) (starts lengths : List �
   pub second : b ≤ f
   pub first-inside : e ≤ length text
   pub second-inside : f ≤ length text
-  pub short : length text ≤ 65536
+  pub short : length text ≤ limits .maxText
   pub counts : t ≡ length (namesOf (part a e text))
   pub starts-room : t + length (namesOf (part b f text)) ≤ length starts
   pub lengths-room : t + length (namesOf (part b f text)) ≤ length lengths
@@ -84,12 +89,12 @@ pub record Ready (text : List ℕ) (from t n : ℕ) (starts lengths row : List �
   pub f : ℕ
   pub heads : HeadsAt text a e b f t n
   pub begins : from ≡ f + 1
-  pub short : length text ≤ 65536
+  pub short : length text ≤ limits .maxText
   pub starts-front : take (t + n) starts ≡ startsFrom a (namesOf (part a e text)) ++ startsFrom b (namesOf (part b f text))
   pub lengths-front : take (t + n) lengths ≡ nameLengths (namesOf (part a e text)) ++ nameLengths (namesOf (part b f text))
   pub starts-room : t + n ≤ length starts
   pub lengths-room : t + n ≤ length lengths
-  pub size : length row ≡ 1414
+  pub size : length row ≡ keptEntries
 
 -- all tests but 14: the answer, and for a text that passes the row begins with the table
 pub record TableTold (text : List ℕ) (r : TextRead) (row : List ℕ) : Type 0 where

@@ -14,18 +14,24 @@ ghost use Rattle.grammar.specs.Basics.{over};
 ghost use Rattle.grammar.specs.Limits.{limits};
 ghost use Rattle.grammar.specs.TableCheck.{checkTable};
 ghost use Rattle.text.specs.Promise.{ReadsText};
-ghost use Rattle.text_read.specs.Texts.{tableRead, Ready, TableTold, ChecksText};
+ghost use Rattle.text_read.specs.Lines.{keptEntries};
+ghost use Rattle.text_read.specs.Texts.{allNames, tableRead, Ready, TableTold, ChecksText};
 use grammar::BUFFER_TOO_SHORT;
 use grammar::MALFORMED;
+use grammar::MAX_LENGTH;
+use grammar::MAX_NONTERMINALS;
+use grammar::MAX_RULES;
+use grammar::MAX_TERMINALS;
 use grammar::TableVerdict;
 use text::TextRead;
 
+// The longest text; specs/Limits.antt of crate grammar has the same number.
 const MAX_TEXT: usize = 65536;
 
 // All names, and the entries of the rules that are kept, one more than a grammar has.
-const NAMES: usize = 254;
+const NAMES: usize = MAX_TERMINALS + MAX_NONTERMINALS;
 
-const KEPT_ENTRIES: usize = 1414;
+const KEPT_ENTRIES: usize = (MAX_RULES + 1) * (MAX_LENGTH + 2);
 
 // Where the value of a line stands.
 pub enum Split {
@@ -115,7 +121,7 @@ fn check_rules(
 
 // All tests but 14. The rows get the table and the names' places.
 fn check_text(text: &[u8], row: &mut [u8], starts: &mut [u32], lengths: &mut [u32]) -> TextRead
-    requires { ⌜ (length (now row) ≡ 1414) × (length (now starts) ≡ 254) × (length (now lengths) ≡ 254) ⌝ }
+    requires { ⌜ (length (now row) ≡ keptEntries) × (length (now starts) ≡ allNames) × (length (now lengths) ≡ allNames) ⌝ }
     ensures { λ r. ⌜ ChecksText (now (text .entry)) r (now (row .exit)) (now (starts .exit)) (now (lengths .exit)) ⌝ }
 {
     if MAX_TEXT < text.len() {

@@ -6,7 +6,7 @@ ghost use lib.ListN.{length, take, drop};
 ghost use Rattle.grammar.specs.Limits.{limits};
 ghost use Rattle.text.specs.Pieces.{splitOn};
 ghost use Rattle.text.specs.Read.{codeOf, ruleLine, ruleLines};
-ghost use Rattle.text.proofs.Spans.{spelled};
+ghost use Rattle.text.specs.Spelled.{spelled};
 ghost use Rattle.text_read.specs.Lines.{ruleValue, ShapeAt, codesOf, CodesFit, RuleFits, LineReady, KeptTold, RulesReady, RulesTold};
 use super::Kept;
 use super::Shape;
@@ -18,6 +18,7 @@ use super::value::key_split;
 use super::value::rule_shape;
 use grammar::MALFORMED;
 use grammar::MAX_LENGTH;
+use grammar::MAX_RULES;
 use grammar::NAME_UNKNOWN;
 use grammar::RULE_TOO_LONG;
 use names::LINE_END;
@@ -25,7 +26,7 @@ use names::RULE;
 use names::SPACE;
 
 // One rule more than a grammar has: the table check refuses it, so the rules after it need not be kept.
-const KEPT_RULES: usize = 101;
+const KEPT_RULES: usize = MAX_RULES + 1;
 
 // Writes the code of each piece between spaces, from a place on, into a row from entry `at` on.
 fn put_codes(

@@ -6,7 +6,7 @@ ghost use Rattle.grammar.specs.Limits.{limits};
 ghost use Rattle.text.specs.Pieces.{splitOn};
 ghost use Rattle.text.specs.Names.{all, sameName, place};
 ghost use Rattle.text.specs.Read.{isKnown, codeOf};
-ghost use Rattle.text.proofs.Spans.{spelled};
+ghost use Rattle.text.specs.Spelled.{spelled};
 ghost use Rattle.text_read.specs.Lines.{Spans};
 use names::SPACE;
 
@@ -62,7 +62,7 @@ pub fn body_known(r: &[u8], text: &[u8], starts: &[u32], lengths: &[u32]) -> boo
 
 // The code of symbol number i, of t terminals.
 pub fn code_of(t: usize, i: usize) -> u8
-    requires { ⌜ (t ≤ 127) × (i < t + 127) ⌝ }
+    requires { ⌜ (t ≤ limits .maxTerminals) × (i < t + limits .maxNonterminals) ⌝ }
     ensures { λ r. ⌜ r ≡ codeOf limits t i ⌝ }
 {
     if i < t {

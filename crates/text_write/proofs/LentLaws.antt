@@ -20,7 +20,8 @@ use Rattle.text.specs.Read.{refuseNone}
 use Rattle.text.specs.Print.{nameAt, gather}
 use Rattle.text.specs.Promise.{nameLengths}
 use Rattle.text.proofs.Names.{no-value, some-inj}
-use Rattle.text.proofs.Spans.{spelled, length-spelled, spelled-at}
+use Rattle.text.specs.Spelled.{spelled}
+use Rattle.text.proofs.Spans.{length-spelled, spelled-at}
 use Rattle.text.proofs.Gather.{name-at, gathered}
 use Rattle.text_write.specs.Contracts.{isWell, stopsAt, Rows}
 

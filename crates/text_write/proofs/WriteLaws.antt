@@ -25,7 +25,7 @@ use Rattle.text.specs.declared.TextLength.{TextLength}
 use Rattle.text.specs.declared.TextLength.the-variants as told
 use Rattle.text.specs.declared.TextWritten.{TextWritten}
 use Rattle.text.specs.declared.TextWritten.the-variants.{Written, Refused}
-use Rattle.text.proofs.Spans.{spelled}
+use Rattle.text.specs.Spelled.{spelled}
 use Rattle.text.proofs.Sizes.{printed-most}
 use Rattle.text.proofs.RoundTrip.{made, into-refused, into-short, into-done}
 use Rattle.text.proofs.Promises.{told-as, told-refused}

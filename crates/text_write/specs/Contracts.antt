@@ -19,7 +19,7 @@ use Rattle.text.specs.Read.{symbolOf}
 use Rattle.text.specs.Print.{printLine, nameOf, printRule, printed, firstDouble}
 use Rattle.text.specs.Promise.{textLength}
 use Rattle.text.specs.declared.TextLength.{TextLength}
-use Rattle.text.proofs.Spans.{spelled}
+use Rattle.text.specs.Spelled.{spelled}
 
 -- ---- names
 

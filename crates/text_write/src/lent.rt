@@ -5,7 +5,7 @@ ghost use Prim.Native.Nat.{_<_};
 ghost use lib.ListN.{length, take, getD};
 ghost use Rattle.text.specs.Names.{sameName, place};
 ghost use Rattle.text.specs.Print.{nameAt, gather, firstDouble};
-ghost use Rattle.text.proofs.Spans.{spelled};
+ghost use Rattle.text.specs.Spelled.{spelled};
 ghost use Rattle.text_write.specs.Contracts.{isWell, stopsAt, Rows};
 
 // An entry of a row of starts or lengths.

@@ -11,7 +11,7 @@ pub use put::put_name;
 pub use size::symbol;
 ghost use Rattle.grammar.specs.Table.{decode};
 ghost use Rattle.text.specs.Promise.{WritesText, LengthAnswer};
-ghost use Rattle.text.proofs.Spans.{spelled};
+ghost use Rattle.text.specs.Spelled.{spelled};
 ghost use Rattle.text_write.specs.Contracts.{Checked, Ready, NamedAnswer};
 use grammar::BUFFER_TOO_SHORT;
 use grammar::MALFORMED;

@@ -5,7 +5,7 @@ ghost use lib.ListN.{length};
 ghost use lib.Seq.{slice};
 ghost use Rattle.grammar.specs.Table.{decode};
 ghost use Rattle.text.specs.Pieces.{comma, join};
-ghost use Rattle.text.proofs.Spans.{spelled};
+ghost use Rattle.text.specs.Spelled.{spelled};
 ghost use Rattle.text_write.specs.Contracts.{Rows, Known, Coded, Wrote, lineText, codesText, ruleText, rulesText, textOf};
 use super::put::put_byte;
 use super::put::put_key;

@@ -5,7 +5,7 @@ ghost use lib.ListN.{length, getD};
 ghost use lib.Seq.{slice};
 ghost use Rattle.text.specs.Pieces.{comma, equals, ledBy, join};
 ghost use Rattle.text.specs.Keys.{key};
-ghost use Rattle.text.proofs.Spans.{spelled};
+ghost use Rattle.text.specs.Spelled.{spelled};
 ghost use Rattle.text_write.specs.Contracts.{Rows, Wrote};
 use super::lent::wide;
 use names::COMMA;

@@ -7,7 +7,7 @@ use native.Mathlib.Omega.{arith}
 use lib.ListN.{length, getD}
 use Rattle.grammar.specs.Limits.{limits}
 use Rattle.text.specs.Numbers.{decimal}
-use Rattle.text.proofs.Spans.{spelled}
+use Rattle.text.specs.Spelled.{spelled}
 use Rattle.text_write.proofs.Filling.{wrote-as}
 use Rattle.readings.specs.Readings.{word}
 use Rattle.readings.specs.Letters.{letterFrom}

@@ -5,7 +5,7 @@ use mathlib.Core.List.{List, _++_}
 use Prim.Native.Nat.{ℕ}
 use lib.ListN.{drop, getD}
 use Rattle.grammar.specs.Limits.{limits}
-use Rattle.text.proofs.Spans.{spelled}
+use Rattle.text.specs.Spelled.{spelled}
 use Rattle.text_write.proofs.Filling.{Filling, filling-start, filling-room, filling-ran, filling-last, filling-all, wrote-none}
 use Rattle.readings.specs.Readings.{word}
 use Rattle.readings.specs.Letters.{letterFrom}

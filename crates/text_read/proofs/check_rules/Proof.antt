@@ -1,4 +1,4 @@
--- `text_read::check_rules` meets its contract: the table check of the first 101 rules is the reader's last tests. Assumes nothing.
+-- `text_read::check_rules` meets its contract: the table check of the rules that are kept is the reader's last tests. Assumes nothing.
 use borrow.Author.Needs.{needs}
 use native.Mathlib.Omega.{arith}
 use mathlib.Core.Path.{sym}

@@ -5,6 +5,8 @@ use mathlib.Core.Path.{sym}
 use Prim.Native.Nat.{ℕ, _+_, _-_}
 use lib.ListN.{length-replicate}
 use lib.Seq.{length-take-le}
+use Rattle.text_read.specs.Texts.{allNames}
+use Rattle.text_read.specs.Lines.{keptEntries}
 use Rattle.text_read.proofs.Written.{read-refused, entries-kept, starts-kept, lengths-kept, short-table, short-starts, short-lengths, read-all}
 use Rattle.text_read.proofs.read_text.Statement.{statement}
 use Rattle.text_read.proofs.read_text.Tie as tie
@@ -19,7 +21,7 @@ slice-aggregate-check-text-3 : tie.Need-slice-aggregate-check-text-3
 slice-aggregate-check-text-3 c = search needs
 
 check-text-requires : tie.Need-check-text-requires
-check-text-requires c κs = (length-replicate {A = ℕ} 1414 0, length-replicate {A = ℕ} 254 0, length-replicate {A = ℕ} 254 0)
+check-text-requires c κs = (length-replicate {A = ℕ} keptEntries 0, length-replicate {A = ℕ} allNames 0, length-replicate {A = ℕ} allNames 0)
 
 enum-known-read : tie.Need-enum-known-read
 enum-known-read c = search needs
@@ -37,7 +39,7 @@ add-count : tie.Need-add-count
 add-count c = let a = c .before .before .before .before .before .before .before .before .before .before .before .before .before .before .args in
     let k = c .before .before .before .before .before .before .check-text in
     let g = c .before .read .given in
-    omega (arith, starts-kept (a .text .now) (a .table .now) (a .starts .now) (a .lengths .now) (k .last .1 .0) (k .last .1 .1 .0) (k .last .1 .1 .1 .0) (k .result) (k .ensures) (g .0 .0) (g .0 .1 .0) (g .0 .1 .1 .0) (g .0 .1 .1 .1 .0) (g .1), k .kept .1 .1 .0, length-replicate {A = ℕ} 254 0)
+    omega (arith, starts-kept (a .text .now) (a .table .now) (a .starts .now) (a .lengths .now) (k .last .1 .0) (k .last .1 .1 .0) (k .last .1 .1 .1 .0) (k .result) (k .ensures) (g .0 .0) (g .0 .1 .0) (g .0 .1 .1 .0) (g .0 .1 .1 .1 .0) (g .1), k .kept .1 .1 .0, length-replicate {A = ℕ} allNames 0)
 
 returns-2 : tie.Need-returns-2
 returns-2 c = let a = c .before .before .before .before .before .before .before .before .before .before .before .before .before .before .before .args in
@@ -61,7 +63,7 @@ array-share-prefix-kept-table : tie.Need-array-share-prefix-kept-table
 array-share-prefix-kept-table c = let a = c .before .before .before .before .before .before .before .before .before .before .before .before .before .before .before .before .before .args in
     let k = c .before .before .before .before .before .before .before .before .before .check-text in
     let g = c .before .before .before .before .read .given in
-    omega (arith, entries-kept (a .text .now) (a .table .now) (a .starts .now) (a .lengths .now) (k .last .1 .0) (k .last .1 .1 .0) (k .last .1 .1 .1 .0) (k .result) (k .ensures) (g .0 .0) (g .0 .1 .0) (g .0 .1 .1 .0) (g .0 .1 .1 .1 .0) (g .1), k .kept .1 .0, length-replicate {A = ℕ} 1414 0)
+    omega (arith, entries-kept (a .text .now) (a .table .now) (a .starts .now) (a .lengths .now) (k .last .1 .0) (k .last .1 .1 .0) (k .last .1 .1 .1 .0) (k .result) (k .ensures) (g .0 .0) (g .0 .1 .0) (g .0 .1 .1 .0) (g .0 .1 .1 .1 .0) (g .1), k .kept .1 .0, length-replicate {A = ℕ} keptEntries 0)
 
 slice-aggregate-copy-bytes : tie.Need-slice-aggregate-copy-bytes
 slice-aggregate-copy-bytes c = let a = c .before .before .before .before .before .before .before .before .before .before .before .before .before .before .before .before .before .before .args in
@@ -79,7 +81,7 @@ array-share-prefix-kept-starts : tie.Need-array-share-prefix-kept-starts
 array-share-prefix-kept-starts c = let a = c .before .before .before .before .before .before .before .before .before .before .before .before .before .before .before .before .before .before .before .before .before .before .args in
     let k = c .before .before .before .before .before .before .before .before .before .before .before .before .before .before .check-text in
     let g = c .before .before .before .before .before .before .before .before .before .read .given in
-    omega (arith, starts-kept (a .text .now) (a .table .now) (a .starts .now) (a .lengths .now) (k .last .1 .0) (k .last .1 .1 .0) (k .last .1 .1 .1 .0) (k .result) (k .ensures) (g .0 .0) (g .0 .1 .0) (g .0 .1 .1 .0) (g .0 .1 .1 .1 .0) (g .1), k .kept .1 .1 .0, length-replicate {A = ℕ} 254 0)
+    omega (arith, starts-kept (a .text .now) (a .table .now) (a .starts .now) (a .lengths .now) (k .last .1 .0) (k .last .1 .1 .0) (k .last .1 .1 .1 .0) (k .result) (k .ensures) (g .0 .0) (g .0 .1 .0) (g .0 .1 .1 .0) (g .0 .1 .1 .1 .0) (g .1), k .kept .1 .1 .0, length-replicate {A = ℕ} allNames 0)
 
 slice-aggregate-copy-words : tie.Need-slice-aggregate-copy-words
 slice-aggregate-copy-words c = let a = c .before .before .before .before .before .before .before .before .before .before .before .before .before .before .before .before .before .before .before .before .before .before .before .args in
@@ -97,7 +99,7 @@ array-share-prefix-kept-lengths : tie.Need-array-share-prefix-kept-lengths
 array-share-prefix-kept-lengths c = let a = c .before .before .before .before .before .before .before .before .before .before .before .before .before .before .before .before .before .before .before .before .before .before .before .before .before .before .before .args in
     let k = c .before .before .before .before .before .before .before .before .before .before .before .before .before .before .before .before .before .before .before .check-text in
     let g = c .before .before .before .before .before .before .before .before .before .before .before .before .before .before .read .given in
-    omega (arith, lengths-kept (a .text .now) (a .table .now) (a .starts .now) (a .lengths .now) (k .last .1 .0) (k .last .1 .1 .0) (k .last .1 .1 .1 .0) (k .result) (k .ensures) (g .0 .0) (g .0 .1 .0) (g .0 .1 .1 .0) (g .0 .1 .1 .1 .0) (g .1), k .kept .1 .1 .1 .0, length-replicate {A = ℕ} 254 0)
+    omega (arith, lengths-kept (a .text .now) (a .table .now) (a .starts .now) (a .lengths .now) (k .last .1 .0) (k .last .1 .1 .0) (k .last .1 .1 .1 .0) (k .result) (k .ensures) (g .0 .0) (g .0 .1 .0) (g .0 .1 .1 .0) (g .0 .1 .1 .1 .0) (g .1), k .kept .1 .1 .1 .0, length-replicate {A = ℕ} allNames 0)
 
 slice-aggregate-copy-words-2 : tie.Need-slice-aggregate-copy-words-2
 slice-aggregate-copy-words-2 c = let a = c .before .before .before .before .before .before .before .before .before .before .before .before .before .before .before .before .before .before .before .before .before .before .before .before .before .before .before .before .args in

@@ -6,7 +6,7 @@ use native.Mathlib.Omega.{arith}
 use lib.ListN.{length}
 use Rattle.grammar.specs.Limits.{limits}
 use Rattle.grammar.specs.Table.{decode}
-use Rattle.text.proofs.Spans.{spelled}
+use Rattle.text.specs.Spelled.{spelled}
 use Rattle.text_write.specs.Length.{textLength}
 use Rattle.text_write.specs.Contracts.{Coded, textOf}
 use Rattle.text_write.proofs.LentLaws.{names-count, lengths-spelled}

@@ -3,7 +3,8 @@ use borrow.Author.Needs.{needs}
 use native.Mathlib.Omega.{arith}
 use mathlib.Core.Path.{sym, ap, _∙_}
 use Prim.Native.Nat.{_+_, _*_}
-use Rattle.text.proofs.Spans.{spelled, length-spelled}
+use Rattle.text.specs.Spelled.{spelled}
+use Rattle.text.proofs.Spans.{length-spelled}
 use Rattle.readings.specs.Letters.{kindUnit}
 use Rattle.readings_read.specs.declared.Piece.the-variants.{Entry}
 use Rattle.readings_read.proofs.Words.{name-bad, name-unknown, name-known}

@@ -2,7 +2,7 @@
 use borrow.Author.Needs.{needs}
 use native.Mathlib.Omega.{arith}
 use mathlib.Core.Path.{sym, ap, _∙_}
-use Rattle.text.proofs.Spans.{spelled}
+use Rattle.text.specs.Spelled.{spelled}
 use Rattle.text_read.proofs.Values.{tail-part}
 use Rattle.readings_read.specs.Words.{markPiece}
 use Rattle.readings_read.proofs.Words.{piece-none, piece-opening, piece-closing, piece-name}

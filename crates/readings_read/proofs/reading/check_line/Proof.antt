@@ -4,7 +4,7 @@ use native.Mathlib.Omega.{arith}
 use mathlib.Core.Path.{sym, _∙_}
 use Prim.Native.Nat.{ℕ}
 use mathlib.Core.List.{List}
-use Rattle.text.proofs.Spans.{spelled}
+use Rattle.text.specs.Spelled.{spelled}
 use Rattle.readings_read.specs.Lines.{StartsAt}
 use Rattle.readings_read.proofs.Sayings.{told-start, told-none, line-none, line-malformed, line-unknown, line-known}
 use Rattle.readings_read.proofs.reading.check_line.Statement.{statement}

@@ -2,7 +2,7 @@
 use borrow.Author.Needs.{needs}
 use Prim.Native.Nat.{ℕ}
 use mathlib.Core.List.{List}
-use Rattle.text.proofs.Spans.{spelled}
+use Rattle.text.specs.Spelled.{spelled}
 use Rattle.names.specs.Found.{part}
 use Rattle.readings.specs.Readings.{leftKey}
 use Rattle.readings_read.proofs.Sayings.{told-said, told-fault}

@@ -3,7 +3,7 @@ use borrow.Author.Needs.{needs}
 use native.Mathlib.Omega.{arith}
 use Prim.Native.Nat.{ℕ}
 use mathlib.Core.List.{List}
-use Rattle.text.proofs.Spans.{spelled}
+use Rattle.text.specs.Spelled.{spelled}
 use Rattle.readings_read.specs.Lines.{BothSaid}
 use Rattle.names.specs.Found.{part}
 use Rattle.readings_read.proofs.Sayings.{told-both, told-refused}

@@ -6,7 +6,7 @@ use mathlib.Core.Path.{sym, ap, subst, _∙_}
 use mathlib.Core.List.{[], _∷_, map}
 use lib.ListN.{length, drop, length-map}
 use Rattle.text.specs.Pieces.{splitOn}
-use Rattle.text.proofs.Spans.{spelled}
+use Rattle.text.specs.Spelled.{spelled}
 use Rattle.names.specs.Found.{part}
 use Rattle.names.proofs.Pieces.{piece-more, piece-last, piece-first}
 use Rattle.readings.specs.Readings.{piecesOf}

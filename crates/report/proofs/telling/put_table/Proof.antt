@@ -9,7 +9,7 @@ use lib.ListN.{length, take, replicate, length-replicate, length-append}
 use lib.Seq.{length-take-le}
 use Rattle.grammar.specs.Limits.{limits}
 use Rattle.grammar.specs.TableCheck.{checkTable}
-use Rattle.text.proofs.Spans.{spelled}
+use Rattle.text.specs.Spelled.{spelled}
 use Rattle.text_write.proofs.Filling.{Filling, filling-start, filling-room, filling-ran, filling-last, wrote-as}
 use Rattle.search.specs.Promise.{Lent, lent}
 use Rattle.search.specs.declared.SearchVerdict.the-variants as search

@@ -5,6 +5,7 @@ use mathlib.Core.Path.{refl, ap, subst, _∙_}
 use Prim.Native.Nat.{_-_}
 use mathlib.Core.List.{[]}
 use lib.Seq.{length-take-le}
+use Rattle.grammar.specs.Limits.{limits}
 use Rattle.text.specs.Names.{hasDouble}
 use Rattle.names.specs.Found.{part}
 use Rattle.doubles.proofs.Tree.{double-none}
@@ -55,20 +56,20 @@ second-head-requires c κs = let e = c .before .before .before .before .before .
     let x = e .args .text .now in
     let f = c .before .before .before .before .before .before .before .find in
     let d = c .before .before .before .declare in
-    let w = subst (λ ns. DeclaredTold 1 0 0 127 ns (part 0 (f .result) x) (d .result)) (names-none [] refl) (d .ensures) in
+    let w = subst (λ ns. DeclaredTold 1 0 0 (limits .maxTerminals) ns (part 0 (f .result) x) (d .result)) (names-none [] refl) (d .ensures) in
     let g = c .before .start .given in
     first-names x (f .result) (f .ensures .at) (omega arith) (g .0 .0) (g .0 .1 .0) (g .0 .1 .1 .0)
-    (told-names 1 0 0 127 [] (part 0 (f .result) x) (d .result) (g .0 .0) (g .0 .1 .0) (g .0 .1 .1 .0) (g .1) w) (e .pre)
+    (told-names 1 0 0 (limits .maxTerminals) [] (part 0 (f .result) x) (d .result) (g .0 .0) (g .0 .1 .0) (g .0 .1 .1 .0) (g .1) w) (e .pre)
 
 returns-2 : tie.Need-returns-2
 returns-2 c = let e = c .before .before .before .before .before .before .before .before .before in
     let x = e .args .text .now in
     let f = c .before .before .before .before .before .before .before .find in
     let d = c .before .before .before .declare in
-    let w = subst (λ ns. DeclaredTold 1 0 0 127 ns (part 0 (f .result) x) (d .result)) (names-none [] refl) (d .ensures) in
+    let w = subst (λ ns. DeclaredTold 1 0 0 (limits .maxTerminals) ns (part 0 (f .result) x) (d .result)) (names-none [] refl) (d .ensures) in
     let g = c .before .cause .given in
     first-fault x (f .result) (f .ensures .at) (omega arith) (g .0 .0) (g .0 .1 .0)
-    (told-fault 1 0 0 127 [] (part 0 (f .result) x) (d .result) (g .0 .0) (g .0 .1 .0) (g .1) w)
+    (told-fault 1 0 0 (limits .maxTerminals) [] (part 0 (f .result) x) (d .result) (g .0 .0) (g .0 .1 .0) (g .1) w)
 
 returns-3 : tie.Need-returns-3
 returns-3 c = search needs

@@ -4,6 +4,7 @@ use native.Mathlib.Omega.{arith}
 use Prim.Native.Nat.{_+_, _-_}
 use lib.ListN.{drop, length-drop}
 use lib.Seq.{length-take-le}
+use Rattle.grammar.specs.Limits.{limits}
 use Rattle.text.specs.Read.{namesOf}
 use Rattle.names.specs.Found.{part}
 use Rattle.text_read.proofs.Declarations.{told-names, told-fault, second-missing, second-fault, second-names}
@@ -60,7 +61,7 @@ add-t22 c = let e = c .before .before .before .before .before .before .before .b
     let f = c .before .before .before .before .before .before .before .find in
     let d = c .before .before .before .declare in
     let g = c .before .start .given in
-    let n = told-names 2 1 1 127 (namesOf (part (a .first) (a .end) x)) (part (a .end + 1) (f .result) x) (d .result) (g .0 .0) (g .0 .1 .0) (g .0 .1 .1 .0) (g .1) (d .ensures) in
+    let n = told-names 2 1 1 (limits .maxNonterminals) (namesOf (part (a .first) (a .end) x)) (part (a .end + 1) (f .result) x) (d .result) (g .0 .0) (g .0 .1 .0) (g .0 .1 .1 .0) (g .1) (d .ensures) in
     let l = length-take-le (f .result - (a .end + 1)) (drop (a .end + 1) x) (omega (arith, length-drop (a .end + 1) x)) in
     omega (arith, n .inside, n .ends, l)
 
@@ -72,7 +73,7 @@ returns-2 c = let e = c .before .before .before .before .before .before .before 
     let d = c .before .before .before .declare in
     let g = c .before .cause .given in
     second-fault x (a .first) (a .end) (a .terminals) (e .pre) (f .result) (f .ensures .at) (omega arith) (g .0 .0) (g .0 .1 .0)
-    (told-fault 2 1 1 127 (namesOf (part (a .first) (a .end) x)) (part (a .end + 1) (f .result) x) (d .result) (g .0 .0) (g .0 .1 .0) (g .1) (d .ensures))
+    (told-fault 2 1 1 (limits .maxNonterminals) (namesOf (part (a .first) (a .end) x)) (part (a .end + 1) (f .result) x) (d .result) (g .0 .0) (g .0 .1 .0) (g .1) (d .ensures))
 
 returns-3 : tie.Need-returns-3
 returns-3 c = let e = c .before .before .before .before .before .before .before .before .before in
@@ -82,7 +83,7 @@ returns-3 c = let e = c .before .before .before .before .before .before .before 
     let d = c .before .before .before .declare in
     let g = c .before .start .given in
     second-names x (a .first) (a .end) (a .terminals) (e .pre) (f .result) (f .ensures .at) (omega arith) (g .0 .0) (g .0 .1 .0) (g .0 .1 .1 .0)
-    (told-names 2 1 1 127 (namesOf (part (a .first) (a .end) x)) (part (a .end + 1) (f .result) x) (d .result) (g .0 .0) (g .0 .1 .0) (g .0 .1 .1 .0) (g .1) (d .ensures))
+    (told-names 2 1 1 (limits .maxNonterminals) (namesOf (part (a .first) (a .end) x)) (part (a .end + 1) (f .result) x) (d .result) (g .0 .0) (g .0 .1 .0) (g .0 .1 .1 .0) (g .1) (d .ensures))
 
 pub second-head-spec : {M : Type 1} → statement M
 second-head-spec =

@@ -8,7 +8,7 @@ use Rattle.grammar.specs.Limits.{limits}
 use Rattle.text.specs.Pieces.{splitOn}
 use Rattle.text.specs.Read.{ruleLines}
 use Rattle.text.proofs.Pieces.{split-pos}
-use Rattle.text.proofs.Spans.{spelled}
+use Rattle.text.specs.Spelled.{spelled}
 use Rattle.names.specs.Found.{part}
 use Rattle.names.proofs.Pieces.{piece-more, piece-last, length-piece}
 use Rattle.text_read.specs.declared.Kept.{Kept}

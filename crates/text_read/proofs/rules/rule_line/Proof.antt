@@ -5,7 +5,7 @@ use mathlib.Core.Path.{sym, subst, _∙_}
 use Prim.Native.Nat.{_-_}
 use Rattle.grammar.specs.Grammar.{Rule}
 use Rattle.grammar.specs.Refusal.{Answer}
-use Rattle.text.proofs.Spans.{spelled}
+use Rattle.text.specs.Spelled.{spelled}
 use Rattle.names.specs.Found.{part}
 use Rattle.text_read.specs.Lines.{KeptTold}
 use Rattle.text_read.proofs.Values.{told-value, told-none}

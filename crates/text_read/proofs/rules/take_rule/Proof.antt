@@ -1,4 +1,4 @@
--- `text_read::rules::take_rule` meets its contract: the tests of `knownRule` in its order; of a rule after 101 others nothing is kept. Assumes nothing.
+-- `text_read::rules::take_rule` meets its contract: the tests of `knownRule` in its order; of a rule after those that are kept nothing is kept. Assumes nothing.
 use borrow.Author.Needs.{needs}
 use native.Mathlib.Omega.{arith}
 use mathlib.Core.Path.{_≡_, sym, ap, _∙_}
@@ -7,7 +7,8 @@ use lib.ListN.{length}
 use borrow.Author.Tests.{not-true, not-false}
 use Rattle.text.specs.Names.{sameName, place}
 use Rattle.text.specs.Read.{isKnown}
-use Rattle.text.proofs.Spans.{spelled, length-spelled}
+use Rattle.text.specs.Spelled.{spelled}
+use Rattle.text.proofs.Spans.{length-spelled}
 use Rattle.names.specs.Found.{part}
 use Rattle.text_read.proofs.Lookups.{known-low, known-out, known-in}
 use Rattle.text_read.proofs.Shapes.{led-first}

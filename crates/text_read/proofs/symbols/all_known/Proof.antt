@@ -9,7 +9,8 @@ use Rattle.text.specs.Pieces.{splitOn}
 use Rattle.text.specs.Names.{all}
 use Rattle.text.specs.Read.{isKnown}
 use Rattle.text.proofs.Pieces.{all-none}
-use Rattle.text.proofs.Spans.{spelled, length-spelled}
+use Rattle.text.specs.Spelled.{spelled}
+use Rattle.text.proofs.Spans.{length-spelled}
 use Rattle.names.specs.Found.{part}
 use Rattle.names.proofs.Pieces.{piece-more, piece-last, piece-first}
 use Rattle.text_read.proofs.Lookups.{known-out, known-in, all-yes, all-no}

@@ -5,7 +5,7 @@ use lib.ListN.{drop}
 use Rattle.text.specs.Names.{all}
 use Rattle.text.specs.Read.{isKnown}
 use Rattle.text.proofs.Pieces.{all-none}
-use Rattle.text.proofs.Spans.{spelled}
+use Rattle.text.specs.Spelled.{spelled}
 use Rattle.text_read.proofs.Shapes.{split-led, empty-body}
 use Rattle.text_read.proofs.symbols.body_known.Statement.{statement}
 use Rattle.text_read.proofs.symbols.body_known.Tie as tie

@@ -6,7 +6,8 @@ use Prim.Native.Nat.{_≤_, _+_, _-_}
 use mathlib.Core.List.{[]}
 use lib.ListN.{length, drop}
 use Rattle.text.specs.Names.{sameName, place}
-use Rattle.text.proofs.Spans.{spelled, length-spelled}
+use Rattle.text.specs.Spelled.{spelled}
+use Rattle.text.proofs.Spans.{length-spelled}
 use Rattle.text_read.proofs.Lookups.{spelled-part, place-here, place-later, place-end}
 use Rattle.text_read.proofs.symbols.lookup.Statement.{statement}
 use Rattle.text_read.proofs.symbols.lookup.Tie as tie

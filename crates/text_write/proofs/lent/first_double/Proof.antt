@@ -7,7 +7,7 @@ use native.Mathlib.Omega.{arith}
 use borrow.Author.Needs.{needs}
 use lib.ListN.{length, take, drop}
 use Rattle.text.specs.Print.{firstDouble}
-use Rattle.text.proofs.Spans.{spelled}
+use Rattle.text.specs.Spelled.{spelled}
 use Rattle.text_write.proofs.LentLaws.{names-count}
 use Rattle.text_write.proofs.DoubleLaws.{double-here, double-later, double-ends}
 use Rattle.text_write.proofs.lent.first_double.Statement.{statement}

@@ -7,7 +7,7 @@ use native.Mathlib.Omega.{arith}
 use borrow.Author.Needs.{needs}
 use lib.ListN.{take, drop, getD}
 use Rattle.text.specs.Names.{sameName, place}
-use Rattle.text.proofs.Spans.{spelled}
+use Rattle.text.specs.Spelled.{spelled}
 use Rattle.text_write.proofs.LentLaws.{names-count}
 use Rattle.text_write.proofs.DoubleLaws.{same-here, same-later, same-ends}
 use Rattle.text_write.proofs.lent.lowest_same.Statement.{statement}

@@ -7,7 +7,7 @@ use borrow.Author.Needs.{needs}
 use lib.Seq.{slice}
 use Rattle.text.specs.Pieces.{join}
 use Rattle.text.specs.Keys.{key}
-use Rattle.text.proofs.Spans.{spelled}
+use Rattle.text.specs.Spelled.{spelled}
 use Rattle.text_write.specs.Contracts.{lineText}
 use Rattle.text_write.proofs.Filling.{Filling, filling-start, filling-room, filling-ran, filling-last, filling-all}
 use Rattle.text_write.proofs.PutLaws.{line-parts}

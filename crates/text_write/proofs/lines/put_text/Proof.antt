@@ -8,7 +8,7 @@ use lib.ListN.{length}
 use lib.Seq.{slice}
 use Rattle.grammar.specs.Table.{decode}
 use Rattle.text.specs.Pieces.{join}
-use Rattle.text.proofs.Spans.{spelled}
+use Rattle.text.specs.Spelled.{spelled}
 use Rattle.text_write.specs.Contracts.{lineText, rulesText, textOf}
 use Rattle.text_write.proofs.Filling.{Filling, filling-start, filling-room, filling-ran, filling-last, filling-all}
 use Rattle.text_write.proofs.LentLaws.{names-count}

@@ -40,7 +40,7 @@ all e = let a = e .args in recordsAt (rowsOf (a .ahead .now) (a .number .now) (a
 mul-layer : tie.Need-mul-layer Inv-loop μ-loop
 mul-layer c =
     let e = c .before in
-    let h : e .args .q * e .args .q ≤ 65536 = mul-le-mul {n₂ = 256} {m₂ = 256} (e .pre .most) (e .pre .most) in
+    let h : e .args .q * e .args .q ≤ limits .maxStates * limits .maxStates = mul-le-mul {n₂ = limits .maxStates} {m₂ = limits .maxStates} (e .pre .most) (e .pre .most) in
     omega (arith, h)
 
 div-layer : tie.Need-div-layer Inv-loop μ-loop

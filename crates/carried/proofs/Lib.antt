@@ -1,0 +1,9 @@
+pub mod Codes
+pub mod Lists
+pub mod Live
+pub mod Alike
+pub mod Moves
+pub mod Answers
+pub mod Theorem
+pub mod Bytes
+pub mod Searches

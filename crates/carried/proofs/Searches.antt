@@ -1,0 +1,99 @@
+-- The search of a table and that of the carried one are promised the same: verdict, certificate, witness, figure and every lent row.
+-- Assumes nothing.
+use Prim.Native.Nat.{ℕ}
+use mathlib.Core.Path.{_≡_, refl, ap, ap₂, sym, subst, _∙_}
+use mathlib.Core.Bool.{Bool, true, false}
+use mathlib.Core.List.{List}
+use mathlib.Core.Logic.{_↔_}
+use lib.ListN.{length}
+use Rattle.grammar.specs.Basics.{over}
+use Rattle.grammar.specs.Limits.{Limits, limits}
+use Rattle.grammar.specs.Grammar.{Grammar}
+use Rattle.grammar.specs.Refusal.{Answer, done, refused, refuseUnless, andThen, bufferTooShort}
+use Rattle.grammar.specs.TableCheck.{checkTable}
+use Rattle.grammar.proofs.Answers.{then-goes, unless-holds, unless-fails}
+use Rattle.automaton.specs.Items.{states}
+use Rattle.automaton.specs.Moves.{Moves}
+use Rattle.automaton.specs.PositionMoves.{movesOf}
+use Rattle.triples.specs.Smallest.{smallest}
+use Rattle.triples.specs.Certificate.{certificateOf}
+use Rattle.triples.specs.Shortest.{shortest}
+use Rattle.triples.specs.Looked.{lookedAt}
+use Rattle.search.specs.Promise.{isPotential, unambiguous, potential, searchVerdict, Lent, isEnough, searchable, cleared, Told, Searches}
+use Rattle.search.specs.declared.SearchVerdict.{SearchVerdict}
+use Rattle.carried.specs.Carried.{carriedTable, carriedGrammar, Wider, Same}
+use Rattle.carried.specs.Promises.{AnswersAt, SearchesAt}
+use Rattle.carried.proofs.Theorem.{carried}
+
+-- at the limits in force this is what the search promises
+pub promised : (t n : ℕ) (table : List ℕ) (before : Lent) (r : SearchVerdict) (after : Lent)
+    → Searches t n table before r after ≡ SearchesAt limits t n table before r after
+promised t n table before r after = go (searchable limits t n table before)
+  where
+    go : (a : Answer Grammar) → _≡_ {A = Type 0} (Rattle.search.specs.Promise.Answers a before r after) (AnswersAt limits a before r after)
+    go (done G) = refl
+    go (refused cause at) = refl
+
+-- by as many states, the same smallest set, witness and figure
+module _ (M N : Moves) (q : N .states ≡ M .states) (set : smallest N ≡ smallest M) (way : shortest N ≡ shortest M)
+    (looked : lookedAt N ≡ lookedAt M) (before : Lent) (r : SearchVerdict) (after : Lent) where
+  told : (c : Bool) → Told c M before r after → Told c N before r after
+  told true w = record {
+    verdict = w .verdict ∙ ap₂ (λ (l : List ℕ) (k : ℕ). searchVerdict (done (potential (length l) k))) (sym way) (sym looked);
+    certificate = w .certificate;
+    queue = w .queue ∙ ap (λ (n : ℕ). cleared n (before .queue)) (sym q);
+    parents = w .parents ∙ ap (λ (n : ℕ). cleared n (before .parents)) (sym q);
+    witness = w .witness ∙ ap (λ (l : List ℕ). over l (before .witness)) (sym way);
+  }
+  told false w = record {
+    verdict = w .verdict ∙ ap₂ (λ (l : List ℕ) (k : ℕ). searchVerdict (done (unambiguous (length l) k))) (sym set) (sym looked);
+    certificate = w .certificate ∙ ap₂ (λ (n : ℕ) (l : List ℕ). over (certificateOf n l) (before .certificate)) (sym q) (sym set);
+    queue = w .queue ∙ ap (λ (n : ℕ). cleared n (before .queue)) (sym q);
+    parents = w .parents ∙ ap (λ (n : ℕ). cleared n (before .parents)) (sym q);
+    witness = w .witness;
+  }
+
+-- what is searched, by a grammar that passes
+searched : (L : Limits) (t n : ℕ) (table : List ℕ) (l : Lent) (G : Grammar) → checkTable L t n table ≡ done G
+    → searchable L t n table l ≡ refuseUnless bufferTooShort 0 (isEnough (states G) l) (done G)
+unfolding searchable
+searched L t n table l G e = then-goes (checkTable L t n table) (λ G. refuseUnless bufferTooShort 0 (isEnough (states G) l) (done G)) G e
+
+-- one way: a promise at L for G gives one at M for H
+module _ (L M : Limits) (t n : ℕ) (table other : List ℕ) (G H : Grammar) (e : checkTable L t n table ≡ done G) (f : checkTable M t n other ≡ done H)
+    (q : states H ≡ states G) (verdict : isPotential (movesOf M H) ≡ isPotential (movesOf L G)) (set : smallest (movesOf M H) ≡ smallest (movesOf L G))
+    (way : shortest (movesOf M H) ≡ shortest (movesOf L G)) (looked : lookedAt (movesOf M H) ≡ lookedAt (movesOf L G))
+    (before : Lent) (r : SearchVerdict) (after : Lent) where
+  one-way : SearchesAt L t n table before r after → SearchesAt M t n other before r after
+  one-way p = go (isEnough (states G) before) refl
+    where
+      go : (c : Bool) → isEnough (states G) before ≡ c → SearchesAt M t n other before r after
+      go true h =
+          let x : searchable L t n table before ≡ done G
+          = searched L t n table before G e ∙ unless-holds bufferTooShort 0 (isEnough (states G) before) (done G) h in
+          let y : searchable M t n other before ≡ done H
+          = searched M t n other before H f
+          ∙ unless-holds bufferTooShort 0 (isEnough (states H) before) (done H) (ap (λ (k : ℕ). isEnough k before) q ∙ h) in
+          subst (λ (a : Answer Grammar). AnswersAt M a before r after) (sym y)
+          (subst (λ (c : Bool). Told c (movesOf M H) before r after) (sym verdict)
+          (told (movesOf L G) (movesOf M H) q set way looked before r after (isPotential (movesOf L G))
+          (subst (λ (a : Answer Grammar). AnswersAt L a before r after) x p)))
+      go false h =
+          let x : searchable L t n table before ≡ refused bufferTooShort 0
+          = searched L t n table before G e ∙ unless-fails bufferTooShort 0 (isEnough (states G) before) (done G) h in
+          let y : searchable M t n other before ≡ refused bufferTooShort 0
+          = searched M t n other before H f
+          ∙ unless-fails bufferTooShort 0 (isEnough (states H) before) (done H) (ap (λ (k : ℕ). isEnough k before) q ∙ h) in
+          subst (λ (a : Answer Grammar). AnswersAt M a before r after) (sym y) (subst (λ (a : Answer Grammar). AnswersAt L a before r after) x p)
+
+-- the search of a table that passed under L, and of the carried table under M
+pub searches-carried : (L M : Limits) → Wider L M → (t n : ℕ) (table : List ℕ) (G : Grammar) → checkTable L t n table ≡ done G
+    → (before : Lent) (r : SearchVerdict) (after : Lent)
+    → SearchesAt L t n table before r after ↔ SearchesAt M t n (carriedTable L M table) before r after
+searches-carried L M W t n table G e before r after =
+    let s = carried L M W t n table G e in (
+      one-way L M t n table (carriedTable L M table) G (carriedGrammar L M G) e (s .passes) (s .states) (s .verdict) (s .smallest)
+          (s .witness) (s .looked) before r after,
+      one-way M L t n (carriedTable L M table) table (carriedGrammar L M G) G (s .passes) e (sym (s .states)) (sym (s .verdict)) (sym (s .smallest))
+          (sym (s .witness)) (sym (s .looked)) before r after,
+    )

@@ -1,0 +1,45 @@
+-- `lexicon::bit` meets its contract: `>>` and `% 2` take the bit that `turn` asks for. Assumes nothing.
+use borrow.Author.Needs.{needs}
+use native.Mathlib.Omega.{arith}
+use Prim.Native.Nat.{ℕ, _/_, _%_, _^_}
+use mathlib.Core.Path.{sym, ap, _∙_}
+use Rattle.lexicon.proofs.Tree.{bit-none, bit-some}
+use Rattle.lexicon.proofs.bit.Statement.{statement}
+use Rattle.lexicon.proofs.bit.Tie as tie
+
+returns : tie.Need-returns
+returns c = (sym (bit-none (c .before .before .args .x .now) (c .before .before .args .d) (omega arith)), omega arith)
+
+shared-slice-read-fold : tie.Need-shared-slice-read-fold
+shared-slice-read-fold c = search needs
+
+fold-requires : tie.Need-fold-requires
+fold-requires c κs = search needs
+
+cast-b : tie.Need-cast-b
+cast-b c = search needs
+
+shr-b : tie.Need-shr-b
+shr-b c = search needs
+
+wide-byte-requires : tie.Need-wide-byte-requires
+wide-byte-requires c κs = search needs
+
+returns-2 : tie.Need-returns-2
+returns-2 c = let a = c .before .before .before .before .before .args in (
+  sym (bit-some (a .x .now) (a .d) (omega arith) ∙ ap (λ (w : ℕ). w / 2 ^ (a .d % 8) % 2) (sym (c .before .fold .ensures))
+      ∙ sym (c .wide-byte .ensures)),
+  omega arith,
+)
+
+pub bit-spec : {M : Type 1} → statement M
+bit-spec =
+    tie.close
+    (tie.spec
+    returns
+    shared-slice-read-fold
+    fold-requires
+    cast-b
+    shr-b
+    wide-byte-requires
+    returns-2)

@@ -1,0 +1,69 @@
+-- The tree of the first names of some, held in one row of links, and what a search in it tells. A name is known by its number; its
+-- two links stand in the row at twice the number and at the next place. Assumes nothing.
+use Prim.Native.Nat.{ℕ, _+_, _*_, _/_, _%_, _^_, _≤_, _<_}
+use mathlib.Core.Path.{_≡_}
+use mathlib.Core.List.{List, map}
+use mathlib.Core.Bool.{true, false}
+use lib.ListN.{length, drop, getD, take}
+use Rattle.text.specs.Names.{folded, sameName}
+use Rattle.text.specs.Spelled.{Inside}
+use Rattle.lexicon.specs.declared.Sought.{Sought}
+use Rattle.lexicon.specs.declared.Sought.the-variants.{Same, Free}
+
+-- what of a name counts
+unfoldable pub foldedName : List ℕ → List ℕ
+foldedName x = map folded x
+
+-- where a name turns at depth d: bit d of its key. The laws use only that this is 0 or 1
+unfoldable pub turn : List ℕ → ℕ → ℕ
+turn k d = getD k (d / 8) 0 / 2 ^ (d % 8) % 2
+
+-- name number i
+unfoldable pub nameOf : List ℕ → List ℕ → List ℕ → ℕ → List ℕ
+nameOf text starts lengths i = take (getD lengths i 0) (drop (getD starts i 0) text)
+
+-- as many lengths as starts, each name in the text
+pub record Spans (text starts lengths : List ℕ) : Type 0 where
+  pub paired : length starts ≡ length lengths
+  pub inside : Inside text starts lengths
+
+-- whether s is met on the way that key k takes from name q, at depth d
+pub data Below (C k : List ℕ) (s : ℕ) : ℕ → ℕ → Type 0 where
+  here : {d q : ℕ} → q ≡ s → Below C k s d q
+  down : {d q : ℕ} → 0 < getD C (2 * q + turn k d) 0 → Below C k s (d + 1) (getD C (2 * q + turn k d) 0) → Below C k s d q
+
+-- whether D has every link of C
+pub record Keeps (C D : List ℕ) : Type 0 where
+  pub kept : (i : ℕ) → 0 < getD C i 0 → getD D i 0 ≡ getD C i 0
+
+module _ (name : ℕ → List ℕ) (C : List ℕ) (count : ℕ) where
+  -- the tree has the first names; links go to later ones of these
+  pub record Grown : Type 0 where
+    pub root : 0 < count
+    pub link : (i : ℕ) → 0 < getD C i 0 → getD C i 0 < count
+    pub forward : (i : ℕ) → 0 < getD C i 0 → i < 2 * getD C i 0
+    pub held : (s : ℕ) → s < count → Below C (foldedName (name s)) s 0 0
+
+  -- name q is x
+  pub record Hit (x : List ℕ) (q : ℕ) : Type 0 where
+    pub inside : q < count
+    pub same : sameName x (name q) ≡ true
+
+  -- none of the names is x, and a link written at i leads to it
+  pub record Gap (x : List ℕ) (i : ℕ) : Type 0 where
+    pub near : i < 2 * count
+    pub empty : getD C i 0 ≡ 0
+    pub absent : (s : ℕ) → s < count → sameName x (name s) ≡ false
+    pub led : (D : List ℕ) → Keeps C D → 0 < getD D i 0 → Below D (foldedName x) (getD D i 0) 0 0
+
+  abbrev pub Told : List ℕ → Sought → Type 0
+  Told x (Same q) = Hit x q
+  Told x (Free i) = Gap x i
+
+-- the tree has all names, of which no two are the same
+pub record Lexicon (text starts lengths links : List ℕ) : Type 0 where
+  pub spans : Spans text starts lengths
+  pub few : length starts ≤ 65535
+  pub room : 2 * length starts ≤ length links
+  pub grown : 0 < length starts → Grown (nameOf text starts lengths) links (length starts)
+  pub apart : (i j : ℕ) → i < j → j < length starts → sameName (nameOf text starts lengths j) (nameOf text starts lengths i) ≡ false
