@@ -1,4 +1,4 @@
-// Judges the grammar text on standard input: writes Q, the verdict and the size to standard output, or the refusal.
+// Judges the grammar text on standard input: writes Q, the verdict, and the size or two readings to standard output; or the refusal.
 //
 // One byte more than the program takes is read, so that a longer text is known as such. A failed read is not taken for the end of
 // the text: nothing is then written to standard output, and a line to standard error says so. The same line tells of a failed write.

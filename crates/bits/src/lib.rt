@@ -1,6 +1,6 @@
 // Bits in bytes, as a certificate has them: index 8b+c is bit c of byte b.
 ghost use mathlib.Core.Path.{_≡_};
-ghost use Prim.Native.Nat.{_+_, _*_, _≤_, _<_};
+ghost use Prim.Native.Nat.{_+_, _*_, _^_, _≤_, _<_};
 ghost use lib.ListN.{length};
 ghost use Rattle.triples.specs.Certificate.{isSet};
 ghost use Rattle.bits.specs.Bits.{withBit};
@@ -66,7 +66,7 @@ pub fn window(bytes: &[u8], i: usize) -> u64
 
 // Where the window from i on ends.
 pub fn window_end(bytes: &[u8], i: usize) -> usize
-    requires { ⌜ (i < 8 * length (now bytes)) × (i < 4294967296) ⌝ }
+    requires { ⌜ (i < 8 * length (now bytes)) × (i < 2 ^ 32) ⌝ }
     ensures { λ r. ⌜ r ≡ windowEnd (length (now (bytes .entry))) i ⌝ }
 {
     if i / 8 + 8 <= bytes.len() {

@@ -20,11 +20,6 @@ when-map f false l = refl
 pub then-map : {A B : Type 0} (f : A → B) (c : Bool) (l m : List A) → when c (map f l) ++ map f m ≡ map f (when c l ++ m)
 then-map f c l m = ap (λ u. u ++ map f m) (when-map f c l) ∙ sym (map-append f (when c l) m)
 
-pub each-same : {A B : Type 0} (l : List A) (f g : A → List B) → ((a : A) → f a ≡ g a) → each l f ≡ each l g
-unfolding each
-each-same [] f g h = refl
-each-same (a ∷ l) f g h = ap₂ (λ u v. u ++ v) (h a) (each-same l f g h)
-
 -- what is gathered, mapped
 pub each-map : {A B C : Type 0} (k : B → C) (l : List A) (f : A → List C) (g : A → List B) → ((a : A) → f a ≡ map k (g a))
     → each l f ≡ map k (each l g)

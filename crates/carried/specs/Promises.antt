@@ -1,5 +1,5 @@
 -- The search's promise over any limits; at the limits in force it is Searches of crate search, word for word (proofs/Searches.antt).
--- When [8] lands, search/specs/Promise.antt takes the limits as a parameter and this file goes. Assumes nothing.
+-- Assumes nothing.
 use Prim.Native.Nat.{ℕ}
 use mathlib.Core.Path.{_≡_}
 use mathlib.Core.List.{List}

@@ -20,7 +20,7 @@ use Rattle.plans.specs.declared.Plan.{Plan}
 use Rattle.plans.specs.Plan.{Rows, rows, sideOf, aloneOf, layerAfter, pairsOf, planFor, planOf}
 use Rattle.plans.proofs.PlanLaws.{sideFrom}
 use Rattle.plans.proofs.PlannedLaws.{cell-target, verified, swapped}
-use Rattle.explore.proofs.OrderedLaws.{order}
+use Rattle.explore.proofs.OrderedLaws.{last-of, factors, order}
 use Rattle.explore.specs.State.{leftFirst, rightFirst, pairFirst, pairs, Laid}
 
 -- a number that may be 0 by a test, and is not
@@ -43,17 +43,6 @@ pairs-whole : (number : List ℕ) (m f a b : ℕ) (x y : Side) → 0 < pairsOf n
 unfolding pairsOf
 pairs-whole number m f a b x y h =
     whole-if (eqb f 0 && (ltb (x .kind) m && (ltb (y .kind) m && not (eqb (getD number a 0) (getD number b 0))))) (x .span * y .span) h
-
--- both factors of a product that is not 0
-factors : (a b : ℕ) → 0 < a * b → (0 < a) × (0 < b)
-factors zero b h = absurd (omega (arith, zero-mul b))
-factors (suc a) zero h = absurd (omega (arith, mul-zero (suc a)))
-factors (suc a) (suc b) h = (omega arith, omega arith)
-
--- sums in another order
--- the last of four numbers
-last-of : (a b c d : ℕ) → a + b + c + d - a - b - c ≡ d
-last-of a b c d = omega arith
 
 module _ (M : Moves) (S : Regular M) (t m : ℕ) (new : Tables) (X : Shows M t m new) (long : limits .maxStates ≤ length (new .targets)) where
   abbrev Q : ℕ

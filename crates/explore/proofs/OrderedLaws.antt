@@ -56,11 +56,11 @@ row-apart Q w u p v q hv hq l e = elim (lt-or-le u p) [
 ]
 
 -- the last of four numbers
-last-of : (a b c d : ℕ) → a + b + c + d - a - b - c ≡ d
+pub last-of : (a b c d : ℕ) → a + b + c + d - a - b - c ≡ d
 last-of a b c d = omega arith
 
 -- both factors of a product that is not 0
-factors : (a b : ℕ) → 0 < a * b → (0 < a) × (0 < b)
+pub factors : (a b : ℕ) → 0 < a * b → (0 < a) × (0 < b)
 factors zero b h = absurd (omega (arith, zero-mul b))
 factors (suc a) zero h = absurd (omega (arith, mul-zero (suc a)))
 factors (suc a) (suc b) h = (omega arith, omega arith)

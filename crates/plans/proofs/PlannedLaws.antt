@@ -381,7 +381,6 @@ module _ (M : Moves) (R : Regular M) (t m : ℕ) (new : Tables) (X : Shows M t m
         right = omega (arith, alone-le (new .ahead) t m f (side q) p, y .order, y .inside);
         left-base = omega (arith, w, hq, few, layer-times (layerAfter m f (side p)) (Q * Q) (layer-le m f (side p)));
         right-base = omega (arith, w, product-le p Q (omega arith) few, layer-times (layerAfter m f (side q)) (Q * Q) (layer-le m f (side q)));
-        square = w;
         pairs = λ k h.
             let l : k < side p .span * side q .span = omega (arith, pairs-le (new .number) m f p q (side p) (side q), h) in
             let z = positive (side p .span) (side q .span) k l in

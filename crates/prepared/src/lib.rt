@@ -1,4 +1,4 @@
-// What the five entries over triples do first: the table check, then the rows of the automaton's moves, in rows that the caller lends.
+// What every entry over triples, and two_sides, does first: the table check, then the rows of moves, in rows that the caller lends.
 ghost use Rattle.moves.specs.Tables.{tables};
 ghost use Rattle.prepared.specs.Prepared.{Prepares};
 use grammar::MAX_STATES;

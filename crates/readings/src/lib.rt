@@ -10,6 +10,11 @@ pub const CLOSING: u32 = 2;
 
 pub const SYMBOL: u32 = 3;
 
+// ( and ), before a rule's number.
+pub const OPENS: u8 = 40;
+
+pub const CLOSES: u8 = 41;
+
 // How many letters the two strings have; or the refusal of the grammar's text, or of the lines, or that a row is too short, with
 // the document's number and position.
 pub enum ReadBack {

@@ -10,7 +10,7 @@ pub const PROGRAM_TEXT: usize = 4096;
 
 pub const PROGRAM_STATES: usize = 48;
 
-pub const REPORT_SIZE: usize = 147520;
+pub const REPORT_SIZE: usize = 2 * (16 * 2 * PROGRAM_STATES * PROGRAM_STATES) + 64;
 
 // How many bytes were written; or the refusal with its cause's number and its position.
 pub enum Reported {

@@ -15,18 +15,15 @@ use super::put::put_potential;
 use super::put::put_refused;
 use super::put::put_unambiguous;
 use grammar::BUFFER_TOO_SHORT;
+use grammar::MAX_ENTRIES;
+use grammar::MAX_NAMES;
 use search::SearchVerdict;
 use text::TextRead;
 
-// Room for every table of a grammar, which has 352 entries at most, and for all names.
-const ENTRIES: usize = 512;
-
-const NAMES: usize = 254;
-
 // The triples of PROGRAM_STATES states, and the bytes of a certificate.
-const TRIPLES: usize = 4608;
+const TRIPLES: usize = 2 * PROGRAM_STATES * PROGRAM_STATES;
 
-const BYTES: usize = 576;
+const BYTES: usize = TRIPLES / 8;
 
 // The two lines of the shortest witness, which is lent, from a place on.
 fn put_sides(
@@ -111,9 +108,9 @@ pub fn put_report(out: &mut [u8], text: &[u8]) -> usize
     if PROGRAM_TEXT < text.len() {
         return put_refused(out, BUFFER_TOO_SHORT, 0);
     }
-    let mut table = [0u8; ENTRIES];
-    let mut starts = [0u32; NAMES];
-    let mut lengths = [0u32; NAMES];
+    let mut table = [0u8; MAX_ENTRIES];
+    let mut starts = [0u32; MAX_NAMES];
+    let mut lengths = [0u32; MAX_NAMES];
     let read = text_read::read_text(text, &mut table, &mut starts, &mut lengths);
     match read {
         TextRead::Refused(cause, at) => put_refused(out, cause, at),

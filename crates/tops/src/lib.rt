@@ -4,7 +4,10 @@ ghost use Prim.Native.Nat.{_+_, _*_, _<_};
 ghost use lib.ListN.{length, getD, set};
 ghost use Rattle.triples.specs.Certificate.{isSet};
 ghost use Rattle.bits.specs.Bits.{withBit};
-ghost use Rattle.tops.specs.Tops.{top, tops, lows};
+ghost use Rattle.tops.specs.Tops.{placeUnit, top, tops, lows};
+
+// Places are below this.
+const PLACES: u32 = 16777216;
 
 // Is the bit 1?
 pub fn is_marked(row: &[u32], i: usize) -> bool
@@ -28,20 +31,20 @@ pub fn mark(row: &mut [u32], i: usize)
 pub fn top_of(x: u32) -> u8
     ensures { λ r. ⌜ r ≡ top x ⌝ }
 {
-    (x / 16777216) as u8
+    (x / PLACES) as u8
 }
 
 // An entry's top byte with another place.
 fn with_place(x: u32, place: usize) -> u32
-    requires { ⌜ place < 16777216 ⌝ }
-    ensures { λ r. ⌜ r ≡ top x * 16777216 + place ⌝ }
+    requires { ⌜ place < placeUnit ⌝ }
+    ensures { λ r. ⌜ r ≡ top x * placeUnit + place ⌝ }
 {
-    x / 16777216 * 16777216 + place as u32
+    x / PLACES * PLACES + place as u32
 }
 
 // Writes a place.
 pub fn put_place(row: &mut [u32], k: usize, place: usize)
-    requires { ⌜ (k < length (now row)) × (place < 16777216) ⌝ }
+    requires { ⌜ (k < length (now row)) × (place < placeUnit) ⌝ }
     ensures bits { λ _. ⌜ tops (now (row .exit)) ≡ tops (now (row .entry)) ⌝ }
     ensures places { λ _. ⌜ lows (now (row .exit)) ≡ set (lows (now (row .entry))) k place ⌝ }
 {
@@ -53,6 +56,6 @@ pub fn place_at(row: &[u32], k: usize) -> usize
     requires { ⌜ k < length (now row) ⌝ }
     ensures { λ r. ⌜ r ≡ getD (lows (now (row .entry))) k 0 ⌝ }
 {
-    let x = row[k] % 16777216;
+    let x = row[k] % PLACES;
     x as usize
 }

@@ -77,7 +77,3 @@ module _ (L : Limits) (G : Grammar) (W : WellFormed L G) (apart : L .maxTerminal
 
   pub position-regular : Regular (movesOf L G)
   position-regular = by-regular L G (Live L G) (isLive L G) (is-live L G W apart) W apart
-
-  -- as it was before: every rule is taken
-  pub former-listed : Lists (positionOf L G every) (movesBy L G (λ i. true))
-  former-listed = by-listed L G every (λ i. true) (λ i h. (λ e. tt, λ u. refl)) W apart

@@ -32,12 +32,19 @@ first c = reading (c .before .before .before)
 abbrev second : tie.After-known-told2 → tie.After-read-text
 second c = reading (c .before .before .before)
 
+-- room for a table, and for all names
+abbrev mostEntries : ℕ
+mostEntries = limits .maxStates + limits .maxRules
+
+abbrev mostNames : ℕ
+mostNames = limits .maxTerminals + limits .maxNonterminals
+
 -- the rows that are lent suffice
-suffice : Enough (length (replicate {A = ℕ} 512 0)) (length (replicate {A = ℕ} 254 0)) (length (replicate {A = ℕ} 254 0))
+suffice : Enough (length (replicate {A = ℕ} mostEntries 0)) (length (replicate {A = ℕ} mostNames 0)) (length (replicate {A = ℕ} mostNames 0))
 suffice = record {
-  entries = omega (arith, length-replicate {A = ℕ} 512 0);
-  starts = omega (arith, length-replicate {A = ℕ} 254 0);
-  lengths = omega (arith, length-replicate {A = ℕ} 254 0);
+  entries = omega (arith, length-replicate {A = ℕ} mostEntries 0);
+  starts = omega (arith, length-replicate {A = ℕ} mostNames 0);
+  lengths = omega (arith, length-replicate {A = ℕ} mostNames 0);
 }
 
 short : (k : tie.After-read-text) → length (start k .args .text .now) ≤ 4096
@@ -144,7 +151,7 @@ add-m c =
 array-share-prefix-table : tie.Need-array-share-prefix-table
 array-share-prefix-table c =
     let b = c .before .before in
-    omega (arith, rows b .table-fits, second b .read-text .kept .1 .0, length-replicate {A = ℕ} 512 0)
+    omega (arith, rows b .table-fits, second b .read-text .kept .1 .0, length-replicate {A = ℕ} mostEntries 0)
 
 slice-aggregate-put-table : tie.Need-slice-aggregate-put-table
 slice-aggregate-put-table c = sym (length-take-le _ _ (rows (c .before .before .before) .table-fits))
@@ -152,7 +159,7 @@ slice-aggregate-put-table c = sym (length-take-le _ _ (rows (c .before .before .
 array-share-prefix-starts : tie.Need-array-share-prefix-starts
 array-share-prefix-starts c =
     let b = c .before .before .before in
-    omega (arith, rows b .starts-fits, second b .read-text .kept .1 .1 .0, length-replicate {A = ℕ} 254 0)
+    omega (arith, rows b .starts-fits, second b .read-text .kept .1 .1 .0, length-replicate {A = ℕ} mostNames 0)
 
 slice-aggregate-put-table-2 : tie.Need-slice-aggregate-put-table-2
 slice-aggregate-put-table-2 c = sym (length-take-le _ _ (rows (c .before .before .before .before) .starts-fits))
@@ -160,7 +167,7 @@ slice-aggregate-put-table-2 c = sym (length-take-le _ _ (rows (c .before .before
 array-share-prefix-lengths : tie.Need-array-share-prefix-lengths
 array-share-prefix-lengths c =
     let b = c .before .before .before .before in
-    omega (arith, rows b .lengths-fits, second b .read-text .kept .1 .1 .1 .0, length-replicate {A = ℕ} 254 0)
+    omega (arith, rows b .lengths-fits, second b .read-text .kept .1 .1 .1 .0, length-replicate {A = ℕ} mostNames 0)
 
 slice-aggregate-put-table-3 : tie.Need-slice-aggregate-put-table-3
 slice-aggregate-put-table-3 c = sym (length-take-le _ _ (rows (c .before .before .before .before .before) .lengths-fits))
