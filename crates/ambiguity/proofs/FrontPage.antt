@@ -106,6 +106,15 @@ module _ (t n : ℕ) (table : List ℕ) where
     }
 
   module _ (entries : List TripleRecord) (v : CheckVerdict) (h : RecordsAnswer t n table entries v) where
+    -- accepted exactly if the row of their entries is a witness
+    accepts-entries : (G : Grammar) → Stores t n table G → (v ≡ check.Accepted) ↔ Witness (position limits G) (map (entryOf (states G)) (triples entries))
+    unfolding checkWitnessRecords
+    accepts-entries G s =
+        let row = map (entryOf (states G)) (triples entries) in
+        let a = then-accepted (λ G. checkRow (movesOf limits G) (map (entryOf (states G)) (triples entries))) v h G s in
+        let b = witnesses-of (position limits G) (movesOf limits G) (regular G (s .isTable .wellFormed)) (lists G (s .isTable .wellFormed)) row in
+        (λ x. b .0 (a .0 x), λ x. a .1 (b .1 x))
+
     record-theorems : RecordTheorems t n table entries v
     unfolding checkWitnessRecords
     record-theorems = record {
@@ -115,11 +124,12 @@ module _ (t n : ℕ) (table : List ℕ) where
           let R = regular G (s .isTable .wellFormed) in
           let row = map (entryOf (states G)) (triples entries) in
           let a = then-accepted (λ G. checkRow (movesOf limits G) (map (entryOf (states G)) (triples entries))) v h G s in
-          let b = witnesses-of (position limits G) M R (lists G (s .isTable .wellFormed)) row in (
+          let b = accepts-entries G s in (
             λ x. let r = records-inside M R entries (witness-exactly M R row .0 (a .0 x)) in
-                (r, subst (Witness (position limits G)) (entries-are (states G) entries r) (b .0 (a .0 x))),
-            λ (r, w). a .1 (b .1 (subst (Witness (position limits G)) (sym (entries-are (states G) entries r)) w)),
+                (r, subst (Witness (position limits G)) (entries-are (states G) entries r) (b .0 x)),
+            λ (r, w). b .1 (subst (Witness (position limits G)) (sym (entries-are (states G) entries r)) w),
           );
+      potential = λ G s x. potential-reached limits G (s .isTable .wellFormed) (omega arith) .1 (witness-reached G (accepts-entries G s .0 x));
     }
 
   module _ (bytes : List ℕ) (v : CheckVerdict) (h : CertificateAnswer t n table bytes v) where

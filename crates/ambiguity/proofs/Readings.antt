@@ -36,6 +36,7 @@ use Rattle.readings.specs.declared.ReadBack.{ReadBack}
 use Rattle.readings.specs.declared.ReadBack.the-variants.{Read, GrammarRefused, Refused}
 use Rattle.readings.proofs.Again.{lines-again, lines-apart}
 use Rattle.readings.proofs.Letters.{letter-again}
+use Rattle.readings.proofs.Only.{lines-only}
 use Rattle.readings.proofs.Said.{strings-right}
 use Rattle.ambiguity.specs.Readings.{stringsOf, ReadingTheorems, SidesTheorems, Unchanged, BackTheorems}
 
@@ -51,6 +52,7 @@ reading-theorems text s e =
       again = lines-again limits t n (length (s .rules)) (symbolNames s) low (c .well .named) (c .well .once) many;
       lines-apart = lines-apart limits t n (length (s .rules)) (symbolNames s) low (c .well .named) (c .well .once) many;
       said = strings-right limits t n (length (s .rules)) (symbolNames s) low many;
+      only = lines-only limits t (length (s .rules)) (symbolNames s) low;
       entries = letter-again t n (length (s .rules)) (c .well .terminals-most) (c .well .nonterminals-most) (w .count);
     }
 

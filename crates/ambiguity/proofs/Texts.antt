@@ -1,8 +1,9 @@
 -- What follows from the promises of reader and writer. Assumes nothing.
 use Prim.Native.Nat.{ℕ, _+_, _≤_}
-use mathlib.Core.Path.{_≡_, ap, sym, subst, _∙_}
+use mathlib.Core.Path.{_≡_, refl, ap, sym, subst, _∙_}
 use mathlib.Core.Bool.{Bool, true, false}
 use mathlib.Core.List.{List, _++_}
+use mathlib.Core.Logic.{_↔_}
 use native.Mathlib.Omega.{arith}
 use lib.ListN.{length, take, drop, length-append}
 use lib.Seq.{take-at}
@@ -13,6 +14,7 @@ use Rattle.grammar.specs.TableCheck.{checkTable, tableChecked, TableAnswer}
 use Rattle.grammar.specs.declared.TableChecked.{TableChecked}
 use Rattle.grammar.specs.declared.TableVerdict.the-variants.{Passed, Refused}
 use Rattle.grammar.proofs.Answers.{no-answer, then-goes, then-stops}
+use Rattle.grammar.proofs.WellFormed.{room}
 use Rattle.table_check.proofs.Callers.{passed-table, refused-table}
 use Rattle.text.specs.Read.{Source, symbolNames, grammarOf, readText}
 use Rattle.text.specs.Rules.{lastTests, checkText, readInto}
@@ -28,6 +30,7 @@ use Rattle.text.proofs.Spans.{length-lengths, length-name-starts}
 use Rattle.text.proofs.Admit.{read-tests, Checked, text-checked}
 use Rattle.text.proofs.Gather.{gather-front, gather-read}
 use Rattle.text.proofs.RoundTrip.{apart, table-refuses, into-refused, reads-into, into-checked, limits-short}
+use Rattle.text.proofs.Without.{Barren, text-without}
 use Rattle.text.proofs.Promises.{written-as, refuses-as, written-passes, read-write, write-read, read-as, after-done}
 use Rattle.ambiguity.specs.Texts.{TextTheorems}
 
@@ -45,6 +48,21 @@ only-14 e a b text s c at h = go _ (sym (then-goes (checkText limits text) _ s c
     go : (ok : Bool) → ¬ (refuseUnless bufferTooShort 0 ok (done s) ≡ refused noSentence at)
     go true h = unfold refuseUnless in no-answer (sym h)
     go false h = unfold refuseUnless in absurd (let z : bufferTooShort ≡ noSentence = cc in omega arith)
+
+-- the reader refuses with 19 where the tests before 14 do
+without : (text table starts lengths : List ℕ) (v : TextRead) (table′ starts′ lengths′ : List ℕ)
+    → ReadsText text table starts lengths v table′ starts′ lengths′ → (at : ℕ) → (v ≡ reader.Refused noSentence at) ↔ ((at ≡ 0) × Barren limits text)
+unfolding readInto
+without text table starts lengths v table′ starts′ lengths′ p at =
+    let w = text-without limits room apart text at in (
+      λ e. w .0 (before (checkText limits text) refl (refuses-as _ noSentence at (sym e ∙ p .answer))),
+      λ b. p .answer ∙ ap textRead (then-stops (checkText limits text) _ noSentence at (w .1 b)),
+    )
+  where
+    before : (o : Answer Source) → checkText limits text ≡ o → readInto limits (length table) (length starts) (length lengths) text ≡ refused noSentence at
+        → o ≡ refused noSentence at
+    before (done s) c i = absurd (only-14 (length table) (length starts) (length lengths) text s c at i)
+    before (refused k q) c i = sym (then-stops (checkText limits text) _ k q c) ∙ i
 
 never-19 : (t n : ℕ) (table bytes starts lengths out : List ℕ) (m : ℕ) (out′ table₂ starts₂ lengths₂ : List ℕ) (r : TextRead)
     (table′ starts′ lengths′ : List ℕ)
@@ -152,6 +170,7 @@ text-theorems = record {
   short = short;
   last-tests = last-tests;
   reads = reads;
+  without = without;
   passes-on = passes-on;
   names-stand = names-stand;
   write-refused = write-refused;

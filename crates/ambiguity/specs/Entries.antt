@@ -1,9 +1,11 @@
--- What the theorems of the front page are about: the grammar with a sentence that a table stores, and the answers of nth_step for every place.
--- Each entry's promise is one definition, which its `ensures` cites and over which the front page quantifies:
--- TableAnswer in grammar/specs/TableCheck.antt; CertificateAnswer and WitnessAnswer in triples/specs/Verdict.antt; RecordsAnswer in
--- witness_records/specs/Records.antt; NthAnswer in steps/specs/Steps.antt; Searches in search/specs/Promise.antt; RoomAnswer in
--- rooms/specs/Room.antt; ReadsText, WritesText and LengthAnswer in text/specs/Promise.antt; Reports in report/specs/Report.antt; ReadsBack in readings/specs/Promise.antt. That a refusal
--- is the first in the documents' order is in the definitions that the promises equal.
+-- What the theorems of the front page are about: the grammar with a sentence that a table stores, and the
+-- answers of nth_step for every place. Each entry's promise is one definition, which its `ensures` cites and
+-- over which the front page quantifies: TableAnswer in grammar/specs/TableCheck.antt; CertificateAnswer and
+-- WitnessAnswer in triples/specs/Verdict.antt; RecordsAnswer in witness_records/specs/Records.antt; NthAnswer
+-- in steps/specs/Steps.antt; Searches in search/specs/Promise.antt; RoomAnswer in rooms/specs/Room.antt;
+-- ReadsText, WritesText and LengthAnswer in text/specs/Promise.antt; Reports in report/specs/Report.antt;
+-- ReadsBack in readings/specs/Promise.antt. That a refusal is the first in the documents' order is in the
+-- definitions that the promises equal.
 -- Source: document 01; document 02, [4]. Assumes nothing.
 use Prim.Native.Nat.{ℕ, _<_}
 use mathlib.Core.Path.{_≡_}

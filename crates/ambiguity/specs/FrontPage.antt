@@ -1,9 +1,11 @@
--- What holds of the library, whatever the input: theorems over what the public entries promise. A promise is the entry's
--- `ensures`; it determines the answer and all that was lent. Each promise is one definition: specs/Entries.antt says where.
--- specs/Searches.antt, specs/Rooms.antt, specs/Texts.antt, specs/Reports.antt and specs/Readings.antt have what follows for the
--- search, for room told beforehand, for texts, for the program and for the two lines of a witness, specs/Automata.antt whose moves the promises compute with, proofs/FrontPage.antt
--- the value of the record. Source: document 01 and document 02's requests; README.md has the demands. Of demand 1, that a refusal is
--- the first in the documents' order is in the definitions that the promises equal.
+-- What holds of the library, whatever the input: theorems over what the public entries promise. A promise is
+-- the entry's `ensures`; it determines the answer and all that was lent. Each promise is one definition:
+-- specs/Entries.antt says where. specs/Searches.antt, specs/Rooms.antt, specs/Texts.antt, specs/Reports.antt
+-- and specs/Readings.antt have what follows for the search, for room told beforehand, for texts, for the
+-- program and for the two lines of a witness, specs/Automata.antt whose moves the promises compute with,
+-- proofs/FrontPage.antt the value of the record. Source: document 01 and document 02's requests; README.md
+-- has the demands. Of demand 1, that a refusal is the first in the documents' order is in the definitions
+-- that the promises equal.
 -- Assumes nothing.
 use Prim.Native.Nat.{ℕ, _+_, _≤_, _<_}
 use mathlib.Core.Path.{_≡_}
@@ -98,6 +100,8 @@ module _ (t n : ℕ) (table : List ℕ) where
     pub accepted : (G : Grammar) → Stores t n table G
         → (v ≡ check.Accepted)
         ↔ (((e : TripleRecord) → Mem e entries → InRange (states G) e) × Witness (position limits G) (map (indexOf (states G)) entries))
+    -- demand 2: accepted records show that two strings part
+    pub potential : (G : Grammar) → Stores t n table G → v ≡ check.Accepted → Potential (position limits G)
 
   pub record CertificateTheorems (bytes : List ℕ) (v : CheckVerdict) : Type 0 where
     pub refused : (r : TableChecked) (cause at : ℕ) → TableAnswer t n table r → r .verdict ≡ Refused cause at → v ≡ check.Refused cause at

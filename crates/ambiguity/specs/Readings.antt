@@ -49,6 +49,8 @@ pub record ReadingTheorems (s : Source) : Type 0 where
       → linesOf s u v ≡ linesOf s u′ v′ → (u ≡ u′) × (v ≡ v′)
   -- what lines say is strings of the grammar's letters
   pub said : (lines : List ℕ) (u v : List Letter) → stringsOf s lines ≡ done (u, v) → IsString s u × IsString s v
+  -- and no lines but those printed of two strings say them
+  pub only : (lines : List ℕ) (u v : List Letter) → stringsOf s lines ≡ done (u, v) → lines ≡ linesOf s u v
   -- an entry of a row tells its letter
   pub entries : (l : Letter) → Valid limits (length (s .terminals)) (length (s .nonterminals)) (length (s .rules)) l
       → letterFrom (letterNumber l) ≡ l

@@ -3,15 +3,18 @@
 use Prim.Native.Nat.{ℕ, _+_, _≤_}
 use mathlib.Core.Path.{_≡_}
 use mathlib.Core.List.{List}
+use mathlib.Core.Logic.{_↔_}
 use lib.ListN.{length, take}
 use Rattle.grammar.specs.Basics.{over}
 use Rattle.grammar.specs.Limits.{limits}
+use Rattle.grammar.specs.Grammar.{WellFormed}
+use Rattle.grammar.specs.Live.{HasSentence}
 use Rattle.grammar.specs.Table.{encode}
 use Rattle.grammar.specs.Refusal.{done, noSentence}
 use Rattle.grammar.specs.declared.TableChecked.{TableChecked}
 use Rattle.grammar.specs.declared.TableVerdict.the-variants.{Passed, Refused}
 use Rattle.grammar.specs.TableCheck.{TableAnswer}
-use Rattle.text.specs.Read.{Source, symbolNames, readText}
+use Rattle.text.specs.Read.{Source, symbolNames, grammarOf, readText}
 use Rattle.text.specs.Print.{gather}
 use Rattle.text.specs.Promise.{textRead, ReadsText, WritesText, SameAgain}
 use Rattle.text.specs.declared.TextRead.{TextRead}
@@ -55,6 +58,12 @@ pub record TextTheorems : Type 0 where
       → ReadsText text table starts lengths v table′ starts′ lengths′
       → r .verdict ≡ Passed → length (encode (s .rules)) ≤ length table → length (symbolNames s) ≤ length starts
       → length (symbolNames s) ≤ length lengths → v ≡ textRead (done s)
+  -- document 02, [4]: whatever rows are lent, the reader refuses with 19, at 0, exactly if the text is read and
+  -- its grammar is well formed, so that 7, 6 and 8 find no fault, and has no sentence
+  pub without : (text table starts lengths : List ℕ) (v : TextRead) (table′ starts′ lengths′ : List ℕ)
+      → ReadsText text table starts lengths v table′ starts′ lengths′ → (at : ℕ)
+      → (v ≡ reader.Refused noSentence at)
+      ↔ ((at ≡ 0) × ((s : Source) × (readText limits text ≡ done s) × WellFormed limits (grammarOf s) × ¬ HasSentence limits (grammarOf s)))
   -- the table that the reader wrote passes the table check
   pub passes-on : (text table starts lengths : List ℕ) (t n e q : ℕ) (table′ starts′ lengths′ : List ℕ)
       → ReadsText text table starts lengths (Read t n e q) table′ starts′ lengths′

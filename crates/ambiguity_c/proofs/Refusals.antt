@@ -12,7 +12,7 @@ use Rattle.grammar.specs.Basics.{choose}
 use Rattle.grammar.specs.Limits.{Limits}
 use Rattle.grammar.specs.Grammar.{Rule}
 use Rattle.grammar.specs.Table.{ruleAt}
-use Rattle.grammar.specs.Refusal.{Answer, done, refused, refuseUnless, andThen, outOfRange, ruleTooLong, ruleRepeated, tooManyStates, certificateLength, spareBit, startMissing, endPresent, successorMissing, bufferTooShort, witnessWrong, malformed, nameUnknown, nameRepeated, noSentence}
+use Rattle.grammar.specs.Refusal.{Answer, done, refused, refuseUnless, andThen, ruleRepeated, tooManyStates, certificateLength, spareBit, startMissing, endPresent, successorMissing, bufferTooShort, witnessWrong, malformed, nameUnknown, nameRepeated, noSentence}
 use Rattle.grammar.specs.TableCheck.{checkTable}
 use Rattle.grammar.proofs.Answers.{and-both, both-and}
 use Rattle.grammar.proofs.Causes.{CausedBy, result, cause, unless, next, upTo, caused-more, stored-causes}
@@ -26,10 +26,10 @@ use Rattle.search.specs.Promise.{Lent, searchable}
 use Rattle.steps.specs.Steps.{nthStep}
 use Rattle.readings.specs.Readings.{readWords, readStrings}
 use Rattle.readings.specs.Promise.{stringsInto}
-use Rattle.text.specs.Read.{Source, refuseNone, declaration, ruleLine, ruleLines, wholeLine, readLines, readText}
+use Rattle.text.specs.Read.{Source}
 use Rattle.text.specs.Rules.{admit, lastTests, checkText, readInto}
 use Rattle.text.specs.Print.{textFrom, writeInto}
-use Rattle.text.proofs.Causes.{or-none, gather-causes}
+use Rattle.text.proofs.Causes.{or-none, whole-line, gather-causes, text-causes}
 
 -- the documents' causes
 abbrev pub isCause : ℕ → Bool
@@ -39,16 +39,16 @@ isCause = upTo noSentence
 abbrev pub Caused : {A : Type 0} → Answer A → Type 0
 Caused o = CausedBy isCause o
 
--- 1 to 8 are among them
-more : (c : ℕ) → upTo 8 c ≡ true → isCause c ≡ true
-more c h =
-    let b = and-both (leb 1 c) (leb c 8) h in
-    let low : c ≤ 8 = leb-true c 8 (b .1) in
+-- the first ones are among them
+more : (last : ℕ) → last ≤ noSentence → (c : ℕ) → upTo last c ≡ true → isCause c ≡ true
+more last h c e =
+    let b = and-both (leb 1 c) (leb c last) e in
+    let low : c ≤ last = leb-true c last (b .1) in
     both-and (leb 1 c) (leb c noSentence) (b .0) (le-leb c noSentence (omega arith))
 
 pub check-table : (L : Limits) (t n : ℕ) (table : List ℕ) → Caused (checkTable L t n table)
 unfolding checkTable
-check-table L t n table = next _ _ (caused-more more _ (stored-causes L t n table)) (λ G. unless noSentence _ _ _ refl result)
+check-table L t n table = next _ _ (caused-more (more tooManyStates (omega arith)) _ (stored-causes L t n table)) (λ G. unless noSentence _ _ _ refl result)
 
 pub nth-step : (L : Limits) (t n : ℕ) (table : List ℕ) (f p q k : ℕ) → Caused (nthStep L t n table f p q k)
 unfolding nthStep
@@ -93,41 +93,6 @@ pub search-room : (L : Limits) (t n : ℕ) (table : List ℕ) → Caused (search
 unfolding searchRoom
 search-room L t n table = next _ _ (check-table L t n table) (λ G. result)
 
-declares : (at k lo hi : ℕ) (earlier : List (List ℕ)) (line : List ℕ) → Caused (declaration at k lo hi earlier line)
-unfolding declaration
-declares at k lo hi earlier line =
-    or-none malformed _ _ _ refl (λ v.
-    unless malformed _ _ _ refl (unless nameRepeated _ _ _ refl (unless outOfRange _ _ _ refl result)))
-
-rule-line : (L : Limits) (at t : ℕ) (names : List (List ℕ)) (line : List ℕ) → Caused (ruleLine L at t names line)
-unfolding ruleLine
-rule-line L at t names line =
-    or-none malformed _ _ _ refl (λ v. or-none malformed _ _ _ refl (λ s.
-    unless malformed _ _ _ refl (unless nameUnknown _ _ _ refl (unless ruleTooLong _ _ _ refl result))))
-
-rule-lines : (L : Limits) (at t : ℕ) (names pieces : List (List ℕ)) → Caused (ruleLines L at t names pieces)
-unfolding ruleLines
-rule-lines L at t names [] = cause refl
-rule-lines L at t names (p ∷ []) = unless malformed _ _ _ refl result
-rule-lines L at t names (p ∷ q ∷ qs) =
-    next _ _ (rule-line L at t names p) (λ r. next _ _ (rule-lines L (suc at) t names (q ∷ qs)) (λ rs. result))
-
-whole-line : {B : Type 0} (at : ℕ) (pieces : List (List ℕ)) (go : List ℕ → List (List ℕ) → Answer B)
-    → ((p : List ℕ) (qs : List (List ℕ)) → Caused (go p qs)) → Caused (wholeLine at pieces go)
-unfolding wholeLine
-whole-line at [] go h = cause refl
-whole-line at (p ∷ []) go h = cause refl
-whole-line at (p ∷ q ∷ qs) go h = h p (q ∷ qs)
-
-read-lines : (L : Limits) (pieces : List (List ℕ)) → Caused (readLines L pieces)
-unfolding readLines
-read-lines L pieces =
-    whole-line 1 pieces _ (λ first more.
-    next _ _ (declares 1 0 0 (L .maxTerminals) [] first) (λ ts.
-    whole-line 2 more _ (λ second rest.
-    next _ _ (declares 2 1 1 (L .maxNonterminals) ts second) (λ ns.
-    next _ _ (rule-lines L 3 (length ts) (ts ++ ns) rest) (λ rs. result)))))
-
 admits : (L : Limits) (m : ℕ) (earlier : List Rule) (at : ℕ) (rules : List Rule) → Caused (admit L m earlier at rules)
 unfolding admit
 admits L zero earlier at [] = result
@@ -142,9 +107,9 @@ unfolding lastTests
 last-tests L s = next _ _ (admits L (L .maxRules) [] 0 (s .rules)) (λ rules. unless noSentence _ _ _ refl result)
 
 pub check-text : (L : Limits) (text : List ℕ) → Caused (checkText L text)
-unfolding checkText readText
+unfolding checkText
 check-text L text =
-    next _ _ (unless malformed _ _ _ refl (read-lines L _)) (λ s. next _ _ (last-tests L s) (λ G. result))
+    next _ _ (caused-more (more nameRepeated (omega arith)) _ (text-causes L text)) (λ s. next _ _ (last-tests L s) (λ G. result))
 
 pub read-into : (L : Limits) (e s l : ℕ) (text : List ℕ) → Caused (readInto L e s l text)
 unfolding readInto
@@ -171,9 +136,9 @@ read-words L t count names at value = or-none malformed _ _ _ refl (λ ws. unles
 read-strings : (L : Limits) (t count : ℕ) (names : List (List ℕ)) (lines : List ℕ) → Caused (readStrings L t count names lines)
 unfolding readStrings
 read-strings L t count names lines =
-    whole-line 1 _ _ (λ first more.
+    whole-line 1 _ _ refl (λ first more.
     or-none malformed _ _ _ refl (λ l. next _ _ (read-words L t count names 1 l) (λ u.
-    whole-line 2 more _ (λ second rest.
+    whole-line 2 more _ refl (λ second rest.
     unless malformed _ _ _ refl (or-none malformed _ _ _ refl (λ r. next _ _ (read-words L t count names 2 r) (λ v. result)))))))
 
 -- the lines, and 14

@@ -2,4 +2,5 @@ pub mod Again
 pub mod Sides
 pub mod Letters
 pub mod Said
+pub mod Only
 pub mod Pins

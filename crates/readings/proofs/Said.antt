@@ -1,4 +1,4 @@
--- What lines say is strings of the grammar's letters. Assumes nothing.
+-- What lines say is strings of the grammar's letters; and what lines are that say two strings. Assumes nothing.
 use Prim.Native.Nat.{ℕ, _+_, _≤_, _<_}
 use mathlib.Core.Path.{_≡_, refl, sym, ap, subst, _∙_}
 use mathlib.Core.Bool.{Bool, true, false, _&&_}
@@ -14,13 +14,15 @@ use Rattle.grammar.specs.Grammar.{start}
 use Rattle.grammar.specs.Refusal.{Answer, done, refuseUnless, andThen, malformed, nameUnknown}
 use Rattle.grammar.proofs.Answers.{and-both, done-inj, unless-done, then-done}
 use Rattle.automaton.specs.Strings.{Letter, opening, closing}
+use Rattle.text.specs.Pieces.{lineEnd, splitOn}
 use Rattle.text.specs.Names.{all, isName}
 use Rattle.text.specs.Numbers.{numberFrom, isDecimal}
+use Rattle.text.specs.Keys.{valueOf}
 use Rattle.text.specs.Read.{numberOf, isKnown, codeOf}
 use Rattle.text.proofs.Names.{known-number, code-right}
 use Rattle.text.proofs.Pieces.{all-head, all-tail}
 use Rattle.text.proofs.PrintRead.{none-done, whole-done}
-use Rattle.readings.specs.Readings.{Valid, AllValid, Word, bracket, name, ruleNumber, wordOf, joined, wordsOf, piecesOf, knownWord, letterOf, readWords, readStrings}
+use Rattle.readings.specs.Readings.{leftKey, rightKey, Valid, AllValid, Word, bracket, name, ruleNumber, wordOf, joined, wordsOf, piecesOf, atEnd, knownWord, letterOf, readWords, readStrings}
 
 -- an option that is there
 some-is : {A : Type 0} (d : A) (a b : A) → _≡_ {A = Option A} (some a) (some b) → a ≡ b
@@ -36,6 +38,46 @@ not-there {A} e = absurd (subst (λ (o : Option A). is o) e tt)
     is : Option A → Type 0
     is none = Unit {0}
     is (some a) = ⊥
+
+module _ (L : Limits) (t count : ℕ) (names : List (List ℕ)) where
+  -- what is known of lines that are read as two strings
+  pub record TwoLines (lines : List ℕ) (u v : List Letter) : Type 0 where
+    pub first : List ℕ
+    pub second : List ℕ
+    pub rest : List (List ℕ)
+    pub cut : splitOn lineEnd lines ≡ first ∷ second ∷ rest
+    pub ends : atEnd rest ≡ true
+    pub left : List ℕ
+    pub right : List ℕ
+    pub left-value : valueOf leftKey first ≡ some left
+    pub right-value : valueOf rightKey second ≡ some right
+    pub left-read : readWords L t count names 1 left ≡ done u
+    pub right-read : readWords L t count names 2 right ≡ done v
+
+  pub two-lines : (lines : List ℕ) (u v : List Letter) → readStrings L t count names lines ≡ done (u, v) → TwoLines lines u v
+  unfolding readStrings
+  two-lines lines u v e =
+      let a = whole-done 1 _ _ (u, v) e in
+      let b = none-done malformed 1 _ _ (u, v) (a .4) in
+      let c = then-done _ _ (u, v) (b .2) in
+      let d = whole-done 2 _ _ (u, v) (c .2) in
+      let f = unless-done malformed 2 _ _ (u, v) (d .4) in
+      let g = none-done malformed 2 _ _ (u, v) (f .1) in
+      let h = then-done _ _ (u, v) (g .2) in
+      let q : _≡_ {A = List Letter × List Letter} (c .0, h .0) (u, v) = done-inj (h .2) in
+      record {
+        first = a .0;
+        second = d .0;
+        rest = d .1 ∷ d .2;
+        cut = a .3 ∙ ap (λ (ps : List (List ℕ)). a .0 ∷ ps) (d .3);
+        ends = f .0;
+        left = b .0;
+        right = g .0;
+        left-value = b .1;
+        right-value = g .1;
+        left-read = c .1 ∙ ap (λ (p : List Letter × List Letter). done (p .0)) q;
+        right-read = h .1 ∙ ap (λ (p : List Letter × List Letter). done (p .1)) q;
+      }
 
 module _ (L : Limits) (t n count : ℕ) (names : List (List ℕ)) (apart : t < start L) (many : length names ≡ t + n) where
   -- the opening or closing that a word is; a name is none
@@ -102,16 +144,6 @@ module _ (L : Limits) (t n count : ℕ) (names : List (List ℕ)) (apart : t < s
 
   pub strings-right : (lines : List ℕ) (u v : List Letter) → readStrings L t count names lines ≡ done (u, v)
       → AllValid L t n count u × AllValid L t n count v
-  unfolding readStrings
   strings-right lines u v e =
-      let a = whole-done 1 _ _ (u, v) e in
-      let b = none-done malformed 1 _ _ (u, v) (a .4) in
-      let c = then-done _ _ (u, v) (b .2) in
-      let d = whole-done 2 _ _ (u, v) (c .2) in
-      let f = unless-done malformed 2 _ _ (u, v) (d .4) in
-      let g = none-done malformed 2 _ _ (u, v) (f .1) in
-      let h = then-done _ _ (u, v) (g .2) in
-      let q = done-inj (h .2) in (
-        subst (AllValid L t n count) (ap (λ (p : List Letter × List Letter). p .0) q) (value-right 1 _ (c .0) (c .1)),
-        subst (AllValid L t n count) (ap (λ (p : List Letter × List Letter). p .1) q) (value-right 2 _ (h .0) (h .1)),
-      )
+      let r = two-lines L t count names lines u v e in
+      (value-right 1 (r .left) u (r .left-read), value-right 2 (r .right) v (r .right-read))

@@ -1,12 +1,14 @@
--- The causes with which the names that are lent to the writer are refused. Assumes nothing.
+-- The causes with which the names that are lent to the writer are refused, and those of a text before its rules are counted.
+-- Assumes nothing.
 use Prim.Native.Nat.{ℕ, zero, suc}
-use mathlib.Core.Path.{_≡_}
+use mathlib.Core.Path.{_≡_, refl}
 use mathlib.Core.Bool.{Bool, true}
-use mathlib.Core.List.{List}
+use mathlib.Core.List.{List, [], _∷_, _++_}
 use mathlib.Core.Option.{Option, none, some}
-use Rattle.grammar.specs.Refusal.{Answer, malformed}
-use Rattle.grammar.proofs.Causes.{CausedBy, result, cause, unless, next}
-use Rattle.text.specs.Read.{refuseNone}
+use Rattle.grammar.specs.Limits.{Limits}
+use Rattle.grammar.specs.Refusal.{Answer, malformed, nameUnknown, nameRepeated, outOfRange, ruleTooLong}
+use Rattle.grammar.proofs.Causes.{CausedBy, result, cause, unless, next, upTo}
+use Rattle.text.specs.Read.{refuseNone, declaration, ruleLine, ruleLines, wholeLine, readLines, readText}
 use Rattle.text.specs.Print.{gather}
 
 module _ {among : ℕ → Bool} where
@@ -21,3 +23,41 @@ module _ {among : ℕ → Bool} where
   gather-causes h bytes starts lengths i zero = result
   gather-causes h bytes starts lengths i (suc m) =
       or-none malformed _ _ _ h (λ x. unless malformed _ _ _ h (next _ _ (gather-causes h bytes starts lengths (suc i) m) (λ xs. result)))
+
+  pub whole-line : {B : Type 0} (at : ℕ) (ps : List (List ℕ)) (go : List ℕ → List (List ℕ) → Answer B) → among malformed ≡ true
+      → ((p : List ℕ) (qs : List (List ℕ)) → CausedBy among (go p qs)) → CausedBy among (wholeLine at ps go)
+  unfolding wholeLine
+  whole-line at [] go h k = cause h
+  whole-line at (p ∷ []) go h k = cause h
+  whole-line at (p ∷ q ∷ qs) go h k = k p (q ∷ qs)
+
+-- 16, 18, 1
+declaration-causes : (at k lo hi : ℕ) (earlier : List (List ℕ)) (line : List ℕ) → CausedBy (upTo nameRepeated) (declaration at k lo hi earlier line)
+unfolding declaration
+declaration-causes at k lo hi earlier line =
+    or-none malformed _ _ _ refl (λ v. unless malformed _ _ _ refl (unless nameRepeated _ _ _ refl (unless outOfRange _ _ _ refl result)))
+
+module _ (L : Limits) where
+  -- 16, 17, 4
+  rule-causes : (at t : ℕ) (names : List (List ℕ)) (line : List ℕ) → CausedBy (upTo nameRepeated) (ruleLine L at t names line)
+  unfolding ruleLine
+  rule-causes at t names line =
+      or-none malformed _ _ _ refl (λ v.
+      or-none malformed _ _ _ refl (λ s. unless malformed _ _ _ refl (unless nameUnknown _ _ _ refl (unless ruleTooLong _ _ _ refl result))))
+
+  rules-causes : (at t : ℕ) (names ps : List (List ℕ)) → CausedBy (upTo nameRepeated) (ruleLines L at t names ps)
+  unfolding ruleLines
+  rules-causes at t names [] = cause refl
+  rules-causes at t names (p ∷ []) = unless malformed _ _ _ refl result
+  rules-causes at t names (p ∷ q ∷ qs) = next _ _ (rule-causes at t names p) (λ r. next _ _ (rules-causes (suc at) t names (q ∷ qs)) (λ rs. result))
+
+  -- a text that is not read is refused with none of the causes past 18
+  pub text-causes : (text : List ℕ) → CausedBy (upTo nameRepeated) (readText L text)
+  unfolding readText readLines
+  text-causes text =
+      unless malformed _ _ _ refl
+      (whole-line 1 _ _ refl (λ first more.
+      next _ _ (declaration-causes _ _ _ _ _ first) (λ ts.
+      whole-line 2 more _ refl (λ second rest.
+      next _ _ (declaration-causes _ _ _ _ _ second) (λ ns.
+      next _ _ (rules-causes 3 _ (ts ++ ns) rest) (λ rs. result))))))

@@ -1,19 +1,21 @@
--- A number in decimal says that number, without leading zeros. Assumes nothing.
+-- A number in decimal says that number, without leading zeros; and nothing else says it so. Assumes nothing.
 use Prim.Native.Nat.{ℕ, zero, suc, _+_, _-_, _*_, _/_, _%_, _≤_, _<_}
 use mathlib.Core.Path.{_≡_, refl, sym, ap, subst, _∙_}
 use mathlib.Core.Bool.{Bool, true, false, not, _&&_, _||_}
-use mathlib.Core.List.{List, [], _∷_, _++_}
+use mathlib.Core.List.{List, [], _∷_, _++_, append-nil}
 use native.Mathlib.Omega.{arith}
 use native.Mathlib.Nat.{mod-lt, div-add-mod'}
 use lib.Dec.{eqb, leb, ltb}
 use lib.ListN.{length, getD, length-append}
-use borrow.Author.Tests.{ltb-true, ltb-false, le-leb, ne-eqb}
+use lib.Seq.{append-snoc}
+use borrow.Author.Tests.{ltb-true, ltb-false, lt-ltb, le-ltb, le-leb, ne-eqb, eqb-false, not-true}
 use Rattle.grammar.specs.Basics.{choose}
-use Rattle.grammar.proofs.Answers.{both-and}
+use Rattle.grammar.proofs.Answers.{no-bool, and-both, both-and}
 use Rattle.grammar.proofs.Lists.{lt-or-le}
 use mathlib.Core.Logic.{_⊎_, inl, inr}
 use Rattle.text.specs.Names.{within, all}
-use Rattle.text.proofs.Pieces.{all-append, all-cons, all-none}
+use Rattle.text.proofs.Pieces.{all-append, all-cons, all-none, all-head, all-tail}
+use Rattle.text.proofs.Names.{within-both}
 use Rattle.text.specs.Numbers.{decimalTo, decimal, numberFrom, isDecimal}
 
 from-append : (before : ℕ) (s : List ℕ) (d : ℕ) → numberFrom before (s ++ (d ∷ [])) ≡ numberFrom before s * 10 + (d - 48)
@@ -97,3 +99,60 @@ decimal-form x = go (decimal x) (digits-of x x (omega arith))
     go : (s : List ℕ) → Digits x s → isDecimal s ≡ true
     go [] d = absurd (omega (arith, d .some))
     go (b ∷ s) d = both-and (all (within 48 57) (b ∷ s)) (eqb (length s) 0 || not (eqb b 48)) (d .digits) (leading b s d (length s) refl)
+
+-- ---- what digits without leading zeros say, in decimal, is those digits
+
+-- more room for digits than there are changes nothing
+room-more : (m n x : ℕ) → x < m → x < n → decimalTo m x ≡ decimalTo n x
+unfolding decimalTo
+room-more zero n x h k = absurd (omega arith)
+room-more (suc m) zero x h k = absurd (omega arith)
+room-more (suc m) (suc n) x h k = go (ltb x 10) refl (λ l. room-more m n (x / 10) (omega arith) (omega arith))
+  where
+    go : (b : Bool) → ltb x 10 ≡ b → (10 ≤ x → decimalTo m (x / 10) ≡ decimalTo n (x / 10))
+        → choose b ((48 + x) ∷ []) (decimalTo m (x / 10) ++ ((48 + x % 10) ∷ []))
+        ≡ choose b ((48 + x) ∷ []) (decimalTo n (x / 10) ++ ((48 + x % 10) ∷ []))
+    go true e again = refl
+    go false e again = ap (λ (s : List ℕ). s ++ ((48 + x % 10) ∷ [])) (again (ltb-false x 10 e))
+
+-- a number of one digit
+decimal-one : (b x : ℕ) → 48 + x ≡ b → x < 10 → decimal x ≡ b ∷ []
+unfolding decimalTo
+decimal-one b x e h = rw (lt-ltb x 10 h, e)
+
+-- a digit more at the end
+decimal-more : (x b : ℕ) → 1 ≤ x → within 48 57 b ≡ true → decimal (x * 10 + (b - 48)) ≡ decimal x ++ (b ∷ [])
+unfolding decimalTo
+decimal-more x b h d =
+    let w = within-both 48 57 b d in
+    let y = x * 10 + (b - 48) in
+    let q : y / 10 ≡ x = omega (arith, w .0, w .1) in
+    let r : 48 + y % 10 ≡ b = omega (arith, w .0, w .1) in
+    rw (le-ltb y 10 (omega arith), q, r) (ap (λ (s : List ℕ). s ++ (b ∷ [])) (room-more y (suc x) x (omega arith) (omega arith)))
+
+-- digits after those of a number that is not 0
+decimal-after : (x : ℕ) (s : List ℕ) → 1 ≤ x → all (within 48 57) s ≡ true → decimal (numberFrom x s) ≡ decimal x ++ s
+unfolding numberFrom
+decimal-after x [] h d = sym (append-nil (decimal x))
+decimal-after x (b ∷ s) h d =
+    let e = all-head (within 48 57) b s d in
+    decimal-after (x * 10 + (b - 48)) s (omega arith) (all-tail (within 48 57) b s d)
+    ∙ ap (λ (p : List ℕ). p ++ s) (decimal-more x b h e) ∙ append-snoc (decimal x) b s
+
+-- so nothing but the decimal of a number is read as that number
+pub decimal-number : (s : List ℕ) → isDecimal s ≡ true → decimal (numberFrom 0 s) ≡ s
+unfolding isDecimal numberFrom
+decimal-number [] h = no-bool (sym h)
+decimal-number (b ∷ s) h =
+    let c = and-both (all (within 48 57) (b ∷ s)) (eqb (length s) 0 || not (eqb b 48)) h in
+    let w = within-both 48 57 b (all-head (within 48 57) b s (c .0)) in
+    go s (all-tail (within 48 57) b s (c .0)) (c .1) (w .0) (w .1)
+  where
+    go : (s : List ℕ) → all (within 48 57) s ≡ true → eqb (length s) 0 || not (eqb b 48) ≡ true → 48 ≤ b → b ≤ 57
+        → decimal (numberFrom (0 * 10 + (b - 48)) s) ≡ b ∷ s
+    go [] d e l m = decimal-one b (0 * 10 + (b - 48)) (omega arith) (omega arith)
+    go (a ∷ s) d e l m =
+        let z : eqb (length (a ∷ s)) 0 ≡ false = ne-eqb (length (a ∷ s)) 0 (λ q. omega arith) in
+        let n = eqb-false b 48 (not-true (eqb b 48) (sym (ap (λ (c : Bool). c || not (eqb b 48)) z) ∙ e)) in
+        decimal-after (0 * 10 + (b - 48)) (a ∷ s) (elim (lt-or-le b 49) [ inl h ↦ absurd (n (omega arith)) | inr h ↦ omega arith ]) d
+        ∙ ap (λ (p : List ℕ). p ++ (a ∷ s)) (decimal-one b (0 * 10 + (b - 48)) (omega arith) (omega arith))

@@ -213,8 +213,3 @@ module _ (L : Limits) (apart : L .maxTerminals < L .nonterminalBase) where
         declared-again 2 1 1 (L .maxNonterminals) ts ns gn (w .once) (w .nonterminals-least) (w .nonterminals-most),
         rules-again L t (length ns) a (ts ++ ns) size (w .named) (w .once) 3 (s .rules) (w .fit),
       )
-
-  -- a text reads to a source exactly where the source is well named and the text is its printed text
-  pub read-exactly : (text : List ℕ) (s : Source) → (readText L text ≡ done s) ↔ (WellNamedSource L s × (printed L s ≡ text))
-  read-exactly text s =
-      (λ e. (read-well L apart text s e, print-read L apart text s e), λ h. ap (readText L) (sym (h .1)) ∙ read-print s (h .0))
