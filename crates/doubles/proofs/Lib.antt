@@ -1,2 +1,2 @@
-pub mod Tree
-pub mod Planted
+pub mod Names
+pub mod Blocks

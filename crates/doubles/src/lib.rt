@@ -1,127 +1,145 @@
-// Does a name stand twice? In time near the line's length on every line: the names go into a digital search tree in one local
-// row of links, where a search takes one bit of the name at each step and compares in full.
+// Does a name stand twice? The names of a line are tried block by block: those of a block go into a lexicon, in which the later names
+// of the line and those of the earlier line are looked up. Only a block has rows, so lines of any length need the same room.
 ghost use mathlib.Core.Path.{_≡_};
 ghost use mathlib.Core.List.{_++_};
-ghost use mathlib.Core.Bool.{true, false};
-ghost use Prim.Native.Nat.{_<_};
-ghost use lib.ListN.{length, replicate};
-ghost use Rattle.text.specs.Names.{all, isName, hasDouble};
+ghost use mathlib.Core.Bool.{false};
+ghost use Prim.Native.Nat.{ℕ, _*_, _≤_, _<_};
+ghost use lib.ListN.{length, take, getD};
+ghost use Rattle.grammar.specs.Limits.{limits};
+ghost use Rattle.text.specs.Names.{hasDouble};
 ghost use Rattle.text.specs.Read.{namesOf};
-ghost use Rattle.doubles.specs.Tree.{meet, foldedName, turn, Links, Told, Whole};
+ghost use Rattle.text.specs.Spelled.{spelled};
+ghost use Rattle.lexicon.specs.Tree.{mostNames, Spans, Lexicon};
+ghost use Rattle.doubles.specs.Blocks.{meet, namesFrom, standTwice, Block, BlockTold, EmptyRows};
 use names::COMMA;
 
-// Links for every place of the longest line: 0 is no link, since no name but the first starts at 0.
-const LINKS: usize = 65536;
+// The names that a block has at most.
+const BLOCK: usize = 4000;
 
-// What a search in the tree tells: the name is there, or the place where its link belongs.
-pub enum Sought {
-    Same,
-    Free(usize),
+// How many names a block has, and where the next one starts: past the end of the line where none is left.
+pub struct Kept {
+    pub count: usize,
+    pub next: usize,
 }
 
-fn wide(x: u32) -> usize
-    ensures { λ r. ⌜ r ≡ x ⌝ }
-{
-    x as usize
+// What trying a block tells: a name of it stands twice, or where the next block starts.
+pub enum Tried {
+    Twice,
+    Next(usize),
 }
 
-fn wide_byte(x: u8) -> usize
-    ensures { λ r. ⌜ r ≡ x ⌝ }
-{
-    x as usize
-}
-
-// Bit d of a name, of which folded bytes count; 0 past its end.
-fn bit(x: &[u8], d: usize) -> usize
-    ensures { λ r. ⌜ (r ≡ turn (foldedName (now (x .entry))) d) × (r < 2) ⌝ }
-{
-    let i = d / 8;
-    if x.len() <= i {
-        return 0;
-    }
-    let b = (names::fold(x[i]) >> (d % 8)) % 2;
-    wide_byte(b)
-}
-
-// Follows the way of x from the first name of v.
-fn seek(v: &[u8], links: &[u32; LINKS], x: &[u8]) -> Sought
-    requires { ⌜ Links (now v) (now links) ⌝ }
-    ensures { λ r. ⌜ Told (now (v .entry)) (now (links .entry)) (now (x .entry)) r ⌝ }
-{
-    let mut q = 0;
-    let mut d = 0;
-    loop {
-        let e = names::find(v, q, COMMA);
-        if names::same_name(x, &v[q..e]) {
-            return Sought::Same;
-        }
-        let i = q + bit(x, d);
-        let next = wide(links[i]);
-        if next == 0 {
-            return Sought::Free(i);
-        }
-        q = next;
-        d += 1;
-    }
-}
-
-// Puts the names of v into an empty tree, up to one that is there already.
-fn plant(v: &[u8], links: &mut [u32; LINKS]) -> bool
-    requires { ⌜ (0 < length (now v)) × (length (now v) < 65536) × (all isName (namesOf (now v)) ≡ true) × (now links ≡ replicate 65536 0) ⌝ }
-    ensures { λ r. ⌜ (r ≡ hasDouble (namesOf (now (v .entry)))) × (r ≡ false → Whole (now (v .entry)) (now (links .exit))) ⌝ }
+// Keeps the starts and lengths of the names of v from place a on, as many as the rows hold.
+fn keep(v: &[u8], a: usize, starts: &mut [u32], lengths: &mut [u32]) -> Kept
+    requires { ⌜ (length (now v) ≤ limits .maxText) × (a ≤ length (now v)) × (0 < length (now starts)) × (length (now starts) ≡ length (now lengths)) ⌝ }
+    ensures room { λ r. ⌜ r .count ≤ length (now (starts .entry)) ⌝ }
+    ensures onward { λ r. ⌜ a < r .next ⌝ }
+    ensures kept { λ r. ⌜ Block (now (v .entry)) a (take (r .count) (now (starts .exit))) (take (r .count) (now (lengths .exit))) (r .next) ⌝ }
 {
     let n = v.len();
-    let first = names::find(v, 0, COMMA);
-    if n <= first {
-        return false;
-    }
-    let mut a = first + 1;
-    loop {
-        let e = names::find(v, a, COMMA);
-        let Sought::Free(i) = seek(v, links, &v[a..e]) else {
-            return true;
-        };
-        links[i] = a as u32;
-        if n <= e {
-            return false;
+    let mut next = a;
+    let mut k = 0;
+    while k < starts.len() {
+        if n < next {
+            return Kept { count: k, next };
         }
-        a = e + 1;
+        let e = names::find(v, next, COMMA);
+        starts[k] = next as u32;
+        lengths[k] = (e - next) as u32;
+        k += 1;
+        next = e + 1;
     }
+    Kept { count: k, next }
 }
 
-// Is a name of u in the tree of v?
-fn shared(u: &[u8], v: &[u8], links: &[u32; LINKS]) -> bool
-    requires { ⌜ (length (now v) < 65536) × Whole (now v) (now links) ⌝ }
-    ensures { λ r. ⌜ r ≡ meet (namesOf (now (u .entry))) (namesOf (now (v .entry))) ⌝ }
+// Is a name of u, from place a on, in the lexicon of v's names?
+fn shared(u: &[u8], a: usize, v: &[u8], starts: &[u32], lengths: &[u32], links: &[u16]) -> bool
+    requires { ⌜ Lexicon (now v) (now starts) (now lengths) (now links) ⌝ }
+    ensures { λ r. ⌜ r ≡ meet (namesFrom (now (u .entry)) a) (spelled (now (v .entry)) (now (starts .entry)) (now (lengths .entry))) ⌝ }
 {
     let n = u.len();
-    if n == 0 {
+    let mut next = a;
+    while next <= n {
+        let e = names::find(u, next, COMMA);
+        if lexicon::find(v, starts, lengths, links, &u[next..e]) < starts.len() {
+            return true;
+        }
+        next = e + 1;
+    }
+    false
+}
+
+// Does a name of the block stand twice: in it, from place `next` of v on, or in earlier?
+fn stand_twice(
+    earlier: &[u8],
+    v: &[u8],
+    next: usize,
+    starts: &[u32],
+    lengths: &[u32],
+    links: &mut [u16],
+) -> bool
+    requires { ⌜ (Spans (now v) (now starts) (now lengths)) × (length (now starts) ≤ mostNames) × (2 * length (now starts) ≤ length (now links)) ⌝ }
+    requires { ⌜ ((i : ℕ) → getD (now links) i 0 ≡ 0) ⌝ }
+    ensures { λ r. ⌜ r ≡ standTwice (namesOf (now (earlier .entry))) (namesFrom (now (v .entry)) next) (spelled (now (v .entry)) (now (starts .entry)) (now (lengths .entry))) ⌝ }
+{
+    if lexicon::plant(v, starts, lengths, links) < starts.len() {
+        return true;
+    }
+    if shared(v, next, v, starts, lengths, links) {
+        return true;
+    }
+    if earlier.len() == 0 {
         return false;
     }
-    let mut a = 0;
-    loop {
-        let e = names::find(u, a, COMMA);
-        let Sought::Free(_) = seek(v, links, &u[a..e]) else {
-            return true;
-        };
-        if n <= e {
-            return false;
-        }
-        a = e + 1;
+    shared(earlier, 0, v, starts, lengths, links)
+}
+
+// Tries the block that starts at place a of v, in the lent rows.
+fn try_block(
+    earlier: &[u8],
+    v: &[u8],
+    a: usize,
+    starts: &mut [u32],
+    lengths: &mut [u32],
+    links: &mut [u16],
+) -> Tried
+    requires { ⌜ (length (now v) ≤ limits .maxText) × (a ≤ length (now v)) × EmptyRows (now starts) (now lengths) (now links) ⌝ }
+    ensures { λ r. ⌜ BlockTold (namesOf (now (earlier .entry))) (now (v .entry)) a r ⌝ }
+{
+    let kept = keep(v, a, starts, lengths);
+    let count = kept.count;
+    let next = kept.next;
+    if stand_twice(earlier, v, next, &starts[..count], &lengths[..count], links) {
+        return Tried::Twice;
     }
+    Tried::Next(next)
+}
+
+// Tries it in rows of its own.
+fn try_next(earlier: &[u8], v: &[u8], a: usize) -> Tried
+    requires { ⌜ (length (now v) ≤ limits .maxText) × (a ≤ length (now v)) ⌝ }
+    ensures { λ r. ⌜ BlockTold (namesOf (now (earlier .entry))) (now (v .entry)) a r ⌝ }
+{
+    let mut starts = [0u32; BLOCK];
+    let mut lengths = [0u32; BLOCK];
+    let mut links = [0u16; 2 * BLOCK];
+    try_block(earlier, v, a, &mut starts, &mut lengths, &mut links)
 }
 
 // Does a name stand twice among those of earlier and of v, where none does in earlier?
 pub fn has_double(earlier: &[u8], v: &[u8]) -> bool
-    requires { ⌜ (length (now v) < 65536) × (all isName (namesOf (now v)) ≡ true) × (hasDouble (namesOf (now earlier)) ≡ false) ⌝ }
+    requires { ⌜ (length (now v) ≤ limits .maxText) × (hasDouble (namesOf (now earlier)) ≡ false) ⌝ }
     ensures { λ r. ⌜ r ≡ hasDouble (namesOf (now (earlier .entry)) ++ namesOf (now (v .entry))) ⌝ }
 {
-    if v.len() == 0 {
+    let n = v.len();
+    if n == 0 {
         return false;
     }
-    let mut links = [0u32; LINKS];
-    if plant(v, &mut links) {
-        return true;
+    let mut a = 0;
+    while a <= n {
+        let Tried::Next(next) = try_next(earlier, v, a) else {
+            return true;
+        };
+        a = next;
     }
-    shared(earlier, v, &links)
+    false
 }

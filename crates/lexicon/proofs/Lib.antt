@@ -1,2 +1,4 @@
 pub mod Tree
 pub mod Numbers
+pub mod Doubles
+pub mod Growth

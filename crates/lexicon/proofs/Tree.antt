@@ -7,7 +7,7 @@ use native.Mathlib.Omega.{arith}
 use native.Mathlib.Nat.{zero-div}
 use borrow.Author.Tests.{eqb-true, eqb-false}
 use lib.Dec.{eqb}
-use lib.ListN.{length, getD, set}
+use lib.ListN.{length, getD, set, replicate}
 use lib.Seq.{getD-set-same, getD-set-other}
 use Rattle.grammar.proofs.Answers.{no-bool}
 use Rattle.text.specs.Names.{folded, sameName}
@@ -125,6 +125,12 @@ module _ (name : ℕ → List ℕ) (C : List ℕ) (count : ℕ) (x : List ℕ) (
       no-true : (b : Bool) → (b ≡ true → ⊥) → b ≡ false
       no-true true n = absurd (n refl)
       no-true false n = refl
+
+-- a row of zeros has no link
+pub no-links : (n i : ℕ) → _≡_ {A = ℕ} (getD (replicate n 0) i 0) 0
+no-links zero i = refl
+no-links (suc n) zero = refl
+no-links (suc n) (suc i) = no-links n i
 
 -- an empty tree has name 0
 pub grown-one : (name : ℕ → List ℕ) (C : List ℕ) → ((i : ℕ) → getD C i 0 ≡ 0) → Grown name C 1

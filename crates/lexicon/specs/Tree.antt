@@ -60,10 +60,25 @@ module _ (name : ℕ → List ℕ) (C : List ℕ) (count : ℕ) where
   Told x (Same q) = Hit x q
   Told x (Free i) = Gap x i
 
--- the tree has all names, of which no two are the same
+-- the most names that links of 16 bits can tell apart
+abbrev pub mostNames : ℕ
+mostNames = 65535
+
+-- the tree has all names, of which no two are the same; without names it has no link
 pub record Lexicon (text starts lengths links : List ℕ) : Type 0 where
   pub spans : Spans text starts lengths
-  pub few : length starts ≤ 65535
+  pub few : length starts ≤ mostNames
   pub room : 2 * length starts ≤ length links
+  pub bare : length starts ≡ 0 → (i : ℕ) → getD links i 0 ≡ 0
   pub grown : 0 < length starts → Grown (nameOf text starts lengths) links (length starts)
   pub apart : (i j : ℕ) → i < j → j < length starts → sameName (nameOf text starts lengths j) (nameOf text starts lengths i) ≡ false
+
+-- the tree has the names before number `from`, of which no two are the same, and room for the others
+pub record Planted (text starts lengths links : List ℕ) (from : ℕ) : Type 0 where
+  pub spans : Spans text starts lengths
+  pub few : length starts ≤ mostNames
+  pub room : 2 * length starts ≤ length links
+  pub near : from ≤ length starts
+  pub bare : from ≡ 0 → (i : ℕ) → getD links i 0 ≡ 0
+  pub grown : 0 < from → Grown (nameOf text starts lengths) links from
+  pub apart : (i j : ℕ) → i < j → j < from → sameName (nameOf text starts lengths j) (nameOf text starts lengths i) ≡ false

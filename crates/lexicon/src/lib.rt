@@ -8,7 +8,7 @@ ghost use lib.ListN.{length, getD};
 ghost use Rattle.text.specs.Names.{sameName, place};
 ghost use Rattle.text.specs.Print.{firstDouble};
 ghost use Rattle.text.specs.Spelled.{spelled};
-ghost use Rattle.lexicon.specs.Tree.{foldedName, turn, nameOf, Spans, Grown, Told, Lexicon};
+ghost use Rattle.lexicon.specs.Tree.{foldedName, turn, nameOf, Spans, Grown, Told, mostNames, Lexicon, Planted};
 
 // What a search in the tree tells: the number of the name, or where its link belongs.
 pub enum Sought {
@@ -55,7 +55,7 @@ fn seek(
     count: usize,
     x: &[u8],
 ) -> Sought
-    requires { ⌜ (Spans (now text) (now starts) (now lengths)) × (count ≤ length (now starts)) × (count ≤ 65535) × (2 * count ≤ length (now links)) ⌝ }
+    requires { ⌜ (Spans (now text) (now starts) (now lengths)) × (count ≤ length (now starts)) × (count ≤ mostNames) × (2 * count ≤ length (now links)) ⌝ }
     requires { ⌜ Grown (nameOf (now text) (now starts) (now lengths)) (now links) count ⌝ }
     ensures { λ r. ⌜ Told (nameOf (now (text .entry)) (now (starts .entry)) (now (lengths .entry))) (now (links .entry)) count (now (x .entry)) r ⌝ }
 {
@@ -77,10 +77,10 @@ fn seek(
     }
 }
 
-// Puts the names into an empty tree, up to the first that is there already: its number, or how many names there are.
-pub fn plant(text: &[u8], starts: &[u32], lengths: &[u32], links: &mut [u16]) -> usize
-    requires { ⌜ (Spans (now text) (now starts) (now lengths)) × (length (now starts) ≤ 65535) × (2 * length (now starts) ≤ length (now links)) ⌝ }
-    requires { ⌜ ((i : ℕ) → getD (now links) i 0 ≡ 0) ⌝ }
+// Goes on putting names into the tree, from number `from` on, up to the first that is there already: its number, or how many names
+// there are.
+pub fn grow(text: &[u8], starts: &[u32], lengths: &[u32], links: &mut [u16], from: usize) -> usize
+    requires { ⌜ Planted (now text) (now starts) (now lengths) (now links) from ⌝ }
     ensures { λ r. ⌜ r ≡ firstDouble [] (spelled (now (text .entry)) (now (starts .entry)) (now (lengths .entry))) ⌝ }
     ensures { λ r. ⌜ (r ≡ length (now (starts .entry)) → Lexicon (now (text .entry)) (now (starts .entry)) (now (lengths .entry)) (now (links .exit))) ⌝ }
 {
@@ -88,7 +88,10 @@ pub fn plant(text: &[u8], starts: &[u32], lengths: &[u32], links: &mut [u16]) ->
     if n == 0 {
         return 0;
     }
-    let mut k = 1;
+    let mut k = from;
+    if k == 0 {
+        k = 1;
+    }
     while k < n {
         let a = wide(starts[k]);
         let e = a + wide(lengths[k]);
@@ -99,6 +102,16 @@ pub fn plant(text: &[u8], starts: &[u32], lengths: &[u32], links: &mut [u16]) ->
         k += 1;
     }
     n
+}
+
+// Puts the names into an empty tree, up to the first that is there already: its number, or how many names there are.
+pub fn plant(text: &[u8], starts: &[u32], lengths: &[u32], links: &mut [u16]) -> usize
+    requires { ⌜ (Spans (now text) (now starts) (now lengths)) × (length (now starts) ≤ mostNames) × (2 * length (now starts) ≤ length (now links)) ⌝ }
+    requires { ⌜ ((i : ℕ) → getD (now links) i 0 ≡ 0) ⌝ }
+    ensures { λ r. ⌜ r ≡ firstDouble [] (spelled (now (text .entry)) (now (starts .entry)) (now (lengths .entry))) ⌝ }
+    ensures { λ r. ⌜ (r ≡ length (now (starts .entry)) → Lexicon (now (text .entry)) (now (starts .entry)) (now (lengths .entry)) (now (links .exit))) ⌝ }
+{
+    grow(text, starts, lengths, links, 0)
 }
 
 // The number of the name that is x, or how many names there are.

@@ -11,6 +11,7 @@ use Rattle.grammar.specs.Refusal.{done}
 use Rattle.grammar.proofs.Answers.{then-goes, then-stops}
 use Rattle.grammar.proofs.WellFormed.{room}
 use Rattle.grammar.proofs.Sentence.{takes-only}
+use Rattle.text.specs.Names.{hasDouble}
 use Rattle.text.specs.Rules.{checkText}
 use Rattle.text.specs.Promise.{ReadsText}
 use Rattle.text.specs.declared.TextRead.{TextRead}
@@ -20,7 +21,7 @@ use Rattle.text.specs.Spelled.{spelled}
 use Rattle.readings.specs.Promise.{stringsInto, readBackInto, readBack, rowAfter, ReadsBack}
 use Rattle.readings.specs.declared.ReadBack.{ReadBack}
 use Rattle.readings.specs.declared.ReadBack.the-variants.{GrammarRefused}
-use Rattle.readings_read.specs.Words.{Symbols}
+use Rattle.readings_read.specs.Words.{Named}
 use Rattle.readings_read.specs.Lines.{linesInto, BackTold}
 
 -- a text is read with t, m, e entries and q states, and two rows begin with the places of its names: what the lines say in this
@@ -31,7 +32,7 @@ pub record InGrammar (text : List ℕ) (t m e q : ℕ) (starts lengths : List �
   pub names-few : t + m ≤ limits .maxTerminals + limits .maxNonterminals
   pub entries-few : e ≤ limits .maxStates + limits .maxRules
   pub states-few : q ≤ e + 4
-  pub symbols : Symbols t (e + 4 - q) text (take (t + m) starts) (take (t + m) lengths)
+  pub named : Named t (e + 4 - q) text (take (t + m) starts) (take (t + m) lengths)
   pub lines-back : (lines left right : List ℕ) (b : ReadBack) (left′ right′ : List ℕ)
       → BackTold t (e + 4 - q) (spelled text (take (t + m) starts) (take (t + m) lengths)) lines left right b left′ right′
       → ReadsBack text lines left right b left′ right′
@@ -87,8 +88,9 @@ module _ (text : List ℕ) (t m e q : ℕ) (table starts lengths : List ℕ) (k 
         names-few = omega (arith, w .terminals, w .nonterminals .1);
         entries-few = omega (arith, k .rules, k .states, w .count, w .size);
         states-few = omega (arith, k .rules);
-        symbols = record {
+        named = record {
           spans = record { paired = a ∙ sym b; inside = k .inside };
+          once = ap hasDouble (k .spells) ∙ k .well .once;
           few = w .terminals;
           most = omega (arith, a, w .nonterminals .1);
           rules = omega (arith, rules-are, w .count);

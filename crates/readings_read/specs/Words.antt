@@ -3,7 +3,7 @@
 -- Assumes nothing.
 use Prim.Native.Nat.{ℕ, _+_, _*_, _≤_}
 use mathlib.Core.Path.{_≡_}
-use mathlib.Core.Bool.{_&&_}
+use mathlib.Core.Bool.{false, _&&_}
 use mathlib.Core.List.{List}
 use mathlib.Core.Option.{Option, none, some}
 use lib.Dec.{leb}
@@ -11,24 +11,31 @@ use lib.ListN.{length}
 use Rattle.grammar.specs.Basics.{choose}
 use Rattle.grammar.specs.Limits.{limits}
 use Rattle.automaton.specs.Strings.{symbol}
-use Rattle.text.specs.Names.{all, isName}
+use Rattle.text.specs.Names.{all, isName, hasDouble}
 use Rattle.text.specs.Numbers.{numberFrom, isDecimal}
 use Rattle.text.specs.Read.{numberOf, isKnown, codeOf}
+use Rattle.text.specs.Spelled.{spelled}
 use Rattle.readings.specs.Readings.{Word, wordOf, wordsOf, piecesOf, knownWord, letterOf}
 use Rattle.readings.specs.Letters.{kindUnit, letterNumber}
-use Rattle.text_read.specs.Lines.{Spans}
+use Rattle.lexicon.specs.Tree.{Spans, Lexicon}
 use Rattle.readings_read.specs.declared.Piece.{Piece}
 use Rattle.readings_read.specs.declared.Piece.the-variants.{Entry, Unknown, Malformed}
 use Rattle.readings_read.specs.declared.Form.{Form}
 use Rattle.readings_read.specs.declared.Form.the-variants.{Known, Unknown as FormUnknown, Malformed as FormMalformed}
 use Rattle.readings_read.specs.declared.Value.{Value}
 
--- rows that spell the names of symbols, of which t are terminals; a grammar of so many rules
-pub record Symbols (t count : ℕ) (text starts lengths : List ℕ) : Type 0 where
+-- rows that spell the names of symbols, no two the same, of which t are terminals; a grammar of so many rules
+pub record Named (t count : ℕ) (text starts lengths : List ℕ) : Type 0 where
   pub spans : Spans text starts lengths
+  pub once : hasDouble (spelled text starts lengths) ≡ false
   pub few : t ≤ limits .maxTerminals
   pub most : length starts ≤ t + limits .maxNonterminals
   pub rules : count ≤ limits .maxRules
+
+-- such rows, and links by which the names are found
+pub record Symbols (t count : ℕ) (text starts lengths links : List ℕ) : Type 0 where
+  pub named : Named t count text starts lengths
+  pub lexicon : Lexicon text starts lengths links
 
 -- ---- pieces
 

@@ -5,14 +5,14 @@ mod pieces;
 mod reading;
 mod values;
 
+ghost use Rattle.text.specs.Spelled.{spelled};
 ghost use Rattle.readings.specs.Promise.{ReadsBack};
+ghost use Rattle.readings_read.specs.Words.{Named};
+ghost use Rattle.readings_read.specs.Lines.{BackTold};
+use grammar::MAX_ENTRIES;
+use grammar::MAX_NAMES;
 use readings::ReadBack;
 use text::TextRead;
-
-// Room for every table of a grammar, which has 352 entries at most, and for all names.
-const ENTRIES: usize = 512;
-
-const NAMES: usize = 254;
 
 // The states of a grammar without rules. Each rule has two entries more than codes, and one state more, so the entries and
 // these, less the states, are the rules.
@@ -63,14 +63,33 @@ pub enum Lines {
     Fault(u8, usize),
 }
 
+// The two lines in a grammar, whose names are planted first, so that each name of the lines is found by its bits.
+fn read_planted(
+    text: &[u8],
+    starts: &[u32],
+    lengths: &[u32],
+    t: usize,
+    count: usize,
+    lines: &[u8],
+    left: &mut [u32],
+    right: &mut [u32],
+) -> ReadBack
+    requires { ⌜ Named t count (now text) (now starts) (now lengths) ⌝ }
+    ensures { λ r. ⌜ BackTold t count (spelled (now (text .entry)) (now (starts .entry)) (now (lengths .entry))) (now (lines .entry)) (now (left .entry)) (now (right .entry)) r (now (left .exit)) (now (right .exit)) ⌝ }
+{
+    let mut links = [0u16; 2 * MAX_NAMES];
+    lexicon::plant(text, starts, lengths, &mut links);
+    reading::read_lines(text, starts, lengths, &links, t, count, lines, left, right)
+}
+
 // Reading back: a grammar's text and the two lines to the two strings, at the fronts of the lent rows; or the first refusal,
 // which changes nothing.
 pub fn read_back(text: &[u8], lines: &[u8], left: &mut [u32], right: &mut [u32]) -> ReadBack
     ensures { λ r. ⌜ ReadsBack (now (text .entry)) (now (lines .entry)) (now (left .entry)) (now (right .entry)) r (now (left .exit)) (now (right .exit)) ⌝ }
 {
-    let mut table = [0u8; ENTRIES];
-    let mut starts = [0u32; NAMES];
-    let mut lengths = [0u32; NAMES];
+    let mut table = [0u8; MAX_ENTRIES];
+    let mut starts = [0u32; MAX_NAMES];
+    let mut lengths = [0u32; MAX_NAMES];
     match text_read::read_text(text, &mut table, &mut starts, &mut lengths) {
         TextRead::Refused(cause, at) => ReadBack::GrammarRefused(cause, at),
         TextRead::Read {
@@ -81,7 +100,7 @@ pub fn read_back(text: &[u8], lines: &[u8], left: &mut [u32], right: &mut [u32])
         } => {
             let m = terminals + nonterminals;
             let rules = entries + NO_RULES - states;
-            reading::read_lines(
+            read_planted(
                 text,
                 &starts[..m],
                 &lengths[..m],

@@ -4,19 +4,16 @@ ghost use Prim.Native.Nat.{_+_, _≤_};
 ghost use lib.ListN.{length};
 ghost use Rattle.grammar.specs.Limits.{limits};
 ghost use Rattle.text.specs.Spelled.{spelled};
-ghost use Rattle.text_read.specs.Lines.{Spans};
+ghost use Rattle.lexicon.specs.Tree.{Lexicon};
 ghost use Rattle.readings.specs.Readings.{wordOf};
 ghost use Rattle.readings_read.specs.Words.{Symbols, markPiece, namePiece, pieceOf, entryOf};
 use super::Piece;
+use readings::CLOSES;
 use readings::CLOSING;
 use readings::KIND_UNIT;
 use readings::OPENING;
+use readings::OPENS;
 use readings::SYMBOL;
-
-// ( and ).
-const OPENS: u8 = 40;
-
-const CLOSES: u8 = 41;
 
 // The digits 0 and 9.
 const ZERO: u8 = 48;
@@ -59,12 +56,12 @@ fn mark(kind: u32, s: &[u8], count: usize) -> Piece
 }
 
 // A name, if it is one, and its symbol's code, if it is known.
-fn name(x: &[u8], text: &[u8], starts: &[u32], lengths: &[u32], t: usize) -> Piece
-    requires { ⌜ (Spans (now text) (now starts) (now lengths)) × (t ≤ limits .maxTerminals) × (length (now starts) ≤ t + limits .maxNonterminals) ⌝ }
+fn name(x: &[u8], text: &[u8], starts: &[u32], lengths: &[u32], links: &[u16], t: usize) -> Piece
+    requires { ⌜ (Lexicon (now text) (now starts) (now lengths) (now links)) × (t ≤ limits .maxTerminals) × (length (now starts) ≤ t + limits .maxNonterminals) ⌝ }
     ensures { λ r. ⌜ r ≡ namePiece t (spelled (now (text .entry)) (now (starts .entry)) (now (lengths .entry))) (now (x .entry)) ⌝ }
 {
     if names::is_name(x) {
-        let i = text_read::lookup(text, starts, lengths, x);
+        let i = lexicon::find(text, starts, lengths, links, x);
         if starts.len() <= i {
             return Piece::Unknown;
         }
@@ -73,16 +70,17 @@ fn name(x: &[u8], text: &[u8], starts: &[u32], lengths: &[u32], t: usize) -> Pie
     Piece::Malformed
 }
 
-// What a piece says in a grammar of t terminals and count rules, whose names the rows spell in its text.
+// What a piece says in a grammar of t terminals and count rules, whose names the rows spell in its text and the links find.
 pub fn read_piece(
     p: &[u8],
     text: &[u8],
     starts: &[u32],
     lengths: &[u32],
+    links: &[u16],
     t: usize,
     count: usize,
 ) -> Piece
-    requires { ⌜ Symbols t count (now text) (now starts) (now lengths) ⌝ }
+    requires { ⌜ Symbols t count (now text) (now starts) (now lengths) (now links) ⌝ }
     ensures { λ r. ⌜ r ≡ pieceOf t count (spelled (now (text .entry)) (now (starts .entry)) (now (lengths .entry))) (wordOf count (now (p .entry))) ⌝ }
 {
     let n = p.len();
@@ -95,7 +93,7 @@ pub fn read_piece(
     if p[0] == CLOSES {
         return mark(CLOSING, &p[1..n], count);
     }
-    name(p, text, starts, lengths, t)
+    name(p, text, starts, lengths, links, t)
 }
 
 // The entry of a letter; 0 for a piece that is none.

@@ -44,17 +44,18 @@ fn check_line(
     text: &[u8],
     starts: &[u32],
     lengths: &[u32],
+    links: &[u16],
     t: usize,
     count: usize,
 ) -> Line
-    requires { ⌜ Symbols t count (now text) (now starts) (now lengths) ⌝ }
+    requires { ⌜ Symbols t count (now text) (now starts) (now lengths) (now links) ⌝ }
     ensures { λ r. ⌜ LineTold t count (spelled (now (text .entry)) (now (starts .entry)) (now (lengths .entry))) at (now (key .entry)) (now (line .entry)) r ⌝ }
 {
     let Start::At(start) = value_start(key, line) else {
         return Line::Fault(MALFORMED, at);
     };
     let n = line.len();
-    let value = check_value(&line[start..n], text, starts, lengths, t, count);
+    let value = check_value(&line[start..n], text, starts, lengths, links, t, count);
     let form = value.form;
     match form {
         Form::Malformed => Line::Fault(MALFORMED, at),
@@ -75,10 +76,11 @@ fn second_line(
     text: &[u8],
     starts: &[u32],
     lengths: &[u32],
+    links: &[u16],
     t: usize,
     count: usize,
 ) -> Lines
-    requires { ⌜ (Symbols t count (now text) (now starts) (now lengths)) × (FirstSaid t count (spelled (now text) (now starts) (now lengths)) (now lines) first end left) ⌝ }
+    requires { ⌜ (Symbols t count (now text) (now starts) (now lengths) (now links)) × (FirstSaid t count (spelled (now text) (now starts) (now lengths)) (now lines) first end left) ⌝ }
     ensures { λ r. ⌜ LinesTold t count (spelled (now (text .entry)) (now (starts .entry)) (now (lengths .entry))) (now (lines .entry)) r ⌝ }
 {
     let a = end + 1;
@@ -89,7 +91,17 @@ fn second_line(
     if e + 1 < lines.len() {
         return Lines::Fault(MALFORMED, 2);
     }
-    match check_line(2, b"right", &lines[a..e], text, starts, lengths, t, count) {
+    match check_line(
+        2,
+        b"right",
+        &lines[a..e],
+        text,
+        starts,
+        lengths,
+        links,
+        t,
+        count,
+    ) {
         Line::Fault(cause, at) => Lines::Fault(cause, at),
         Line::Said { start, count } => Lines::Said {
             first,
@@ -108,17 +120,28 @@ fn check_lines(
     text: &[u8],
     starts: &[u32],
     lengths: &[u32],
+    links: &[u16],
     t: usize,
     count: usize,
 ) -> Lines
-    requires { ⌜ Symbols t count (now text) (now starts) (now lengths) ⌝ }
+    requires { ⌜ Symbols t count (now text) (now starts) (now lengths) (now links) ⌝ }
     ensures { λ r. ⌜ LinesTold t count (spelled (now (text .entry)) (now (starts .entry)) (now (lengths .entry))) (now (lines .entry)) r ⌝ }
 {
     let e = names::find(lines, 0, LINE_END);
     if lines.len() <= e {
         return Lines::Fault(MALFORMED, 1);
     }
-    match check_line(1, b"left", &lines[0..e], text, starts, lengths, t, count) {
+    match check_line(
+        1,
+        b"left",
+        &lines[0..e],
+        text,
+        starts,
+        lengths,
+        links,
+        t,
+        count,
+    ) {
         Line::Fault(cause, at) => Lines::Fault(cause, at),
         Line::Said { start, count: left } => second_line(
             lines,
@@ -128,6 +151,7 @@ fn check_lines(
             text,
             starts,
             lengths,
+            links,
             t,
             count,
         ),
@@ -139,16 +163,17 @@ pub fn read_lines(
     text: &[u8],
     starts: &[u32],
     lengths: &[u32],
+    links: &[u16],
     t: usize,
     count: usize,
     lines: &[u8],
     left: &mut [u32],
     right: &mut [u32],
 ) -> ReadBack
-    requires { ⌜ Symbols t count (now text) (now starts) (now lengths) ⌝ }
+    requires { ⌜ Symbols t count (now text) (now starts) (now lengths) (now links) ⌝ }
     ensures { λ r. ⌜ BackTold t count (spelled (now (text .entry)) (now (starts .entry)) (now (lengths .entry))) (now (lines .entry)) (now (left .entry)) (now (right .entry)) r (now (left .exit)) (now (right .exit)) ⌝ }
 {
-    match check_lines(lines, text, starts, lengths, t, count) {
+    match check_lines(lines, text, starts, lengths, links, t, count) {
         Lines::Fault(cause, at) => ReadBack::Refused(cause, at),
         Lines::Said {
             first,
@@ -169,6 +194,7 @@ pub fn read_lines(
                 text,
                 starts,
                 lengths,
+                links,
                 t,
                 count,
                 left,
@@ -178,6 +204,7 @@ pub fn read_lines(
                 text,
                 starts,
                 lengths,
+                links,
                 t,
                 count,
                 right,

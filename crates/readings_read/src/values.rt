@@ -35,10 +35,11 @@ pub fn check_value(
     text: &[u8],
     starts: &[u32],
     lengths: &[u32],
+    links: &[u16],
     t: usize,
     count: usize,
 ) -> Value
-    requires { ⌜ Symbols t count (now text) (now starts) (now lengths) ⌝ }
+    requires { ⌜ Symbols t count (now text) (now starts) (now lengths) (now links) ⌝ }
     ensures { λ r. ⌜ ValueTold t count (spelled (now (text .entry)) (now (starts .entry)) (now (lengths .entry))) (now (v .entry)) r ⌝ }
 {
     let n = v.len();
@@ -50,7 +51,10 @@ pub fn check_value(
     let mut k = 0;
     loop {
         let e = names::find(v, a, SPACE);
-        form = with_piece(form, read_piece(&v[a..e], text, starts, lengths, t, count));
+        form = with_piece(
+            form,
+            read_piece(&v[a..e], text, starts, lengths, links, t, count),
+        );
         k += 1;
         if n <= e {
             return Value { form, count: k };
@@ -65,11 +69,12 @@ pub fn put_value(
     text: &[u8],
     starts: &[u32],
     lengths: &[u32],
+    links: &[u16],
     t: usize,
     count: usize,
     row: &mut [u32],
 )
-    requires { ⌜ (Symbols t count (now text) (now starts) (now lengths)) × (length (piecesOf (now v)) ≤ length (now row)) ⌝ }
+    requires { ⌜ (Symbols t count (now text) (now starts) (now lengths) (now links)) × (length (piecesOf (now v)) ≤ length (now row)) ⌝ }
     ensures { λ _. ⌜ now (row .exit) ≡ over (map (entryAt t count (spelled (now (text .entry)) (now (starts .entry)) (now (lengths .entry)))) (piecesOf (now (v .entry)))) (now (row .entry)) ⌝ }
 {
     let n = v.len();
@@ -80,7 +85,7 @@ pub fn put_value(
     let mut j = 0;
     loop {
         let e = names::find(v, a, SPACE);
-        row[j] = entry(read_piece(&v[a..e], text, starts, lengths, t, count));
+        row[j] = entry(read_piece(&v[a..e], text, starts, lengths, links, t, count));
         if n <= e {
             return;
         }

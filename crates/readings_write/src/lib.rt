@@ -12,18 +12,15 @@ ghost use Rattle.readings.specs.Letters.{letterFrom};
 ghost use Rattle.readings_write.specs.Contracts.{Worded, Sayable, ledOf, wordsOf, lineOf, linesOf};
 use names::LINE_END;
 use names::SPACE;
+use readings::CLOSES;
 use readings::CLOSING;
 use readings::KIND_UNIT;
 use readings::OPENING;
+use readings::OPENS;
 use text_write::put_byte;
 use text_write::put_bytes;
 use text_write::put_name;
 use text_write::symbol;
-
-// ( and )
-const OPENS: u8 = 40;
-
-const CLOSES: u8 = 41;
 
 // A number in decimal.
 pub fn put_number(out: &mut [u8], at: usize, x: usize) -> usize

@@ -3,33 +3,39 @@
 use Prim.Native.Nat.{ℕ, zero, suc, _+_, _-_, _≤_, _<_}
 use mathlib.Core.Path.{_≡_, refl, ap, sym, subst, _∙_}
 use mathlib.Core.List.{List, [], _∷_}
+use mathlib.Core.Option.{some}
 use native.Mathlib.Omega.{arith}
 use native.Mathlib.Nat.{zero-add}
 use lib.ListN.{length, take, drop, length-drop}
 use lib.Seq.{drop-drop, length-take-le, take-take}
 use Rattle.grammar.specs.Limits.{limits}
-use Rattle.grammar.specs.Refusal.{Answer, done, refused, andThen}
+use Rattle.grammar.specs.Refusal.{Answer, refused, andThen}
 use Rattle.grammar.proofs.Answers.{then-goes, then-stops}
 use Rattle.text.specs.Pieces.{splitOn}
-use Rattle.text.specs.Names.{hasDouble}
+use Rattle.text.specs.Keys.{key, valueOf}
 use Rattle.text.specs.Read.{namesOf, declaration, wholeLine, readLines}
 use Rattle.text.proofs.Pieces.{split-pos}
 use Rattle.text.proofs.ReadPrinted.{whole-step}
 use Rattle.names.specs.Found.{index, part}
-use Rattle.names.proofs.Pieces.{piece-more, piece-last, length-piece}
+use Rattle.names.proofs.Pieces.{piece-more, piece-last}
 use Rattle.text_read.specs.declared.Declared.{Declared}
 use Rattle.text_read.specs.declared.Declared.the-variants.{Names, Fault}
-use Rattle.text_read.specs.Values.{NamesAt, DeclaredTold}
+use Rattle.text_read.specs.Values.{HasValue, NamesHeld, NamesAt, DeclaredTold, DeclaredHeld}
 use Rattle.text_read.specs.Texts.{readSecond, FirstHead, HeadsAt}
 
 -- what the answer of a declaring line tells
-pub told-names : (at k lo hi : ℕ) (earlier : List (List ℕ)) (line : List ℕ) (r : Declared) (start end count : ℕ) → r ≡ Names start end count
-    → DeclaredTold at k lo hi earlier line r → NamesAt at k lo hi earlier line start end count
-told-names at k lo hi earlier line r start end count e t = subst (λ (r : Declared). DeclaredTold at k lo hi earlier line r) e t
+module _ (at k lo hi : ℕ) (earlier : List (List ℕ)) (text : List ℕ) (a e : ℕ) (r : Declared) where
+  pub told-names : (b count : ℕ) → r ≡ Names b count → DeclaredTold at k lo hi earlier text a e r → NamesAt at k lo hi earlier text a e b count
+  told-names b count q t = subst (λ (r : Declared). DeclaredTold at k lo hi earlier text a e r) q t
 
-pub told-fault : (at k lo hi : ℕ) (earlier : List (List ℕ)) (line : List ℕ) (r : Declared) (cause place : ℕ) → r ≡ Fault cause place
-    → DeclaredTold at k lo hi earlier line r → declaration at k lo hi earlier line ≡ refused cause place
-told-fault at k lo hi earlier line r cause place e t = subst (λ (r : Declared). DeclaredTold at k lo hi earlier line r) e t
+  pub told-fault : (cause place : ℕ) → r ≡ Fault cause place → DeclaredTold at k lo hi earlier text a e r
+      → declaration at k lo hi earlier (part a e text) ≡ refused cause place
+  told-fault cause place q t = subst (λ (r : Declared). DeclaredTold at k lo hi earlier text a e r) q t
+
+pub told-held : (text : List ℕ) (e from : ℕ) (starts lengths starts′ lengths′ links′ : List ℕ) (r : Declared) (b count : ℕ) → r ≡ Names b count
+    → DeclaredHeld text e from starts lengths starts′ lengths′ links′ r → NamesHeld text b e from starts lengths starts′ lengths′ links′ count
+told-held text e from starts lengths starts′ lengths′ links′ r b count q t =
+    subst (λ (r : Declared). DeclaredHeld text e from starts lengths starts′ lengths′ links′ r) q t
 
 -- one that lacks its byte 10 is refused
 whole-last : {B : Type 0} (at : ℕ) (p : List ℕ) (go : List ℕ → List (List ℕ) → Answer B) → wholeLine at (p ∷ []) go ≡ refused 16 at
@@ -55,6 +61,14 @@ part-part text a e s h l =
     ∙ take-take (e - a - s) (e - a - s) (drop s (drop a text)) (omega arith) ∙ ap (take (e - a - s)) (drop-drop s a text)
     ∙ ap (λ m. take m (drop (a + s) text)) q
 
+-- the value of a line from a to e of the text, at its place in the text
+pub line-value : (k : ℕ) (text : List ℕ) (a e start end : ℕ) → a ≤ e → e ≤ length text → HasValue k (part a e text) start end
+    → (a + start ≤ e) × (valueOf (key k) (part a e text) ≡ some (part (a + start) e text))
+line-value k text a e start end l m h =
+    let n : length (part a e text) ≡ e - a = length-take-le (e - a) (drop a text) (omega (arith, length-drop a text)) in
+    let i : a + start ≤ e = omega (arith, h .inside, h .ends) in
+    (i, h .value ∙ ap some (ap (λ m. part start m (part a e text)) (h .ends) ∙ part-part text a e start i m))
+
 -- ---- the first line
 
 module _ (text : List ℕ) (e : ℕ) (found : e ≡ 0 + index 10 (drop 0 text)) where
@@ -73,24 +87,16 @@ module _ (text : List ℕ) (e : ℕ) (found : e ≡ 0 + index 10 (drop 0 text)) 
         → readLines limits (splitOn 10 text) ≡ refused c p
     first-fault c p q = first-on ∙ then-stops _ _ c p q
 
-    pub first-names : (start end count : ℕ) → NamesAt 1 0 0 (limits .maxTerminals) [] (part 0 e text) start end count → length text ≤ (limits .maxText)
-        → FirstHead text start e count
-    first-names start end count n short =
-        let l : length (part 0 e text) ≡ e - 0 = length-piece 10 text 0 e (omega arith) found in
-        let i : start ≤ e = omega (arith, n .inside, n .ends) in
-        let v : part start end (part 0 e text) ≡ part start e text
-        = ap (λ m. part start m (part 0 e text)) (n .ends) ∙ part-part text 0 e start (omega arith) (omega arith)
-        ∙ ap (λ m. part m e text) (zero-add start) in
-        record {
-          starts = n .starts;
-          inside = i;
-          ends = inside;
-          counts = n .counts ∙ ap (λ v. length (namesOf v)) v;
-          most = n .most;
-          once = sym (ap (λ v. hasDouble (namesOf v)) v) ∙ n .once;
-          short = short;
-          lines = first-on ∙ then-goes _ _ _ (n .read ∙ ap (λ v. done (namesOf v)) v);
-        }
+    pub first-names : (b count : ℕ) → NamesAt 1 0 0 (limits .maxTerminals) [] text 0 e b count → length text ≤ limits .maxText → FirstHead text b e count
+    first-names b count n short = record {
+      starts = n .starts ∙ zero-add (length (key 0) + 1);
+      inside = n .inside;
+      ends = inside;
+      counts = n .counts;
+      most = n .most;
+      short = short;
+      lines = first-on ∙ then-goes _ _ _ (n .read);
+    }
 
 -- ---- the second line
 
@@ -113,22 +119,17 @@ module _ (text : List ℕ) (a e t : ℕ) (h : FirstHead text a e t) (f : ℕ) (f
         → readLines limits (splitOn 10 text) ≡ refused c p
     second-fault c p q = second-on ∙ then-stops _ _ c p q
 
-    pub second-names : (start end count : ℕ) → NamesAt 2 1 1 (limits .maxNonterminals) (namesOf (part a e text)) (part (e + 1) f text) start end count
-        → HeadsAt text a e (e + 1 + start) f t count
-    second-names start end count n =
-        let l : length (part (e + 1) f text) ≡ f - (e + 1) = length-piece 10 text (e + 1) f (omega (arith, h .ends)) found in
-        let i : e + 1 + start ≤ f = omega (arith, n .inside, n .ends) in
-        let v : part start end (part (e + 1) f text) ≡ part (e + 1 + start) f text
-        = ap (λ m. part start m (part (e + 1) f text)) (n .ends) ∙ part-part text (e + 1) f start i (omega arith) in
-        record {
-          first = h .starts;
-          first-inside = h .inside;
-          second = ap (λ m. e + 1 + m) (n .starts);
-          second-inside = i;
-          ends = inside;
-          terminals = h .counts;
-          nonterminals = n .counts ∙ ap (λ v. length (namesOf v)) v;
-          terminals-most = h .most;
-          nonterminals-most = n .most;
-          lines = second-on ∙ then-goes _ _ _ (n .read ∙ ap (λ v. done (namesOf v)) v);
-        }
+    pub second-names : (b count : ℕ) → NamesAt 2 1 1 (limits .maxNonterminals) (namesOf (part a e text)) text (e + 1) f b count
+        → HeadsAt text a e b f t count
+    second-names b count n = record {
+      first = h .starts;
+      first-inside = h .inside;
+      second = n .starts;
+      second-inside = n .inside;
+      ends = inside;
+      terminals = h .counts;
+      nonterminals = n .counts;
+      terminals-most = h .most;
+      nonterminals-most = n .most;
+      lines = second-on ∙ then-goes _ _ _ (n .read);
+    }

@@ -3,7 +3,9 @@ pub mod Declarations
 pub mod Rows
 pub mod Lookups
 pub mod Shapes
+pub mod Codes
 pub mod RuleLines
 pub mod Places
+pub mod Held
 pub mod Whole
 pub mod Written

@@ -12,12 +12,13 @@ use Rattle.text.proofs.PrintRead.{join-names}
 use Rattle.text.specs.Spelled.{spelled, Inside}
 use Rattle.text.proofs.Spans.{length-starts, length-lengths, spans-spell, spans-inside, spelled-append, inside-append}
 use Rattle.names.specs.Found.{part}
-use Rattle.text_read.specs.Lines.{Spans}
+use Rattle.lexicon.specs.Tree.{Spans}
 use Rattle.text_read.specs.Texts.{HeadsAt}
 
 -- ---- a value
 
-value-stands : (text : List ℕ) (a e : ℕ) → drop a text ≡ join 44 (namesOf (part a e text)) ++ drop (e - a) (drop a text)
+-- its names stand from its start on, with commas between
+pub value-stands : (text : List ℕ) (a e : ℕ) → drop a text ≡ join 44 (namesOf (part a e text)) ++ drop (e - a) (drop a text)
 value-stands text a e =
     sym (take-append-drop (e - a) (drop a text)) ∙ ap (λ w. w ++ drop (e - a) (drop a text)) (sym (join-names (part a e text)))
 

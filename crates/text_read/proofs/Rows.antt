@@ -8,7 +8,7 @@ use native.Mathlib.Omega.{arith}
 use native.Mathlib.Numerals.{add-one}
 use native.Mathlib.Nat.{add-zero}
 use lib.ListN.{length, take, drop, getD, set, length-set}
-use lib.Seq.{take-suc-set, take-suc, take-length, length-take-le, drop-cons, append-snoc, set-at}
+use lib.Seq.{take-suc-set, take-suc, take-set-lt, take-length, length-take-le, drop-cons, append-snoc, set-at, set-append-left}
 use Rattle.grammar.specs.Basics.{over}
 use Rattle.text.specs.Pieces.{splitOn}
 use Rattle.text.specs.Promise.{startsFrom, nameLengths}
@@ -85,11 +85,19 @@ two-put row at x y h =
     filling-done (at + 2) refl q
     (filling-put y (omega (arith, length-set row at x)) refl (filling-put x (omega arith) refl (filling-start {at = at} {old = row} {whole = x ∷ y ∷ []} refl)))
 
--- and a run after them
-pub run-after : (row row′ : List ℕ) (at x y m : ℕ) (xs : List ℕ) → at + 1 < length row
-    → take (at + 2 + m) row′ ≡ take (at + 2) (set (set row at x) (at + 1) y) ++ xs
-    → take (at + 2 + m) row′ ≡ take at row ++ (x ∷ y ∷ xs)
-run-after row row′ at x y m xs h q = q ∙ ap (λ w. w ++ xs) (two-put row at x y h) ∙ append-assoc (take at row) (x ∷ y ∷ []) xs
+-- and the same where a run after them is there already
+pub run-before : (row row′ : List ℕ) (at x y m : ℕ) (xs : List ℕ) → at + 1 < length row → length row′ ≡ length row
+    → take (at + 2 + m) row′ ≡ take (at + 2) row ++ xs
+    → take (at + 2 + m) (set (set row′ at x) (at + 1) y) ≡ take at row ++ (x ∷ y ∷ xs)
+run-before row row′ at x y m xs h l q =
+    let n : length (take (at + 2) row) ≡ at + 2 = length-take-le (at + 2) row (omega arith) in
+    take-set-lt (at + 2 + m) (set row′ at x) (at + 1) y (omega arith)
+    ∙ ap (λ w. set w (at + 1) y) (take-set-lt (at + 2 + m) row′ at x (omega arith) ∙ ap (λ w. set w at x) q
+    ∙ set-append-left (take (at + 2) row) xs at x (omega (arith, n)))
+    ∙ set-append-left (set (take (at + 2) row) at x) xs (at + 1) y (omega (arith, n, length-set (take (at + 2) row) at x))
+    ∙ ap (λ w. w ++ xs) (ap (λ w. set w (at + 1) y) (sym (take-set-lt (at + 2) row at x (omega arith)))
+    ∙ sym (take-set-lt (at + 2) (set row at x) (at + 1) y (omega arith)) ∙ two-put row at x y h)
+    ∙ append-assoc (take at row) (x ∷ y ∷ []) xs
 
 -- ---- a row copied to the front of another
 

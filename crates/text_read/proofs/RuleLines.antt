@@ -4,12 +4,12 @@ use Prim.Native.Nat.{ℕ, zero, suc, _+_, _-_, _*_, _≤_, _<_}
 use mathlib.Core.Path.{_≡_, refl, ap, ap₂, sym, subst, _∙_}
 use mathlib.Core.List.{List, [], _∷_, _++_, append-assoc, append-nil}
 use mathlib.Core.Bool.{Bool, true, false}
-use mathlib.Core.Option.{none, some}
+use mathlib.Core.Option.{none}
 use native.Mathlib.Omega.{arith}
 use native.Mathlib.Nat.{add-zero}
 use borrow.Author.Tests.{eq-eqb, ne-eqb, le-leb, lt-leb, lt-ltb, le-ltb, ltb-true, ltb-false}
 use lib.Dec.{ltb}
-use lib.ListN.{length, take, drop, set, length-append, length-map, length-set}
+use lib.ListN.{length, take, drop, length-append, length-map}
 use lib.Seq.{append-snoc}
 use Rattle.grammar.specs.Basics.{choose}
 use Rattle.grammar.specs.Limits.{limits}
@@ -21,16 +21,12 @@ use Rattle.text.specs.Pieces.{splitOn}
 use Rattle.text.specs.Names.{all, sameName, place}
 use Rattle.text.specs.Keys.{key, valueOf}
 use Rattle.text.specs.Read.{refuseNone, Sides, sidesOf, numberOf, isKnown, codeOf, ruleOf, ruleLine, ruleLines}
-use Rattle.text.specs.Spelled.{spelled}
 use Rattle.names.specs.Found.{part}
 use Rattle.text_read.specs.declared.Kept.{Kept}
 use Rattle.text_read.specs.declared.Kept.the-variants.{Entries, Fault}
 use Rattle.text_read.specs.Values.{HasValue}
-use Rattle.text_read.specs.Lines.{shaped, knownRule, ruleValue, ShapeAt, codesOf, CodesFit, RuleFits, kept, RuleKept, KeptTold, RulesKept, keptRules}
+use Rattle.text_read.specs.Lines.{shaped, knownRule, ruleValue, ShapeAt, codesOf, kept, RuleKept, KeptTold, RulesKept, keptRules}
 use Rattle.text_read.proofs.Values.{tail-part}
-use Rattle.text_read.proofs.Rows.{two-put, run-after}
-use Rattle.text_read.proofs.Lookups.{codes-none}
-use Rattle.text_read.proofs.Shapes.{split-led, led-first, empty-body}
 
 -- ---- one rule of known shape
 
@@ -61,6 +57,9 @@ module _ (at t : ℕ) (names : List (List ℕ)) (v : List ℕ) (colon count : �
   pub body-part : splitOn 32 (part (colon + 1) (length v) v) ≡ [] ∷ h .sides .body
   body-part = ap (splitOn 32) (tail-part v (colon + 1)) ∙ h .body
 
+  pub body-count : count ≡ length (drop 1 (splitOn 32 (part (colon + 1) (length v) v)))
+  body-count = h .counts ∙ ap (λ ps. length (drop 1 ps)) (sym body-part)
+
   pub body-all : (p : List ℕ → Bool) → all p (drop 1 (splitOn 32 (part (colon + 1) (length v) v))) ≡ all p (h .sides .body)
   body-all p = ap (λ ps. all p (drop 1 ps)) body-part
 
@@ -81,47 +80,6 @@ rule-size t names s =
     = unfold codesOf in length-map (s .body) (λ x. codeOf limits t (numberOf names x)) in
     ap length (rule-entries t names s (place (sameName (s .head)) names) (length (s .body)) refl refl) ∙ omega arith
 
--- a rule's entries put into a row: two, then its codes
-module _ (left count : ℕ) (r text starts lengths : List ℕ) (t : ℕ) (row : List ℕ) (at : ℕ)
-    (h : RuleFits left count r text starts lengths t row at) (x : ℕ) (e : x ≡ codeOf limits t left) where
-  pub rule-empty : length r ≡ 0 → take (at + 2 + count) (set (set row at x) (at + 1) count)
-      ≡ take at row ++ (codeOf limits t left ∷ count ∷ codesOf t (spelled text starts lengths) (drop 1 (splitOn 32 r)))
-  rule-empty l =
-      let ns = spelled text starts lengths in
-      let b : h .names ≡ [] = ap (drop 1) (sym (h .body)) ∙ empty-body 32 r l in
-      let m : at + 2 + count ≡ at + 2 = omega (arith, h .counts, ap length b) in
-      ap (λ m. take m (set (set row at x) (at + 1) count)) m ∙ two-put row at x count (omega (arith, h .room))
-      ∙ ap₂ (λ x xs. take at row ++ (x ∷ count ∷ xs)) e (sym (ap (codesOf t ns) (empty-body 32 r l) ∙ codes-none t ns))
-
-  module _ (some : 0 < length r) where
-    rest : splitOn 32 r ≡ [] ∷ splitOn 32 (drop 1 r)
-    rest = split-led 32 r some (led-first 32 r (h .names) (h .body) some)
-
-    names-rest : h .names ≡ splitOn 32 (drop 1 r)
-    names-rest = ap (drop 1) (sym (h .body) ∙ rest)
-
-    pub rule-codes : CodesFit r 1 text starts lengths t (set (set row at x) (at + 1) count) (at + 2)
-    rule-codes = record {
-      low = omega arith;
-      spans = h .spans;
-      few = h .few;
-      most = h .most;
-      known = ap (all (isKnown 0 (spelled text starts lengths))) (sym names-rest) ∙ h .known;
-      room = omega (arith, h .room, h .counts, ap length names-rest, length-set (set row at x) (at + 1) count, length-set row at x);
-    }
-
-    pub rule-full : (row′ : List ℕ)
-        → take (at + 2 + length (splitOn 32 (drop 1 r))) row′
-        ≡ take (at + 2) (set (set row at x) (at + 1) count) ++ codesOf t (spelled text starts lengths) (splitOn 32 (drop 1 r))
-        → take (at + 2 + count) row′
-        ≡ take at row ++ (codeOf limits t left ∷ count ∷ codesOf t (spelled text starts lengths) (drop 1 (splitOn 32 r)))
-    rule-full row′ q =
-        let m : at + 2 + count ≡ at + 2 + length (splitOn 32 (drop 1 r)) = omega (arith, h .counts, ap length names-rest) in
-        let ns = spelled text starts lengths in
-        ap (λ m. take m row′) m
-        ∙ run-after row row′ at x count (length (splitOn 32 (drop 1 r))) (codesOf t ns (splitOn 32 (drop 1 r))) (omega (arith, h .room)) q
-        ∙ ap₂ (λ x ps. take at row ++ (x ∷ count ∷ codesOf t ns ps)) e (ap (drop 1) (sym rest))
-
 kept-some : (k : ℕ) (r : Rule) → k < keptRules → kept k r ≡ r ∷ []
 unfolding kept
 kept-some k r h = rw (lt-ltb k keptRules h)
@@ -131,15 +89,16 @@ unfolding kept
 kept-none k r h = rw (le-ltb k keptRules h)
 
 -- a rule that is not kept
-pub rule-passed : (o : Answer Rule) (r : Rule) (k end : ℕ) (row : List ℕ) → o ≡ done r → keptRules ≤ k → end ≤ length row → RuleKept o k end row row end
+pub rule-passed : (o : Answer Rule) (r : Rule) (k end : ℕ) (row row′ : List ℕ) → o ≡ done r → keptRules ≤ k → take end row′ ≡ take end row → end ≤ length row′
+    → RuleKept o k end row row′ end
 unfolding encode
-rule-passed o r k end row e h l =
+rule-passed o r k end row row′ e h f l =
     let q : encode (kept k r) ≡ [] = ap encode (kept-none k r h) in
     record {
       rule = r;
       read = e;
       used = rw (q, add-zero);
-      front = rw (q, append-nil);
+      front = rw (q, append-nil) f;
       most = omega arith;
       inside = l;
     }

@@ -2,7 +2,7 @@
 -- Assumes nothing.
 use Prim.Native.Nat.{ℕ, suc, _+_, _-_, _≤_, _<_}
 use mathlib.Core.Path.{_≡_, refl, ap, sym, subst, _∙_}
-use mathlib.Core.List.{List, [], _∷_, _++_}
+use mathlib.Core.List.{List, [], _∷_, _++_, append-nil}
 use mathlib.Core.Bool.{Bool, true, false, _&&_}
 use mathlib.Core.Option.{none, some}
 use native.Mathlib.Omega.{arith}
@@ -23,7 +23,7 @@ use Rattle.names.specs.Found.{part}
 use Rattle.text_read.specs.declared.Split.{Split}
 use Rattle.text_read.specs.declared.Split.the-variants.{Value, Malformed}
 use Rattle.text_read.specs.declared.Count.the-variants.{Names as CountNames, Malformed as CountMalformed}
-use Rattle.text_read.specs.Values.{HasValue, SplitTold, counted, bodyCounted, NamesAt}
+use Rattle.text_read.specs.Values.{HasValue, SplitTold, counted, bodyCounted}
 
 -- ---- the key
 
@@ -149,44 +149,35 @@ module _ (at k lo hi : ℕ) (earlier : List (List ℕ)) (line : List ℕ) where
   unfolding declaration refuseNone
   decl-none o = rw o
 
-  module _ (start end : ℕ) (h : HasValue k line start end) where
-    v : List ℕ
-    v = part start end line
-
-    pub decl-bad : all isName (namesOf (part start end line)) ≡ false → declaration at k lo hi earlier line ≡ refused 16 at
+  module _ (v : List ℕ) (h : valueOf (key k) line ≡ some v) where
+    pub decl-bad : all isName (namesOf v) ≡ false → declaration at k lo hi earlier line ≡ refused 16 at
     unfolding declaration refuseNone refuseUnless
-    decl-bad g = rw (h .value, g)
+    decl-bad g = rw (h, g)
 
-    module _ (g : all isName (namesOf (part start end line)) ≡ true) where
-      pub decl-double : hasDouble (earlier ++ namesOf (part start end line)) ≡ true → declaration at k lo hi earlier line ≡ refused 18 at
+    module _ (g : all isName (namesOf v) ≡ true) where
+      pub decl-double : hasDouble (earlier ++ namesOf v) ≡ true → declaration at k lo hi earlier line ≡ refused 18 at
       unfolding declaration refuseNone refuseUnless
-      decl-double t = rw (h .value, g, t)
+      decl-double t = rw (h, g, t)
 
-      module _ (t : hasDouble (earlier ++ namesOf (part start end line)) ≡ false) (count : ℕ)
-          (c : count ≡ length (namesOf (part start end line))) where
-        decl-out : within lo hi (length (namesOf (part start end line))) ≡ false → declaration at k lo hi earlier line ≡ refused 1 at
-        unfolding declaration refuseNone refuseUnless
-        decl-out w = rw (h .value, g, t, w)
+      decl-out : hasDouble (earlier ++ namesOf v) ≡ false → within lo hi (length (namesOf v)) ≡ false → declaration at k lo hi earlier line ≡ refused 1 at
+      unfolding declaration refuseNone refuseUnless
+      decl-out t w = rw (h, g, t, w)
 
-        pub decl-few : count < lo → declaration at k lo hi earlier line ≡ refused 1 at
-        decl-few l = decl-out (within-below lo hi _ (omega arith))
+      pub decl-many : hi < length (namesOf v) → declaration at k lo hi earlier line ≡ refused (choose (hasDouble (earlier ++ namesOf v)) 18 1) at
+      decl-many l = go (hasDouble (earlier ++ namesOf v)) refl
+        where
+          go : (t : Bool) → hasDouble (earlier ++ namesOf v) ≡ t → declaration at k lo hi earlier line ≡ refused (choose t 18 1) at
+          go true t = decl-double t
+          go false t = decl-out t (within-above lo hi _ l)
 
-        pub decl-many : hi < count → declaration at k lo hi earlier line ≡ refused 1 at
-        decl-many l = decl-out (within-above lo hi _ (omega arith))
+      pub decl-few : length (namesOf v) < lo → lo ≤ 1 → hasDouble earlier ≡ false → declaration at k lo hi earlier line ≡ refused 1 at
+      decl-few l m t = decl-out (ap hasDouble (no-more (namesOf v) (omega arith)) ∙ t) (within-below lo hi _ l)
+        where
+          no-more : (ns : List (List ℕ)) → length ns ≡ 0 → earlier ++ ns ≡ earlier
+          no-more [] e = append-nil earlier
+          no-more (x ∷ ns) e = absurd (omega arith)
 
-        decl-done : within lo hi (length (namesOf (part start end line))) ≡ true
-            → declaration at k lo hi earlier line ≡ done (namesOf (part start end line))
-        unfolding declaration refuseNone refuseUnless
-        decl-done w = rw (h .value, g, t, w)
-
-        pub decl-names : lo ≤ count → count ≤ hi → NamesAt at k lo hi earlier line start end count
-        decl-names l m = record {
-          starts = h .starts;
-          ends = h .ends;
-          inside = h .inside;
-          read = decl-done (both-within lo hi _ (omega arith) (omega arith));
-          counts = c;
-          least = l;
-          most = m;
-          once = t;
-        }
+      pub decl-done : hasDouble (earlier ++ namesOf v) ≡ false → lo ≤ length (namesOf v) → length (namesOf v) ≤ hi
+          → declaration at k lo hi earlier line ≡ done (namesOf v)
+      unfolding declaration refuseNone refuseUnless
+      decl-done t l m = rw (h, g, t, both-within lo hi (length (namesOf v)) l m)

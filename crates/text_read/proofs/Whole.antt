@@ -24,7 +24,7 @@ use Rattle.text.specs.Pieces.{splitOn, join, endedBy}
 use Rattle.text.specs.Keys.{key}
 use Rattle.text.specs.Read.{Source, symbolNames, grammarOf, namesOf, ruleLines, readLines, readText}
 use Rattle.text.specs.Rules.{admit, lastTests, checkText}
-use Rattle.text.specs.Print.{printLine, printRule, printed}
+use Rattle.text.specs.Print.{printLine, printRule, printed, firstDouble}
 use Rattle.text.specs.Promise.{startsFrom, nameStarts, nameLengths, textRead}
 use Rattle.text.specs.declared.TextRead.{TextRead}
 use Rattle.text.specs.declared.TextRead.the-variants.{Read, Refused}
@@ -35,12 +35,13 @@ use Rattle.text.proofs.RoundTrip.{apart}
 use Rattle.text.specs.Spelled.{spelled}
 use Rattle.text.proofs.Spans.{lengths-append}
 use Rattle.names.specs.Found.{part}
+use Rattle.lexicon.specs.Tree.{Spans, Lexicon}
 use Rattle.text_read.specs.declared.Kept.{Kept}
 use Rattle.text_read.specs.declared.Kept.the-variants.{Entries, Fault}
 use Rattle.text_read.specs.declared.Heads.{Heads}
 use Rattle.text_read.specs.declared.Heads.the-variants as H
 use Rattle.text_read.specs.Lines.{RulesReady, RulesKept, RulesTold, keptRules, keptEntries}
-use Rattle.text_read.specs.Texts.{HeadsAt, HeadsTold, NamesFit, tableRead, Ready, TableTold, ChecksText, allNames}
+use Rattle.text_read.specs.Texts.{HeadsAt, HeadsRead, HeadsTold, tableRead, Ready, TableTold, ChecksText, allNames}
 use Rattle.text_read.proofs.Places.{heads-spelled, heads-spans}
 
 -- ---- the first rules
@@ -289,10 +290,10 @@ checked-passed t n end (refused d j) x e v =
 
 -- ---- the rule lines at the code's places
 
-module _ (text : List ℕ) (from t n : ℕ) (starts lengths row : List ℕ) (p : Ready text from t n starts lengths row) where
-  pub ready-rules : RulesReady text (take (t + n) starts) (take (t + n) lengths) t row
+module _ (text : List ℕ) (from t n : ℕ) (starts lengths links row : List ℕ) (p : Ready text from t n starts lengths links row) where
+  pub ready-rules : RulesReady text (take (t + n) starts) (take (t + n) lengths) links t row
   ready-rules = record {
-    spans = heads-spans text (p .a) (p .e) (p .b) (p .f) t n (p .heads) starts lengths (p .starts-front) (p .lengths-front);
+    lexicon = p .lexicon;
     few = p .heads .terminals-most;
     most = omega (arith, length-take-le (t + n) starts (p .starts-room), p .heads .nonterminals-most);
     size = p .size;
@@ -331,29 +332,30 @@ pub told-fault : (o : Answer (List Rule)) (row : List ℕ) (r : Kept) (c i : ℕ
 told-fault o row r c i e t = subst (λ (r : Kept). RulesTold o row r) e t
 
 -- and of the two declaring lines
-pub told-heads : (text : List ℕ) (r : Heads) (a e b f t n : ℕ) → r ≡ H.Names a e b f t n → HeadsTold text r → HeadsAt text a e b f t n
-told-heads text r a e b f t n q h = subst (λ (r : Heads). HeadsTold text r) q h
+pub told-heads : (text starts lengths links : List ℕ) (r : Heads) (f t n : ℕ) → r ≡ H.Names f t n → HeadsTold text starts lengths links r
+    → HeadsRead text starts lengths links f t n
+told-heads text starts lengths links r f t n q h = subst (λ (r : Heads). HeadsTold text starts lengths links r) q h
 
-pub told-headless : (text : List ℕ) (r : Heads) (c i : ℕ) → r ≡ H.Fault c i → HeadsTold text r → readLines limits (splitOn 10 text) ≡ refused c i
-told-headless text r c i q h = subst (λ (r : Heads). HeadsTold text r) q h
+pub told-headless : (text starts lengths links : List ℕ) (r : Heads) (c i : ℕ) → r ≡ H.Fault c i → HeadsTold text starts lengths links r
+    → readLines limits (splitOn 10 text) ≡ refused c i
+told-headless text starts lengths links r c i q h = subst (λ (r : Heads). HeadsTold text starts lengths links r) q h
 
 -- the rows that the names' places were put into
-module _ (text : List ℕ) (a e b f t n : ℕ) (h : HeadsAt text a e b f t n) (short : length text ≤ (limits .maxText)) (starts lengths : List ℕ)
-    (x : take (t + length (namesOf (part b f text))) starts ≡ startsFrom a (namesOf (part a e text)) ++ startsFrom b (namesOf (part b f text)))
-    (y : take (t + length (namesOf (part b f text))) lengths ≡ nameLengths (namesOf (part a e text)) ++ nameLengths (namesOf (part b f text))) where
-  pub ready : (row : List ℕ) → allNames ≤ length starts → allNames ≤ length lengths → length row ≡ keptEntries → Ready text (f + 1) t n starts lengths row
+module _ (text starts lengths links : List ℕ) (f t n : ℕ) (short : length text ≤ limits .maxText) (h : HeadsRead text starts lengths links f t n) where
+  pub ready : (row : List ℕ) → allNames ≤ length starts → allNames ≤ length lengths → length row ≡ keptEntries → Ready text (f + 1) t n starts lengths links row
   ready row p q z = record {
-    a = a;
-    e = e;
-    b = b;
+    a = h .a;
+    e = h .e;
+    b = h .b;
     f = f;
-    heads = h;
+    heads = h .heads;
     begins = refl;
     short = short;
-    starts-front = ap (λ m. take (t + m) starts) (h .nonterminals) ∙ x;
-    lengths-front = ap (λ m. take (t + m) lengths) (h .nonterminals) ∙ y;
-    starts-room = omega (arith, h .terminals-most, h .nonterminals-most);
-    lengths-room = omega (arith, h .terminals-most, h .nonterminals-most);
+    starts-front = h .starts-front;
+    lengths-front = h .lengths-front;
+    starts-room = omega (arith, h .heads .terminals-most, h .heads .nonterminals-most);
+    lengths-room = omega (arith, h .heads .terminals-most, h .heads .nonterminals-most);
+    lexicon = h .tree;
     size = z;
   }
 
@@ -361,19 +363,8 @@ module _ (text : List ℕ) (a e b f t n : ℕ) (h : HeadsAt text a e b f t n) (s
   checks r row told = record {
     answer = told .answer;
     table = told .table;
-    starts-front = λ s w. starts-told text short a e b f t n h starts lengths s w x;
-    lengths-front = λ s w. lengths-told text short a e b f t n h starts lengths s w y;
+    starts-front = λ s w. starts-told text short (h .a) (h .e) (h .b) f t n (h .heads) starts lengths s w
+        (ap (λ m. take (t + m) starts) (sym (h .heads .nonterminals)) ∙ h .starts-front);
+    lengths-front = λ s w. lengths-told text short (h .a) (h .e) (h .b) f t n (h .heads) starts lengths s w
+        (ap (λ m. take (t + m) lengths) (sym (h .heads .nonterminals)) ∙ h .lengths-front);
   }
-
-pub names-fit : (text : List ℕ) (a e b f t n : ℕ) (starts lengths : List ℕ) → HeadsAt text a e b f t n → length text ≤ (limits .maxText)
-    → allNames ≤ length starts → allNames ≤ length lengths → NamesFit text a e b f t starts lengths
-names-fit text a e b f t n starts lengths h short p q = record {
-  first = h .first-inside;
-  second = h .second-inside;
-  first-inside = omega (arith, h .second, h .second-inside, h .ends);
-  second-inside = omega (arith, h .ends);
-  short = short;
-  counts = h .terminals;
-  starts-room = omega (arith, h .nonterminals, h .terminals-most, h .nonterminals-most);
-  lengths-room = omega (arith, h .nonterminals, h .terminals-most, h .nonterminals-most);
-}

@@ -3,11 +3,11 @@
 -- Assumes nothing.
 use Prim.Native.Nat.{ℕ, _+_, _*_, _≤_, _<_}
 use mathlib.Core.Path.{_≡_}
-use mathlib.Core.Bool.{true, _&&_}
+use mathlib.Core.Bool.{Bool, true, _&&_}
 use mathlib.Core.List.{List, [], _∷_, _++_, map}
 use mathlib.Core.Option.{Option, some}
 use lib.Dec.{ltb, leb}
-use lib.ListN.{length, take, drop}
+use lib.ListN.{length, take, drop, getD}
 use Rattle.grammar.specs.Basics.{choose}
 use Rattle.grammar.specs.Limits.{limits}
 use Rattle.grammar.specs.Grammar.{Rule}
@@ -16,16 +16,11 @@ use Rattle.grammar.specs.Refusal.{Answer, done, refused, refuseUnless}
 use Rattle.text.specs.Pieces.{splitOn}
 use Rattle.text.specs.Names.{all, isName}
 use Rattle.text.specs.Read.{refuseNone, Sides, sidesOf, numberOf, isKnown, codeOf, ruleOf}
-use Rattle.text.specs.Spelled.{spelled, Inside}
+use Rattle.lexicon.specs.Tree.{Lexicon}
 use Rattle.text_read.specs.declared.Shape.{Shape}
 use Rattle.text_read.specs.declared.Shape.the-variants.{Found, Malformed}
 use Rattle.text_read.specs.declared.Kept.{Kept}
 use Rattle.text_read.specs.declared.Kept.the-variants.{Entries, Fault}
-
--- the rows are equally long, and what they say lies in the text
-pub record Spans (text starts lengths : List ℕ) : Type 0 where
-  pub paired : length starts ≡ length lengths
-  pub inside : Inside text starts lengths
 
 -- ---- the definition of a rule's line, in steps
 
@@ -67,27 +62,19 @@ ShapeTold v (Found colon count) = ShapeAt v colon count
 unfoldable pub codesOf : ℕ → List (List ℕ) → List (List ℕ) → List ℕ
 codesOf t names xs = map (λ x. codeOf limits t (numberOf names x)) xs
 
--- the pieces from a place on are known names, and the row has room for their codes
-pub record CodesFit (r : List ℕ) (from : ℕ) (text starts lengths : List ℕ) (t : ℕ) (row : List ℕ) (at : ℕ) : Type 0 where
-  pub low : from ≤ length r
-  pub spans : Spans text starts lengths
+-- what follows a rule's colon: nothing, or a space first. The codes of its names go into a row from entry `at` on
+pub record CodesFit (r text starts lengths links : List ℕ) (t : ℕ) (row : List ℕ) (at : ℕ) : Type 0 where
+  pub led : 0 < length r → getD r 0 0 ≡ 32
+  pub lexicon : Lexicon text starts lengths links
   pub few : t ≤ limits .maxTerminals
   pub most : length starts ≤ t + limits .maxNonterminals
-  pub known : all (isKnown 0 (spelled text starts lengths)) (splitOn 32 (drop from r)) ≡ true
-  pub room : at + length (splitOn 32 (drop from r)) ≤ length row
+  pub near : at ≤ length row + 2
 
--- a rule of known names, and a row that has room for its entries
-pub record RuleFits (left count : ℕ) (r text starts lengths : List ℕ) (t : ℕ) (row : List ℕ) (at : ℕ) : Type 0 where
-  pub spans : Spans text starts lengths
-  pub few : t ≤ limits .maxTerminals
-  pub most : length starts ≤ t + limits .maxNonterminals
-  pub left-known : left < length starts
-  pub names : List (List ℕ)
-  pub body : splitOn 32 r ≡ [] ∷ names
-  pub counts : count ≡ length names
-  pub short : count ≤ 12
-  pub known : all (isKnown 0 (spelled text starts lengths)) names ≡ true
-  pub room : at + 2 + count ≤ length row
+-- the names of a right side are looked up: whether all are known, and if so their codes, where the row has room for them
+pub record CodesTaken (t : ℕ) (names body : List (List ℕ)) (at : ℕ) (row row′ : List ℕ) (b : Bool) : Type 0 where
+  pub answer : b ≡ all (isKnown 0 names) body
+  pub front : take at row′ ≡ take at row
+  pub codes : b ≡ true → at + length body ≤ length row → take (at + length body) row′ ≡ take at row ++ codesOf t names body
 
 -- ---- what is kept of the rules: the first ones, one more than a grammar has
 
@@ -103,8 +90,8 @@ unfoldable pub kept : ℕ → Rule → List Rule
 kept k r = choose (ltb k keptRules) (r ∷ []) []
 
 -- the row for the table has `end` entries in use after k rules
-pub record LineReady (text starts lengths : List ℕ) (t : ℕ) (row : List ℕ) (k end : ℕ) : Type 0 where
-  pub spans : Spans text starts lengths
+pub record LineReady (text starts lengths links : List ℕ) (t : ℕ) (row : List ℕ) (k end : ℕ) : Type 0 where
+  pub lexicon : Lexicon text starts lengths links
   pub few : t ≤ limits .maxTerminals
   pub most : length starts ≤ t + limits .maxNonterminals
   pub size : length row ≡ keptEntries
@@ -126,8 +113,8 @@ KeptTold o k end row row′ (Fault cause place) = o ≡ refused cause place
 KeptTold o k end row row′ (Entries next) = RuleKept o k end row row′ next
 
 -- before the first rule line
-pub record RulesReady (text starts lengths : List ℕ) (t : ℕ) (row : List ℕ) : Type 0 where
-  pub spans : Spans text starts lengths
+pub record RulesReady (text starts lengths links : List ℕ) (t : ℕ) (row : List ℕ) : Type 0 where
+  pub lexicon : Lexicon text starts lengths links
   pub few : t ≤ limits .maxTerminals
   pub most : length starts ≤ t + limits .maxNonterminals
   pub size : length row ≡ keptEntries

@@ -1,8 +1,7 @@
 -- What the reader's functions tell of a whole text.
 -- Assumes nothing.
-use Prim.Native.Nat.{ℕ, _+_, _≤_, _<_}
+use Prim.Native.Nat.{ℕ, _+_, _*_, _≤_, _<_}
 use mathlib.Core.Path.{_≡_}
-use mathlib.Core.Bool.{false}
 use mathlib.Core.List.{List, _++_}
 use lib.ListN.{length, take, drop}
 use Rattle.grammar.specs.Limits.{limits}
@@ -10,7 +9,6 @@ use Rattle.grammar.specs.Grammar.{Grammar, stateCount}
 use Rattle.grammar.specs.Table.{encode}
 use Rattle.grammar.specs.Refusal.{Answer, done, refused, andThen}
 use Rattle.text.specs.Pieces.{splitOn}
-use Rattle.text.specs.Names.{hasDouble}
 use Rattle.text.specs.Keys.{key}
 use Rattle.text.specs.Read.{Source, symbolNames, namesOf, declaration, ruleLines, wholeLine, readLines}
 use Rattle.text.specs.Rules.{checkText}
@@ -18,6 +16,7 @@ use Rattle.text.specs.Promise.{startsFrom, nameStarts, nameLengths, textRead}
 use Rattle.text.specs.declared.TextRead.{TextRead}
 use Rattle.text.specs.declared.TextRead.the-variants.{Read, Refused}
 use Rattle.names.specs.Found.{part}
+use Rattle.lexicon.specs.Tree.{Lexicon}
 use Rattle.text_read.specs.Lines.{keptEntries}
 use Rattle.text_read.specs.declared.Heads.{Heads}
 use Rattle.text_read.specs.declared.Heads.the-variants.{Names, Fault}
@@ -43,9 +42,17 @@ pub record FirstHead (text : List ℕ) (a e t : ℕ) : Type 0 where
   pub ends : e < length text
   pub counts : t ≡ length (namesOf (part a e text))
   pub most : t ≤ limits .maxTerminals
-  pub once : hasDouble (namesOf (part a e text)) ≡ false
   pub short : length text ≤ limits .maxText
   pub lines : readLines limits (splitOn 10 text) ≡ wholeLine 2 (splitOn 10 (drop (e + 1) text)) (readSecond (namesOf (part a e text)))
+
+-- the rows have the places of its names, the tree has these names, and there is room for those of the second line
+pub record FirstHeld (text : List ℕ) (a e t : ℕ) (starts lengths links : List ℕ) : Type 0 where
+  pub starts-front : take t starts ≡ startsFrom a (namesOf (part a e text))
+  pub lengths-front : take t lengths ≡ nameLengths (namesOf (part a e text))
+  pub tree : Lexicon text (take t starts) (take t lengths) links
+  pub starts-size : length starts ≡ allNames
+  pub lengths-size : length lengths ≡ allNames
+  pub links-size : length links ≡ 2 * allNames
 
 -- both lines are read: their values stand from a to e and from b to f, and have t and n names
 pub record HeadsAt (text : List ℕ) (a e b f t n : ℕ) : Type 0 where
@@ -60,21 +67,20 @@ pub record HeadsAt (text : List ℕ) (a e b f t n : ℕ) : Type 0 where
   pub nonterminals-most : n ≤ limits .maxNonterminals
   pub lines : readLines limits (splitOn 10 text) ≡ readRest (namesOf (part a e text)) (namesOf (part b f text)) (splitOn 10 (drop (f + 1) text))
 
--- the two declaring lines
-abbrev pub HeadsTold : List ℕ → Heads → Type 0
-HeadsTold text (Fault cause place) = readLines limits (splitOn 10 text) ≡ refused cause place
-HeadsTold text (Names a e b f t n) = HeadsAt text a e b f t n
+-- both lines are read, the second ends at f; the rows have the places of all names, and the tree has all names
+pub record HeadsRead (text starts lengths links : List ℕ) (f t n : ℕ) : Type 0 where
+  pub a : ℕ
+  pub e : ℕ
+  pub b : ℕ
+  pub heads : HeadsAt text a e b f t n
+  pub starts-front : take (t + n) starts ≡ startsFrom a (namesOf (part a e text)) ++ startsFrom b (namesOf (part b f text))
+  pub lengths-front : take (t + n) lengths ≡ nameLengths (namesOf (part a e text)) ++ nameLengths (namesOf (part b f text))
+  pub tree : Lexicon text (take (t + n) starts) (take (t + n) lengths) links
 
--- the rows have room for all names, whose values stand from a to e and from b to f
-pub record NamesFit (text : List ℕ) (a e b f t : ℕ) (starts lengths : List ℕ) : Type 0 where
-  pub first : a ≤ e
-  pub second : b ≤ f
-  pub first-inside : e ≤ length text
-  pub second-inside : f ≤ length text
-  pub short : length text ≤ limits .maxText
-  pub counts : t ≡ length (namesOf (part a e text))
-  pub starts-room : t + length (namesOf (part b f text)) ≤ length starts
-  pub lengths-room : t + length (namesOf (part b f text)) ≤ length lengths
+-- the two declaring lines
+abbrev pub HeadsTold : List ℕ → List ℕ → List ℕ → List ℕ → Heads → Type 0
+HeadsTold text starts lengths links (Fault cause place) = readLines limits (splitOn 10 text) ≡ refused cause place
+HeadsTold text starts lengths links (Names f t n) = HeadsRead text starts lengths links f t n
 
 -- the last tests' answer: that of the table check of the first `end` entries
 abbrev pub tableRead : ℕ → ℕ → ℕ → Answer Grammar → TextRead
@@ -82,7 +88,7 @@ tableRead t n end (done G) = Read t n end (stateCount (G .rules))
 tableRead t n end (refused cause place) = Refused cause place
 
 -- before the rule lines, which start at `from`: both declaring lines are read, and the rows have the names' places
-pub record Ready (text : List ℕ) (from t n : ℕ) (starts lengths row : List ℕ) : Type 0 where
+pub record Ready (text : List ℕ) (from t n : ℕ) (starts lengths links row : List ℕ) : Type 0 where
   pub a : ℕ
   pub e : ℕ
   pub b : ℕ
@@ -94,6 +100,7 @@ pub record Ready (text : List ℕ) (from t n : ℕ) (starts lengths row : List �
   pub lengths-front : take (t + n) lengths ≡ nameLengths (namesOf (part a e text)) ++ nameLengths (namesOf (part b f text))
   pub starts-room : t + n ≤ length starts
   pub lengths-room : t + n ≤ length lengths
+  pub lexicon : Lexicon text (take (t + n) starts) (take (t + n) lengths) links
   pub size : length row ≡ keptEntries
 
 -- all tests but 14: the answer, and for a text that passes the row begins with the table

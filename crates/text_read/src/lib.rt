@@ -6,7 +6,6 @@ mod symbols;
 mod value;
 
 pub use symbols::code_of;
-pub use symbols::lookup;
 ghost use mathlib.Core.Path.{_≡_};
 ghost use Prim.Native.Nat.{_≤_};
 ghost use lib.ListN.{length, take};
@@ -19,17 +18,14 @@ ghost use Rattle.text_read.specs.Texts.{allNames, tableRead, Ready, Tabl
 use grammar::BUFFER_TOO_SHORT;
 use grammar::MALFORMED;
 use grammar::MAX_LENGTH;
-use grammar::MAX_NONTERMINALS;
+use grammar::MAX_NAMES;
 use grammar::MAX_RULES;
-use grammar::MAX_TERMINALS;
+use grammar::MAX_TEXT;
 use grammar::TableVerdict;
 use text::TextRead;
 
-// The longest text; specs/Limits.antt of crate grammar has the same number.
-const MAX_TEXT: usize = 65536;
-
-// All names, and the entries of the rules that are kept, one more than a grammar has.
-const NAMES: usize = MAX_TERMINALS + MAX_NONTERMINALS;
+// Two links for each name, and the entries of the rules that are kept, one more than a grammar has.
+const LINKS: usize = 2 * MAX_NAMES;
 
 const KEPT_ENTRIES: usize = (MAX_RULES + 1) * (MAX_LENGTH + 2);
 
@@ -45,23 +41,16 @@ pub enum Count {
     Malformed,
 }
 
-// What a declaring line gives: where its value stands, and how many names it has.
+// What a declaring line gives: where its value starts in the text, and how many names it has.
 pub enum Declared {
-    Names {
-        start: usize,
-        end: usize,
-        count: usize,
-    },
+    Names { start: usize, count: usize },
     Fault(u8, usize),
 }
 
-// What the two declaring lines give: where their values stand, t and n.
+// What the two declaring lines give: where the second ends, t and n.
 pub enum Heads {
     Names {
-        first: usize,
-        first_end: usize,
-        second: usize,
-        second_end: usize,
+        end: usize,
         terminals: usize,
         nonterminals: usize,
     },
@@ -107,13 +96,14 @@ fn check_rules(
     n: usize,
     starts: &[u32],
     lengths: &[u32],
+    links: &[u16],
     row: &mut [u8],
 ) -> TextRead
-    requires { ⌜ Ready (now text) from t n (now starts) (now lengths) (now row) ⌝ }
+    requires { ⌜ Ready (now text) from t n (now starts) (now lengths) (now links) (now row) ⌝ }
     ensures { λ r. ⌜ TableTold (now (text .entry)) r (now (row .exit)) ⌝ }
 {
     let m = t + n;
-    match rules::read_rules(text, from, &starts[..m], &lengths[..m], t, row) {
+    match rules::read_rules(text, from, &starts[..m], &lengths[..m], links, t, row) {
         Kept::Fault(cause, at) => TextRead::Refused(cause, at),
         Kept::Entries(end) => last_tests(t, n, row, end),
     }
@@ -127,36 +117,23 @@ fn check_text(text: &[u8], row: &mut [u8], starts: &mut [u32], lengths: &mut [u3
     if MAX_TEXT < text.len() {
         return TextRead::Refused(MALFORMED, 0);
     }
-    match declaring::check_heads(text) {
+    let mut links = [0u16; LINKS];
+    match declaring::check_heads(text, starts, lengths, &mut links) {
         Heads::Fault(cause, at) => TextRead::Refused(cause, at),
         Heads::Names {
-            first,
-            first_end,
-            second,
-            second_end,
+            end,
             terminals,
             nonterminals,
-        } => {
-            declaring::keep_names(
-                text,
-                first,
-                first_end,
-                second,
-                second_end,
-                terminals,
-                starts,
-                lengths,
-            );
-            check_rules(
-                text,
-                second_end + 1,
-                terminals,
-                nonterminals,
-                starts,
-                lengths,
-                row,
-            )
-        }
+        } => check_rules(
+            text,
+            end + 1,
+            terminals,
+            nonterminals,
+            starts,
+            lengths,
+            &links,
+            row,
+        ),
     }
 }
 
@@ -189,8 +166,8 @@ pub fn read_text(text: &[u8], table: &mut [u8], starts: &mut [u32], lengths: &mu
     ensures { λ r. ⌜ ReadsText (now (text .entry)) (now (table .entry)) (now (starts .entry)) (now (lengths .entry)) r (now (table .exit)) (now (starts .exit)) (now (lengths .exit)) ⌝ }
 {
     let mut kept_table = [0u8; KEPT_ENTRIES];
-    let mut kept_starts = [0u32; NAMES];
-    let mut kept_lengths = [0u32; NAMES];
+    let mut kept_starts = [0u32; MAX_NAMES];
+    let mut kept_lengths = [0u32; MAX_NAMES];
     let read = check_text(text, &mut kept_table, &mut kept_starts, &mut kept_lengths);
     let TextRead::Read {
         terminals,

@@ -1,19 +1,16 @@
 // Rule lines: each is tested, and its entries are put into a row.
 ghost use mathlib.Core.Path.{_≡_};
-ghost use mathlib.Core.List.{_∷_, _++_};
-ghost use Prim.Native.Nat.{_+_, _≤_};
-ghost use lib.ListN.{length, take, drop};
+ghost use Prim.Native.Nat.{_≤_};
+ghost use lib.ListN.{length, drop, set};
 ghost use Rattle.grammar.specs.Limits.{limits};
 ghost use Rattle.text.specs.Pieces.{splitOn};
-ghost use Rattle.text.specs.Read.{codeOf, ruleLine, ruleLines};
+ghost use Rattle.text.specs.Read.{ruleLine, ruleLines};
 ghost use Rattle.text.specs.Spelled.{spelled};
-ghost use Rattle.text_read.specs.Lines.{ruleValue, ShapeAt, codesOf, CodesFit, RuleFits, LineReady, KeptTold, RulesReady, RulesTold};
+ghost use Rattle.text_read.specs.Lines.{ruleValue, ShapeAt, CodesFit, CodesTaken, LineReady, KeptTold, RulesReady, RulesTold};
 use super::Kept;
 use super::Shape;
 use super::Split;
-use super::symbols::body_known;
 use super::symbols::code_of;
-use super::symbols::lookup;
 use super::value::key_split;
 use super::value::rule_shape;
 use grammar::MALFORMED;
@@ -28,61 +25,54 @@ use names::SPACE;
 // One rule more than a grammar has: the table check refuses it, so the rules after it need not be kept.
 const KEPT_RULES: usize = MAX_RULES + 1;
 
-// Writes the code of each piece between spaces, from a place on, into a row from entry `at` on.
-fn put_codes(
+// Puts an entry into a row at place j, if the row goes so far.
+fn put_entry(row: &mut [u8], j: usize, x: u8)
+    ensures { λ _. ⌜ now (row .exit) ≡ set (now (row .entry)) j x ⌝ }
+{
+    if row.len() <= j {
+        return;
+    }
+    row[j] = x;
+}
+
+// Looks up each name after a rule's colon, up to the first that is unknown: are all known? Their codes go into a row from entry
+// `at` on, as far as it goes. What stands past the entries in use does not count, so a rule that is refused may leave some there.
+fn take_codes(
     r: &[u8],
-    from: usize,
     text: &[u8],
     starts: &[u32],
     lengths: &[u32],
+    links: &[u16],
     t: usize,
     row: &mut [u8],
     at: usize,
-)
-    requires { ⌜ CodesFit (now r) from (now text) (now starts) (now lengths) t (now row) at ⌝ }
-    ensures { λ _. ⌜ take (at + length (splitOn 32 (drop from (now (r .entry))))) (now (row .exit)) ≡ take at (now (row .entry))
-        ++ codesOf t (spelled (now (text .entry)) (now (starts .entry)) (now (lengths .entry))) (splitOn 32 (drop from (now (r .entry)))) ⌝ }
+) -> bool
+    requires { ⌜ CodesFit (now r) (now text) (now starts) (now lengths) (now links) t (now row) at ⌝ }
+    ensures { λ b. ⌜ CodesTaken t (spelled (now (text .entry)) (now (starts .entry)) (now (lengths .entry))) (drop 1 (splitOn 32 (now (r .entry)))) at (now (row .entry)) (now (row .exit)) b ⌝ }
 {
     let n = r.len();
-    let mut a = from;
+    if n == 0 {
+        return true;
+    }
+    let m = starts.len();
+    let mut a = 1;
     let mut j = at;
     loop {
         let e = names::find(r, a, SPACE);
-        let i = lookup(text, starts, lengths, &r[a..e]);
-        row[j] = code_of(t, i);
+        let i = lexicon::find(text, starts, lengths, links, &r[a..e]);
+        if m <= i {
+            return false;
+        }
+        put_entry(row, j, code_of(t, i));
         if n <= e {
-            return;
+            return true;
         }
         a = e + 1;
         j += 1;
     }
 }
 
-// Writes a rule's entries into a row from entry `at` on: its left symbol's number and what follows its colon are given.
-fn put_rule(
-    left: usize,
-    count: usize,
-    r: &[u8],
-    text: &[u8],
-    starts: &[u32],
-    lengths: &[u32],
-    t: usize,
-    row: &mut [u8],
-    at: usize,
-)
-    requires { ⌜ RuleFits left count (now r) (now text) (now starts) (now lengths) t (now row) at ⌝ }
-    ensures { λ _. ⌜ take (at + 2 + count) (now (row .exit)) ≡ take at (now (row .entry))
-        ++ codeOf limits t left ∷ count ∷ codesOf t (spelled (now (text .entry)) (now (starts .entry)) (now (lengths .entry))) (drop 1 (splitOn 32 (now (r .entry)))) ⌝ }
-{
-    row[at] = code_of(t, left);
-    row[at + 1] = count as u8;
-    if r.len() == 0 {
-        return;
-    }
-    put_codes(r, 1, text, starts, lengths, t, row, at + 2);
-}
-
-// A rule's value of known shape, after k rules: 17, 4; then its entries, if it is to be kept, from entry `end` of the row on.
+// A rule's value of known shape, after k rules: 17, 4; then its entries, if it is to be kept, stand from entry `end` of the row on.
 fn take_rule(
     at: usize,
     k: usize,
@@ -92,14 +82,15 @@ fn take_rule(
     text: &[u8],
     starts: &[u32],
     lengths: &[u32],
+    links: &[u16],
     t: usize,
     row: &mut [u8],
     end: usize,
 ) -> Kept
-    requires { ⌜ (ShapeAt (now v) colon count) × (LineReady (now text) (now starts) (now lengths) t (now row) k end) ⌝ }
+    requires { ⌜ (ShapeAt (now v) colon count) × (LineReady (now text) (now starts) (now lengths) (now links) t (now row) k end) ⌝ }
     ensures { λ r. ⌜ KeptTold (ruleValue at t (spelled (now (text .entry)) (now (starts .entry)) (now (lengths .entry))) (now (v .entry))) k end (now (row .entry)) (now (row .exit)) r ⌝ }
 {
-    let left = lookup(text, starts, lengths, &v[0..colon]);
+    let left = lexicon::find(text, starts, lengths, links, &v[0..colon]);
     if left < t {
         return Kept::Fault(NAME_UNKNOWN, at);
     }
@@ -108,8 +99,7 @@ fn take_rule(
     }
     let a = colon + 1;
     let n = v.len();
-    let body = &v[a..n];
-    if !body_known(body, text, starts, lengths) {
+    if !take_codes(&v[a..n], text, starts, lengths, links, t, row, end + 2) {
         return Kept::Fault(NAME_UNKNOWN, at);
     }
     if MAX_LENGTH < count {
@@ -118,7 +108,8 @@ fn take_rule(
     if KEPT_RULES <= k {
         return Kept::Entries(end);
     }
-    put_rule(left, count, body, text, starts, lengths, t, row, end);
+    row[end] = code_of(t, left);
+    row[end + 1] = count as u8;
     Kept::Entries(end + 2 + count)
 }
 
@@ -130,11 +121,12 @@ fn rule_line(
     text: &[u8],
     starts: &[u32],
     lengths: &[u32],
+    links: &[u16],
     t: usize,
     row: &mut [u8],
     end: usize,
 ) -> Kept
-    requires { ⌜ LineReady (now text) (now starts) (now lengths) t (now row) k end ⌝ }
+    requires { ⌜ LineReady (now text) (now starts) (now lengths) (now links) t (now row) k end ⌝ }
     ensures { λ r. ⌜ KeptTold (ruleLine limits at t (spelled (now (text .entry)) (now (starts .entry)) (now (lengths .entry))) (now (line .entry))) k end (now (row .entry)) (now (row .exit)) r ⌝ }
 {
     let Split::Value { start, end: stop } = key_split(line, RULE) else {
@@ -144,7 +136,20 @@ fn rule_line(
     let Shape::Found { colon, count } = rule_shape(v) else {
         return Kept::Fault(MALFORMED, at);
     };
-    take_rule(at, k, v, colon, count, text, starts, lengths, t, row, end)
+    take_rule(
+        at,
+        k,
+        v,
+        colon,
+        count,
+        text,
+        starts,
+        lengths,
+        links,
+        t,
+        row,
+        end,
+    )
 }
 
 // The rule lines, which start at place `from`. The row gets the entries of the rules that are kept.
@@ -153,10 +158,11 @@ pub fn read_rules(
     from: usize,
     starts: &[u32],
     lengths: &[u32],
+    links: &[u16],
     t: usize,
     row: &mut [u8],
 ) -> Kept
-    requires { ⌜ (RulesReady (now text) (now starts) (now lengths) t (now row)) × (from ≤ length (now text)) ⌝ }
+    requires { ⌜ (RulesReady (now text) (now starts) (now lengths) (now links) t (now row)) × (from ≤ length (now text)) ⌝ }
     ensures { λ r. ⌜ RulesTold (ruleLines limits 3 t (spelled (now (text .entry)) (now (starts .entry)) (now (lengths .entry))) (splitOn 10 (drop from (now (text .entry))))) (now (row .exit)) r ⌝ }
 {
     let n = text.len();
@@ -171,7 +177,18 @@ pub fn read_rules(
             }
             return Kept::Entries(end);
         }
-        let kept = rule_line(k + 3, k, &text[a..e], text, starts, lengths, t, row, end);
+        let kept = rule_line(
+            k + 3,
+            k,
+            &text[a..e],
+            text,
+            starts,
+            lengths,
+            links,
+            t,
+            row,
+            end,
+        );
         let Kept::Entries(next) = kept else {
             return kept;
         };

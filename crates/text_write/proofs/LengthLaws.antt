@@ -20,13 +20,13 @@ use Rattle.text_write.specs.Contracts.{textOf}
 
 -- ---- the symbol number of a code
 
-pub symbol-low : (t code : ℕ) → code < 128 → symbolOf limits t code ≡ code - 1
+pub symbol-low : (t code : ℕ) → code < limits .nonterminalBase → symbolOf limits t code ≡ code - 1
 unfolding symbolOf
-symbol-low t code h = rw (lt-ltb code 128 h)
+symbol-low t code h = rw (lt-ltb code (limits .nonterminalBase) h)
 
-pub symbol-high : (t code : ℕ) → 128 ≤ code → symbolOf limits t code ≡ t + (code - 128)
+pub symbol-high : (t code : ℕ) → limits .nonterminalBase ≤ code → symbolOf limits t code ≡ t + (code - limits .nonterminalBase)
 unfolding symbolOf
-symbol-high t code h = rw (le-ltb code 128 h)
+symbol-high t code h = rw (le-ltb code (limits .nonterminalBase) h)
 
 -- ---- the sums
 

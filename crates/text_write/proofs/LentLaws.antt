@@ -1,5 +1,4 @@
--- Names that rows lend: their lengths and bytes, where gathering stops, and the lowest that an earlier one has.
--- Assumes nothing.
+-- Names that rows lend: their lengths and bytes, and where gathering stops. Assumes nothing.
 use Prim.Native.Nat.{ℕ, zero, suc, _+_, _-_, _≤_, _<_}
 use mathlib.Core.Path.{_≡_, refl, ap, ap₂, sym, _∙_}
 use mathlib.Core.List.{List, [], _∷_}

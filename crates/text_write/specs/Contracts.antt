@@ -85,6 +85,7 @@ pub record Checked (t n : ℕ) (table : List ℕ) : Type 0 where
 -- a checked table, and rows that lend well-formed names for all its symbols
 pub record Ready (t : ℕ) (table bytes starts lengths : List ℕ) : Type 0 where
   pub rows : Rows bytes starts lengths
+  pub few : length starts ≤ limits .maxTerminals + limits .maxNonterminals
   pub coded : Coded t (length starts) table
   pub terminals : t ≤ length starts
   pub short : length (textOf t (spelled bytes starts lengths) (decode table)) ≤ limits .maxText

@@ -33,7 +33,7 @@ pub fn symbol(t: usize, code: u8) -> usize
 
 // Names from one symbol up to another, with a byte before each.
 fn led_length(lengths: &[u32], from: usize, to: usize) -> usize
-    requires { ⌜ (from ≤ to) × (to ≤ length (now lengths)) × (ledLength (slice from to (now lengths)) ≤ 65536) ⌝ }
+    requires { ⌜ (from ≤ to) × (to ≤ length (now lengths)) × (ledLength (slice from to (now lengths)) ≤ limits .maxText) ⌝ }
     ensures { λ r. ⌜ r ≡ ledLength (slice from to (now (lengths .entry))) ⌝ }
 {
     let mut total = 0;
@@ -47,7 +47,7 @@ fn led_length(lengths: &[u32], from: usize, to: usize) -> usize
 
 // The same with a byte between them.
 fn join_length(lengths: &[u32], from: usize, to: usize) -> usize
-    requires { ⌜ (from ≤ to) × (to ≤ length (now lengths)) × (joinLength (slice from to (now lengths)) ≤ 65536) ⌝ }
+    requires { ⌜ (from ≤ to) × (to ≤ length (now lengths)) × (joinLength (slice from to (now lengths)) ≤ limits .maxText) ⌝ }
     ensures { λ r. ⌜ r ≡ joinLength (slice from to (now (lengths .entry))) ⌝ }
 {
     if to <= from {
@@ -59,7 +59,7 @@ fn join_length(lengths: &[u32], from: usize, to: usize) -> usize
 // The names of codes, with a byte before each.
 fn codes_length(codes: &[u8], t: usize, lengths: &[u32]) -> usize
     requires { ⌜ Known t (length (now lengths)) (now codes)
-        × (ledLength (map (codeLength limits t (now lengths)) (now codes)) ≤ 65536) ⌝ }
+        × (ledLength (map (codeLength limits t (now lengths)) (now codes)) ≤ limits .maxText) ⌝ }
     ensures { λ r. ⌜ r ≡ ledLength (map (codeLength limits t (now (lengths .entry))) (now (codes .entry))) ⌝ }
 {
     let mut total = 0;
@@ -75,7 +75,7 @@ fn codes_length(codes: &[u8], t: usize, lengths: &[u32]) -> usize
 // The lines of all rules.
 fn rules_length(table: &[u8], t: usize, lengths: &[u32]) -> usize
     requires { ⌜ Coded t (length (now lengths)) (now table)
-        × (rulesLength limits t (now lengths) (decode (now table)) ≤ 65536) ⌝ }
+        × (rulesLength limits t (now lengths) (decode (now table)) ≤ limits .maxText) ⌝ }
     ensures { λ r. ⌜ r ≡ rulesLength limits t (now (lengths .entry)) (decode (now (table .entry))) ⌝ }
 {
     let mut total = 0;
@@ -94,7 +94,7 @@ fn rules_length(table: &[u8], t: usize, lengths: &[u32]) -> usize
 // The whole text.
 pub fn text_length(table: &[u8], t: usize, lengths: &[u32]) -> usize
     requires { ⌜ Coded t (length (now lengths)) (now table) × (t ≤ length (now lengths))
-        × (textLength limits t (now lengths) (decode (now table)) ≤ 65536) ⌝ }
+        × (textLength limits t (now lengths) (decode (now table)) ≤ limits .maxText) ⌝ }
     ensures { λ r. ⌜ r ≡ textLength limits t (now (lengths .entry)) (decode (now (table .entry))) ⌝ }
 {
     let n = lengths.len();

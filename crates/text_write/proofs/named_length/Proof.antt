@@ -33,7 +33,7 @@ sized c =
     (lengths-spelled (a .bytes .now) (a .starts .now) (a .lengths .now) (c .pre .rows))
 
 first-double-requires : tie.Need-first-double-requires
-first-double-requires c κs = c .before .before .before .before .pre .rows
+first-double-requires c κs = let s = c .before .before .before .before in (s .pre .rows, s .pre .few)
 
 returns : tie.Need-returns
 returns c =

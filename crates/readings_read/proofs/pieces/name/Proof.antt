@@ -1,8 +1,12 @@
 -- `readings_read::pieces::name` meets its contract: no name, an unknown one, or the code of its number. Assumes nothing.
 use borrow.Author.Needs.{needs}
 use native.Mathlib.Omega.{arith}
-use mathlib.Core.Path.{sym, ap, _∙_}
-use Prim.Native.Nat.{_+_, _*_}
+use mathlib.Core.Path.{_≡_, sym, ap, _∙_}
+use mathlib.Core.Bool.{true}
+use mathlib.Core.List.{List}
+use Prim.Native.Nat.{ℕ, _+_, _*_}
+use lib.ListN.{length}
+use Rattle.text.specs.Names.{isName}
 use Rattle.text.specs.Spelled.{spelled}
 use Rattle.text.proofs.Spans.{length-spelled}
 use Rattle.readings.specs.Letters.{kindUnit}
@@ -11,57 +15,70 @@ use Rattle.readings_read.proofs.Words.{name-bad, name-unknown, name-kno
 use Rattle.readings_read.proofs.pieces.name.Statement.{statement}
 use Rattle.readings_read.proofs.pieces.name.Tie as tie
 
+-- from the first test's answer back to the start, and from the lookup's back to that
+abbrev start : tie.After-is-name → tie.Start
+start c = c .before .before .before .before .before .before
+
+abbrev tested : tie.After-find → tie.After-is-name
+tested c = c .before .before
+
+-- the grammar's names
+abbrev names : tie.Start → List (List ℕ)
+names e = spelled (e .args .text .now) (e .args .starts .now) (e .args .lengths .now)
+
+as-many : (e : tie.Start) → length (names e) ≡ length (e .args .starts .now)
+as-many e = length-spelled (e .args .text .now) (e .args .starts .now) (e .args .lengths .now) (e .pre .0 .spans .paired)
+
+-- what is looked up is a name
+good : (c : tie.After-find) → isName (start (tested c) .args .x .now) ≡ true
+good c = sym (tested c .is-name .ensures) ∙ c .before .if1 .taken
+
 is-name-requires : tie.Need-is-name-requires
 is-name-requires c κs = search needs
 
-lookup-requires : tie.Need-lookup-requires
-lookup-requires c κs = c .before .before .before .before .before .before .pre .0
+find-requires : tie.Need-find-requires
+find-requires c κs = start (c .before) .pre .0
 
 returns : tie.Need-returns
-returns c = let e = c .before .before .before .before .before .before .before .before in
-    let a = e .args in
-    let l = c .before .lookup in
-    sym (name-unknown (a .t) (spelled (a .text .now) (a .starts .now) (a .lengths .now)) (a .x .now)
-    (sym (c .before .before .before .is-name .ensures) ∙ c .before .before .if1 .taken) (l .result) (l .ensures)
-    (omega (arith, length-spelled (a .text .now) (a .starts .now) (a .lengths .now) (e .pre .0 .paired), c .if2 .taken)))
+returns c = let l = c .before in
+    let e = start (tested l) in
+    sym (name-unknown (e .args .t) (names e) (e .args .x .now) (good l) (l .find .result) (l .find .ensures)
+    (omega (arith, as-many e, c .if2 .taken)))
 
-mul-t10 : tie.Need-mul-t10
-mul-t10 c = search needs
+mul-t11 : tie.Need-mul-t11
+mul-t11 c = search needs
 
 code-of-requires : tie.Need-code-of-requires
-code-of-requires c κs = let e = c .before .before .before .before .before .before .before .before in
-    (e .pre .1, omega (arith, e .pre .2, c .if2 .left))
+code-of-requires c κs = let e = start (tested (c .before)) in (e .pre .1, omega (arith, e .pre .2, c .if2 .left))
 
-cast-t12 : tie.Need-cast-t12
-cast-t12 c = search needs
+cast-t13 : tie.Need-cast-t13
+cast-t13 c = search needs
 
-add-t13 : tie.Need-add-t13
-add-t13 c = search needs
+add-t14 : tie.Need-add-t14
+add-t14 c = search needs
 
 returns-2 : tie.Need-returns-2
-returns-2 c = let e = c .before .before .before .before .before .before .before .before .before in
-    let a = e .args in
-    let l = c .before .before .lookup in
+returns-2 c = let l = c .before .before in
+    let e = start (tested l) in
     ap (λ n. Entry (3 * kindUnit + n)) (c .code-of .ensures)
-    ∙ sym (name-known (a .t) (spelled (a .text .now) (a .starts .now) (a .lengths .now)) (a .x .now)
-    (sym (c .before .before .before .before .is-name .ensures) ∙ c .before .before .before .if1 .taken) (l .result) (l .ensures)
-    (omega (arith, length-spelled (a .text .now) (a .starts .now) (a .lengths .now) (e .pre .0 .paired), c .before .if2 .left)))
+    ∙ sym (name-known (e .args .t) (names e) (e .args .x .now) (good l) (l .find .result) (l .find .ensures)
+    (omega (arith, as-many e, c .before .if2 .left)))
 
 returns-3 : tie.Need-returns-3
-returns-3 c = let e = c .before .before .before .before .before .before in
-    let a = e .args in
-    sym (name-bad (a .t) (spelled (a .text .now) (a .starts .now) (a .lengths .now)) (a .x .now) (sym (c .before .is-name .ensures) ∙ c .if1 .left))
+returns-3 c = let k = c .before in
+    let e = start k in
+    sym (name-bad (e .args .t) (names e) (e .args .x .now) (sym (k .is-name .ensures) ∙ c .if1 .left))
 
 pub name-spec : {M : Type 1} → statement M
 name-spec =
     tie.close
     (tie.spec
     is-name-requires
-    lookup-requires
+    find-requires
     returns
-    mul-t10
+    mul-t11
     code-of-requires
-    cast-t12
-    add-t13
+    cast-t13
+    add-t14
     returns-2
     returns-3)

@@ -10,8 +10,8 @@ use Rattle.readings_read.proofs.pieces.read_piece.Statement.{statement}
 use Rattle.readings_read.proofs.pieces.read_piece.Tie as tie
 
 -- from the length's test back to the start
-abbrev start : tie.After-shared-slice-known4 → tie.Start
-start c = c .before .before .before .before
+abbrev start : tie.After-shared-slice-known5 → tie.Start
+start c = c .before .before .before .before .before
 
 returns : tie.Need-returns
 returns c = let a = start (c .before) .args in
@@ -30,7 +30,7 @@ part-mark-end : tie.Need-part-mark-end
 part-mark-end c = search needs
 
 mark-requires : tie.Need-mark-requires
-mark-requires c κs = (omega arith, start (c .before .before .before .before) .pre .rules)
+mark-requires c κs = (omega arith, start (c .before .before .before .before) .pre .named .rules)
 
 returns-2 : tie.Need-returns-2
 returns-2 c = let a = start (c .before .before .before .before .before) .args in
@@ -51,7 +51,7 @@ part-mark-end-2 : tie.Need-part-mark-end-2
 part-mark-end-2 c = search needs
 
 mark-requires-2 : tie.Need-mark-requires-2
-mark-requires-2 c κs = (omega arith, start (c .before .before .before .before .before .before) .pre .rules)
+mark-requires-2 c κs = (omega arith, start (c .before .before .before .before .before .before) .pre .named .rules)
 
 returns-3 : tie.Need-returns-3
 returns-3 c = let a = start (c .before .before .before .before .before .before .before) .args in
@@ -60,7 +60,7 @@ returns-3 c = let a = start (c .before .before .before .before .before .before .
     (omega (arith, c .before .before .before .before .before .before .if1 .left)) (c .before .before .if3 .taken))
 
 name-requires : tie.Need-name-requires
-name-requires c κs = let s = start (c .before .before .before .before .before) .pre in (s .spans, s .few, s .most)
+name-requires c κs = let s = start (c .before .before .before .before .before) .pre in (s .lexicon, s .named .few, s .named .most)
 
 returns-4 : tie.Need-returns-4
 returns-4 c = let a = start (c .before .before .before .before .before .before) .args in

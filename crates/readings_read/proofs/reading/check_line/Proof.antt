@@ -12,7 +12,7 @@ use Rattle.readings_read.proofs.reading.check_line.Tie as tie
 
 -- from the key's answer back to the start, and from the value's back to the key's
 abbrev start : tie.After-value-start → tie.Start
-start c = c .before .before .before .before .before .before
+start c = c .before .before .before .before .before .before .before
 
 abbrev keyed : tie.After-check-value → tie.After-start
 keyed c = c .before .before .before

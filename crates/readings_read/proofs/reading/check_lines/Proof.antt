@@ -12,7 +12,7 @@ use Rattle.readings_read.proofs.reading.check_lines.Tie as tie
 
 -- from the search back to the start, and from the line's answer back to the search
 abbrev start : tie.After-find → tie.Start
-start c = c .before .before .before .before .before
+start c = c .before .before .before .before .before .before
 
 abbrev searched : tie.After-check-line → tie.After-find
 searched c = c .before .before .before .before

@@ -11,10 +11,14 @@ use Rattle.readings_read.proofs.Back.{says-count, back-refused, short-l
 use Rattle.readings_read.proofs.reading.read_lines.Statement.{statement}
 use Rattle.readings_read.proofs.reading.read_lines.Tie as tie
 
--- from the lines' answer back to the start, and from the rows' tests back to the lines' answer
-abbrev start : tie.After-check-lines → tie.Start
-start c = c .before .before .before .before .before .before .before
+-- from the rows lent, and from the lines' answer, back to the start
+abbrev entry : tie.After-slice-known2 → tie.Start
+entry c = c .before .before .before .before .before .before .before
 
+abbrev start : tie.After-check-lines → tie.Start
+start c = entry (c .before)
+
+-- from the rows' tests back to the lines' answer
 abbrev passed : tie.Else2 → tie.After-first
 passed c = c .before .before .before
 
@@ -39,7 +43,7 @@ both k = let c = k .before .before in
     (k .first .given .1) (c .check-lines .ensures)
 
 check-lines-requires : tie.Need-check-lines-requires
-check-lines-requires c κs = c .before .before .before .before .before .before .pre
+check-lines-requires c κs = entry c .pre
 
 enum-known-cause : tie.Need-enum-known-cause
 enum-known-cause c = search needs
@@ -116,7 +120,7 @@ returns-4 c = let s = second c in
     let y = c .before .before .put-value2 in
     both-written (a .t) (a .count) (names (start (k .before .before))) (a .lines .now) (a .left .now) (a .right .now)
     (g .0) (g .1 .0) (g .1 .1 .0) (g .1 .1 .1 .0) (g .1 .1 .1 .1 .0) (g .1 .1 .1 .1 .1 .0) (both k) (t .before .if1 .left) (t .if2 .left)
-    (x .last .1 .1 .1 .1 .1 .1 .0) (y .last .1 .1 .1 .1 .1 .1 .0) (x .ensures) (y .ensures)
+    (x .last .1 .1 .1 .1 .1 .1 .1 .0) (y .last .1 .1 .1 .1 .1 .1 .1 .0) (x .ensures) (y .ensures)
 
 pub read-lines-spec : {M : Type 1} → statement M
 read-lines-spec =

@@ -17,7 +17,7 @@ use Rattle.readings_read.proofs.reading.second_line.Tie as tie
 
 -- from the search back to the start, and from the line's answer back to the search
 abbrev start : tie.After-find → tie.Start
-start c = c .before .before .before .before .before
+start c = c .before .before .before .before .before .before
 
 abbrev searched : tie.After-check-line → tie.After-find
 searched c = c .before .before .before .before .before
@@ -35,10 +35,10 @@ says k = let c = k .before .before in
     (c .check-line .result) (k .start .given .0 .0) (k .start .given .0 .1 .0) (k .start .given .1) (c .check-line .ensures)
 
 add-a : tie.Need-add-a
-add-a c = omega (arith, c .before .before .before .before .pre .1 .ends)
+add-a c = omega (arith, c .before .before .before .before .before .pre .1 .ends)
 
 find-requires : tie.Need-find-requires
-find-requires c κs = omega (arith, c .before .before .before .before .pre .1 .ends)
+find-requires c κs = omega (arith, c .before .before .before .before .before .pre .1 .ends)
 
 returns : tie.Need-returns
 returns c = let e = start (c .before) in
@@ -76,8 +76,8 @@ enum-known-cause c = search needs
 enum-known-start : tie.Need-enum-known-start
 enum-known-start c = search needs
 
-add-t27 : tie.Need-add-t27
-add-t27 c = let k = c .before .before .before in
+add-t28 : tie.Need-add-t28
+add-t28 c = let k = c .before .before .before in
     let e = start (searched k) in
     let f = searched k .find in
     let l = length-take-le (f .result - (e .args .end + 1)) (drop (e .args .end + 1) (e .args .lines .now)) (omega (arith, length-drop (e .args .end + 1) (e .args .lines .now))) in
@@ -118,6 +118,6 @@ second-line-spec =
     check-line-requires
     enum-known-cause
     enum-known-start
-    add-t27
+    add-t28
     returns-3
     returns-4)

@@ -16,15 +16,15 @@ use Rattle.readings_read.proofs.values.check_value.Statement.{statement
 use Rattle.readings_read.proofs.values.check_value.Tie as tie
 
 abbrev Inv-loop : tie.InvT-loop
-Inv-loop v text starts lengths t count n form₀ a₀ k₀ form a k = (a ≤ length v) × (k ≤ a)
+Inv-loop v text starts lengths links t count n form₀ a₀ k₀ form a k = (a ≤ length v) × (k ≤ a)
     × Checking t count (spelled text starts lengths) v form k (splitOn 32 (drop a v))
 
 abbrev μ-loop : tie.MeasureT-loop
-μ-loop v text starts lengths t count n form₀ a₀ k₀ form a k = length v - a
+μ-loop v text starts lengths links t count n form₀ a₀ k₀ form a k = length v - a
 
 -- from the length's test, and from the loop, back to the start
-abbrev start : tie.After-shared-slice-known4 Inv-loop μ-loop → tie.Start Inv-loop μ-loop
-start c = c .before .before .before .before
+abbrev start : tie.After-shared-slice-known5 Inv-loop μ-loop → tie.Start Inv-loop μ-loop
+start c = c .before .before .before .before .before
 
 abbrev entry : tie.At-loop Inv-loop μ-loop → tie.Start Inv-loop μ-loop
 entry c = start (c .before .before)

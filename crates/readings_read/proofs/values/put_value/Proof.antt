@@ -17,15 +17,15 @@ use Rattle.readings_read.proofs.values.put_value.Statement.{statement}
 use Rattle.readings_read.proofs.values.put_value.Tie as tie
 
 abbrev Inv-loop : tie.InvT-loop
-Inv-loop v text starts lengths t count row₀ n a₀ j₀ row a j = (a ≤ length v) × (j ≤ a)
+Inv-loop v text starts lengths links t count row₀ n a₀ j₀ row a j = (a ≤ length v) × (j ≤ a)
     × Writing (map (entryAt t count (spelled text starts lengths)) (piecesOf v)) row₀ j row (map (entryAt t count (spelled text starts lengths)) (splitOn 32 (drop a v)))
 
 abbrev μ-loop : tie.MeasureT-loop
-μ-loop v text starts lengths t count row₀ n a₀ j₀ row a j = length v - a
+μ-loop v text starts lengths links t count row₀ n a₀ j₀ row a j = length v - a
 
 -- from the length's test, and from the loop, back to the start
 abbrev start : tie.After-slice-known Inv-loop μ-loop → tie.Start Inv-loop μ-loop
-start c = c .before .before .before .before .before
+start c = c .before .before .before .before .before .before
 
 abbrev entry : tie.At-loop Inv-loop μ-loop → tie.Start Inv-loop μ-loop
 entry c = start (c .before .before)

@@ -1,25 +1,40 @@
 -- `text_read::declaring::check_heads` meets its contract: the first line read; the rest is that of `second_head`. Assumes nothing.
 use borrow.Author.Needs.{needs}
 use native.Mathlib.Omega.{arith}
-use mathlib.Core.Path.{refl, ap, subst, _∙_}
-use Prim.Native.Nat.{_-_}
+use mathlib.Core.Path.{refl, subst, _∙_}
 use mathlib.Core.List.{[]}
-use lib.Seq.{length-take-le}
 use Rattle.grammar.specs.Limits.{limits}
-use Rattle.text.specs.Names.{hasDouble}
-use Rattle.names.specs.Found.{part}
-use Rattle.doubles.proofs.Tree.{double-none}
 use Rattle.names.proofs.Pieces.{names-none}
 use Rattle.text_read.specs.Values.{DeclaredTold}
-use Rattle.text_read.proofs.Declarations.{told-names, told-fault, first-missing, first-fault, first-names}
+use Rattle.text_read.proofs.Declarations.{told-names, told-fault, told-held, first-missing, first-fault, first-names}
+use Rattle.text_read.proofs.Held.{ready-first, spelt-first, first-held}
 use Rattle.text_read.proofs.declaring.check_heads.Statement.{statement}
 use Rattle.text_read.proofs.declaring.check_heads.Tie as tie
+
+-- from a place back to an earlier one
+abbrev entry : tie.After-find → tie.Start
+entry c = c .before .before .before .before .before
+
+abbrev ended : tie.After-declare → tie.Else1
+ended c = c .before .before .before .before .before
+
+abbrev declared : tie.At-match-keys1 → tie.After-declare
+declared c = c .before .before .before .before .before .before .before
+
+abbrev declared-2 : tie.At-match-keys2 → tie.After-declare
+declared-2 c = c .before .before .before .before .before .before .before
+
+-- no name is declared before the first line
+told : (d : tie.After-declare) → DeclaredTold 1 0 0 (limits .maxTerminals) [] (entry (ended d .before) .args .text .now) 0 (ended d .before .find .result) (d .declare .result)
+told d =
+    subst (λ ns. DeclaredTold 1 0 0 (limits .maxTerminals) ns (entry (ended d .before) .args .text .now) 0 (ended d .before .find .result) (d .declare .result))
+    (names-none [] refl) (d .declare .ensures .0)
 
 find-requires : tie.Need-find-requires
 find-requires c κs = search needs
 
 returns : tie.Need-returns
-returns c = first-missing (c .before .before .before .args .text .now) (c .before .find .result) (c .before .find .ensures .at) (c .if1 .taken)
+returns c = let f = c .before in first-missing (entry f .args .text .now) (f .find .result) (f .find .ensures .at) (c .if1 .taken)
 
 sub-declare : tie.Need-sub-declare
 sub-declare c = search needs
@@ -30,20 +45,17 @@ part-declare-start c = search needs
 part-declare-end : tie.Need-part-declare-end
 part-declare-end c = search needs
 
-sub-declare-2 : tie.Need-sub-declare-2
-sub-declare-2 c = search needs
-
-part-declare-start-2 : tie.Need-part-declare-start-2
-part-declare-start-2 c = search needs
-
-part-declare-end-2 : tie.Need-part-declare-end-2
-part-declare-end-2 c = search needs
-
 declare-requires : tie.Need-declare-requires
-declare-requires c κs = let e = c .before .before .before .before .before in
-    let x = e .args .text .now in
-    let f = c .before .before .before .find .result in
-    (omega arith, ap hasDouble (names-none [] refl) ∙ double-none, omega (arith, length-take-le (f - 0) x (omega arith), e .pre))
+declare-requires c κs =
+    let f = c .before .before .before .before .before in let e = entry f in let a = e .args in
+    record {
+      known = omega arith;
+      least = omega arith;
+      low = f .find .ensures .low;
+      high = f .find .ensures .high;
+      ready = ready-first (a .text .now) (a .starts .now) (a .lengths .now) (a .links .now) (e .pre .0) (e .pre .1) (e .pre .2) (e .pre .3) (e .pre .4);
+      spelt = spelt-first (a .text .now) (a .starts .now) (a .lengths .now);
+    }
 
 enum-known-cause : tie.Need-enum-known-cause
 enum-known-cause c = search needs
@@ -52,24 +64,43 @@ enum-known-start : tie.Need-enum-known-start
 enum-known-start c = search needs
 
 second-head-requires : tie.Need-second-head-requires
-second-head-requires c κs = let e = c .before .before .before .before .before .before .before .before .before in
-    let x = e .args .text .now in
-    let f = c .before .before .before .before .before .before .before .find in
-    let d = c .before .before .before .declare in
-    let w = subst (λ ns. DeclaredTold 1 0 0 (limits .maxTerminals) ns (part 0 (f .result) x) (d .result)) (names-none [] refl) (d .ensures) in
-    let g = c .before .start .given in
-    first-names x (f .result) (f .ensures .at) (omega arith) (g .0 .0) (g .0 .1 .0) (g .0 .1 .1 .0)
-    (told-names 1 0 0 (limits .maxTerminals) [] (part 0 (f .result) x) (d .result) (g .0 .0) (g .0 .1 .0) (g .0 .1 .1 .0) (g .1) w) (e .pre)
+second-head-requires c κs =
+    let m = c .before .before .before in let d = declared-2 (m .before .before) in let l = ended d in let f = l .before in let e = entry f in let a = e .args in
+    let g = m .before .start .given in
+    let x = d .declare .last .1 .1 .1 .1 .1 .1 .1 .1 .1 in
+    let y = d .declare .kept .1 .1 .1 .1 .1 .1 .1 .1 .1 in (
+      first-names (a .text .now) (f .find .result) (f .find .ensures .at) (omega (arith, l .if1 .left)) (g .0 .0) (g .0 .1 .0)
+          (told-names 1 0 0 (limits .maxTerminals) [] (a .text .now) 0 (f .find .result) (d .declare .result) (g .0 .0) (g .0 .1 .0) (g .1) (told d)) (e .pre .0),
+      first-held (a .text .now) (g .0 .0) (f .find .result) (g .0 .1 .0) (a .starts .now) (a .lengths .now) (x .0) (x .1 .0) (x .1 .1 .0)
+          (told-held (a .text .now) (f .find .result) 0 (a .starts .now) (a .lengths .now) (x .0) (x .1 .0) (x .1 .1 .0) (d .declare .result)
+          (g .0 .0) (g .0 .1 .0) (g .1) (d .declare .ensures .1))
+          (y .0 ∙ e .pre .1) (y .1 .0 ∙ e .pre .2) (y .1 .1 .0 ∙ e .pre .3),
+    )
+
+same-length : tie.Need-same-length
+same-length c = search needs
+
+same-length-2 : tie.Need-same-length-2
+same-length-2 c = search needs
+
+same-length-3 : tie.Need-same-length-3
+same-length-3 c = search needs
 
 returns-2 : tie.Need-returns-2
-returns-2 c = let e = c .before .before .before .before .before .before .before .before .before in
-    let x = e .args .text .now in
-    let f = c .before .before .before .before .before .before .before .find in
-    let d = c .before .before .before .declare in
-    let w = subst (λ ns. DeclaredTold 1 0 0 (limits .maxTerminals) ns (part 0 (f .result) x) (d .result)) (names-none [] refl) (d .ensures) in
+returns-2 c =
+    let d = declared (c .before .before) in let l = ended d in let f = l .before in let a = entry f .args in
     let g = c .before .cause .given in
-    first-fault x (f .result) (f .ensures .at) (omega arith) (g .0 .0) (g .0 .1 .0)
-    (told-fault 1 0 0 (limits .maxTerminals) [] (part 0 (f .result) x) (d .result) (g .0 .0) (g .0 .1 .0) (g .1) w)
+    first-fault (a .text .now) (f .find .result) (f .find .ensures .at) (omega (arith, l .if1 .left)) (g .0 .0) (g .0 .1 .0)
+    (told-fault 1 0 0 (limits .maxTerminals) [] (a .text .now) 0 (f .find .result) (d .declare .result) (g .0 .0) (g .0 .1 .0) (g .1) (told d))
+
+same-length-4 : tie.Need-same-length-4
+same-length-4 c = search needs
+
+same-length-5 : tie.Need-same-length-5
+same-length-5 c = search needs
+
+same-length-6 : tie.Need-same-length-6
+same-length-6 c = search needs
 
 returns-3 : tie.Need-returns-3
 returns-3 c = search needs
@@ -83,12 +114,15 @@ check-heads-spec =
     sub-declare
     part-declare-start
     part-declare-end
-    sub-declare-2
-    part-declare-start-2
-    part-declare-end-2
     declare-requires
     enum-known-cause
     enum-known-start
     second-head-requires
+    same-length
+    same-length-2
+    same-length-3
     returns-2
+    same-length-4
+    same-length-5
+    same-length-6
     returns-3)

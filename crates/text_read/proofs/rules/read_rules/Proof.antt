@@ -2,9 +2,12 @@
 use borrow.Author.Needs.{needs}
 use native.Mathlib.Omega.{arith}
 use mathlib.Core.Path.{_≡_, refl, sym, subst, _∙_}
-use Prim.Native.Nat.{_≤_, _+_, _-_}
+use Prim.Native.Nat.{ℕ, _≤_, _+_, _-_}
+use mathlib.Core.List.{List, [], _∷_}
 use lib.ListN.{length, drop}
 use Rattle.grammar.specs.Limits.{limits}
+use Rattle.grammar.specs.Grammar.{Rule}
+use Rattle.grammar.specs.Refusal.{Answer}
 use Rattle.text.specs.Pieces.{splitOn}
 use Rattle.text.specs.Read.{ruleLines}
 use Rattle.text.proofs.Pieces.{split-pos}
@@ -18,56 +21,80 @@ use Rattle.text_read.proofs.rules.read_rules.Statement.{statement}
 use Rattle.text_read.proofs.rules.read_rules.Tie as tie
 
 abbrev Inv-loop : tie.InvT-loop
-Inv-loop text from starts lengths t row₀ n a₀ k₀ end₀ row a k end = (a ≤ length text) × (k ≤ a) × Passed (ruleLines limits 3 t (spelled text starts lengths) (splitOn 10 (drop from text))) text t (spelled text starts lengths) a k end row
+Inv-loop text from starts lengths links t row₀ n a₀ k₀ end₀ row a k end = (a ≤ length text) × (k ≤ a) × Passed (ruleLines limits 3 t (spelled text starts lengths) (splitOn 10 (drop from text))) text t (spelled text starts lengths) a k end row
     × (length row ≡ length row₀)
 
 abbrev μ-loop : tie.MeasureT-loop
-μ-loop text from starts lengths t row₀ n a₀ k₀ end₀ row a k end = length text - a
+μ-loop text from starts lengths links t row₀ n a₀ k₀ end₀ row a k end = length text - a
+
+-- from a place back to an earlier one
+abbrev start : tie.At-loop Inv-loop μ-loop → tie.Start Inv-loop μ-loop
+start c = c .before .before .before .before .before .before
+
+abbrev ended : tie.Else1 Inv-loop μ-loop → tie.After-find Inv-loop μ-loop
+ended c = c .before
+
+abbrev read : tie.After-rule-line Inv-loop μ-loop → tie.Else1 Inv-loop μ-loop
+read c = c .before .before .before
+
+abbrev names : tie.Start Inv-loop μ-loop → List (List ℕ)
+names e = spelled (e .args .text .now) (e .args .starts .now) (e .args .lengths .now)
+
+abbrev answer : tie.Start Inv-loop μ-loop → Answer (List Rule)
+answer e = ruleLines limits 3 (e .args .t) (names e) (splitOn 10 (drop (e .args .from) (e .args .text .now)))
+
+-- the row after a line
+abbrev row : tie.After-rule-line Inv-loop μ-loop → List ℕ
+row c = c .rule-line .last .1 .1 .1 .1 .1 .1 .1 .1 .0
+
+long : (c : tie.After-rule-line Inv-loop μ-loop) → length (row c) ≡ length (ended (read c) .before .loop .row)
+long c = search needs
+
+-- the line at the cursor is ended
+more : (c : tie.Else1 Inv-loop μ-loop) → let f = ended c in let l = f .before .loop in let x = start (f .before) .args .text .now in
+    splitOn 10 (drop (l .a) x) ≡ part (l .a) (f .find .result) x ∷ splitOn 10 (drop (f .find .result + 1) x)
+more c =
+    let f = ended c in let l = f .before .loop in
+    piece-more 10 (start (f .before) .args .text .now) (l .a) (f .find .result) (l .inv .0) (f .find .ensures .at) (c .if1 .left)
+
+-- the last one is not
+last : (c : tie.Then1 Inv-loop μ-loop) → let f = c .before in let l = f .before .loop in let x = start (f .before) .args .text .now in
+    splitOn 10 (drop (l .a) x) ≡ part (l .a) (f .find .result) x ∷ []
+last c =
+    let f = c .before in let l = f .before .loop in
+    piece-last 10 (start (f .before) .args .text .now) (l .a) (f .find .result) (l .inv .0) (f .find .ensures .at) (c .if1 .taken)
 
 loop-holds : tie.Need-loop-holds Inv-loop μ-loop
-loop-holds c = let e = c .before .before .before .before in
-    let a = e .args in
-    let ns = spelled (a .text .now) (a .starts .now) (a .lengths .now) in
-    (e .pre .1, omega arith, passed-none _ (a .text .now) (a .t) ns (a .from) (a .row .now) refl, refl)
+loop-holds c =
+    let e = c .before .before .before .before .before in let a = e .args in
+    (e .pre .1, omega arith, passed-none _ (a .text .now) (a .t) (names e) (a .from) (a .row .now) refl, refl)
 
 find-requires : tie.Need-find-requires Inv-loop μ-loop
 find-requires c κs = search needs
 
-add-t16 : tie.Need-add-t16 Inv-loop μ-loop
-add-t16 c = omega (arith, c .before .before .before .before .before .before .before .before .pre .0 .short)
+add-t17 : tie.Need-add-t17 Inv-loop μ-loop
+add-t17 c = omega (arith, start (c .before .before .before) .pre .0 .short)
 
 same-length : tie.Need-same-length Inv-loop μ-loop
 same-length c = c .before .before .before .loop .inv .3
 
 returns : tie.Need-returns Inv-loop μ-loop
-returns c = let e = c .before .before .before .before .before .before .before .before in
-    let a = e .args in
-    let l = c .before .before .before .loop in
-    let f = c .before .before .find in
-    let x = a .text .now in
-    let ns = spelled (a .text .now) (a .starts .now) (a .lengths .now) in
-    let o = ruleLines limits 3 (a .t) ns (splitOn 10 (drop (a .from) x)) in
-    let h = l .inv .2 in
-    passed-open o x (a .t) ns (l .a) (l .k) (l .end) (l .row) h (f .result) (part (l .a) (f .result) x) (piece-last 10 x (l .a) (f .result) (omega arith) (f .ensures .at) (c .before .if1 .taken))
-    (λ z. omega (arith, length-piece 10 x (l .a) (f .result) (omega arith) (f .ensures .at), c .if2 .taken, c .before .if1 .taken))
+returns c =
+    let f = c .before .before in let l = f .before .loop in let e = start (f .before) in let a = e .args in
+    passed-open (answer e) (a .text .now) (a .t) (names e) (l .a) (l .k) (l .end) (l .row) (l .inv .2) (f .find .result) (part (l .a) (f .find .result) (a .text .now)) (last (c .before))
+    (λ z. omega (arith, length-piece 10 (a .text .now) (l .a) (f .find .result) (omega arith) (f .find .ensures .at), c .if2 .taken, c .before .if1 .taken))
 
 same-length-2 : tie.Need-same-length-2 Inv-loop μ-loop
 same-length-2 c = c .before .before .before .loop .inv .3
 
 returns-2 : tie.Need-returns-2 Inv-loop μ-loop
-returns-2 c = let e = c .before .before .before .before .before .before .before .before in
-    let a = e .args in
-    let l = c .before .before .before .loop in
-    let f = c .before .before .find in
-    let x = a .text .now in
-    let ns = spelled (a .text .now) (a .starts .now) (a .lengths .now) in
-    let o = ruleLines limits 3 (a .t) ns (splitOn 10 (drop (a .from) x)) in
-    let h = l .inv .2 in
-    passed-all o x (a .t) ns (l .a) (l .k) (l .end) (l .row) h (f .result) (part (l .a) (f .result) x) (piece-last 10 x (l .a) (f .result) (omega arith) (f .ensures .at) (c .before .if1 .taken))
-    (omega (arith, length-piece 10 x (l .a) (f .result) (omega arith) (f .ensures .at), c .if2 .left, f .ensures .high))
+returns-2 c =
+    let f = c .before .before in let l = f .before .loop in let e = start (f .before) in let a = e .args in
+    passed-all (answer e) (a .text .now) (a .t) (names e) (l .a) (l .k) (l .end) (l .row) (l .inv .2) (f .find .result) (part (l .a) (f .find .result) (a .text .now)) (last (c .before))
+    (omega (arith, length-piece 10 (a .text .now) (l .a) (f .find .result) (omega arith) (f .find .ensures .at), c .if2 .left, f .find .ensures .high))
 
 add-rule-line : tie.Need-add-rule-line Inv-loop μ-loop
-add-rule-line c = omega (arith, c .before .before .before .before .before .before .before .pre .0 .short)
+add-rule-line c = omega (arith, start (ended c .before) .pre .0 .short)
 
 sub-rule-line : tie.Need-sub-rule-line Inv-loop μ-loop
 sub-rule-line c = search needs
@@ -79,11 +106,11 @@ part-rule-line-end : tie.Need-part-rule-line-end Inv-loop μ-loop
 part-rule-line-end c = search needs
 
 rule-line-requires : tie.Need-rule-line-requires Inv-loop μ-loop
-rule-line-requires c κs = let e = c .before .before .before .before .before .before .before .before .before in
-    let l = c .before .before .before .before .loop in
-    let p = e .pre .0 in
+rule-line-requires c κs =
+    let f = ended (c .before .before) in let l = f .before .loop in
+    let p = start (f .before) .pre .0 in
     let h = l .inv .2 in
-    record { spans = p .spans; few = p .few; most = p .most; size = l .inv .3 ∙ p .size; near = h .near; inside = h .inside }
+    record { lexicon = p .lexicon; few = p .few; most = p .most; size = l .inv .3 ∙ p .size; near = h .near; inside = h .inside }
 
 enum-known-kept : tie.Need-enum-known-kept Inv-loop μ-loop
 enum-known-kept c = search needs
@@ -92,26 +119,19 @@ enum-told : tie.Need-enum-told Inv-loop μ-loop
 enum-told c = search needs
 
 same-length-3 : tie.Need-same-length-3 Inv-loop μ-loop
-same-length-3 c = omega (arith, c .before .before .before .before .before .before .before .before .before .loop .inv .3)
+same-length-3 c = let f = ended (read (c .before .before .before .before)) in omega (arith, f .before .loop .inv .3)
 
 returns-3 : tie.Need-returns-3 Inv-loop μ-loop
-returns-3 c = let e = c .before .before .before .before .before .before .before .before .before .before .before .before .before .before in
-    let a = e .args in
-    let l = c .before .before .before .before .before .before .before .before .before .loop in
-    let f = c .before .before .before .before .before .before .before .before .find in
-    let x = a .text .now in
-    let ns = spelled (a .text .now) (a .starts .now) (a .lengths .now) in
-    let o = ruleLines limits 3 (a .t) ns (splitOn 10 (drop (a .from) x)) in
-    let h = l .inv .2 in
+returns-3 c =
+    let r = c .before .before .before .before in let w = read r in let f = ended w in let l = f .before .loop in let e = start (f .before) in let a = e .args in
     let g = c .enum-told .given in
-    let r = c .before .before .before .before .rule-line in
-    let q = piece-more 10 x (l .a) (f .result) (omega arith) (f .ensures .at) (c .before .before .before .before .before .before .before .if1 .left) in
-    subst (λ (k : Kept). RulesTold o (r .last .1 .1 .1 .1 .1 .1 .1 .0) k) (sym (g .1))
-    (passed-fault o x (a .t) ns (l .a) (l .k) (l .end) (l .row) h (f .result) (part (l .a) (f .result) x) (splitOn 10 (drop (f .result + 1) x)) q (split-pos 10 _) (g .0 .0) (g .0 .1 .0)
-    (told-fault _ (l .k) (l .end) (l .row) _ (r .result) (g .0 .0) (g .0 .1 .0) (g .1) (r .ensures)))
+    let x = a .text .now in
+    subst (λ (k : Kept). RulesTold (answer e) (row r) k) (sym (g .1))
+    (passed-fault (answer e) x (a .t) (names e) (l .a) (l .k) (l .end) (l .row) (l .inv .2) (f .find .result) (part (l .a) (f .find .result) x) (splitOn 10 (drop (f .find .result + 1) x)) (more w) (split-pos 10 _) (g .0 .0) (g .0 .1 .0)
+    (told-fault _ (l .k) (l .end) (l .row) (row r) (r .rule-line .result) (g .0 .0) (g .0 .1 .0) (g .1) (r .rule-line .ensures)))
 
 add-k : tie.Need-add-k Inv-loop μ-loop
-add-k c = omega (arith, c .before .before .before .before .before .before .before .before .before .before .before .before .before .before .before .pre .0 .short)
+add-k c = let f = ended (read (c .before .before .before .before .before)) in omega (arith, start (f .before) .pre .0 .short)
 
 add-a : tie.Need-add-a Inv-loop μ-loop
 add-a c = search needs
@@ -120,22 +140,15 @@ loop-less : tie.Need-loop-less Inv-loop μ-loop
 loop-less c = search needs
 
 loop-again : tie.Need-loop-again Inv-loop μ-loop
-loop-again c = let e = c .before .before .before .before .before .before .before .before .before .before .before .before .before .before .before in
-    let a = e .args in
-    let l = c .before .before .before .before .before .before .before .before .before .before .loop in
-    let f = c .before .before .before .before .before .before .before .before .before .find in
-    let x = a .text .now in
-    let ns = spelled (a .text .now) (a .starts .now) (a .lengths .now) in
-    let o = ruleLines limits 3 (a .t) ns (splitOn 10 (drop (a .from) x)) in
-    let h = l .inv .2 in
+loop-again c =
+    let r = c .before .before .before .before .before in let w = read r in let f = ended w in let l = f .before .loop in let e = start (f .before) in let a = e .args in
     let g = c .before .kept .given in
-    let r = c .before .before .before .before .before .rule-line in
-    let q = piece-more 10 x (l .a) (f .result) (omega arith) (f .ensures .at) (c .before .before .before .before .before .before .before .before .if1 .left) in (
+    let x = a .text .now in (
       omega arith,
       omega arith,
-      passed-more o x (a .t) ns (l .a) (l .k) (l .end) (l .row) h (f .result) (part (l .a) (f .result) x) (splitOn 10 (drop (f .result + 1) x)) q (split-pos 10 _) _ (g .0 .0)
-          (told-kept _ (l .k) (l .end) (l .row) _ (r .result) (g .0 .0) (g .1) (r .ensures)) refl,
-      omega (arith, l .inv .3),
+      passed-more (answer e) x (a .t) (names e) (l .a) (l .k) (l .end) (l .row) (l .inv .2) (f .find .result) (part (l .a) (f .find .result) x) (splitOn 10 (drop (f .find .result + 1) x)) (more w) (split-pos 10 _) (row r) (g .0 .0)
+          (told-kept _ (l .k) (l .end) (l .row) (row r) (r .rule-line .result) (g .0 .0) (g .1) (r .rule-line .ensures)) refl,
+      omega (arith, long r, l .inv .3),
     )
 
 pub read-rules-spec : {M : Type 1} → statement M
@@ -146,7 +159,7 @@ read-rules-spec =
     μ-loop
     loop-holds
     find-requires
-    add-t16
+    add-t17
     same-length
     returns
     same-length-2

@@ -2,17 +2,45 @@
 use borrow.Author.Needs.{needs}
 use native.Mathlib.Omega.{arith}
 use mathlib.Core.Path.{sym, subst, _∙_}
-use Prim.Native.Nat.{_-_}
+use Prim.Native.Nat.{ℕ}
+use mathlib.Core.List.{List}
 use Rattle.grammar.specs.Grammar.{Rule}
 use Rattle.grammar.specs.Refusal.{Answer}
 use Rattle.text.specs.Spelled.{spelled}
 use Rattle.names.specs.Found.{part}
 use Rattle.text_read.specs.Lines.{KeptTold}
+use Rattle.text_read.specs.Values.{HasValue}
 use Rattle.text_read.proofs.Values.{told-value, told-none}
 use Rattle.text_read.proofs.Shapes.{told-shape, told-shapeless}
 use Rattle.text_read.proofs.RuleLines.{line-none, line-value, value-shapeless}
 use Rattle.text_read.proofs.rules.rule_line.Statement.{statement}
 use Rattle.text_read.proofs.rules.rule_line.Tie as tie
+
+-- from a place back to an earlier one
+abbrev start : tie.After-key-split → tie.Start
+start c = c .before .before .before .before .before .before .before
+
+abbrev split : tie.After-known-told → tie.After-key-split
+split c = c .before .before .before
+
+abbrev valued : tie.After-rule-shape → tie.After-known-told
+valued c = c .before .before
+
+abbrev shape : tie.After-known-told2 → tie.After-rule-shape
+shape c = c .before .before .before
+
+abbrev names : tie.Start → List (List ℕ)
+names e = spelled (e .args .text .now) (e .args .starts .now) (e .args .lengths .now)
+
+-- where the value stands
+abbrev from : tie.After-known-told → ℕ
+from c = c .before .start .given .0 .0
+
+abbrev to : tie.After-known-told → ℕ
+to c = c .before .start .given .0 .1 .0
+
+value : (c : tie.After-known-told) → HasValue 2 (start (split c) .args .line .now) (from c) (to c)
+value c = told-value 2 (start (split c) .args .line .now) (split c .key-split .result) (from c) (to c) (c .before .start .given .1) (split c .key-split .ensures)
 
 key-split-requires : tie.Need-key-split-requires
 key-split-requires c κs = search needs
@@ -24,33 +52,18 @@ enum-told : tie.Need-enum-told
 enum-told c = search needs
 
 returns : tie.Need-returns
-returns c = let a = c .before .before .before .before .before .before .before .before .args in
-    let ns = spelled (a .text .now) (a .starts .now) (a .lengths .now) in
-    line-none (a .at) (a .t) ns (a .line .now) (told-none 2 (a .line .now) (c .before .before .key-split .result) (c .enum-told .given .1) (c .before .before .key-split .ensures))
+returns c =
+    let s = c .before .before in let e = start s in let a = e .args in
+    line-none (a .at) (a .t) (names e) (a .line .now) (told-none 2 (a .line .now) (s .key-split .result) (c .enum-told .given .1) (s .key-split .ensures))
 
 sub-v : tie.Need-sub-v
-sub-v c = let e = c .before .before .before .before .before .before .before .before .before in
-    let a = e .args in
-    let ns = spelled (a .text .now) (a .starts .now) (a .lengths .now) in
-    let x = a .line .now in
-    let g = c .before .start .given in
-    let h = told-value 2 x (c .before .before .before .key-split .result) (g .0 .0) (g .0 .1 .0) (g .1) (c .before .before .before .key-split .ensures) in h .inside
+sub-v c = value c .inside
 
 part-v-start : tie.Need-part-v-start
-part-v-start c = let e = c .before .before .before .before .before .before .before .before .before in
-    let a = e .args in
-    let ns = spelled (a .text .now) (a .starts .now) (a .lengths .now) in
-    let x = a .line .now in
-    let g = c .before .start .given in
-    let h = told-value 2 x (c .before .before .before .key-split .result) (g .0 .0) (g .0 .1 .0) (g .1) (c .before .before .before .key-split .ensures) in h .inside
+part-v-start c = value c .inside
 
 part-v-end : tie.Need-part-v-end
-part-v-end c = let e = c .before .before .before .before .before .before .before .before .before in
-    let a = e .args in
-    let ns = spelled (a .text .now) (a .starts .now) (a .lengths .now) in
-    let x = a .line .now in
-    let g = c .before .start .given in
-    let h = told-value 2 x (c .before .before .before .key-split .result) (g .0 .0) (g .0 .1 .0) (g .1) (c .before .before .before .key-split .ensures) in omega (arith, h .ends)
+part-v-end c = omega (arith, value c .ends)
 
 rule-shape-requires : tie.Need-rule-shape-requires
 rule-shape-requires c κs = search needs
@@ -62,39 +75,26 @@ enum-told-2 : tie.Need-enum-told-2
 enum-told-2 c = search needs
 
 returns-2 : tie.Need-returns-2
-returns-2 c = let e = c .before .before .before .before .before .before .before .before .before .before .before .before .before in
-    let a = e .args in
-    let ns = spelled (a .text .now) (a .starts .now) (a .lengths .now) in
-    let x = a .line .now in
-    let g = c .before .before .before .before .before .start .given in
-    let h = told-value 2 x (c .before .before .before .before .before .before .before .key-split .result) (g .0 .0) (g .0 .1 .0) (g .1) (c .before .before .before .before .before .before .before .key-split .ensures) in
-    let v = part (g .0 .0) (g .0 .1 .0) x in
-    line-value (a .at) (a .t) ns x (g .0 .0) (g .0 .1 .0) h
-    ∙ value-shapeless (a .at) (a .t) ns v (told-shapeless v (c .before .before .rule-shape .result) (c .enum-told2 .given .1) (c .before .before .rule-shape .ensures))
+returns-2 c =
+    let s = c .before .before in let w = valued s in let e = start (split w) in let a = e .args in
+    let v = part (from w) (to w) (a .line .now) in
+    line-value (a .at) (a .t) (names e) (a .line .now) (from w) (to w) (value w)
+    ∙ value-shapeless (a .at) (a .t) (names e) v (told-shapeless v (s .rule-shape .result) (c .enum-told2 .given .1) (s .rule-shape .ensures))
 
 take-rule-requires : tie.Need-take-rule-requires
-take-rule-requires c κs = let e = c .before .before .before .before .before .before .before .before .before .before .before .before .before .before .before in
-    let a = e .args in
-    let ns = spelled (a .text .now) (a .starts .now) (a .lengths .now) in
-    let x = a .line .now in
-    let g = c .before .before .before .before .before .before .before .start .given in
-    let h = told-value 2 x (c .before .before .before .before .before .before .before .before .before .key-split .result) (g .0 .0) (g .0 .1 .0) (g .1) (c .before .before .before .before .before .before .before .before .before .key-split .ensures) in
-    let v = part (g .0 .0) (g .0 .1 .0) x in
-    let q = c .before .before .colon .given in
-    (told-shape v (c .before .before .before .before .rule-shape .result) (q .0 .0) (q .0 .1 .0) (q .1) (c .before .before .before .before .rule-shape .ensures), e .pre)
+take-rule-requires c κs =
+    let k = c .before in let s = shape k in let w = valued s in let e = start (split w) in
+    let g = k .before .colon .given in
+    (told-shape (part (from w) (to w) (e .args .line .now)) (s .rule-shape .result) (g .0 .0) (g .0 .1 .0) (g .1) (s .rule-shape .ensures), e .pre)
 
 same-length : tie.Need-same-length
 same-length c = search needs
 
 returns-3 : tie.Need-returns-3
-returns-3 c = let e = c .before .before .before .before .before .before .before .before .before .before .before .before .before .before .before .before .before .before in
-    let a = e .args in
-    let ns = spelled (a .text .now) (a .starts .now) (a .lengths .now) in
-    let x = a .line .now in
-    let g = c .before .before .before .before .before .before .before .before .before .before .start .given in
-    let h = told-value 2 x (c .before .before .before .before .before .before .before .before .before .before .before .before .key-split .result) (g .0 .0) (g .0 .1 .0) (g .1) (c .before .before .before .before .before .before .before .before .before .before .before .before .key-split .ensures) in
-    subst (λ (o : Answer Rule). KeptTold o (a .k) (a .end) (a .row .now) (c .before .before .take-rule .last .1 .1 .1 .1 .1 .1 .1 .1 .1 .0) (c .before .before .take-rule .result))
-    (sym (line-value (a .at) (a .t) ns x (g .0 .0) (g .0 .1 .0) h)) (c .before .before .take-rule .ensures)
+returns-3 c =
+    let r = c .before .before in let w = valued (shape (r .before .before)) in let e = start (split w) in let a = e .args in
+    subst (λ (o : Answer Rule). KeptTold o (a .k) (a .end) (a .row .now) (r .take-rule .last .1 .1 .1 .1 .1 .1 .1 .1 .1 .1 .0) (r .take-rule .result))
+    (sym (line-value (a .at) (a .t) (names e) (a .line .now) (from w) (to w) (value w))) (r .take-rule .ensures)
 
 pub rule-line-spec : {M : Type 1} → statement M
 rule-line-spec =

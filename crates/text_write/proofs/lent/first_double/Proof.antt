@@ -1,86 +1,28 @@
--- `text_write::lent::first_double` meets its contract: no name before the cursor stands earlier. Assumes nothing.
-use mathlib.Core.Path.{_≡_}
-use mathlib.Core.List.{[]}
-use Prim.Native.Nat.{_+_, _-_, _≤_}
-use native.Mathlib.Nat.{zero-add}
-use native.Mathlib.Omega.{arith}
+-- `text_write::lent::first_double` meets its contract: the planting answers the lowest name that an earlier one is. Assumes nothing.
 use borrow.Author.Needs.{needs}
-use lib.ListN.{length, take, drop}
-use Rattle.text.specs.Print.{firstDouble}
-use Rattle.text.specs.Spelled.{spelled}
-use Rattle.text_write.proofs.LentLaws.{names-count}
-use Rattle.text_write.proofs.DoubleLaws.{double-here, double-later, double-ends}
+use native.Mathlib.Omega.{arith}
+use Prim.Native.Nat.{ℕ, _+_, _*_}
+use lib.ListN.{length-replicate}
+use Rattle.grammar.specs.Limits.{limits}
+use Rattle.lexicon.proofs.Tree.{no-links}
 use Rattle.text_write.proofs.lent.first_double.Statement.{statement}
 use Rattle.text_write.proofs.lent.first_double.Tie as tie
 
-abbrev Inv-loop : tie.InvT-loop
-Inv-loop bytes starts lengths n later₀ later = (later ≤ length starts)
-    × (later + firstDouble (take later (spelled bytes starts lengths)) (drop later (spelled bytes starts lengths)) ≡
-    firstDouble [] (spelled bytes starts lengths))
+-- two links for each name of a grammar
+abbrev links : ℕ
+links = 2 * (limits .maxTerminals + limits .maxNonterminals)
 
-abbrev μ-loop : tie.MeasureT-loop
-μ-loop bytes starts lengths n later₀ later = length starts - later
+slice-aggregate-plant : tie.Need-slice-aggregate-plant
+slice-aggregate-plant c = search needs
 
-loop-holds : tie.Need-loop-holds Inv-loop μ-loop
-loop-holds c =
-    let s = c .before .before .before in
-    let a = s .args in
-    let names = spelled (a .bytes .now) (a .starts .now) (a .lengths .now) in
-    (omega arith, zero-add (firstDouble [] names))
+plant-requires : tie.Need-plant-requires
+plant-requires c κs =
+    let s = c .before .before .before .before in
+    let r = s .pre .0 in
+    ((record { paired = r .paired; inside = r .inside }, omega (arith, s .pre .1), omega (arith, s .pre .1, length-replicate {A = ℕ} links 0)), no-links links)
 
-lowest-same-requires : tie.Need-lowest-same-requires Inv-loop μ-loop
-lowest-same-requires c κs = (c .before .before .before .before .before .pre, omega arith)
-
-returns : tie.Need-returns Inv-loop μ-loop
-returns c =
-    let s = c .before .before .before .before .before .before .before in
-    let a = s .args in
-    let l = c .before .before .before .loop in
-    let names = spelled (a .bytes .now) (a .starts .now) (a .lengths .now) in
-    omega (
-      arith,
-      double-here names (l .later) (omega (arith, names-count (s .pre)))
-          (omega (arith, c .before .lowest-same .ensures, c .if1 .taken)),
-      l .inv .1,
-    )
-
-add-later : tie.Need-add-later Inv-loop μ-loop
-add-later c = search needs
-
-loop-less : tie.Need-loop-less Inv-loop μ-loop
-loop-less c = search needs
-
-loop-again : tie.Need-loop-again Inv-loop μ-loop
-loop-again c =
-    let s = c .before .before .before .before .before .before .before in
-    let a = s .args in
-    let l = c .before .before .before .loop in
-    let names = spelled (a .bytes .now) (a .starts .now) (a .lengths .now) in
-    omega (
-      arith,
-      double-later names (l .later) (omega (arith, names-count (s .pre)))
-          (omega (arith, c .before .lowest-same .ensures, c .if1 .left)),
-      l .inv .1,
-    )
-
-returns-2 : tie.Need-returns-2 Inv-loop μ-loop
-returns-2 c =
-    let s = c .before .before .before .before .before in
-    let a = s .args in
-    let l = c .before .loop in
-    let names = spelled (a .bytes .now) (a .starts .now) (a .lengths .now) in
-    omega (arith, double-ends names (l .later) (omega (arith, names-count (s .pre))), l .inv .1)
+returns : tie.Need-returns
+returns c = search needs
 
 pub first-double-spec : {M : Type 1} → statement M
-first-double-spec =
-    tie.close
-    (tie.spec
-    Inv-loop
-    μ-loop
-    loop-holds
-    lowest-same-requires
-    returns
-    add-later
-    loop-less
-    loop-again
-    returns-2)
+first-double-spec = tie.close (tie.spec slice-aggregate-plant plant-requires returns)
