@@ -55,8 +55,9 @@
 #define AMBIGUITY_LETTER_KIND(entry) ((entry) / 65536)
 #define AMBIGUITY_LETTER_NUMBER(entry) ((entry) % 65536)
 
-/* The stack that a call may use, below the caller's frame: bindings/c/stack.c measures it on a painted stack, at Q = 256. The
- * reader has a tree of names there (267,383 bytes measured), the search its marks (76,055 bytes, for few states too), the report
+/* The stack that a call may use, below the caller's frame. It is measured on a painted stack, at Q = 256 (bindings/c/stack.c), and not
+ * proved: where there is less, a call crashes.
+ * The reader has a tree of names there (267,383 bytes measured), the search its marks (76,055 bytes, for few states too), the report
  * calls both and lends them their rows (513,495 bytes), reading back calls the reader (270,343 bytes); of the others the
  * witness check over records goes deepest (13,911 bytes). */
 #define AMBIGUITY_STACK_BYTES 14336
@@ -137,7 +138,7 @@ typedef struct {
     uint64_t at;
     uint64_t verdict; /* an ambiguity_verdict; with a refusal AMBIGUITY_NO_VERDICT */
     uint64_t count;   /* unambiguous: the size, the triples that the certificate holds; potential: the witness's entries */
-    uint64_t looked;  /* with either verdict the successors looked at; with a refusal 0 */
+    uint64_t looked;  /* with either verdict how many successors there are to look at; with a refusal 0 */
 } ambiguity_search_reply;
 
 typedef struct {
@@ -232,9 +233,10 @@ ambiguity_room_reply ambiguity_search_room(size_t t, size_t n, const uint8_t *ta
  * Potential writes `count` entries of the witness row, and keeps the certificate and the rest of that row. The first
  * AMBIGUITY_ROW_ENTRIES(Q) entries of queue and parents are then 0. Refuses with 14.
  *
- * `looked` says how much the search looked at, with either verdict: how many choices of moves give a successor, each choice counted,
- * over all triples that are reached from (0,0,0). Each such triple is taken up once. The figure depends on the table alone, and is at
- * most M * M + 2 * Q * M, with `moves` and `states` of ambiguity_search_room, which needs no search. */
+ * `looked` says how many successors there are to look at, with either verdict: how many choices of moves give one, each choice
+ * counted, over all triples that are reached from (0,0,0). Each such triple is taken up once; of its successors the code may try
+ * fewer, since it leaves out blocks that were had. The figure depends on the table alone, and is at most M * M + 2 * Q * M, with
+ * `moves` and `states` of ambiguity_search_room, which needs no search. */
 ambiguity_search_reply ambiguity_search(size_t t, size_t n, const uint8_t *table, size_t table_entries, uint8_t *certificate,
                                         size_t certificate_bytes, uint32_t *queue, size_t queue_entries, uint32_t *parents,
                                         size_t parents_entries, uint32_t *witness, size_t witness_entries);

@@ -1,7 +1,7 @@
 /* The stack that each function uses, in bytes. A thread runs on a stack that was painted; after the call the paint tells how deep
  * the stack went below the caller. Exits with 0 if none went deeper than ambiguity.h says. The frames are of fixed size and no
- * function calls itself, so the largest grammar has the deepest calls that there are. Up to 64 states the search
- * has another path, which is measured too. The report takes no more than 48 states; its two strings are read back. */
+ * function calls itself, so the largest grammar has the deepest calls that there are. A line with more names than the limit is
+ * read another way, which is measured too. The report takes no more than 48 states; its two strings are read back. */
 #define _XOPEN_SOURCE 700
 #include <pthread.h>
 #include <stdio.h>
@@ -13,7 +13,6 @@
 #define STACK (1 << 20)
 #define PAINT 0xA5
 #define ROW AMBIGUITY_ROW_ENTRIES(AMBIGUITY_MAX_STATES)
-#define FEW_STATES 64
 #define REPORT_STATES 46
 #define LAST "rule=S: a9 a9\n"
 #define LAST_POTENTIAL "rule=S: S\nrule=S:\n"
@@ -138,6 +137,31 @@ static void make_text(int states, const char *last)
     certificate[(256 * 256 + 256 + 1) / 8] &= (uint8_t)~(1 << (256 * 256 + 256 + 1) % 8);
 }
 
+/* A first line of so many bytes, whose names are unequal and more than a grammar may have. */
+static void make_long_text(size_t bytes)
+{
+    char *end = (char *)text;
+    int i;
+    end += sprintf(end, "terminals=n0");
+    for (i = 1; (size_t)(end - (char *)text) + 8 < bytes; i++)
+        end += sprintf(end, ",n%x", i);
+    strcpy(end, "\n");
+}
+
+/* The reader, reading back and the report, of a text whose first line has too many names. */
+static int measure_long_text(void)
+{
+    int wrong;
+    make_long_text(AMBIGUITY_MAX_TEXT_BYTES);
+    wrong = measure("ambiguity_read_text, many names", run_read, AMBIGUITY_READ_TEXT_STACK_BYTES);
+    wrong += grammar.cause != AMBIGUITY_OUT_OF_RANGE || grammar.at != 1;
+    wrong += measure("ambiguity_read_back, many names", run_read_back, AMBIGUITY_READ_BACK_STACK_BYTES);
+    wrong += read_back.cause != AMBIGUITY_OUT_OF_RANGE || read_back.at != 1;
+    make_long_text(AMBIGUITY_MAX_REPORT_TEXT_BYTES);
+    wrong += measure("ambiguity_report, many names", run_report, AMBIGUITY_REPORT_STACK_BYTES);
+    return wrong + (memcmp(out, "refused=1\nat=1\n", 15) != 0);
+}
+
 /* The search of a text that has this verdict. */
 static int measure_search(const char *name, int states, const char *last, uint64_t right, size_t most)
 {
@@ -172,15 +196,12 @@ int main(void)
     wrong += measure("ambiguity_check_certificate", run_certificate, AMBIGUITY_STACK_BYTES);
     wrong += measure("ambiguity_check_witness", run_witness, AMBIGUITY_STACK_BYTES);
     wrong += measure("ambiguity_check_witness_records", run_records, AMBIGUITY_STACK_BYTES);
-    wrong += measure_search("ambiguity_search, 64 states, unambiguous", FEW_STATES, LAST, AMBIGUITY_UNAMBIGUOUS,
-                            AMBIGUITY_SEARCH_STACK_BYTES);
-    wrong += measure_search("ambiguity_search, 64 states, potential", FEW_STATES, LAST_POTENTIAL, AMBIGUITY_POTENTIAL,
-                            AMBIGUITY_SEARCH_STACK_BYTES);
     wrong += measure_search("ambiguity_search, unambiguous", AMBIGUITY_MAX_STATES, LAST, AMBIGUITY_UNAMBIGUOUS,
                             AMBIGUITY_SEARCH_STACK_BYTES);
     wrong += measure_search("ambiguity_search, potential", AMBIGUITY_MAX_STATES, LAST_POTENTIAL, AMBIGUITY_POTENTIAL,
                             AMBIGUITY_SEARCH_STACK_BYTES);
     wrong += measure_report("ambiguity_report, unambiguous", LAST, "states=46\nverdict=unambiguous\n");
     wrong += measure_report("ambiguity_report, potential", LAST_POTENTIAL, "states=46\nverdict=potential\nleft=(0 ");
+    wrong += measure_long_text();
     return wrong != 0;
 }

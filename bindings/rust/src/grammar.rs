@@ -27,20 +27,20 @@ pub enum Searched {
         certificate: Vec<u8>,
         /// The number of triples that it holds.
         size: usize,
-        /// The number of successors that the search looked at, as [`Verdict`] has it.
+        /// The number of successors that there are to look at, as [`Verdict`] has it.
         looked: usize,
     },
     /// Two strings of the position automaton part.
     Potential {
         /// The indices of triples from (0,0,0) to (1,1,1), each a successor of the one before.
         witness: Vec<u32>,
-        /// The number of successors that the search looked at, as [`Verdict`] has it.
+        /// The number of successors that there are to look at, as [`Verdict`] has it.
         looked: usize,
     },
 }
 
 impl Searched {
-    /// The number of successors that the search looked at, with either verdict.
+    /// The number of successors that there are to look at, with either verdict.
     #[must_use]
     pub const fn looked(&self) -> usize {
         match self {

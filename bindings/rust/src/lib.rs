@@ -4,7 +4,8 @@
 //! back; here slices stand for pointers, and enums for numbers. Rows that are written cannot overlap others: the borrow rules see to
 //! that.
 //!
-//! Every input is taken. A refusal changes no lent row. A written row may be longer than needed: its rest stays as it was.
+//! Every input is taken. A refusal changes no lent row. A written row may be longer than needed: its rest stays as it was. The stack
+//! that a call uses is measured and not proved: bindings/c/ambiguity.h has the figures.
 //!
 //! [`Grammar`] owns its rows: read a text, search it, check a certificate, read two strings back. The functions below it lend rows.
 
@@ -113,30 +114,31 @@ pub struct TripleRecord {
     pub right: u32,
 }
 
-/// What the search found: the certificate holds `size` triples, or the witness has so many entries; and how much it looked at.
+/// What the search found: the certificate holds `size` triples, or the witness has so many entries; and how much there was to look at.
 ///
 /// `looked` is the number of choices of moves that give a successor, each choice counted, over all triples that are reached from
-/// (0,0,0); each of these is taken up once. It depends on the table alone, and is at most [`Room::most_looked`].
+/// (0,0,0). Each of these is taken up once; of its successors the code may try fewer, since it leaves out blocks that were had. The
+/// figure depends on the table alone, and is at most [`Room::most_looked`].
 #[derive(Clone, Copy, Debug, PartialEq, Eq)]
 pub enum Verdict {
     /// No sentence has two derivation trees.
     Unambiguous {
         /// The number of triples that the certificate holds.
         size: usize,
-        /// The number of successors that the search looked at.
+        /// The number of successors that there are to look at.
         looked: usize,
     },
     /// Two strings part.
     Potential {
         /// The number of the witness's entries.
         entries: usize,
-        /// The number of successors that the search looked at.
+        /// The number of successors that there are to look at.
         looked: usize,
     },
 }
 
 impl Verdict {
-    /// The number of successors that the search looked at, with either verdict.
+    /// The number of successors that there are to look at, with either verdict.
     #[must_use]
     pub const fn looked(self) -> usize {
         match self {

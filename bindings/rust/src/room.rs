@@ -16,7 +16,7 @@ pub struct Room {
 }
 
 impl Room {
-    /// M² + 2×Q×M: a search looks at no more successors than that, whatever its verdict.
+    /// M² + 2×Q×M: there are no more successors to look at than that, whatever the verdict.
     #[must_use]
     pub const fn most_looked(self) -> usize {
         self.moves * self.moves + 2 * self.states * self.moves
