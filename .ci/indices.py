@@ -17,7 +17,9 @@ import sys
 PLACES = {
     ("indices/src/lib.rt", "f * (q * q) + p * q + r"): "index_of itself",
     ("certificate_check/src/scan.rt", "return left_base + plans::wide(targets[left_from + k]) * q;"): "from a base on: no layer enters",
-    ("certificate_check/src/rest.rt", "if bits::is_set(bytes, i - (p - r) * step) {"): "another state in a given index",
+    ("certificate_check/src/columns.rt", "let row = plans::layer_after(m, f, y) * q + a;"): "the number of a row of Q bits",
+    ("certificate_check/src/columns.rt", "let base = row * q;"): "where the row of that number begins",
+    ("certificate_check/src/columns.rt", "w = w & bits::wide_window(bytes, base + u * q);"): "from a base on",
     ("explore/src/blocks.rt", "if limit <= base + plans::wide(row[k]) * stride {"): "from a base on",
     ("explore/src/blocks.rt", "let flag = flags + (base + plans::wide(row[from]) * stride);"): "from a base on",
     ("explore/src/push.rt", "end = push(queue, parents, q, end, place, base + u * stride);"): "from a base on",

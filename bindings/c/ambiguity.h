@@ -57,14 +57,15 @@
 
 /* The stack that a call may use, below the caller's frame. It is measured on a painted stack, at Q = 256 (bindings/c/stack.c), and not
  * proved: where there is less, a call crashes.
- * The reader has a tree of names there (267,383 bytes measured), the search its marks (76,055 bytes, for few states too), the report
- * calls both and lends them their rows (513,495 bytes), reading back calls the reader (270,343 bytes); of the others the
- * witness check over records goes deepest (13,911 bytes). */
+ * The reader has rows there for the names and rules of a grammar, and for the names of a line that has too many (54,407 bytes
+ * measured); reading back calls the reader (58,279 bytes); the report calls the reader and the search and lends them their
+ * rows (300,311 bytes). The search's stack does not grow with Q (10,663 bytes); of the others the witness check over records
+ * goes deepest (13,911 bytes). */
 #define AMBIGUITY_STACK_BYTES 14336
-#define AMBIGUITY_READ_TEXT_STACK_BYTES 274432
-#define AMBIGUITY_SEARCH_STACK_BYTES 81920
-#define AMBIGUITY_REPORT_STACK_BYTES 532480
-#define AMBIGUITY_READ_BACK_STACK_BYTES 278528
+#define AMBIGUITY_READ_TEXT_STACK_BYTES 57344
+#define AMBIGUITY_SEARCH_STACK_BYTES 12288
+#define AMBIGUITY_REPORT_STACK_BYTES 307200
+#define AMBIGUITY_READ_BACK_STACK_BYTES 61440
 
 /* The causes of refusal. */
 enum ambiguity_cause {

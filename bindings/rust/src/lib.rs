@@ -270,7 +270,7 @@ pub fn check_witness_records(table: Table, records: &[TripleRecord]) -> Result<(
 /// Searches: `certificate_bytes(Q)` bytes and `row_entries(Q)` entries of each row are just enough, as [`search_room`] tells them.
 /// Unambiguous leaves the smallest acceptable certificate at the front of `certificate` and keeps the witness row; potential leaves the
 /// shortest witness at the front of that row and keeps the certificate. The fronts of queue and parents are 0 afterwards. Uses up to
-/// 80 KiB of stack.
+/// 12 KiB of stack.
 ///
 /// # Errors
 ///
@@ -303,7 +303,7 @@ pub fn search(
 }
 
 /// Reads grammar text; the table, and the start and length of each name, come at the fronts of the lent rows. `MAX_TABLE_ENTRIES`
-/// and `MAX_NAMES` entries are always enough. Uses up to 268 KiB of stack.
+/// and `MAX_NAMES` entries are always enough. Uses up to 56 KiB of stack.
 ///
 /// # Errors
 ///
@@ -358,7 +358,7 @@ pub fn write_text(table: Table, names: Names, out: &mut [u8]) -> Result<usize, R
 
 /// Writes what the program prints for a text to the front of `out`: states, verdict, and the size or the two strings of the shortest
 /// witness; or a refusal's two lines: 14 for a longer text, a fault of the text, 19 among them, or 14 for more states. Back comes its
-/// length; the only refusal is an output that is too short, and `MAX_REPORT_BYTES` are always enough. Uses up to 520 KiB of stack.
+/// length; the only refusal is an output that is too short, and `MAX_REPORT_BYTES` are always enough. Uses up to 300 KiB of stack.
 pub fn report(text: &[u8], out: &mut [u8]) -> Result<usize, Refusal> {
     let reply = unsafe { raw::ambiguity_report(text.as_ptr(), text.len(), out.as_mut_ptr(), out.len()) };
     refusal::or_else(reply.cause, reply.at, || reply.length as usize)
@@ -366,7 +366,7 @@ pub fn report(text: &[u8], out: &mut [u8]) -> Result<usize, Refusal> {
 
 /// Reads two lines `left=` and `right=` back, in the grammar of a text: the letters of the two strings come at the fronts of the lent
 /// rows, an entry each ([`Letter::of_entry`]). Rows of as many entries as the lines have bytes are always enough. Uses up to
-/// 272 KiB of stack.
+/// 60 KiB of stack.
 ///
 /// # Errors
 ///

@@ -5,7 +5,7 @@ use mathlib.Core.List.{List}
 use Prim.Native.Nat.{ℕ, zero, suc, _+_, _-_, _*_, _/_, _%_, _^_, _≤_, _<_}
 use native.Mathlib.Omega.{arith}
 use native.Mathlib.Decide.{decLt}
-use native.Mathlib.Nat.{div-eq-of-lt, zero-div, mul-le-mul-left, mul-assoc, add-mul-div-left, add-mul-mod-self-left, pow-succ', pow-suc}
+use native.Mathlib.Nat.{div-eq-of-lt, zero-div, mul-le-mul-left, mul-assoc, mul-comm, mod-lt, div-add-mod', add-mul-div-left, add-mul-mod-self-left, pow-succ', pow-suc}
 use borrow.Author.Tests.{le-leb, lt-leb}
 use lib.Count.{trailingZeros, under, trailing-le}
 use lib.Dec.{eqb, leb}
@@ -13,7 +13,7 @@ use lib.ListN.{length, getD}
 use lib.Pow.{pow-add, pow-pos, pow-mono, shr-lt, shr-shr}
 use Rattle.grammar.specs.Basics.{choose}
 use Rattle.triples.specs.Certificate.{bit, isSet}
-use Rattle.bits.specs.Windows.{Word, Window, windowEnd, LowestOne, ClearTo}
+use Rattle.bits.specs.Windows.{Word, Window, windowEnd, wideBits, Columns, LowestOne, ClearTo}
 
 -- a bit of x + 2 ^ s * y is one of x below s, and one of y from s on
 join-low : (x y s c : ℕ) → c < s → (x + 2 ^ s * y) / 2 ^ c % 2 ≡ x / 2 ^ c % 2
@@ -90,6 +90,44 @@ pub window-one : (bytes : List ℕ) (n i w : ℕ) → n < i / 8 + 8 → Word byt
 window-one bytes n i w h s =
     subst (λ (t : Bool). Window bytes i (choose t (i / 8 * 8 + 64) (i / 8 * 8 + 8)) (w / 2 ^ (i % 8))) (sym (lt-leb (i / 8 + 8) n h)) (window-of bytes i 1 w (omega arith) s)
 
+-- the bits from i on, of eight bytes from its byte on, and of the last eight
+pub columns-eight : (bytes : List ℕ) (i w : ℕ) → Word bytes (i / 8) 8 w → Columns bytes i (w / 2 ^ (i % 8))
+columns-eight bytes i w s = let v = window-of bytes i 8 w (omega arith) s in record { bits = λ c h l. v .bits c (omega arith) }
+
+pub columns-last : (bytes : List ℕ) (i b w : ℕ) → b + 8 ≡ length bytes → 8 * b ≤ i → Word bytes b 8 w → Columns bytes i (w / 2 ^ (i - 8 * b))
+columns-last bytes i b w q h s = record { bits = bits }
+  where
+    bits : (c : ℕ) → c < wideBits → i + c < 8 * length bytes → w / 2 ^ (i - 8 * b) / 2 ^ c % 2 ≡ bit bytes (i + c)
+    bits c l u =
+        let e : 8 * b + (i - 8 * b + c) ≡ i + c = omega arith in
+        ap (λ (m : ℕ). m % 2) (shr-shr w (i - 8 * b) c) ∙ s .bits (i - 8 * b + c) (omega arith) ∙ ap (bit bytes) e
+
+-- the lowest n of them
+pub columns-window : (bytes : List ℕ) (i n v : ℕ) → Columns bytes i v → n ≤ wideBits → i + n ≤ 8 * length bytes → Window bytes i (i + n) (v % 2 ^ n)
+columns-window bytes i n v s h l = record { most = most; bits = bits }
+  where
+    most : v % 2 ^ n < 2 ^ (i + n - i)
+    most = let e : n ≡ i + n - i = omega arith in subst (λ (m : ℕ). v % 2 ^ n < 2 ^ m) e (mod-lt v (pow-pos n))
+
+    whole : v % 2 ^ n + 2 ^ n * (v / 2 ^ n) ≡ v
+    whole = let e = div-add-mod' v (2 ^ n) in let f = mul-comm (2 ^ n) (v / 2 ^ n) in omega (arith, e, f)
+
+    bits : (c : ℕ) → i + c < i + n → v % 2 ^ n / 2 ^ c % 2 ≡ bit bytes (i + c)
+    bits c u =
+        sym (join-low (v % 2 ^ n) (v / 2 ^ n) n c (omega arith)) ∙ ap (λ (m : ℕ). m / 2 ^ c % 2) whole ∙ s .bits c (omega arith) (omega arith)
+
+-- a window without the bits up to its k-th
+pub window-next : (bytes : List ℕ) (i e w k j : ℕ) → Window bytes i e w → i + k < e → j ≡ i + k + 1 → Window bytes j e (w / 2 ^ k / 2)
+window-next bytes i e w k j s h q = subst (Window bytes j e) (sym (shr-shr w k 1)) (record { most = most; bits = bits })
+  where
+    most : w / 2 ^ (k + 1) < 2 ^ (e - j)
+    most = let l : e - i ≡ e - j + (k + 1) = omega arith in shr-lt (e - j) (k + 1) (subst (λ (m : ℕ). w < 2 ^ m) l (s .most))
+
+    bits : (c : ℕ) → j + c < e → w / 2 ^ (k + 1) / 2 ^ c % 2 ≡ bit bytes (j + c)
+    bits c l =
+        let f : i + (k + 1 + c) ≡ j + c = omega arith in
+        ap (λ (m : ℕ). m % 2) (shr-shr w (k + 1) c) ∙ s .bits (k + 1 + c) (omega arith) ∙ ap (bit bytes) f
+
 -- a window ends after its index, at most 64 bits on
 pub window-near : (n i : ℕ) → (i < windowEnd n i) × (windowEnd n i ≤ i + 64)
 window-near n i = go (leb (i / 8 + 8) n)
@@ -135,7 +173,7 @@ clear-eight bytes from b w old h s z = record { low = omega (arith, old .low); h
     ]
 
 -- the lowest 1 lies in the window
-lowest-within : (bytes : List ℕ) (i e w r : ℕ) → Window bytes i e w → LowestOne w r → i + r < e
+pub lowest-within : (bytes : List ℕ) (i e w r : ℕ) → Window bytes i e w → LowestOne w r → i + r < e
 lowest-within bytes i e w r s o = elim (decLt (i + r) e) [
   | yes l ↦ l
   | no n ↦

@@ -22,6 +22,14 @@ pub record Window (bytes : List ℕ) (i e w : ℕ) : Type 0 where
 abbrev pub windowEnd : ℕ → ℕ → ℕ
 windowEnd n i = choose (leb (i / 8 + 8) n) (i / 8 * 8 + 64) (i / 8 * 8 + 8)
 
+-- eight bytes have so many bits from an index in the first of them on
+abbrev pub wideBits : ℕ
+wideBits = 57
+
+-- a number with so many bits from index i on, as far as there are bytes
+pub record Columns (bytes : List ℕ) (i w : ℕ) : Type 0 where
+  pub bits : (c : ℕ) → c < wideBits → i + c < 8 * length bytes → w / 2 ^ c % 2 ≡ bit bytes (i + c)
+
 -- bit r of a number is 1, and no lower one is
 pub record LowestOne (w r : ℕ) : Type 0 where
   pub most : r < 64

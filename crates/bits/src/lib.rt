@@ -4,7 +4,7 @@ ghost use Prim.Native.Nat.{_+_, _*_, _^_, _≤_, _<_};
 ghost use lib.ListN.{length};
 ghost use Rattle.triples.specs.Certificate.{isSet};
 ghost use Rattle.bits.specs.Bits.{withBit};
-ghost use Rattle.bits.specs.Windows.{Word, Window, windowEnd, LowestOne, ClearTo};
+ghost use Rattle.bits.specs.Windows.{Word, Window, windowEnd, Columns, LowestOne, ClearTo};
 
 // Is the bit 1?
 pub fn is_set(bytes: &[u8], i: usize) -> bool
@@ -62,6 +62,19 @@ pub fn window(bytes: &[u8], i: usize) -> u64
         return eight_bytes(bytes, b) >> (i % 8);
     }
     wide(bytes[b]) >> (i % 8)
+}
+
+// The bits from i on, of eight bytes: of the last eight where fewer follow.
+pub fn wide_window(bytes: &[u8], i: usize) -> u64
+    requires { ⌜ (8 ≤ length (now bytes)) × (i < 8 * length (now bytes)) ⌝ }
+    ensures { λ r. ⌜ Columns (now (bytes .entry)) i r ⌝ }
+{
+    let from = i / 8;
+    if from + 8 <= bytes.len() {
+        return eight_bytes(bytes, from) >> (i % 8);
+    }
+    let last = bytes.len() - 8;
+    eight_bytes(bytes, last) >> (i - 8 * last)
 }
 
 // Where the window from i on ends.
