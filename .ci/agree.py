@@ -41,7 +41,7 @@ def ran(words, text):
 
 def line_of(message):
     """The line in `FILE:LINE:COLUMN: ...`."""
-    found = re.match(r"[^:]*:(\d+):\d+: ", message)
+    found = re.match(r"[^:]*:(\d+):\d+: error: ", message)
     return int(found[1]) if found else None
 
 
@@ -156,8 +156,8 @@ def strings(tools):
 
 def told_ambiguous(out):
     """The sentence of terminals that is called ambiguous, in the form of the corpus' index; None if there is none."""
-    told = re.search(r"ambiguous: (the empty sentence|`[^`]*`) has two trees"
-                     r"(?:, for example (`[^`]*`))?", " ".join(out.split()))
+    told = re.search(r"ambiguous: (the empty sentence|an empty [^ ]*|`[^`]*`|the [^ ]* `[^`]*`) has two trees"
+                     r"(?:, (?:for example|in a sentence:) (the empty sentence|`[^`]*`))?", " ".join(out.split()))
     if told is None:
         return None
     sentence = (told[2] or told[1]).strip("`")

@@ -14,6 +14,21 @@ impl Line<'_> {
         Err(Malformed { line: self.line, column: self.column, message: message.into() })
     }
 
+    /// What stands here, in words.
+    fn found(&self) -> String {
+        match self.rest {
+            [] => "the line ends".to_string(),
+            [b' ', ..] => "a space is found".to_string(),
+            [byte, ..] if byte.is_ascii_graphic() => format!("'{}' is found", *byte as char),
+            [byte, ..] if byte.is_ascii() => format!("byte {byte} is found"),
+            rest => match String::from_utf8_lossy(rest).chars().next() {
+                Some('\u{A0}') => "a no-break space is found".to_string(),
+                Some(letter) if letter.is_alphanumeric() => format!("'{letter}' is found"),
+                _ => format!("byte {} is found", rest[0]),
+            },
+        }
+    }
+
     fn pass(&mut self, bytes: usize) {
         self.rest = &self.rest[bytes..];
         self.column += bytes;
@@ -23,7 +38,7 @@ impl Line<'_> {
     fn literal(&mut self, bytes: &str) -> Result<(), Malformed> {
         for byte in bytes.bytes() {
             if self.rest.first() != Some(&byte) {
-                return self.fault(format!("'{bytes}' is expected"));
+                return self.fault(format!("'{bytes}' is expected, and {}", self.found()));
             }
             self.pass(1);
         }
@@ -34,7 +49,7 @@ impl Line<'_> {
         if self.rest.is_empty() {
             return Ok(());
         }
-        self.fault("the line is to end here")
+        self.fault(format!("the line is to end here, and {}", self.found()))
     }
 
     /// The number of a line with a key and a number.
@@ -51,15 +66,20 @@ impl Line<'_> {
         }
     }
 
-    /// A line with a key and this number; what is said of another ends with it.
-    pub fn known(&mut self, key: &str, number: usize, message: &str) -> Result<(), Malformed> {
-        if self.number(key)? != number {
-            return self.fault(format!("{message} {number}"));
+    /// A line with a key and this number, which is the grammar's.
+    pub fn known(&mut self, key: &str, number: usize) -> Result<(), Malformed> {
+        let found = self.number(key)?;
+        if found != number {
+            let other = "is it the certificate of another grammar?";
+            return self.fault(format!("{found} is found, and by the grammar this number is {number}: {other}"));
         }
         Ok(())
     }
 
     pub fn form(&mut self) -> Result<Form, Malformed> {
+        if self.rest.starts_with(b"terminals=") {
+            return self.fault("'certificate-form=' is expected; this is a grammar's text, and no certificate");
+        }
         match self.number("certificate-form=")? {
             1 => Ok(Form::Plain),
             2 => Ok(Form::Checked),
@@ -102,7 +122,9 @@ impl Line<'_> {
 
     fn digit(&mut self) -> Result<u8, Malformed> {
         let digit = self.rest.first().and_then(|byte| (*byte as char).to_digit(16));
-        let Some(digit) = digit else { return self.fault("a hexadecimal digit is expected, 0 to 9 or a to f") };
+        let Some(digit) = digit else {
+            return self.fault(format!("a hexadecimal digit is expected, 0 to 9 or a to f, and {}", self.found()));
+        };
         self.pass(1);
         Ok(digit as u8)
     }

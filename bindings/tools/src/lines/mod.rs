@@ -98,32 +98,63 @@ impl Certificate {
 /// Lines in front of the bytes.
 const HEAD: usize = 4;
 
-/// The bytes that the lines give, if they are lines of this grammar. Digits of either case, line ends with byte 13 and blank lines
-/// at the end are read too.
-pub fn read(grammar: &Grammar, text: &[u8]) -> Result<Certificate, Malformed> {
+/// Faults that are told at once.
+const MOST_FAULTS: usize = 20;
+
+/// The bytes that the lines give, if they are lines of this grammar; else the faults, in the order of their lines. Digits of either
+/// case, line ends with byte 13, a byte-order mark and blank lines at the end are read too.
+pub fn read(grammar: &Grammar, text: &[u8]) -> Result<Certificate, Vec<Malformed>> {
+    let text = text.strip_prefix(b"\xEF\xBB\xBF").unwrap_or(text);
     let mut lines: Vec<&[u8]> =
         text.split(|byte| *byte == b'\n').map(|line| line.strip_suffix(b"\r").unwrap_or(line)).collect();
     while lines.last().is_some_and(|line| line.is_empty()) {
         lines.pop();
     }
-    let line = |number: usize| Line { rest: lines.get(number - 1).copied().unwrap_or_default(), line: number, column: 1 };
-    let form = line(1).form()?;
-    let by_grammar = "by the grammar this number is";
-    line(2).known("states=", grammar.states(), by_grammar)?;
-    line(3).known("rules=", grammar.rules().len(), by_grammar)?;
-    let size = line(HEAD).number("size=")?;
-    let mut certificate = Certificate { bytes: vec![0; grammar.room().certificate], form, lines: Vec::new() };
+    let (mut certificate, size) = head(grammar, &lines).map_err(|fault| vec![fault])?;
+    let mut faults = Vec::new();
     for number in HEAD + 1..=lines.len() {
-        line(number).bytes(&mut certificate)?;
+        if let Err(fault) = line(&lines, number).bytes(&mut certificate) {
+            faults.push(fault);
+            // Without check digits a wrong line makes the next ones look wrong; a later line may be the first line's fault.
+            if certificate.form == Form::Plain || faults.len() == MOST_FAULTS {
+                break;
+            }
+        }
     }
-    if form == Form::Plain && certificate.next() < certificate.bytes.len() {
-        return line(lines.len() + 1).fault(format!("'{:04x}:' is expected", certificate.next()));
+    if faults.is_empty() {
+        faults.extend(end(&certificate, lines.len(), size));
+    }
+    if faults.is_empty() {
+        Ok(certificate)
+    } else {
+        Err(faults)
+    }
+}
+
+/// A line, empty where there is none.
+fn line<'a>(lines: &[&'a [u8]], number: usize) -> Line<'a> {
+    Line { rest: lines.get(number - 1).copied().unwrap_or_default(), line: number, column: 1 }
+}
+
+/// The certificate without bytes, and its size.
+fn head(grammar: &Grammar, lines: &[&[u8]]) -> Result<(Certificate, usize), Malformed> {
+    let form = line(lines, 1).form()?;
+    line(lines, 2).known("states=", grammar.states())?;
+    line(lines, 3).known("rules=", grammar.rules().len())?;
+    let size = line(lines, HEAD).number("size=")?;
+    Ok((Certificate { bytes: vec![0; grammar.room().certificate], form, lines: Vec::new() }, size))
+}
+
+/// What is wrong when all lines were read.
+fn end(certificate: &Certificate, lines: usize, size: usize) -> Option<Malformed> {
+    let fault = |line, column, message| Some(Malformed { line, column, message });
+    if certificate.form == Form::Plain && certificate.next() < certificate.bytes.len() {
+        return fault(lines + 1, 1, format!("'{:04x}:' is expected", certificate.next()));
     }
     let set = certificate.bytes.iter().map(|byte| byte.count_ones() as usize).sum::<usize>();
-    if set != size {
-        let place = Line { rest: b"", line: HEAD, column: "size=".len() + 1 };
-        return place
-            .fault(format!("the number of bits that are set below is {set}: this number is wrong, or lines are missing"));
+    if set == size {
+        return None;
     }
-    Ok(certificate)
+    let message = format!("the number of bits that are set below is {set}: this number is wrong, or lines are missing");
+    fault(HEAD, "size=".len() + 1, message)
 }
