@@ -34,4 +34,4 @@ cp bindings/python/ambiguity.py "$to/python/"
 cp docs/MANUAL.md "$to/docs/"
 cp judge VERSION LICENSE README.md "$to/"
 (cd "$to" && find . -type f ! -name SHA256SUMS | LC_ALL=C sort | xargs sha256sum >SHA256SUMS)
-echo "$to"
+echo "$1/$name"
