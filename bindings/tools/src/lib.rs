@@ -4,6 +4,7 @@ pub mod command;
 pub mod diagnosis;
 pub mod drawing;
 pub mod explanation;
+pub mod fix;
 pub mod holes;
 pub mod json;
 pub mod layout;

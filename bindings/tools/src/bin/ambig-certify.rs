@@ -7,7 +7,7 @@ use ambig_tools::command::{self, Answer, Request, Status, Tool};
 use ambig_tools::explanation::{self, Explanation, Found};
 use ambig_tools::lines::{self, Form};
 use ambig_tools::warnings::{self, Told};
-use ambig_tools::{diagnosis, json, page, refusals, strings, words};
+use ambig_tools::{diagnosis, fix, json, page, refusals, strings, words};
 use ambiguity::{Grammar, Refusal, Searched, MAX_TEXT_BYTES};
 
 const TOOL: Tool = Tool {
@@ -25,6 +25,8 @@ rules and names that no sentence uses, go to standard error.
   --looked       print the lines of --quiet, and looked=, the number of
                  successors that the search looked at
   --json         print one line of JSON for each FILE
+  --fix          judge nothing: print FILE as grammar text, and tell what was
+                 changed; takes slips of editors, BNF, EBNF and bison (one FILE)
   --html         write one page in HTML, with the trees as drawings (one FILE)
   --form=1       print the certificate without check digits
   --form=2       print it with check digits (this is the default)
@@ -38,17 +40,21 @@ Exit status: 0 unambiguous, 1 ambiguous (two trees were found), 2 bad use, or a
 file that cannot be read or written, 3 potential (no trees were found, or
 --quiet), 4 refused. Of several files the worst: 2, then 4, 1, 3, 0.
 ",
-    options: &["--steps", "--looked", "--json", "--html", "--form=1", "--form=2", "-Werror", "--quiet"],
+    options: &["--steps", "--looked", "--json", "--fix", "--html", "--form=1", "--form=2", "-Werror", "--quiet"],
     exclusive: &[
-        &["--html", "--json", "--quiet", "--steps"],
-        &["--html", "--json", "--looked", "--steps"],
-        &["--html", "--json", "--quiet", "--form=1", "--form=2"],
+        &["--html", "--json", "--fix", "--quiet", "--steps"],
+        &["--html", "--json", "--fix", "--looked", "--steps"],
+        &["--html", "--json", "--fix", "--quiet", "--form=1", "--form=2"],
+        &["--fix", "-Werror"],
         &["--looked", "--form=1", "--form=2"],
     ],
-    single: &["--html"],
+    single: &["--html", "--fix"],
     bare: &["--json"],
     files: 1,
 };
+
+/// Bytes of a text that is to be fixed: one for people may have comments and code.
+const MAX_FIXED_BYTES: usize = 1_048_576;
 
 /// A grammar with its verdict.
 struct Judged<'a> {
@@ -177,7 +183,40 @@ fn judged(request: &Request, file: &str, text: &[u8]) -> Answer {
     }
 }
 
+/// A text as grammar text, and what was changed; what is still refused is told too.
+fn fixed(file: &str, text: &[u8]) -> Answer {
+    if text.len() > MAX_FIXED_BYTES {
+        return Answer::misuse(&format!("{file}: error: more than {MAX_FIXED_BYTES} bytes; that is the limit"));
+    }
+    let fixed = match fix::fixed(text) {
+        Ok(fixed) => fixed,
+        Err(fault) => {
+            let err = refusals::message(file, fault.line, fault.column, "error", &fault.message);
+            return Answer { status: Status::Refused, out: String::new(), err };
+        }
+    };
+    let told = |note: &fix::Note| refusals::message(file, note.line, 1, "note", &note.message);
+    let mut err: String = fixed.notes.iter().map(told).collect();
+    if fixed.text.as_bytes() == text {
+        err = format!("{file}: note: nothing is changed\n");
+    }
+    let status = match Grammar::read(fixed.text.as_bytes()) {
+        Ok(_) => Status::Yes,
+        Err(refusal) => {
+            err += &refusals::of_text("<printed>", fixed.text.as_bytes(), refusal);
+            Status::Refused
+        }
+    };
+    Answer { status, out: fixed.text, err }
+}
+
 fn answer(request: &Request, files: &[OsString]) -> Answer {
+    if request.has("--fix") {
+        return match command::bytes(&files[0], MAX_FIXED_BYTES) {
+            Ok(text) => fixed(&command::shown(&files[0]), &text),
+            Err(misuse) => misuse,
+        };
+    }
     match command::bytes(&files[0], MAX_TEXT_BYTES) {
         Ok(text) => judged(request, &command::shown(&files[0]), &text),
         Err(misuse) => misuse,

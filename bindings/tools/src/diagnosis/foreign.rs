@@ -41,8 +41,11 @@ fn has_equals(line: &str) -> bool {
 /// What is said of such a text.
 pub fn found(text: &[u8]) -> Option<Found> {
     let kind = kind(text)?;
-    let message = "line 1 is 'terminals=a,b', a rule is 'rule=S: a b' (docs/MANUAL.md, Grammar text)";
-    Some((0, format!("this looks like {kind}; {message}")))
+    let remedy = match kind {
+        "JSON" | "HTML" | "a grammar for ANTLR" => "line 1 is 'terminals=a,b', a rule is 'rule=S: a b'",
+        _ => "'ambig-certify --fix FILE' prints it as grammar text",
+    };
+    Some((0, format!("this looks like {kind}; {remedy} (docs/MANUAL.md, Grammar text)")))
 }
 
 #[cfg(test)]
