@@ -20,6 +20,7 @@ sys.dont_write_bytecode = True
 
 from corpus import AMBIGUOUS, EMPTY, POTENTIAL, coded, entries, found_in, text_in  # noqa: E402
 from judge import certified, checked, verdict  # noqa: E402
+from printed import RUNS, certificate_in, lines_of  # noqa: E402
 from program import MAX_BYTES, MAX_STATES  # noqa: E402
 from readings import LentStrings, Refused, named_in, read_back, reading_lines  # noqa: E402
 from test_partings import accepts, has_pair  # noqa: E402
@@ -27,8 +28,9 @@ from trees import MOST, tree_count  # noqa: E402
 from triples import triples_of  # noqa: E402
 
 MESSAGES = sorted(glob.glob(os.path.join(ROOT, "bindings/tools/tests/messages/*.grammar")))
+FORMS = "--form=1", "--form=2", "--form=3"
 SMALL = 60                # states up to which the second program is quick
-SLIPS = 300
+SLIPS = 450
 LETTER_SLIPS = 1500       # of which most do not part
 RANDOM = 400              # grammars
 SHORT = 4                 # terminals of a short sentence
@@ -84,7 +86,7 @@ def certificates(tools):
     for entry in entries():
         if entry.size is not None and entry.states <= SMALL:
             text = text_in(entry.name)
-            printed += [(entry.name, text, ran([tools.certify, form, "-"], text)[0].encode()) for form in ("--form=1", "--form=2")]
+            printed += [(entry.name, text, ran([tools.certify, form, "-"], text)[0].encode()) for form in FORMS]
     for _, text, lines in printed:
         assert checked(text, lines).printed == "accepted\n", text
     for _ in range(SLIPS):
@@ -92,7 +94,7 @@ def certificates(tools):
         damaged = bytearray(lines)
         for _ in range(rng.randrange(1, 3)):
             place = rng.randrange(len(damaged))
-            damaged[place:place + rng.randrange(2)] = rng.choice([b"", b"0", b"f", b" ", b"\n", b"*", b"\xb2"])
+            damaged[place:place + rng.randrange(2)] = rng.choice([b"", b"0", b"f", b" ", b"\n", b"*", b"z", b"\xb2"])
         path = os.path.join(ROOT, "corpus", name + ".grammar")
         answer = checked(text, bytes(damaged))
         assert answer.printed == ran([tools.check, "--quiet", path, "-"], damaged)[0], bytes(damaged)
@@ -110,6 +112,9 @@ def same_certificates(tools):
             text = text_in(entry.name)
             answer = certified(text)
             assert (answer.printed, "", answer.status) == ran([tools.certify, "-"], text)[:1] + ("", 0), entry.name
+            found = found_in(text)
+            runs = lines_of(found, certificate_in(found, answer.printed.encode()), RUNS)
+            assert runs.decode() == ran([tools.certify, "--form=3", "-"], text)[0], entry.name
             count += 1
     return "%d certificates" % count
 

@@ -92,7 +92,7 @@ class CertificateTest(unittest.TestCase):
 
     def test_malformed(self):
         for old, new, line, column in [
-                (b"form=1", b"form=3", 1, 18), (b"states=6", b"states=06", 2, 8), (b"=1\nsize", b"=2\nsize", 3, 7),
+                (b"form=1", b"form=9", 1, 18), (b"states=6", b"states=06", 2, 8), (b"=1\nsize", b"=2\nsize", 3, 7),
                 (b"11", b"12", 4, 6), (b"15 50", b"1550", 5, 9), (b"15 50", b"1g 50", 5, 8), (b"0000", b"0001", 5, 1),
                 (b"08", b"0\xe9", 5, 20), (b"00\n", b"00 00\n", 5, 33), (b"00\n", b"00\n0000:\n", 6, 6),
                 (b"0000:", b"00\xb20:", 5, 1), (b"=11", b"=\xb2", 4, 6), (b"=11", b"=" + b"1" * 9999, 4, 6), (LINES, b"", 1, 1)]:
@@ -191,6 +191,8 @@ class RunTest(unittest.TestCase):
         self.assertEqual(self.run_with(EXAMPLE, b""), (1, "malformed\n", "1:1:1: error: 'certificate-form=' is expected\n"))
         self.assertEqual(self.run_with(b"", b"")[:2], (4, "refused=16\nat=1\n"))
         self.assertEqual(self.run_with(EXAMPLE, words=["--certificate"]), (0, LINES_CHECKED.decode(), ""))
+        marked = b"\xef\xbb\xbf" + LINES_CHECKED.replace(b"0000:", b"\n\n0000:")
+        self.assertEqual(self.run_with(EXAMPLE, marked), (0, "accepted\n", ""))
 
     def test_words(self):
         self.assertEqual(self.run_with()[:2], (2, ""))

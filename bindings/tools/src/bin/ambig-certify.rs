@@ -30,6 +30,7 @@ rules and names that no sentence uses, go to standard error.
   --html         write one page in HTML, with the trees as drawings (one FILE)
   --form=1       print the certificate without check digits
   --form=2       print it with check digits (this is the default)
+  --form=3       print it with check digits, and runs of zeros by their length
   -Werror        let warnings count as a refusal in the exit status
   -q, --quiet    print only the lines that the program ambig prints, and look
                  for no trees
@@ -40,13 +41,13 @@ Exit status: 0 unambiguous, 1 ambiguous (two trees were found), 2 bad use, or a
 file that cannot be read or written, 3 potential (no trees were found, or
 --quiet), 4 refused. Of several files the worst: 2, then 4, 1, 3, 0.
 ",
-    options: &["--steps", "--looked", "--json", "--fix", "--html", "--form=1", "--form=2", "-Werror", "--quiet"],
+    options: &["--steps", "--looked", "--json", "--fix", "--html", "--form=1", "--form=2", "--form=3", "-Werror", "--quiet"],
     exclusive: &[
         &["--html", "--json", "--fix", "--quiet", "--steps"],
         &["--html", "--json", "--fix", "--looked", "--steps"],
-        &["--html", "--json", "--fix", "--quiet", "--form=1", "--form=2"],
+        &["--html", "--json", "--fix", "--quiet", "--form=1", "--form=2", "--form=3"],
         &["--fix", "-Werror"],
-        &["--looked", "--form=1", "--form=2"],
+        &["--looked", "--form=1", "--form=2", "--form=3"],
     ],
     single: &["--html", "--fix"],
     bare: &["--json"],
@@ -113,7 +114,11 @@ impl Judged<'_> {
             _ if request.has("--json") => self.json(),
             _ if request.has("--html") => self.page(),
             (Searched::Unambiguous { certificate, size, .. }, _) => {
-                let form = if request.has("--form=1") { Form::Plain } else { Form::Checked };
+                let form = match () {
+                    _ if request.has("--form=1") => Form::Plain,
+                    _ if request.has("--form=3") => Form::Runs,
+                    _ => Form::Checked,
+                };
                 lines::written(self.grammar, *size, certificate, form)
             }
             (Searched::Potential { .. }, explanation) => {

@@ -69,7 +69,7 @@ fn lines_that_are_malformed() {
     let bits = "the number of bits that are set below is";
     let other = "is it the certificate of another grammar?";
     for ((grammar, lines), line, column, message) in [
-        (plain("form=1", "form=9"), 1, 18, "this program reads the forms 1 and 2"),
+        (plain("form=1", "form=9"), 1, 18, "this program reads the forms 1, 2 and 3"),
         (plain("certificate", "Certificate"), 1, 1, "'certificate-form=' is expected, and 'C' is found"),
         (plain("states=6", "states=7"), 2, 8, &format!("7 is found, and by the grammar this number is 6: {other}")),
         (plain("states=6", "states=06"), 2, 8, number),
@@ -200,7 +200,11 @@ fn both_forms_give_the_same_bytes() {
     for (grammar, checked) in certified {
         let Searched::Unambiguous { certificate, size, .. } = grammar.search() else { unreachable!() };
         let plain = lines::written(&grammar, size, &certificate, Form::Plain);
-        for lines in [plain, checked] {
+        let runs = lines::written(&grammar, size, &certificate, Form::Runs);
+        assert!(runs.len() <= checked.len() + 20, "{runs}");
+        let spread = checked.replacen("0000:", "\n\n0000:", 1);
+        for lines in [plain, checked, spread, runs.to_uppercase().replace("CERTIFICATE-FORM", "certificate-form"), runs] {
+            let lines = lines.replace("STATES", "states").replace("RULES", "rules").replace("SIZE", "size");
             assert_eq!(lines::read(&grammar, lines.as_bytes()).unwrap().bytes, certificate);
         }
     }
@@ -236,7 +240,41 @@ fn told_by_line(grammar: &Grammar, lines: &[Vec<u8>], slip: usize) {
 
 #[test]
 fn a_thousand_wrong_digits_and_a_thousand_swaps_are_told_by_line() {
-    let certified = certified();
+    slips_are_told_by_line(certified());
+}
+
+/// The same of form 3, in which `z` is a digit too; and letters put in, left out or doubled.
+#[test]
+fn two_thousand_slips_in_form_3() {
+    let certified: Vec<(Grammar, String)> = certified().into_iter().map(|(grammar, _)| in_runs(grammar)).collect();
+    let mut random = Random(3);
+    for _ in 0..2000 {
+        let (grammar, text) = &certified[random.below(certified.len())];
+        let mut lines: Vec<Vec<u8>> = text.lines().map(|line| line.as_bytes().to_vec()).collect();
+        let slip = 4 + random.below(lines.len() - 4);
+        let place = random.below(lines[slip].len());
+        let letter = b"0123456789abcdefz: *"[random.below(20)];
+        let before = lines[slip].clone();
+        match random.below(3) {
+            0 => lines[slip].insert(place, letter),
+            1 => drop(lines[slip].remove(place)),
+            _ => lines[slip][place] = letter,
+        }
+        if lines[slip] != before {
+            told_by_line(grammar, &lines, slip);
+        }
+    }
+    slips_are_told_by_line(certified);
+}
+
+/// A grammar with its certificate in form 3.
+fn in_runs(grammar: Grammar) -> (Grammar, String) {
+    let Searched::Unambiguous { certificate, size, .. } = grammar.search() else { panic!("it is unambiguous") };
+    let lines = lines::written(&grammar, size, &certificate, Form::Runs);
+    (grammar, lines)
+}
+
+fn slips_are_told_by_line(certified: Vec<(Grammar, String)>) {
     let mut random = Random(1);
     let (mut wrong, mut swapped) = (0, 0);
     while wrong < 1000 || swapped < 1000 {
