@@ -55,7 +55,7 @@ file that cannot be read or written, 3 potential (no trees were found, or
 };
 
 /// Bytes of a text that is to be fixed: one for people may have comments and code.
-const MAX_FIXED_BYTES: usize = 1_048_576;
+const MAX_FIXED_BYTES: usize = 262_144;
 
 /// A grammar with its verdict.
 struct Judged<'a> {

@@ -15,6 +15,9 @@ pub struct Note {
     pub message: String,
 }
 
+/// Names and rules of a text; far more than the library takes.
+const MOST: usize = 2_000;
+
 /// A grammar with the names that people wrote.
 #[derive(Debug, Default)]
 struct Draft {
@@ -26,6 +29,11 @@ struct Draft {
 }
 
 impl Draft {
+    /// Whether there is more than can become a grammar.
+    fn is_too_large(&self) -> bool {
+        self.terminals.len() + self.nonterminals.len() > MOST || self.rules.len() > MOST
+    }
+
     /// Tells a change, once for each kind.
     fn note(&mut self, line: usize, message: impl Into<String>) {
         let message = message.into();

@@ -4,11 +4,14 @@ use std::collections::HashMap;
 
 use super::names::{PART, QUOTED};
 use super::tokens::{self, Placed, Token};
-use super::Draft;
+use super::{Draft, MOST};
 use crate::diagnosis::Finding;
 
 /// Words for nothing.
 const EMPTY: [&str; 5] = ["epsilon", "ε", "ϵ", "λ", "∅"];
+
+/// Brackets within brackets.
+const DEEPEST: usize = 100;
 
 /// A part of a right side.
 enum Part {
@@ -23,6 +26,8 @@ enum Part {
 
 struct Parser {
     bison: bool,
+    /// Brackets that are open.
+    depth: usize,
     tokens: Vec<Placed>,
     at: usize,
     draft: Draft,
@@ -47,7 +52,14 @@ pub fn bison(text: &str) -> Result<Draft, Finding> {
 
 impl Parser {
     fn new(text: &str, bison: bool) -> Result<Parser, Finding> {
-        Ok(Parser { bison, tokens: tokens::of(text, bison)?, at: 0, draft: Draft::default(), aliases: HashMap::new() })
+        Ok(Parser {
+            bison,
+            depth: 0,
+            tokens: tokens::of(text, bison)?,
+            at: 0,
+            draft: Draft::default(),
+            aliases: HashMap::new(),
+        })
     }
 
     fn token(&self) -> Option<&Token> {
@@ -107,6 +119,9 @@ impl Parser {
 
     fn rules(&mut self) -> Result<(), Finding> {
         while self.token().is_some() {
+            if self.draft.is_too_large() {
+                return self.fault(&format!("there are more than {MOST} names or rules"));
+            }
             if self.token() == Some(&Token::Directive("%".to_string())) {
                 let line = self.line();
                 self.draft.note(line, "what stands behind the second '%%' is left out");
@@ -184,7 +199,12 @@ impl Parser {
                     } else {
                         '}'
                     };
+                    if self.depth == DEEPEST {
+                        return self.fault("brackets are nested too deeply");
+                    }
+                    self.depth += 1;
                     let inner = self.choices(&[close])?;
+                    self.depth -= 1;
                     self.at += 1;
                     let group = Part::Group { choices: inner, may_lack: open != '(', repeats: open == '{' };
                     choices.last_mut().expect("there is always one").push(group);
@@ -255,9 +275,12 @@ impl Parser {
         let draft = &mut self.draft;
         draft.terminals.retain(|name| !draft.nonterminals.contains(name));
         for name in draft.rules.iter().flat_map(|(_, right)| right) {
-            if !draft.nonterminals.contains(name) && !draft.terminals.contains(name) {
+            if !draft.nonterminals.contains(name) && !draft.terminals.contains(name) && draft.terminals.len() <= MOST {
                 draft.terminals.push(name.clone());
             }
+        }
+        if self.draft.is_too_large() {
+            return self.fault(&format!("there are more than {MOST} names or rules"));
         }
         self.draft.note(1, "the grammar is written as grammar text; what has no rule is a terminal");
         Ok(self.draft)

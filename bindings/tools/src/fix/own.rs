@@ -1,6 +1,6 @@
 //! Slips of the own form: what editors add, and what other notations write otherwise.
 
-use super::Draft;
+use super::{Draft, MOST};
 use crate::diagnosis::Finding;
 
 const COMMENTS: [&str; 6] = ["#", "//", ";", "%", "--", "/*"];
@@ -28,6 +28,10 @@ pub fn draft(text: &[u8]) -> Result<Draft, Finding> {
     let whole = lines.len() - usize::from(lines.last() == Some(&""));
     for (place, line) in lines[..whole].iter().enumerate() {
         self::line(&mut draft, place + 1, line)?;
+        if draft.is_too_large() {
+            let message = format!("there are more than {MOST} names or rules");
+            return Err(Finding { line: place + 1, column: 1, message });
+        }
     }
     Ok(draft)
 }
