@@ -88,6 +88,11 @@ const COMMON: [&str; 2] = ["--help", "--version"];
 
 /// What is said of an option that does not exist.
 fn no_option(tool: &Tool, word: &str) -> String {
+    let letter = |letter: char| SHORT.iter().find(|(short, _)| short.ends_with(letter)).map(|(short, _)| *short);
+    let together: Option<Vec<&str>> = word.strip_prefix('-').and_then(|letters| letters.chars().map(letter).collect());
+    if let Some(apart) = together.filter(|apart| apart.len() > 1) {
+        return format!("there is no option {word}; write {}", apart.join(" "));
+    }
     let known: Vec<&str> = COMMON.iter().chain(tool.options).copied().collect();
     let letters = |word: &str| word.trim_start_matches('-').as_bytes().to_vec();
     let names: Vec<Vec<u8>> = known.iter().map(|option| letters(option)).collect();

@@ -2,6 +2,16 @@
 //!
 //! A stack holds the items of the rules that are open, so its closings return to where they were opened: each side is a walk through
 //! a real tree. The search is deterministic, and bounded by the pairs that it keeps and by the moves that it tries.
+//!
+//! ```
+//! use ambig_tools::pairs::{look, Limits, Outcome};
+//!
+//! let text = b"terminals=a\nnonterminals=S\nrule=S: S S\nrule=S: a\n";
+//! let grammar = ambiguity::Grammar::read(text).unwrap();
+//! let Outcome::Two { row, left, right, .. } = look(&grammar, Limits::default()) else { panic!("it is ambiguous") };
+//! assert_eq!(row.len(), 3);
+//! assert_ne!(left, right);
+//! ```
 
 mod distances;
 mod finishing;

@@ -31,6 +31,7 @@ fn bad_use() {
         (&["-x", grammar], "there is no option -x"),
         (&["--form=9", grammar], "there is no option --form=9; is --form=1 meant?"),
         (&["--htlm", grammar], "there is no option --htlm; is --html meant?"),
+        (&["-qV", grammar], "there is no option -qV; write -q -V"),
         (&["--quie", grammar], "there is no option --quie; is --quiet meant?"),
         (&["--Werror", grammar], "there is no option --Werror; is -Werror meant?"),
         (&["--\u{1b}[2J", grammar], "there is no option --\\u{1b}[2J"),
