@@ -7,6 +7,7 @@ Prints a line for each comparison and exits with 1 if one fails.
 
 import glob
 import itertools
+import json
 import os
 import random
 import re
@@ -18,7 +19,8 @@ sys.path.insert(0, os.path.join(ROOT, "second"))
 sys.dont_write_bytecode = True
 
 from corpus import AMBIGUOUS, EMPTY, POTENTIAL, coded, entries, found_in, text_in  # noqa: E402
-from judge import checked, verdict  # noqa: E402
+from judge import certified, checked, verdict  # noqa: E402
+from printed import RUNS, certificate_in, lines_of  # noqa: E402
 from program import MAX_BYTES, MAX_STATES  # noqa: E402
 from readings import LentStrings, Refused, named_in, read_back, reading_lines  # noqa: E402
 from test_partings import accepts, has_pair  # noqa: E402
@@ -26,8 +28,9 @@ from trees import MOST, tree_count  # noqa: E402
 from triples import triples_of  # noqa: E402
 
 MESSAGES = sorted(glob.glob(os.path.join(ROOT, "bindings/tools/tests/messages/*.grammar")))
+FORMS = "--form=1", "--form=2", "--form=3"
 SMALL = 60                # states up to which the second program is quick
-SLIPS = 300
+SLIPS = 450
 LETTER_SLIPS = 1500       # of which most do not part
 RANDOM = 400              # grammars
 SHORT = 4                 # terminals of a short sentence
@@ -41,7 +44,7 @@ def ran(words, text):
 
 def line_of(message):
     """The line in `FILE:LINE:COLUMN: ...`."""
-    found = re.match(r"[^:]*:(\d+):\d+: ", message)
+    found = re.match(r"[^:]*:(\d+):\d+: error: ", message)
     return int(found[1]) if found else None
 
 
@@ -83,7 +86,7 @@ def certificates(tools):
     for entry in entries():
         if entry.size is not None and entry.states <= SMALL:
             text = text_in(entry.name)
-            printed += [(entry.name, text, ran([tools.certify, form, "-"], text)[0].encode()) for form in ("--form=1", "--form=2")]
+            printed += [(entry.name, text, ran([tools.certify, form, "-"], text)[0].encode()) for form in FORMS]
     for _, text, lines in printed:
         assert checked(text, lines).printed == "accepted\n", text
     for _ in range(SLIPS):
@@ -91,7 +94,7 @@ def certificates(tools):
         damaged = bytearray(lines)
         for _ in range(rng.randrange(1, 3)):
             place = rng.randrange(len(damaged))
-            damaged[place:place + rng.randrange(2)] = rng.choice([b"", b"0", b"f", b" ", b"\n", b"*", b"\xb2"])
+            damaged[place:place + rng.randrange(2)] = rng.choice([b"", b"0", b"f", b" ", b"\n", b"*", b"z", b"\xb2"])
         path = os.path.join(ROOT, "corpus", name + ".grammar")
         answer = checked(text, bytes(damaged))
         assert answer.printed == ran([tools.check, "--quiet", path, "-"], damaged)[0], bytes(damaged)
@@ -99,6 +102,74 @@ def certificates(tools):
             said = ran([tools.check, path, "-"], damaged)[1]
             assert answer.certificate_fault.line == line_of(said), (said, answer, bytes(damaged))
     return "%d certificates, %d damaged ones" % (len(printed), SLIPS)
+
+
+def same_certificates(tools):
+    """The second program prints every certificate of the corpus as ambig-certify does, byte by byte."""
+    count = 0
+    for entry in entries():
+        if entry.size is not None:
+            text = text_in(entry.name)
+            answer = certified(text)
+            assert (answer.printed, "", answer.status) == ran([tools.certify, "-"], text)[:1] + ("", 0), entry.name
+            found = found_in(text)
+            runs = lines_of(found, certificate_in(found, answer.printed.encode()), RUNS)
+            assert runs.decode() == ran([tools.certify, "--form=3", "-"], text)[0], entry.name
+            count += 1
+    return "%d certificates" % count
+
+
+def json_lines(tools):
+    """With --json all that is told fits together: verdicts, sentences, both trees, the rules that part."""
+    names = [entry for entry in entries() if entry.states <= SMALL]
+    paths = [os.path.join(ROOT, "corpus", entry.name + ".grammar") for entry in names] + MESSAGES
+    lines = ran([tools.certify, "--json"] + paths, b"")[0].splitlines()
+    assert len(lines) == len(paths)
+    count = 0
+    for path, line in zip(paths, lines):
+        told = json.loads(line)
+        assert told["file"] == path
+        with open(path, "rb") as file:
+            text = file.read()
+        if told["verdict"] == "refused":
+            assert "refused=%d\nat=%d\n" % (told["refused"], told["at"]) == verdict(text).printed
+            assert told["line"] >= 1 and told["column"] >= 1 and told["message"]
+        elif told["verdict"] == "unambiguous":
+            assert told["certificate"] == certified(text).printed and "size=%d\n" % told["size"] in told["certificate"]
+        else:
+            count += check_potential(text, told)
+    return "%d lines, %d with two trees" % (len(lines), count)
+
+
+def check_potential(text, told):
+    """A line of a potential verdict; 1 if it has two trees."""
+    lines = "left=%s\nright=%s\n" % (told["left"], told["right"])
+    assert lines.encode() == reading_lines(named_in(text))
+    text_lines = text.decode().split("\n")
+    for side in told["parting"]["left"], told["parting"]["right"]:
+        assert side["rule"] == 0 or text_lines[side["line"] - 1].startswith("rule=") and side["column"] == len("rule=") + 1
+    if told["verdict"] == "potential":
+        return 0
+    rows = [tree_row(text, told["nonterminal"], told[side]) for side in ("left-tree", "right-tree")]
+    assert rows == [told["phrase"]] * 2 and told["left-tree"] != told["right-tree"]
+    assert has_two_trees(text, " ".join(told["sentence"]) or EMPTY)
+    return 1
+
+
+def tree_row(text, root, tree):
+    """The names on the leaves of a tree, which must follow the rules of the text."""
+    rules = [line.split(":") for line in text.decode().replace("rule=", "").splitlines()[2:]]
+    row, expected = [], [root]
+    for node in tree:
+        name = expected.pop()
+        if isinstance(node, int):
+            assert rules[node - 1][0] == name
+            expected += reversed(rules[node - 1][1].split())
+        else:
+            assert node == name
+            row.append(node)
+    assert not expected
+    return row
 
 
 def slip(rng, lines):
@@ -156,8 +227,8 @@ def strings(tools):
 
 def told_ambiguous(out):
     """The sentence of terminals that is called ambiguous, in the form of the corpus' index; None if there is none."""
-    told = re.search(r"ambiguous: (the empty sentence|`[^`]*`) has two trees"
-                     r"(?:, for example (`[^`]*`))?", " ".join(out.split()))
+    told = re.search(r"ambiguous: (the empty sentence|an empty [^ ]*|`[^`]*`|the [^ ]* `[^`]*`) has two trees"
+                     r"(?:, (?:for example|in a sentence:) (the empty sentence|`[^`]*`))?", " ".join(out.split()))
     if told is None:
         return None
     sentence = (told[2] or told[1]).strip("`")
@@ -214,7 +285,8 @@ def random_grammars(tools):
 def main(folder, ambig):
     tools = Tools(folder, ambig)
     failed = 0
-    for test in as_ambig, messages, certificates, strings, sentences, random_grammars:
+    for test in (as_ambig, messages, certificates, same_certificates, json_lines, strings, sentences,
+                 random_grammars):
         try:
             print("%s: %s" % (test(tools), test.__doc__.strip()))
         except AssertionError as error:

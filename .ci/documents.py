@@ -26,6 +26,8 @@ case "$*" in
 *) echo "the gate does not run: rt $*" >&2; exit 3 ;;
 esac
 """
+# What the tools end with, but for bad use.
+STATUSES = "0\n", "1\n", "3\n", "4\n"
 CARGO = """#!/bin/sh
 cd %s && exec %s "$@"
 """
@@ -109,7 +111,7 @@ def faults(name: str) -> List[str]:
             if run_elsewhere(block.commands, gate):
                 continue
             printed, status = (contents(os.path.join(out, str(place) + ending)) for ending in ("", ".status"))
-            if block.printed is None and status != "0\n" or status not in ("0\n", "1\n"):
+            if block.printed is None and status != "0\n" or status not in STATUSES:
                 wrong.append("%s:%d: ends with status %s%s" % (name, block.line, status, printed))
             elif block.printed is not None and printed != block.printed:
                 wrong.append("%s:%d: prints otherwise:\n%s" % (name, block.line, printed))

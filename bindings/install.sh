@@ -1,37 +1,72 @@
 #!/bin/sh
-# Installs the archive, the headers, the pkg-config file, the programs and their man pages.
+# Installs the archive, the headers, the files for pkg-config and CMake, the programs and their man pages.
 #
 #     PREFIX=/usr/local DESTDIR= sh bindings/install.sh
 #
-# PREFIX is where the files will be used, DESTDIR a folder that is put before it, for packagers. Both may be left out.
-# All that is installed must have been built; bindings/README.md says how.
+# PREFIX is where the files will be used, a path from the root; DESTDIR is a folder that is put before it, for packagers. Both may
+# be left out. The archive and the tools must have been built; the program ambig and the shared library are left out if they have
+# not. bindings/README.md says how each is built.
 set -eu
+came_from=$PWD
 cd "$(dirname "$0")/.."
 
+fail() {
+    echo "install.sh: $1" >&2
+    exit 1
+}
+
+line_break='
+'
 prefix=${PREFIX:-/usr/local}
-to=${DESTDIR:-}$prefix
+case $prefix in
+*"$line_break"*) fail "PREFIX has a line break" ;;
+/*) ;;
+*) fail "PREFIX is '$prefix': a path from the root is needed, as /usr/local" ;;
+esac
+image=${DESTDIR:-}
+case $image in
+"" | /*) ;;
+*) image=$came_from/$image ;;
+esac
+to=$image$prefix
 version=$(cat VERSION)
 archive=target/staticlib/libambiguity_c.a
-programs="target/bin/ambig target/rust/release/ambig-certify target/rust/release/ambig-check"
+tools=target/rust/release
 
-for file in $archive $programs; do
-    if [ ! -f "$file" ]; then
-        echo "install.sh: $file is not there: build it first, see bindings/README.md" >&2
-        exit 1
-    fi
+[ -f $archive ] || fail "$archive is not there: build it with 'rt staticlib ambiguity_c'"
+for tool in ambig-certify ambig-check; do
+    [ -f $tools/$tool ] || fail "$tools/$tool is not there: build it with cargo, see bindings/README.md, Tools"
 done
 
+# A prefix may have letters that sed gives a meaning.
+quoted=$(printf '%s' "$prefix" | sed 's/[&|\\]/\\&/g')
+
 filled() { # filled FILE TARGET: a file with the version and the prefix put in
-    sed -e "s|@VERSION@|$version|g" -e "s|@PREFIX@|$prefix|g" "$1" >"$2"
+    sed -e "s|@VERSION@|$version|g" -e "s|@PREFIX@|$quoted|g" "$1" >"$2"
     chmod 644 "$2"
 }
 
-mkdir -p "$to/bin" "$to/lib/pkgconfig" "$to/include" "$to/share/man/man1"
+mkdir -p "$to/bin" "$to/lib/pkgconfig" "$to/lib/cmake/ambiguity" "$to/include" "$to/share/man/man1"
 install -m 644 "$archive" "$to/lib/"
-install -m 644 bindings/c/ambiguity.h bindings/c/ambiguity_cause_text.h "$to/include/"
-# shellcheck disable=SC2086
-install -m 755 $programs "$to/bin/"
+install -m 644 bindings/c/ambiguity.h bindings/c/ambiguity_cause_text.h bindings/c/ambiguity_shared.h "$to/include/"
+install -m 755 $tools/ambig-certify $tools/ambig-check "$to/bin/"
+if [ -f target/bin/ambig ]; then
+    install -m 755 target/bin/ambig "$to/bin/"
+else
+    echo "install.sh: target/bin/ambig is not there and is left out: 'rt check ambig' builds it" >&2
+fi
+shared=target/shared/libambiguity.so.$version
+if [ -f "$shared" ]; then
+    install -m 755 "$shared" "$to/lib/"
+    ln -sf "libambiguity.so.$version" "$to/lib/libambiguity.so.${version%%.*}"
+    ln -sf "libambiguity.so.${version%%.*}" "$to/lib/libambiguity.so"
+else
+    echo "install.sh: $shared is not there and is left out: 'sh bindings/shared.sh' builds it" >&2
+fi
 filled bindings/c/ambiguity.pc.in "$to/lib/pkgconfig/ambiguity.pc"
+for part in config config-version; do
+    filled "bindings/c/ambiguity-$part.cmake.in" "$to/lib/cmake/ambiguity/ambiguity-$part.cmake"
+done
 for page in bindings/man/*.1; do
     filled "$page" "$to/share/man/man1/$(basename "$page")"
 done

@@ -1,20 +1,24 @@
-"""Certificates as lines: bindings/README.md has the two forms.
+"""Certificates as lines: bindings/README.md has the three forms.
 
 `lines_of` prints a certificate, `certificate_in` reads one back and answers its
 bytes or what is Malformed.
 """
 
+import re
 from typing import Iterator, List, NamedTuple, Optional, Tuple, Union
 
 from corpus import Found
 from triples import held_indices
 
-FORMS = PLAIN, CHECKED = (1, 2)
-ON_A_LINE = {PLAIN: 32, CHECKED: 16}    # bytes of the certificate
+FORMS = PLAIN, CHECKED, RUNS = (1, 2, 3)
+ON_A_LINE = {PLAIN: 32, CHECKED: 16, RUNS: 16}    # bytes of the certificate; in form 3 bytes and runs
 CHECK = 251               # the check digits are a remainder of this prime
 KEYS = "certificate-form=", "states=", "rules=", "size="
 HEX = "0123456789abcdefABCDEF"
 DIGIT = "h"               # stands for a hexadecimal digit in a template
+RUN = "z"                 # before the length of a run of zeros, in form 3; as a digit it is 16
+LONGEST_RUN = 255
+RUNS_LINE = re.compile(r"([0-9a-f]{5}):((?: z?[0-9a-f]{2})+) \*([0-9a-f]{2})")
 
 
 class Malformed(NamedTuple):
@@ -35,10 +39,36 @@ def check_digits(offset: int, part: bytes) -> str:
     return "%02x" % (int("%04x" % offset + part.hex(), 16) % CHECK)
 
 
+def run_digits(line: str) -> str:
+    """The check digits of offset and parts in form 3: the remainder to the base of 17."""
+    rest = 0
+    for letter in line:
+        if letter in HEX + RUN:
+            rest = (17 * rest + (16 if letter == RUN else int(letter, 16))) % CHECK
+    return "%02x" % rest
+
+
+def run_lines(certificate: bytes) -> List[str]:
+    """Form 3: runs of zeros by their length; no line begins or ends with zeros."""
+    lines: List[str] = []
+    parts: List[str] = []
+    for match in re.finditer(rb"(\0*)([^\0])", certificate, re.DOTALL):
+        zeros, byte = len(match[1]), match[2].hex()
+        if not parts or len(parts) + 1 + (zeros > 0) > 1 + ON_A_LINE[RUNS] or zeros > LONGEST_RUN:
+            lines.append(" ".join(parts))
+            parts = ["%05x:" % match.start(2), byte]
+        else:
+            parts += ["z%02x" % zeros if zeros > 1 else "00"] * (zeros > 0) + [byte]
+    lines.append(" ".join(parts))
+    return ["%s *%s\n" % (line, run_digits(line)) for line in lines if line]
+
+
 def lines_of(found: Found, certificate: bytes, form: int) -> bytes:
     """A certificate as it is printed."""
     numbers = form, found.grammar.states, len(found.grammar.rules), len(held_indices(certificate))
     lines = ["%s%d\n" % pair for pair in zip(KEYS, numbers)]
+    if form == RUNS:
+        return "".join(lines + run_lines(certificate)).encode("ascii")
     for offset in range(0, len(certificate), ON_A_LINE[form]):
         part = certificate[offset:offset + ON_A_LINE[form]]
         line = "%04x: %s" % (offset, part.hex(" "))
@@ -53,6 +83,8 @@ def lines_of(found: Found, certificate: bytes, form: int) -> bytes:
 
 def lines_in(printed: bytes) -> List[str]:
     """The lines without their ends, and without blank ones behind the last."""
+    if printed.startswith(b"\xef\xbb\xbf"):
+        printed = printed[3:]
     lines = [line[:-1] if line.endswith("\r") else line
              for line in printed.decode("latin-1").split("\n")]
     while lines and not lines[-1]:
@@ -82,7 +114,7 @@ def head_of(lines: List[str], found: Found) -> Union[Tuple[int, int], Malformed]
         if expected is not None and value != expected:
             return Malformed(place + 1, len(key) + 1, "by the grammar this number is %d" % expected)
         if place == 0 and value not in FORMS:
-            return Malformed(1, len(key) + 1, "this program reads the forms 1 and 2")
+            return Malformed(1, len(key) + 1, "this program reads the forms 1, 2 and 3")
         numbers.append(value)
     return numbers[0], numbers[3]
 
@@ -96,8 +128,25 @@ def misfit(line: str, template: str) -> Optional[int]:
     return len(template) if len(line) > len(template) else None
 
 
+def run_part(line: str, number: int, length: int) -> Union[Tuple[int, bytes], Malformed]:
+    """Offset and bytes of a line in form 3."""
+    found = RUNS_LINE.fullmatch(line.lower())
+    if found is None:
+        return Malformed(number, 1, "the line does not go on as it should")
+    digits = run_digits(found[1] + found[2])
+    if digits != found[3]:
+        return Malformed(number, len(line) - 1, "the check digits are %s, but those of this line's digits are %s"
+                         % (found[3], digits))
+    part = b"".join(bytes(int(word[1:], 16)) if word[0] == RUN else bytes.fromhex(word) for word in found[2].split())
+    if int(found[1], 16) + len(part) > length:
+        return Malformed(number, 1, "this line goes on behind the certificate")
+    return int(found[1], 16), part
+
+
 def part_on(line: str, number: int, form: int, length: int) -> Union[Tuple[int, bytes], Malformed]:
     """Offset and bytes of a line."""
+    if form == RUNS:
+        return run_part(line, number, length)
     step = ON_A_LINE[form]
     if misfit(line[:4], DIGIT * 4) is not None:
         return Malformed(number, 1, "an offset of four hexadecimal digits is expected")
@@ -119,18 +168,30 @@ def part_on(line: str, number: int, form: int, length: int) -> Union[Tuple[int, 
     return offset, part
 
 
+def has_other_form(line: str, number: int, form: int, length: int) -> bool:
+    """Whether a line with check digits is good in another form than the one that is told."""
+    others = [RUNS] if form == PLAIN else [other for other in (CHECKED, RUNS) if other != form]
+    return any(not isinstance(part_on(line, number, other, length), Malformed) for other in others)
+
+
 def parts_in(lines: List[str], form: int, length: int) -> Iterator[Union[Tuple[int, bytes], Malformed]]:
     """The parts on the lines behind the head, up to the first fault."""
     due = 0
+    first = True
     for place, line in enumerate(lines[len(KEYS):]):
         number = place + len(KEYS) + 1
+        if not line and form != PLAIN:
+            continue
         part = part_on(line, number, form, length)
+        if isinstance(part, Malformed) and first and has_other_form(line, number, form, length):
+            part = Malformed(1, len(KEYS[0]) + 1, "line %d has another form" % number)
+        first = False
         if not isinstance(part, Malformed) and (part[0] < due or form == PLAIN and part[0] > due):
             part = Malformed(number, 1, "another offset is due here")
         yield part
         if isinstance(part, Malformed):
             return
-        due = part[0] + ON_A_LINE[form]
+        due = part[0] + len(part[1])
     if form == PLAIN and due < length:
         yield Malformed(len(lines) + 1, 1, "'%04x:' is expected" % due)
 

@@ -48,7 +48,7 @@ class CertificateTest(unittest.TestCase):
         for form, lines in [(PLAIN, LINES), (CHECKED, LINES_CHECKED)]:
             self.assertEqual(lines_of(found, ONE_A_BYTES, form), lines)
             self.assertEqual(certificate_in(found, lines), ONE_A_BYTES)
-            self.assertEqual(checked(EXAMPLE, lines), ("accepted\n", None, None))
+            self.assertEqual(checked(EXAMPLE, lines), ("accepted\n", 0, None, None))
             self.assertEqual(checked(EXAMPLE[:-1], lines)[0], "refused=16\nat=3\n")
 
     def test_the_corpus(self):
@@ -92,13 +92,13 @@ class CertificateTest(unittest.TestCase):
 
     def test_malformed(self):
         for old, new, line, column in [
-                (b"form=1", b"form=3", 1, 18), (b"states=6", b"states=06", 2, 8), (b"=1\nsize", b"=2\nsize", 3, 7),
+                (b"form=1", b"form=9", 1, 18), (b"states=6", b"states=06", 2, 8), (b"=1\nsize", b"=2\nsize", 3, 7),
                 (b"11", b"12", 4, 6), (b"15 50", b"1550", 5, 9), (b"15 50", b"1g 50", 5, 8), (b"0000", b"0001", 5, 1),
                 (b"08", b"0\xe9", 5, 20), (b"00\n", b"00 00\n", 5, 33), (b"00\n", b"00\n0000:\n", 6, 6),
                 (b"0000:", b"00\xb20:", 5, 1), (b"=11", b"=\xb2", 4, 6), (b"=11", b"=" + b"1" * 9999, 4, 6), (LINES, b"", 1, 1)]:
             lines = LINES.replace(old, new, 1)
             self.assertNotEqual(lines, LINES)
-            printed_, _, fault = checked(EXAMPLE, lines)
+            printed_, _, _, fault = checked(EXAMPLE, lines)
             self.assertEqual((printed_, fault[:2]), ("malformed\n", (line, column)), lines)
         wrong = certificate_in(found_in(EXAMPLE), LINES_CHECKED.replace(b"form=2", b"form=1"))
         self.assertEqual(wrong[:2], (1, 18))
@@ -172,13 +172,13 @@ class RunTest(unittest.TestCase):
     def test_verdicts(self):
         self.assertEqual(self.run_with(EXAMPLE), (0, printed(EXAMPLE).decode(), ""))
         cycle = text_in("row-cycle-a")
-        self.assertEqual(self.run_with(cycle), (1, printed(cycle).decode(), ""))
+        self.assertEqual(self.run_with(cycle), (3, printed(cycle).decode(), ""))
         endless = text_in("row-cycle")
         self.assertEqual(self.run_with(endless), (
-            1, "refused=19\nat=0\n", "0:2:14: 'S' has no finite tree, so there is no sentence\n"))
-        fault = "0:1:1: the text ends here; line 1 begins with 'terminals='\n"
-        self.assertEqual(self.run_with(b""), (1, "refused=16\nat=1\n", fault))
-        self.assertEqual(self.run_with(b"", words=["--quiet"]), (1, "refused=16\nat=1\n", ""))
+            4, "refused=19\nat=0\n", "0:2:14: error: 'S' has no finite tree, so there is no sentence\n"))
+        fault = "0:1:1: error: the text ends here; line 1 begins with 'terminals='\n"
+        self.assertEqual(self.run_with(b""), (4, "refused=16\nat=1\n", fault))
+        self.assertEqual(self.run_with(b"", words=["--quiet"]), (4, "refused=16\nat=1\n", ""))
         self.assertTrue(verdict(text_in("robot-49")).printed.startswith("states=49\n"))
         large = verdict(text_in("robot-large-lab")).printed.split("\n")
         self.assertEqual(large[:2], ["states=255", "verdict=potential"])
@@ -188,7 +188,11 @@ class RunTest(unittest.TestCase):
 
     def test_certificates(self):
         self.assertEqual(self.run_with(EXAMPLE, LINES_CHECKED), (0, "accepted\n", ""))
-        self.assertEqual(self.run_with(EXAMPLE, b""), (1, "malformed\n", "1:1:1: 'certificate-form=' is expected\n"))
+        self.assertEqual(self.run_with(EXAMPLE, b""), (1, "malformed\n", "1:1:1: error: 'certificate-form=' is expected\n"))
+        self.assertEqual(self.run_with(b"", b"")[:2], (4, "refused=16\nat=1\n"))
+        self.assertEqual(self.run_with(EXAMPLE, words=["--certificate"]), (0, LINES_CHECKED.decode(), ""))
+        marked = b"\xef\xbb\xbf" + LINES_CHECKED.replace(b"0000:", b"\n\n0000:")
+        self.assertEqual(self.run_with(EXAMPLE, marked), (0, "accepted\n", ""))
 
     def test_words(self):
         self.assertEqual(self.run_with()[:2], (2, ""))
@@ -203,7 +207,8 @@ class RunTest(unittest.TestCase):
         """Whatever is named, the program ends with a status and without a traceback."""
         with tempfile.TemporaryDirectory() as folder:
             missing = os.path.join(folder, "missing")
-            for words, status in [([missing], 2), ([folder], 2), (["/dev/zero"], 1), (["\0"[:0]], 2), (["-"], 1),
+            for words, status in [([missing], 2), ([folder], 2), (["/dev/zero"], 4), (["\0"[:0]], 2), (["-"], 4), (["-c", "-"], 4),
+                                  (["-c", "-", "-"], 2),
                                   (["-", missing], 2), ([folder, "-"], 2), (["--"], 2), (["a", "b", "c"], 2)]:
                 ran = subprocess.run([sys.executable, PROGRAM] + words, input=b"\xff\x00", capture_output=True)
                 self.assertEqual(ran.returncode, status, words)

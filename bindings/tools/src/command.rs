@@ -6,18 +6,33 @@ use std::fs::File;
 use std::io::{self, Read, Write};
 use std::process::ExitCode;
 
+use crate::diagnosis::nearest;
+use crate::shut;
+
 /// The version of the whole.
 pub const VERSION: &str = include_str!("../../../VERSION");
 
 /// The exit status; of several files the worst one counts.
-#[derive(Clone, Copy, Debug, PartialEq, Eq, PartialOrd, Ord)]
+#[derive(Clone, Copy, Debug, PartialEq, Eq)]
 pub enum Status {
     /// Unambiguous, or accepted.
     Yes = 0,
-    /// Potential or refused.
+    /// Ambiguous, with two trees; or a certificate or two lines that are not accepted.
     No = 1,
     /// Bad use, or a file that cannot be read or written.
     Misuse = 2,
+    /// Potentially ambiguous, and no two trees are known.
+    Potential = 3,
+    /// A grammar's text that is refused.
+    Refused = 4,
+}
+
+impl Status {
+    /// The worse, the larger.
+    fn weight(self) -> usize {
+        use Status::{Misuse, No, Potential, Refused, Yes};
+        [Yes, Potential, No, Refused, Misuse].iter().position(|status| *status == self).unwrap_or(0)
+    }
 }
 
 /// What a tool says.
@@ -42,6 +57,12 @@ pub struct Tool {
     pub help: &'static str,
     /// The options beside `--help` and `--version`.
     pub options: &'static [&'static str],
+    /// Options of which at most one is taken, row by row.
+    pub exclusive: &'static [&'static [&'static str]],
+    /// Options that take one turn of files, and print no line `file=`.
+    pub single: &'static [&'static str],
+    /// Options that take several turns, and print no line `file=` either.
+    pub bare: &'static [&'static str],
     /// The files that are judged together.
     pub files: usize,
 }
@@ -57,13 +78,35 @@ impl Request {
         self.options.contains(&option)
     }
 
-    pub fn several(&self, tool: &Tool) -> bool {
-        self.files.len() > tool.files
+    fn has_any(&self, options: &[&str]) -> bool {
+        options.iter().any(|option| self.has(option))
     }
 }
 
 const SHORT: [(&str, &str); 3] = [("-h", "--help"), ("-V", "--version"), ("-q", "--quiet")];
 const COMMON: [&str; 2] = ["--help", "--version"];
+
+/// What is said of an option that does not exist.
+fn no_option(tool: &Tool, word: &str) -> String {
+    let letter = |letter: char| SHORT.iter().find(|(short, _)| short.ends_with(letter)).map(|(short, _)| *short);
+    let together: Option<Vec<&str>> = word.strip_prefix('-').and_then(|letters| letters.chars().map(letter).collect());
+    if let Some(apart) = together.filter(|apart| apart.len() > 1) {
+        return format!("there is no option {word}; write {}", apart.join(" "));
+    }
+    let known: Vec<&str> = COMMON.iter().chain(tool.options).copied().collect();
+    let letters = |word: &str| word.trim_start_matches('-').as_bytes().to_vec();
+    let names: Vec<Vec<u8>> = known.iter().map(|option| letters(option)).collect();
+    let meant = nearest::nearest(&letters(word), names.iter().map(|name| &name[..]));
+    let hint = meant.map_or(String::new(), |place| format!("; is {} meant?", known[place]));
+    format!("there is no option {}{hint}", printable(word))
+}
+
+/// The option that a word names.
+fn option(tool: &Tool, word: &str) -> Result<&'static str, String> {
+    let long = SHORT.iter().find(|(short, _)| *short == word).map_or(word, |(_, long)| long);
+    let known = COMMON.iter().chain(tool.options).find(|known| **known == long);
+    known.copied().ok_or_else(|| no_option(tool, word))
+}
 
 /// The request in these words; an error says what is wrong with them.
 fn requested(tool: &Tool, words: Vec<OsString>) -> Result<Request, String> {
@@ -72,24 +115,33 @@ fn requested(tool: &Tool, words: Vec<OsString>) -> Result<Request, String> {
     while let Some(word) = words.next() {
         match word.to_str() {
             Some("--") => request.files.extend(words.by_ref()),
-            Some(option) if option.starts_with('-') && option != "-" => {
-                let long = SHORT.iter().find(|(short, _)| *short == option).map_or(option, |(_, long)| long);
-                let known = COMMON.iter().chain(tool.options).find(|known| **known == long);
-                request.options.push(known.ok_or_else(|| format!("there is no option {option}"))?);
-            }
+            Some(word) if word.starts_with('-') && word != "-" => request.options.push(option(tool, word)?),
             _ => request.files.push(word),
         }
     }
-    if COMMON.iter().any(|option| request.has(option)) {
-        return Ok(request);
+    match contradiction(tool, &request) {
+        _ if request.has_any(&COMMON) => Ok(request),
+        Some(message) => Err(message),
+        None => Ok(request),
+    }
+}
+
+/// Why a request cannot be followed.
+fn contradiction(tool: &Tool, request: &Request) -> Option<String> {
+    for row in tool.exclusive {
+        let given: Vec<&&str> = row.iter().filter(|option| request.has(option)).collect();
+        if let [first, second, ..] = given[..] {
+            return Some(format!("{first} and {second} do not go together"));
+        }
     }
     if request.files.is_empty() || request.files.len() % tool.files != 0 {
-        return Err("files are missing".to_string());
+        return Some("files are missing".to_string());
     }
     if request.files.iter().filter(|file| *file == "-").count() > 1 {
-        return Err("standard input can be read once only".to_string());
+        return Some("standard input can be read once only".to_string());
     }
-    Ok(request)
+    let single = tool.single.iter().find(|option| request.has(option) && request.files.len() > tool.files)?;
+    Some(format!("{single} takes one file"))
 }
 
 /// Runs a tool: `answer` judges the files of one turn.
@@ -108,22 +160,31 @@ pub fn run(tool: &Tool, answer: impl Fn(&Request, &[OsString]) -> Answer) -> Exi
     if request.has("--version") {
         return about(format!("{} {VERSION}", tool.name));
     }
+    let titled = request.files.len() > tool.files && !request.has_any(tool.bare);
     let turns = request.files.chunks(tool.files).map(|files| {
         let mut turn = answer(&request, files);
-        if request.several(tool) {
+        if titled {
             turn.out.insert_str(0, &format!("file={}\n", shown(&files[tool.files - 1])));
         }
         said(turn)
     });
-    ExitCode::from(turns.max().unwrap_or(Status::Misuse) as u8)
+    ExitCode::from(turns.max_by_key(|status| status.weight()).unwrap_or(Status::Misuse) as u8)
 }
 
 /// Says an answer; gives its status, or that of output that fails.
 fn said(answer: Answer) -> Status {
     // Where standard error is shut, the status alone tells.
     let _ = io::stderr().write_all(answer.err.as_bytes());
+    if answer.out.is_empty() {
+        return answer.status;
+    }
     let mut out = io::stdout().lock();
-    match out.write_all(answer.out.as_bytes()).and_then(|()| out.flush()) {
+    let written = if shut::standard_output() {
+        Err(io::Error::new(io::ErrorKind::NotFound, "it is closed"))
+    } else {
+        out.write_all(answer.out.as_bytes()).and_then(|()| out.flush())
+    };
+    match written {
         Ok(()) => answer.status,
         Err(error) => {
             let _ = writeln!(io::stderr(), "standard output: {error}");
@@ -132,12 +193,24 @@ fn said(answer: Answer) -> Status {
     }
 }
 
+/// A word without line breaks and other bytes that a terminal obeys: they are escaped.
+pub fn printable(word: &str) -> String {
+    let shown = |letter: char| {
+        if letter.is_control() {
+            letter.escape_default().to_string()
+        } else {
+            letter.to_string()
+        }
+    };
+    word.chars().map(shown).collect()
+}
+
 /// A file's name in messages.
 pub fn shown(file: &OsStr) -> String {
     if file == "-" {
         "<stdin>".to_string()
     } else {
-        file.to_string_lossy().into_owned()
+        printable(&file.to_string_lossy())
     }
 }
 
@@ -151,6 +224,6 @@ pub fn bytes(file: &OsStr, most: usize) -> Result<Vec<u8>, Answer> {
     let read = opened(file).and_then(|from| from.take(most as u64 + 1).read_to_end(&mut bytes));
     match read {
         Ok(_) => Ok(bytes),
-        Err(error) => Err(Answer::misuse(&format!("{}: {error}", shown(file)))),
+        Err(error) => Err(Answer::misuse(&format!("{}: error: {error}", shown(file)))),
     }
 }

@@ -19,10 +19,11 @@ const MARGIN: usize = 12;
 /// Half the height of a label, and what a mark stands off it.
 const HALF: usize = 9;
 
-/// A drawing and its natural width.
+/// A drawing and its natural size.
 pub struct Drawing {
     pub svg: String,
     pub width: usize,
+    pub height: usize,
 }
 
 /// What stands in a node's place.
@@ -152,7 +153,7 @@ pub fn tree(grammar: &Grammar, tree: &[Node], title: &str, marked: Option<usize>
         node(&plan, place, marked == Some(place), &mut put);
     }
     svg.push_str("</svg>\n");
-    Drawing { svg, width }
+    Drawing { svg, width, height }
 }
 
 /// Lines from a node to its children: aslant to the next level, then down to a leaf.

@@ -1,55 +1,128 @@
 //! Why a verdict is potential: where two readings part, and two real trees if they were found.
 
-use ambiguity::{Code, Grammar};
+use ambiguity::{Code, Grammar, START};
 
 use crate::layout::{self, WIDTH};
-use crate::pairs::{Extent, Limits, Outcome};
+use crate::pairs::{self, Extent, Limits, Outcome};
 use crate::parting::{self, Parting};
-use crate::{pairs, readings, sentences, words};
+use crate::phrase::{self, Example, Phrase};
+use crate::{readings, words};
 
-/// A sentence of more terminals is not filled in.
-const LONGEST: usize = 40;
+/// What was found of two trees.
+pub enum Found {
+    /// The smallest part in which two trees differ, and a sentence that it stands in.
+    Two(Phrase, Example),
+    /// No two trees: how far they were looked for.
+    Not(Extent),
+}
 
 /// All that is said of a witness.
 pub struct Explanation {
-    pub outcome: Outcome,
+    pub found: Found,
     pub parting: Parting,
+    /// Where other rules part, each with its phrase.
+    pub also: Vec<(Parting, Phrase)>,
     /// The entries of the witness and the two strings.
     pub steps: String,
 }
 
-/// Looks for two trees, and says where they part; where none are found, where the strings of the witness part.
+/// Partings that are shown beside the first one.
+const MOST_ALSO: usize = 8;
+
+/// Searches for them, each with a share of the limits of the first search.
+const MOST_TRIED: usize = 40;
+const SHARE: usize = 10;
+
+/// Looks for two trees, and says where they part; where none are found, where the strings of the witness part. Left of the trees is
+/// the one that is more like the left string.
 pub fn of(grammar: &Grammar, witness: &[u32]) -> Explanation {
-    let steps = readings::steps(grammar, witness);
-    let outcome = pairs::look(grammar, Limits::default());
-    let parting = match &outcome {
-        Outcome::Two { left, right, .. } => parting::of_trees(grammar, left, right),
-        Outcome::NotFound(_) => parting::of_witness(grammar, witness, &steps),
-    };
-    Explanation { outcome, parting, steps: readings::told(grammar, witness, &steps) }
+    let records = readings::steps(grammar, witness);
+    let strings = parting::of_witness(grammar, witness, &records);
+    let steps = readings::told(grammar, witness, &records);
+    match pairs::look(grammar, Limits::default()) {
+        Outcome::Two { root, left, right, rules, .. } => {
+            let (parting, phrase) = placed(grammar, phrase::smallest(grammar, root, &left, &right), &strings);
+            let also = others(grammar, root, rules, &parting, &strings);
+            let example = phrase.example(grammar);
+            Explanation { found: Found::Two(phrase, example), parting, also, steps }
+        }
+        Outcome::NotFound(extent) => Explanation { found: Found::Not(extent), parting: strings, also: Vec::new(), steps },
+    }
 }
 
-/// What is said of a row with two trees, without its trees.
-pub fn ambiguous(grammar: &Grammar, row: &[Code]) -> String {
-    let named = |row: &[Code]| match row {
+/// A phrase with its parting, left and right as in the two strings.
+fn placed(grammar: &Grammar, mut phrase: Phrase, strings: &Parting) -> (Parting, Phrase) {
+    if parting::of_trees(grammar, phrase.root, &phrase.left, &phrase.right).is_mirrored(strings) {
+        std::mem::swap(&mut phrase.left, &mut phrase.right);
+    }
+    (parting::of_trees(grammar, phrase.root, &phrase.left, &phrase.right), phrase)
+}
+
+/// Phrases that part between other pairs of rules, one for each pair. The walks that are found part at pairs that no earlier walks
+/// part at; as trees they may part between rules that are known, since what trees have in common is folded.
+fn others(grammar: &Grammar, root: Code, rules: (usize, usize), first: &Parting, strings: &Parting) -> Vec<(Parting, Phrase)> {
+    let limits = Limits::default();
+    let limits = Limits { pairs: limits.pairs / SHARE, moves: limits.moves / SHARE };
+    let mut tried = vec![rules];
+    let mut shown = vec![first.rules()];
+    let mut found = Vec::new();
+    while found.len() < MOST_ALSO && tried.len() < MOST_TRIED {
+        let Outcome::Two { left, right, rules, .. } = pairs::look_from(grammar, root, limits, &tried) else { break };
+        tried.push(rules);
+        let (parting, phrase) = placed(grammar, phrase::smallest(grammar, root, &left, &right), strings);
+        if !shown.contains(&parting.rules()) {
+            shown.push(parting.rules());
+            found.push((parting, phrase));
+        }
+    }
+    found
+}
+
+/// A row in words.
+fn named(grammar: &Grammar, row: &[Code]) -> String {
+    match row {
         [] => "the empty sentence".to_string(),
-        row => format!("`{}`", words::row(grammar, row)),
+        row if row.len() > phrase::LONGEST => format!("`{}` ({} symbols)", short(grammar, row), row.len()),
+        row => format!("`{}`", short(grammar, row)),
+    }
+}
+
+fn short(grammar: &Grammar, row: &[Code]) -> String {
+    words::short_row(grammar, row, phrase::LONGEST)
+}
+
+/// What is said of a phrase with two trees, without its trees.
+pub fn ambiguous(grammar: &Grammar, phrase: &Phrase, example: &Example) -> String {
+    let what = match (phrase.root, &phrase.row[..]) {
+        (START, row) => named(grammar, row),
+        (root, []) => format!("an empty {}", words::symbol(grammar, root)),
+        (root, row) => format!("the {} {}", words::symbol(grammar, root), named(grammar, row)),
     };
-    let example = sentences::filled(grammar, row, LONGEST).filter(|sentence| sentence != row);
-    let example = example.map_or(String::new(), |sentence| format!(", for example {}", named(&sentence)));
-    format!("ambiguous: {} has two trees{example}", named(row))
+    let example = match example {
+        Example::Sentence(sentence) if phrase.is_sentence() && *sentence == phrase.row => String::new(),
+        Example::Sentence(sentence) if phrase.is_sentence() => format!(", for example {}", named(grammar, sentence)),
+        Example::Sentence(sentence) => format!(", in a sentence: {}", named(grammar, sentence)),
+        Example::TooLong => format!("; a sentence with it has more than {} terminals", phrase::LONGEST),
+    };
+    format!("ambiguous: {what} has two trees{example}")
 }
 
 /// What is said where no two trees were found.
 pub fn not_found(extent: &Extent) -> String {
-    let how_far = match extent {
-        Extent::Unconfirmed => "two trees were found, but could not be confirmed".to_string(),
-        Extent::All { pairs } => format!("all pairs of unfinished trees, {pairs}, were tried"),
-        Extent::Limit { pairs, moves } => {
-            format!("{pairs} pairs of unfinished trees were tried, and all pairs of fewer than {moves} moves")
+    match extent {
+        Extent::Unconfirmed => {
+            "no sentence with two trees was found: two trees were found, but could not be confirmed. The alarm may be false."
+                .to_string()
         }
-    };
-    format!("no sentence with two trees was found: {how_far}. The alarm may be false.")
+        Extent::All { pairs } => format!(
+            "no sentence with two trees was found: all {pairs} pairs of unfinished trees were tried. By this search, which is \
+             not proved, no sentence has two trees. A mark that tells the two rules apart gives a certificate."
+        ),
+        Extent::Limit { pairs, moves } => format!(
+            "no sentence with two trees was found: {pairs} pairs of unfinished trees were tried, and all pairs of fewer than \
+             {moves} moves. The alarm may be false."
+        ),
+    }
 }
 
 impl Explanation {
@@ -57,12 +130,26 @@ impl Explanation {
     pub fn told(&self, grammar: &Grammar) -> String {
         let paragraph = |text: &str| layout::wrapped(text, WIDTH, 2).join("\n") + "\n";
         let parting = paragraph(&self.parting.sentence(grammar));
-        match &self.outcome {
-            Outcome::Two { row, left, right } => {
-                let said = paragraph(&ambiguous(grammar, row));
-                format!("{parting}{said}{}", layout::trees(grammar, left, right))
+        match &self.found {
+            Found::Two(phrase, example) => {
+                let said = paragraph(&ambiguous(grammar, phrase, example));
+                let also: String = self.also.iter().map(|other| paragraph(&also_told(grammar, other))).collect();
+                format!("{said}{parting}{}{also}", layout::trees(grammar, &phrase.left, &phrase.right))
             }
-            Outcome::NotFound(extent) => format!("{parting}{}", paragraph(&not_found(extent))),
+            Found::Not(extent) => format!("{parting}{}", paragraph(&not_found(extent))),
         }
     }
+
+    /// What is said at the place of the rule: the key word and the sentence.
+    pub fn headline(&self, grammar: &Grammar) -> (&'static str, String) {
+        let word = if matches!(self.found, Found::Two(..)) { "ambiguous" } else { "potential" };
+        (word, self.parting.at_rule(grammar))
+    }
+}
+
+/// One of the other partings in a line.
+pub fn also_told(grammar: &Grammar, (parting, phrase): &(Parting, Phrase)) -> String {
+    let (side, _) = parting.sides();
+    let row = if phrase.row.is_empty() { "(empty)".to_string() } else { short(grammar, &phrase.row) };
+    format!("also: line {}: {}, in `{row}`", words::line_of_rule(side.rule), parting.at_rule(grammar))
 }

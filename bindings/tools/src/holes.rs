@@ -42,10 +42,10 @@ fn all(marks: &Marks, row: &[Code]) -> bool {
     row.iter().all(|code| marks[*code as usize])
 }
 
-/// By code, whether a symbol is reached from the start through rules whose symbols all have sentences.
-fn reached(grammar: &Grammar, productive: &Marks) -> Marks {
+/// By code, whether a symbol is reached from a root through rules whose symbols all have sentences.
+fn reached(grammar: &Grammar, productive: &Marks, root: Code) -> Marks {
     let mut marks = [false; CODES];
-    let mut rest = vec![START];
+    let mut rest = vec![root];
     while let Some(code) = rest.pop() {
         if !std::mem::replace(&mut marks[code as usize], true) {
             let rules = grammar.rules().iter().filter(|rule| rule.left == code && all(productive, &rule.right));
@@ -57,9 +57,21 @@ fn reached(grammar: &Grammar, productive: &Marks) -> Marks {
 
 /// For each stored rule whether some sentence has a tree that uses it.
 pub fn live_rules(grammar: &Grammar) -> Vec<bool> {
+    rules_under(grammar, START)
+}
+
+/// For each stored rule whether some finite tree with this root uses it.
+pub fn rules_under(grammar: &Grammar, root: Code) -> Vec<bool> {
     let productive = productive(grammar);
-    let reached = reached(grammar, &productive);
+    let reached = reached(grammar, &productive, root);
     grammar.rules().iter().map(|rule| reached[rule.left as usize] && all(&productive, &rule.right)).collect()
+}
+
+/// The nonterminals beside the start that stand in a tree of some sentence.
+pub fn other_live(grammar: &Grammar) -> Vec<Code> {
+    let live = live_rules(grammar);
+    let has_rule = |code: &Code| grammar.rules().iter().zip(&live).any(|(rule, live)| *live && rule.left == *code);
+    (1..grammar.nonterminals().len()).map(|place| START + place as Code).filter(has_rule).collect()
 }
 
 /// A warning, with the line of the text that it is about.

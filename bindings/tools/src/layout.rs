@@ -139,8 +139,17 @@ impl Line {
     }
 }
 
+/// Lines of a tree that are shown, those in front and those at the end; what lies between is left out.
+const FRONT: usize = 60;
+const BACK: usize = 20;
+
 fn column(grammar: &Grammar, tree: &[Node], width: usize) -> Vec<String> {
-    lines(grammar, tree).iter().flat_map(|line| line.printed(width)).collect()
+    let mut column: Vec<String> = lines(grammar, tree).iter().flat_map(|line| line.printed(width)).collect();
+    if column.len() > FRONT + BACK + 1 {
+        let left_out = column.len() - FRONT - BACK;
+        column.splice(FRONT..FRONT + left_out, [format!("... ({left_out} lines are left out; --json has all nodes)")]);
+    }
+    column
 }
 
 /// Two trees side by side if the page is wide enough, else one below the other.
@@ -185,6 +194,16 @@ mod tests {
         assert!(printed.lines().all(|line| line.len() <= WIDTH), "{printed}");
         assert_eq!(printed.matches("terminal-letter").count(), 24);
         assert!(printed.contains("[39] Nonterminal-39: "));
+    }
+
+    #[test]
+    fn the_middle_of_a_long_tree_is_left_out() {
+        let grammar = Grammar::read(b"terminals=a\nnonterminals=S\nrule=S: a S\nrule=S: a\n").unwrap();
+        let mut tree: Vec<Node> = (0..900).flat_map(|_| [Node::Rule(1), Node::Leaf(1)]).collect();
+        tree.extend([Node::Rule(2), Node::Leaf(1)]);
+        let printed = trees(&grammar, &tree, &tree);
+        assert_eq!(printed.lines().count(), 2 * (1 + 60 + 1 + 20));
+        assert!(printed.contains("... (1721 lines are left out; --json has all nodes)\n"), "{printed}");
     }
 
     #[test]

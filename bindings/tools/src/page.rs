@@ -3,15 +3,21 @@
 use ambiguity::{Grammar, Searched};
 
 use crate::command::VERSION;
-use crate::explanation::{self, Explanation};
+use crate::drawing::{self, Drawing};
+use crate::explanation::{self, Explanation, Found};
+use crate::layout;
 use crate::lines::{self, Form};
 use crate::markup::{escaped, sentence};
-use crate::pairs::Outcome;
-use crate::parting::Next;
-use crate::{drawing, strings, words};
+use crate::warnings::Told;
+use crate::{parting, strings, words};
 
-/// Wider drawings stand one below the other.
+/// Sizes in pixels. Drawings wider than half a page stand one below the other; those that no page holds are shown as lines of text.
 const HALF_PAGE: usize = 400;
+const PAGE_WIDTH: usize = 670;
+const PAGE_HEIGHT: usize = 860;
+
+/// A certificate of more lines stands in two columns.
+const ONE_COLUMN: usize = 60;
 
 const STYLE: &str = "\
 @page { size: A4; margin: 15mm; }
@@ -29,12 +35,15 @@ td { padding: 0 2mm; font-size: 9.5pt; vertical-align: top; overflow-wrap: anywh
 td.number { color: #555; text-align: right; user-select: none; overflow-wrap: normal; }
 tr.parting td { background: #fbe3c8; }
 pre { font-size: 7pt; line-height: 1.3; column-width: 57ch; column-gap: 4mm; margin: 0; }
+pre.one { font-size: 9pt; column-width: auto; }
 pre.strings { font-size: 9.5pt; column-width: auto; white-space: pre-wrap; overflow-wrap: anywhere; }
 .trees { display: flex; flex-wrap: wrap; gap: 4mm; align-items: flex-start; }
 figure { margin: 0; flex: 1 1 40%; break-inside: avoid; }
 .stacked figure { flex-basis: 100%; }
 figcaption { font-style: italic; }
-svg { max-width: 100%; max-height: 230mm; height: auto; }
+figure { overflow-x: auto; }
+pre.tree { font-size: 9.5pt; column-width: auto; overflow-x: auto; }
+.warnings { border: 0.3mm solid #b35900; padding: 1mm 3mm; margin: 3mm 0; }
 svg text { text-anchor: middle; font: 13px monospace; }
 svg text.rule { font-weight: bold; }
 svg text.open { font-style: italic; }
@@ -43,6 +52,7 @@ svg polyline { fill: none; stroke: #888; }
 svg .mark { fill: #fbe3c8; stroke: #b35900; stroke-width: 1.5; }
 svg .parting { stroke: #b35900; stroke-dasharray: 5 4; }
 footer { margin-top: 8mm; font-size: 9pt; color: #555; }
+@media print { svg { max-width: 100%; height: auto; } pre.tree { white-space: pre-wrap; } }
 @media print { body { margin: 0; padding: 0; max-width: none; } * { print-color-adjust: exact; } }
 ";
 
@@ -57,27 +67,57 @@ const STRINGS: &str =
     "In these lines `(1` opens rule 1, which stands on line 3 of the text, and `)1` closes it; a symbol stands by its \
                        name. Rule 0 leads to the start. ambig-check --lines takes the two lines.";
 
+/// How a certificate is checked.
+const CHECKING: &str =
+    "Whoever has the grammar and the certificate can check them: `ambig-check GRAMMAR CERTIFICATE`, or, with \
+                        Python alone, `python3 second/judge.py GRAMMAR CERTIFICATE`. Both are part of Yisaronu, a library that \
+                        judges grammars, with its proofs.";
+
+/// What a page is made of.
+pub struct Subject<'a> {
+    pub file: &'a str,
+    pub text: &'a [u8],
+    pub grammar: &'a Grammar,
+    pub searched: &'a Searched,
+    /// Why a verdict is potential.
+    pub explanation: Option<&'a Explanation>,
+    pub warnings: &'a [Told],
+}
+
 /// The page of a grammar that was read from a file.
-pub fn of(file: &str, text: &[u8], grammar: &Grammar, searched: &Searched) -> String {
-    let parts = match searched {
-        Searched::Unambiguous { certificate, size, looked } => {
+pub fn of(subject: &Subject) -> String {
+    let grammar = subject.grammar;
+    let parts = match (subject.searched, subject.explanation) {
+        (Searched::Unambiguous { certificate, size, looked }, _) => {
             let lines = lines::written(grammar, *size, certificate, Form::Checked);
-            [unambiguous(grammar, *size, *looked), grammar_part(text, &[]), certificate_part(&lines)]
+            [unambiguous(grammar, *size, *looked), grammar_part(subject.text, &[]), certificate_part(&lines)]
         }
-        Searched::Potential { witness, looked } => {
-            let explanation = explanation::of(grammar, witness);
-            let strings = strings_part(&strings::printed(text, grammar, witness));
-            let text = grammar_part(text, &parting_lines(&explanation));
-            [potential(grammar, &explanation, *looked), trees_part(grammar, &explanation), text + &strings]
+        (Searched::Potential { witness, looked }, Some(explanation)) => {
+            let strings = strings_part(&strings::printed(subject.text, grammar, witness));
+            let text = grammar_part(subject.text, &parting_lines(explanation));
+            [potential(grammar, explanation, *looked), trees_part(grammar, explanation), text + &strings]
         }
+        (Searched::Potential { .. }, None) => [String::new(), String::new(), String::new()],
     };
-    let (name, parts) = (escaped(file), parts.concat());
+    let [verdict, first, second] = parts;
+    let parts = [verdict, warnings_part(subject.warnings), first, second].concat();
+    let name = escaped(subject.file.rsplit('/').next().unwrap_or(subject.file));
     let version = VERSION.trim_end();
     format!(
         "<!DOCTYPE html>\n<html xmlns=\"http://www.w3.org/1999/xhtml\" lang=\"en\">\n<head>\n<meta charset=\"utf-8\"/>\n\
+         <meta name=\"viewport\" content=\"width=device-width, initial-scale=1\"/>\n\
          <title>{name}</title>\n<style>\n{STYLE}</style>\n</head>\n<body>\n<h1>Grammar {name}</h1>\n{parts}\
          <footer>ambig-certify {version}. Each line of the grammar ends with byte 10, the last one too.</footer>\n</body>\n</html>\n"
     )
+}
+
+/// What no sentence uses, if there is any.
+fn warnings_part(warnings: &[Told]) -> String {
+    if warnings.is_empty() {
+        return String::new();
+    }
+    let lines = warnings.iter().map(|warning| format!("<br/>Line {}: {}\n", warning.line, escaped(&warning.message)));
+    format!("<p class=\"warnings\"><strong>Warnings</strong>\n{}</p>\n", lines.collect::<String>())
 }
 
 fn banner(class: &str, title: &str, paragraphs: &[String]) -> String {
@@ -96,11 +136,12 @@ fn unambiguous(grammar: &Grammar, size: usize, looked: usize) -> String {
 
 fn potential(grammar: &Grammar, explanation: &Explanation, looked: usize) -> String {
     let figures = format!("{}, successors looked at {looked}.", figures(grammar));
-    let (title, said) = match &explanation.outcome {
-        Outcome::Two { row, .. } => {
-            ("Ambiguous", capital(&explanation::ambiguous(grammar, row).replacen("ambiguous: ", "", 1)) + ".")
+    let (title, said) = match &explanation.found {
+        Found::Two(phrase, example) => {
+            let said = explanation::ambiguous(grammar, phrase, example);
+            ("Ambiguous", capital(&said.replacen("ambiguous: ", "", 1)) + ".")
         }
-        Outcome::NotFound(extent) => ("Potentially ambiguous", capital(&explanation::not_found(extent))),
+        Found::Not(extent) => ("Potentially ambiguous", capital(&explanation::not_found(extent))),
     };
     let parting = format!("The readings part {}.", explanation.parting.sentence(grammar));
     banner("no", title, &[said, parting, figures])
@@ -111,13 +152,10 @@ fn capital(text: &str) -> String {
     letters.next().map_or(String::new(), |first| first.to_uppercase().chain(letters).collect())
 }
 
-/// The lines of the rules at which the readings part.
+/// The lines of the two rules at which the readings part.
 fn parting_lines(explanation: &Explanation) -> Vec<usize> {
-    let rules = [explanation.parting.left, explanation.parting.right].into_iter().filter_map(|next| match next {
-        Next::Closing(rule) if rule > 0 => Some(words::line_of_rule(rule)),
-        _ => None,
-    });
-    rules.collect()
+    let rules = [explanation.parting.left.rule, explanation.parting.right.rule];
+    rules.into_iter().filter(|rule| *rule > 0).map(words::line_of_rule).collect()
 }
 
 fn grammar_part(text: &[u8], marked: &[usize]) -> String {
@@ -132,7 +170,8 @@ fn grammar_part(text: &[u8], marked: &[usize]) -> String {
 }
 
 fn certificate_part(lines: &str) -> String {
-    format!("<h2>Certificate</h2>\n<pre>{}</pre>\n", escaped(lines))
+    let class = if lines.lines().count() <= ONE_COLUMN { " class=\"one\"" } else { "" };
+    format!("<h2>Certificate</h2>\n<pre{class}>{}</pre>\n<p>{}</p>\n", escaped(lines), sentence(CHECKING))
 }
 
 fn strings_part(lines: &str) -> String {
@@ -140,13 +179,23 @@ fn strings_part(lines: &str) -> String {
 }
 
 fn trees_part(grammar: &Grammar, explanation: &Explanation) -> String {
-    let Outcome::Two { row, left, right } = &explanation.outcome else { return String::new() };
+    let Found::Two(phrase, _) = &explanation.found else { return String::new() };
     let parting = &explanation.parting;
-    let draw = |side: usize, tree, title| drawing::tree(grammar, tree, title, parting.nodes[side], parting.passed.len());
-    let drawings = [draw(0, left, "left tree"), draw(1, right, "right tree")];
+    let draw = |side: parting::Side, tree: &[_], title| drawing::tree(grammar, tree, title, side.node, parting.passed.len());
+    let drawings = [draw(parting.left, &phrase.left, "left tree"), draw(parting.right, &phrase.right, "right tree")];
+    let also = explanation
+        .also
+        .iter()
+        .map(|other| format!("<p>{}.</p>\n", sentence(&capital(&explanation::also_told(grammar, other)))));
+    let also: String = also.collect();
+    if drawings.iter().any(|drawing| drawing.width > PAGE_WIDTH || drawing.height > PAGE_HEIGHT) {
+        let lines = escaped(&layout::trees(grammar, &phrase.left, &phrase.right));
+        return format!("<h2>Two trees</h2>\n<pre class=\"tree\">{lines}</pre>\n{also}");
+    }
     let class = if drawings.iter().any(|drawing| drawing.width > HALF_PAGE) { "trees stacked" } else { "trees" };
-    let figure = |title: &str, svg: &str| format!("<figure>\n<figcaption>{title}</figcaption>\n{svg}</figure>\n");
-    let figures = figure("Left", &drawings[0].svg) + &figure("Right", &drawings[1].svg);
-    let legend = if row.is_empty() { EMPTY_LEGEND } else { LEGEND };
-    format!("<h2>Two trees</h2>\n<div class=\"{class}\">\n{figures}</div>\n<p>{legend}</p>\n")
+    let figure =
+        |title: &str, Drawing { svg, .. }: &Drawing| format!("<figure>\n<figcaption>{title}</figcaption>\n{svg}</figure>\n");
+    let figures = figure("Left", &drawings[0]) + &figure("Right", &drawings[1]);
+    let legend = if phrase.row.is_empty() { EMPTY_LEGEND } else { LEGEND };
+    format!("<h2>Two trees</h2>\n<div class=\"{class}\">\n{figures}</div>\n<p>{legend}</p>\n{also}")
 }

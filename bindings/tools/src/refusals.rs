@@ -1,4 +1,4 @@
-//! Refusals in words: `FILE:LINE:COLUMN: what is wrong`, and behind it the library's number and position.
+//! Refusals in words: `FILE:LINE:COLUMN: error: what is wrong`, and behind it the library's number and position.
 
 use ambiguity::{Cause, Grammar, Refusal};
 
@@ -12,20 +12,28 @@ pub fn numbers(refusal: Refusal) -> String {
     format!("refused={}\nat={}\n", refusal.cause.number(), refusal.at)
 }
 
-/// A message about a place in a file.
-pub fn message(file: &str, line: usize, column: usize, text: &str) -> String {
-    format!("{file}:{line}:{column}: {text}\n")
+/// A message about a place in a file; its kind is a word that editors know, or one of a verdict.
+pub fn message(file: &str, line: usize, column: usize, kind: &str, text: &str) -> String {
+    format!("{file}:{line}:{column}: {kind}: {text}\n")
 }
 
-/// A refusal of grammar text.
+/// A message that something is refused.
+fn error(file: &str, line: usize, column: usize, text: &str) -> String {
+    message(file, line, column, "error", text)
+}
+
+/// A refusal of grammar text, and what else is wrong with it. Only the first has the library's number and position.
 pub fn of_text(file: &str, text: &[u8], refusal: Refusal) -> String {
     let finding = diagnosis::of(text, refusal);
-    message(file, finding.line, finding.column, &format!("{} ({refusal})", finding.message))
+    let first = error(file, finding.line, finding.column, &format!("{} ({refusal})", finding.message));
+    let beside = diagnosis::beside(text, refusal);
+    let others = beside.iter().map(|finding| error(file, finding.line, finding.column, &finding.message));
+    first + &others.collect::<String>()
 }
 
 /// Lines of a certificate that are malformed.
-pub fn of_lines(file: &str, malformed: &Malformed) -> String {
-    message(file, malformed.line, malformed.column, &malformed.message)
+pub fn of_lines(file: &str, faults: &[Malformed]) -> String {
+    faults.iter().map(|fault| error(file, fault.line, fault.column, &fault.message)).collect()
 }
 
 /// A triple by its index, in words.
@@ -45,16 +53,16 @@ pub fn of_certificate(file: &str, certificate: &Certificate, refusal: Refusal, g
         cause => cause.to_string(),
     };
     let (line, column) = certificate.place(at / 8);
-    message(file, line, column, &format!("{words} ({refusal})"))
+    error(file, line, column, &format!("{words} ({refusal})"))
 }
 
 /// A refusal of the lines of two strings.
 pub fn of_strings(file: &str, grammar: &Grammar, lines: &[u8], refusal: Refusal) -> String {
     let finding = diagnosis::of_strings(grammar, lines, refusal);
-    message(file, finding.line, finding.column, &format!("{} ({refusal})", finding.message))
+    error(file, finding.line, finding.column, &format!("{} ({refusal})", finding.message))
 }
 
 /// Two strings that do not part.
 pub fn of_not_parting(file: &str, lines: &[u8], fault: &NotParting) -> String {
-    message(file, fault.line, strings::column(lines, fault.line, fault.place), &fault.message)
+    error(file, fault.line, strings::column(lines, fault.line, fault.place), &fault.message)
 }

@@ -1,6 +1,6 @@
 //! Derivation trees, and the test that two of them belong to one row. What finds the trees is elsewhere: nothing here relies on it.
 
-use ambiguity::{Code, Grammar, START};
+use ambiguity::{Code, Grammar};
 
 use crate::holes;
 
@@ -31,10 +31,10 @@ pub enum Fault {
     Same,
 }
 
-/// The row of a tree: every node applies its rule, and each child stands for its symbol.
-pub fn row(grammar: &Grammar, tree: &[Node]) -> Result<Vec<Code>, Fault> {
+/// The row of a tree with this root: every node applies its rule, and each child stands for its symbol.
+pub fn row(grammar: &Grammar, root: Code, tree: &[Node]) -> Result<Vec<Code>, Fault> {
     let mut row = Vec::new();
-    let mut expected = vec![START];
+    let mut expected = vec![root];
     for node in tree {
         let symbol = expected.pop().ok_or(Fault::Length)?;
         match *node {
@@ -56,13 +56,14 @@ pub fn row(grammar: &Grammar, tree: &[Node]) -> Result<Vec<Code>, Fault> {
     }
 }
 
-/// The common row of two different trees. Each nonterminal in it has a sentence that is not empty, so some sentence has two trees:
+/// The common row of two different trees with one root. Each nonterminal in it has a sentence that is not empty, so where the root
+/// is the start, or stands in a tree of some sentence, some sentence has two trees:
 /// for each such leaf the same subtree is put in either tree. They still differ then. For if they were equal, both copies of a
 /// subtree would be the node over the same part of the sentence with the same nodes below it; that part is not empty, so there is
 /// only one such node, and the leaves had been at the same place.
-pub fn common_row(grammar: &Grammar, left: &[Node], right: &[Node]) -> Result<Vec<Code>, Fault> {
-    let common = row(grammar, left)?;
-    if row(grammar, right)? != common {
+pub fn common_row(grammar: &Grammar, root: Code, left: &[Node], right: &[Node]) -> Result<Vec<Code>, Fault> {
+    let common = row(grammar, root, left)?;
+    if row(grammar, root, right)? != common {
         return Err(Fault::Rows);
     }
     if left == right {
@@ -82,6 +83,7 @@ pub fn common_row(grammar: &Grammar, left: &[Node], right: &[Node]) -> Result<Ve
 mod tests {
     use super::Node::{Leaf, Rule};
     use super::*;
+    use ambiguity::START;
 
     const IF: Code = 1;
     const ELSE: Code = 2;
@@ -97,7 +99,7 @@ mod tests {
     fn two_trees_of_one_row() {
         let left = [Rule(2), Leaf(IF), Rule(1), Leaf(IF), Leaf(S), Leaf(ELSE), Leaf(S)];
         let right = [Rule(1), Leaf(IF), Rule(2), Leaf(IF), Leaf(S), Leaf(ELSE), Leaf(S)];
-        assert_eq!(common_row(&dangling(), &left, &right), Ok(vec![IF, IF, S, ELSE, S]));
+        assert_eq!(common_row(&dangling(), S, &left, &right), Ok(vec![IF, IF, S, ELSE, S]));
     }
 
     #[test]
@@ -118,14 +120,14 @@ mod tests {
             (&[Leaf(S)], &[Leaf(S)], Fault::Same),
             (&endless, &[Rule(4), Rule(6), Leaf(S + 1)], Fault::Invisible),
         ] {
-            assert_eq!(common_row(&dangling(), left, right), Err(fault), "{left:?} {right:?}");
+            assert_eq!(common_row(&dangling(), S, left, right), Err(fault), "{left:?} {right:?}");
         }
         // S has one tree: which of the two empty parts stands for itself makes no difference.
         let empty = Grammar::read(b"terminals=\nnonterminals=S,N\nrule=S: N N\nrule=N:\n").unwrap();
         let pair = ([Rule(1), Leaf(S + 1), Rule(2)], [Rule(1), Rule(2), Leaf(S + 1)]);
-        assert_eq!(common_row(&empty, &pair.0, &pair.1), Err(Fault::Invisible));
+        assert_eq!(common_row(&empty, S, &pair.0, &pair.1), Err(Fault::Invisible));
         let cycle = Grammar::read(b"terminals=a\nnonterminals=S\nrule=S: S\nrule=S: a\n").unwrap();
-        assert_eq!(common_row(&cycle, &[Leaf(S)], &[Rule(1), Leaf(S)]), Err(Fault::Root));
-        assert_eq!(common_row(&cycle, &[Rule(2), Leaf(1)], &[Rule(1), Rule(2), Leaf(1)]), Ok(vec![1]));
+        assert_eq!(common_row(&cycle, S, &[Leaf(S)], &[Rule(1), Leaf(S)]), Err(Fault::Root));
+        assert_eq!(common_row(&cycle, S, &[Rule(2), Leaf(1)], &[Rule(1), Rule(2), Leaf(1)]), Ok(vec![1]));
     }
 }

@@ -23,6 +23,15 @@ pub fn row(grammar: &Grammar, codes: &[Code]) -> String {
     codes.iter().map(|code| symbol(grammar, *code)).collect::<Vec<_>>().join(" ")
 }
 
+/// The names of a row; of more than so many symbols the first and the last ones, and dots between them.
+pub fn short_row(grammar: &Grammar, codes: &[Code], most: usize) -> String {
+    if codes.len() <= most {
+        return row(grammar, codes);
+    }
+    let (front, back) = (most / 2, most - most / 2);
+    format!("{} ... {}", row(grammar, &codes[..front]), row(grammar, &codes[codes.len() - back..]))
+}
+
 /// The line of the text that has a rule: the lists stand before, and each rule has a line.
 pub fn line_of_rule(number: usize) -> usize {
     LISTS + number
@@ -69,6 +78,18 @@ pub fn state(grammar: &Grammar, state: usize) -> String {
         dot -= rule.right.len() + 1;
     }
     unreachable!("state {state} of {}", grammar.states())
+}
+
+/// The rule of an item and the symbol behind its dot. The start and the end are taken for rule 0's.
+pub fn item_at(grammar: &Grammar, state: usize) -> (usize, Option<Code>) {
+    let mut first = 4;
+    for (place, rule) in grammar.rules().iter().enumerate() {
+        if (first..=first + rule.right.len()).contains(&state) {
+            return (place + 1, rule.right.get(state - first).copied());
+        }
+        first += rule.right.len() + 1;
+    }
+    (0, (state == 2).then_some(START))
 }
 
 /// Names of which one holds: `'a', 'b' or 'c'`. Of many the first ones stand, and how many there are besides.

@@ -27,10 +27,14 @@ potential.
   -h, --help     print this help
   -V, --version  print the version
 
-Exit status: 0 accepted, 1 refused, 2 bad use, or a file that cannot be read; of
-several pairs the worst.
+Exit status: 0 accepted, 1 not accepted, 2 bad use, or a file that cannot be
+read or written, 4 the grammar is refused. Of several pairs the worst: 2, then
+4, 1, 0.
 ",
     options: &["--lines", "--quiet"],
+    exclusive: &[],
+    single: &[],
+    bare: &[],
     files: 2,
 };
 
@@ -60,7 +64,7 @@ fn judged_certificate(request: &Request, file: &str, grammar: &Grammar, certific
 
 fn judged_strings(request: &Request, file: &str, grammar: &Grammar, lines: &[u8]) -> Answer {
     if lines.len() > strings::MOST_BYTES {
-        return Answer::misuse(&format!("{file}: more than {} bytes; that is the limit", strings::MOST_BYTES));
+        return Answer::misuse(&format!("{file}: error: more than {} bytes; that is the limit", strings::MOST_BYTES));
     }
     let strings = match grammar.read_back(lines) {
         Ok(strings) => strings,
@@ -74,7 +78,7 @@ fn judged_strings(request: &Request, file: &str, grammar: &Grammar, lines: &[u8]
         Err(Wrong::NotParting(fault)) => {
             refused(request, "not-parting\n".to_string(), refusals::of_not_parting(file, lines, &fault))
         }
-        Err(Wrong::Row(refusal)) => refused(request, refusals::numbers(refusal), format!("{file}: {refusal:#}\n")),
+        Err(Wrong::Row(refusal)) => refused(request, refusals::numbers(refusal), format!("{file}: error: {refusal:#}\n")),
     }
 }
 
@@ -88,7 +92,10 @@ fn answer(request: &Request, files: &[OsString]) -> Answer {
     match Grammar::read(&text) {
         Ok(grammar) if request.has("--lines") => judged_strings(request, &file, &grammar, &lines),
         Ok(grammar) => judged_certificate(request, &file, &grammar, &lines),
-        Err(refusal) => refused(request, refusals::numbers(refusal), refusals::of_text(&grammar_file, &text, refusal)),
+        Err(refusal) => {
+            let message = refusals::of_text(&grammar_file, &text, refusal);
+            Answer { status: Status::Refused, ..refused(request, refusals::numbers(refusal), message) }
+        }
     }
 }
 

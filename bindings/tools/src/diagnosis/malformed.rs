@@ -1,6 +1,6 @@
 //! What makes a line malformed: the first thing in it that does not belong there.
 
-use super::{words, Found, Word};
+use super::{foreign, words, Found, Word};
 use crate::words::{key, LISTS};
 
 pub const MAX_NAME: usize = 15;
@@ -15,14 +15,23 @@ pub fn found(text: &[u8], number: usize) -> Found {
         let what = if number == 1 { "the text is empty" } else { "the text ends here" };
         return (0, format!("{what}; line {number} begins with '{expected}'"));
     };
+    if let Some(fault) = foreign::found(text).filter(|_| number == 1) {
+        return fault;
+    }
+    let last = lines.next().is_none();
+    of_line(line, number, last).unwrap_or_else(|| (0, "the line is malformed".to_string()))
+}
+
+/// The fault of a line, which may have its end; none if it is well formed.
+pub fn of_line(line: &[u8], number: usize, last: bool) -> Option<Found> {
     let content = line.strip_suffix(b"\n").unwrap_or(line);
     let ended = content.len() < line.len();
-    let last = lines.next().is_none();
     let fault = of_encoding(content, number)
         .or_else(|| of_whole_line(content, ended && last))
         .or_else(|| of_key(content, number))
-        .or_else(|| if number <= LISTS { of_list(content, expected.len()) } else { of_rule(content) });
-    fault.unwrap_or_else(|| (content.len(), "the last line does not end with byte 10; put a line break behind it".to_string()))
+        .or_else(|| if number <= LISTS { of_list(content, key(number).len()) } else { of_rule(content) });
+    let unended = || (content.len(), "the last line does not end with byte 10; put a line break behind it".to_string());
+    fault.or_else(|| (!ended).then(unended))
 }
 
 /// A byte as it is shown.
@@ -60,7 +69,7 @@ fn of_whole_line(line: &[u8], last: bool) -> Option<Found> {
         let place = if last { " at the end" } else { "" };
         return Some((0, format!("a blank line is found{place}; take it out")));
     }
-    if ["#", "//", ";", "%", "--", "/*"].iter().any(|mark| text.starts_with(mark.as_bytes())) {
+    if ["#", "//", ";", "%", "--", "/*", "(*"].iter().any(|mark| text.starts_with(mark.as_bytes())) {
         return Some((spaces, "a comment is found; the text has no comments, take it out".to_string()));
     }
     (spaces > 0).then(|| (0, "a space is found in front; take the indentation out".to_string()))
@@ -132,15 +141,15 @@ fn of_rule(line: &[u8]) -> Option<Found> {
     let symbols = words(line, colon + 1, |byte| *byte == b' ');
     let front = symbols[0];
     match front.bytes {
-        [] => symbols[1..].iter().find_map(|symbol| of_symbol(line, *symbol)),
+        [] => symbols[1..].iter().find_map(|symbol| of_symbol(line, left, *symbol)),
         [b':' | b'=', ..] => Some((front.at, format!("{} is found behind the colon; {EXAMPLE}", shown(front.bytes[0])))),
         _ => Some((front.at, format!("{} is found behind the colon, where a space belongs; {EXAMPLE}", shown(front.bytes[0])))),
     }
 }
 
-fn of_symbol(line: &[u8], symbol: Word) -> Option<Found> {
+fn of_symbol(line: &[u8], left: Word, symbol: Word) -> Option<Found> {
     if !symbol.bytes.is_empty() {
-        return of_name(symbol, "symbols are parted by one space");
+        return of_notation(left, symbol).or_else(|| of_name(symbol, "symbols are parted by one space"));
     }
     let message = if line[symbol.at - 1..].iter().all(|byte| *byte == b' ') {
         "a space is found at the line's end; take it out"
@@ -148,6 +157,52 @@ fn of_symbol(line: &[u8], symbol: Word) -> Option<Found> {
         "two spaces are found; one space stands before each symbol"
     };
     Some((symbol.at - 1, message.to_string()))
+}
+
+/// Notation of other grammars on a right side: what it is written as here.
+fn of_notation(left: Word, symbol: Word) -> Option<Found> {
+    let (text, left) = (String::from_utf8_lossy(symbol.bytes), left.bytes.escape_ascii());
+    let at = |mark: &str| text.find(mark).map(|place| symbol.at + place);
+    if ["#", "//", "/*"].iter().any(|mark| text.starts_with(mark)) {
+        return Some((symbol.at, "a comment is found; the text has no comments, take it out".to_string()));
+    }
+    if EMPTY_MARKS.contains(&&text[..]) {
+        return Some((symbol.at, format!("'{text}' is found; for an empty right side write 'rule={left}:'")));
+    }
+    if text.ends_with(';') {
+        let place = symbol.at + text.len() - 1;
+        return Some((place, "';' is found; a rule ends with its line, take it out".to_string()));
+    }
+    let repeated = "for a repetition write two rules, as 'rule=Cs:' and 'rule=Cs: Cs C'";
+    let (place, what) = at("*").map(|place| (place, repeated)).or_else(|| {
+        let once = at("+").map(|place| (place, "for one or more write two rules, as 'rule=Cs: C' and 'rule=Cs: Cs C'"));
+        let option = at("?").or(at("[")).or(at("]"));
+        let option = option.map(|place| (place, "for an option write two rules, one with it and one without"));
+        let braces = at("{").or(at("}")).map(|place| (place, repeated));
+        let group = at("(").or(at(")")).map(|place| (place, "give what is in brackets a nonterminal and rules of its own"));
+        let range = at("..").map(|place| (place, "write a rule line for each of the range"));
+        once.or(option).or(braces).or(group).or(range)
+    })?;
+    let mark = symbol.bytes[place - symbol.at];
+    Some((place, format!("{} is found in {}; {what}", shown(mark), symbol.quoted())))
+}
+
+/// Words for nothing in other notations that are no names here.
+const EMPTY_MARKS: [&str; 6] = ["%empty", "ε", "ϵ", "λ", "∅", "/*empty*/"];
+
+/// A character that is not ASCII, and what to write instead.
+fn of_character(name: Word, place: usize) -> String {
+    let text = String::from_utf8_lossy(&name.bytes[place..]).into_owned();
+    let character = text.chars().next().unwrap_or('\u{FFFD}');
+    let name = match character {
+        '\u{A0}' | '\u{202F}' | '\u{2007}' => return "a no-break space is found; put a plain space in its place".to_string(),
+        '\u{2010}'..='\u{2015}' | '\u{2212}' => return format!("'{character}' is found, a dash that is not ASCII; write '-'"),
+        '\u{2018}'..='\u{201F}' => return format!("'{character}' is found; names are written without quotes"),
+        '\u{FFFD}' => return format!("byte {} is found, which is not ASCII; {NAME} of ASCII", name.bytes[place]),
+        character if character.escape_debug().count() > 1 => format!("U+{:04X}", character as u32),
+        character => format!("'{character}'"),
+    };
+    format!("{name} is found, which is not ASCII; {NAME} of ASCII")
 }
 
 /// The first byte of a name that does not belong there, or a name that is too long.
@@ -165,7 +220,7 @@ fn of_name(name: Word, on_space: &str) -> Option<Found> {
         b'>' if name.bytes[..place].ends_with(b"-") => format!("'->' is found; {EXAMPLE}"),
         b'_' => format!("'_' is found in {}; {NAME}: write '-'", name.quoted()),
         b'"' | b'\'' => format!("{} is found; names are written without quotes", shown(byte)),
-        128.. => format!("byte {byte} is found, which is not ASCII; {NAME} of ASCII"),
+        128.. => of_character(name, place),
         _ => format!("{} is found in {}; {NAME}", shown(byte), name.quoted()),
     };
     Some((name.at + place, message))

@@ -2,8 +2,9 @@
 //! text is looked at only to put it into words.
 
 mod endless;
+pub mod foreign;
 mod malformed;
-mod nearest;
+pub mod nearest;
 mod strings;
 
 use ambiguity::{Cause, Refusal, MAX_NONTERMINALS, MAX_RULES, MAX_STATES, MAX_TERMINALS, MAX_TEXT_BYTES};
@@ -63,7 +64,7 @@ pub fn of(text: &[u8], refusal: Refusal) -> Finding {
     let (line, (place, message)) = match refusal.cause {
         Cause::Malformed if at == 0 => return too_long(text),
         Cause::Malformed => (at, malformed::found(text, at)),
-        Cause::NameUnknown => (at, unknown_name(&lines, at)),
+        Cause::NameUnknown => (at, unknown_name(&lines, at).unwrap_or_else(|| (0, "a name is not declared".to_string()))),
         Cause::NameRepeated => (at, repeated_name(&lines, at)),
         Cause::OutOfRange => (at, too_many_names(&lines, at)),
         Cause::RuleTooLong => (at, too_many_symbols(lines[at - 1])),
@@ -71,6 +72,35 @@ pub fn of(text: &[u8], refusal: Refusal) -> Finding {
         cause => of_rule(&lines, cause, at),
     };
     Finding { line, column: place + 1, message }
+}
+
+/// Messages beside the first one.
+const MOST_BESIDE: usize = 19;
+
+/// What else is wrong with the text behind the line that was refused, line by line. A message that came before is not repeated.
+pub fn beside(text: &[u8], refusal: Refusal) -> Vec<Finding> {
+    let first = of(text, refusal);
+    let whole: Vec<&[u8]> = text.split_inclusive(|byte| *byte == b'\n').collect();
+    let by_line = matches!(refusal.cause, Cause::Malformed | Cause::NameUnknown | Cause::NameRepeated | Cause::RuleTooLong);
+    // Where the lists do not stand in their lines, every later line looks wrong.
+    let begun = (1..=LISTS).all(|number| whole.get(number - 1).is_some_and(|line| line.starts_with(key(number).as_bytes())));
+    if refusal.at == 0 || !by_line || !begun {
+        return Vec::new();
+    }
+    let bare: Vec<&[u8]> = text.split(|byte| *byte == b'\n').collect();
+    let fault = |number: usize| malformed::of_line(whole[number - 1], number, number == whole.len());
+    let lists_hold = whole.len() >= LISTS && (1..=LISTS).all(|number| fault(number).is_none());
+    let mut messages = vec![first.message];
+    let mut findings = Vec::new();
+    for number in refusal.at + 1..=whole.len() {
+        let unknown = || (lists_hold && number > LISTS).then(|| unknown_name(&bare, number)).flatten();
+        let Some((place, message)) = fault(number).or_else(unknown) else { continue };
+        if !messages.contains(&message) && findings.len() < MOST_BESIDE {
+            messages.push(message.clone());
+            findings.push(Finding { line: number, column: place + 1, message });
+        }
+    }
+    findings
 }
 
 /// Place and message.
@@ -103,22 +133,31 @@ fn is_among(names: &[Word], word: &Word) -> bool {
     names.iter().any(|name| name.bytes == word.bytes)
 }
 
-fn unknown_name(lines: &[&[u8]], number: usize) -> Found {
+/// Words for nothing in other notations that are names here.
+const EMPTY_WORDS: [&str; 6] = ["epsilon", "eps", "empty", "lambda", "nothing", "none"];
+
+/// The first name of a rule's line that is not declared, or a left name that is a terminal's.
+fn unknown_name(lines: &[&[u8]], number: usize) -> Option<Found> {
     let (terminals, nonterminals) = (declared(lines, 1), declared(lines, 2));
     let words = rule_words(lines[number - 1]);
-    let Some(left) = words.first() else { return (0, "a name is not declared".to_string()) };
+    let left = words.first()?;
     if is_among(&terminals, left) {
         let message = format!("{} is a terminal, declared on line 1; only a nonterminal has rules", left.quoted());
-        return (left.at, message);
+        return Some((left.at, message));
     }
-    let unknown = words.iter().find(|word| !is_among(&terminals, word) && !is_among(&nonterminals, word)).unwrap_or(left);
+    let unknown = words.iter().find(|word| !is_among(&terminals, word) && !is_among(&nonterminals, word))?;
+    let is_empty = |word: &&str| unknown.bytes.eq_ignore_ascii_case(word.as_bytes());
+    if words.len() == 2 && unknown.at != left.at && EMPTY_WORDS.iter().any(is_empty) {
+        let remedy = format!("for an empty right side write 'rule={}:'", left.bytes.escape_ascii());
+        return Some((unknown.at, format!("{} is not declared; {remedy}", unknown.quoted())));
+    }
     let names = if unknown.at == left.at { nonterminals } else { [terminals, nonterminals].concat() };
     let remedy = match nearest::nearest(unknown.bytes, names.iter().map(|name| name.bytes)) {
         Some(place) => format!("is {} meant?", names[place].quoted()),
         None if unknown.at == left.at => "add it to the nonterminals on line 2".to_string(),
         None => "add it to the terminals on line 1 or to the nonterminals on line 2".to_string(),
     };
-    (unknown.at, format!("{} is not declared; {remedy}", unknown.quoted()))
+    Some((unknown.at, format!("{} is not declared; {remedy}", unknown.quoted())))
 }
 
 fn repeated_name(lines: &[&[u8]], number: usize) -> Found {

@@ -1,6 +1,6 @@
 //! A line of a certificate, read from the left.
 
-use super::{digits, remainder, Certificate, Form, Malformed};
+use super::{digits, remainder, Certificate, Form, Malformed, Part};
 
 /// What is still to be read of a line.
 pub struct Line<'a> {
@@ -14,27 +14,42 @@ impl Line<'_> {
         Err(Malformed { line: self.line, column: self.column, message: message.into() })
     }
 
-    fn pass(&mut self, bytes: usize) {
+    /// What stands here, in words.
+    fn found(&self) -> String {
+        match self.rest {
+            [] => "the line ends".to_string(),
+            [b' ', ..] => "a space is found".to_string(),
+            [byte, ..] if byte.is_ascii_graphic() => format!("'{}' is found", *byte as char),
+            [byte, ..] if byte.is_ascii() => format!("byte {byte} is found"),
+            rest => match String::from_utf8_lossy(rest).chars().next() {
+                Some('\u{A0}') => "a no-break space is found".to_string(),
+                Some(letter) if letter.is_alphanumeric() => format!("'{letter}' is found"),
+                _ => format!("byte {} is found", rest[0]),
+            },
+        }
+    }
+
+    pub fn pass(&mut self, bytes: usize) {
         self.rest = &self.rest[bytes..];
         self.column += bytes;
     }
 
     /// Passes these bytes; the fault is at the first that differs.
-    fn literal(&mut self, bytes: &str) -> Result<(), Malformed> {
+    pub fn literal(&mut self, bytes: &str) -> Result<(), Malformed> {
         for byte in bytes.bytes() {
             if self.rest.first() != Some(&byte) {
-                return self.fault(format!("'{bytes}' is expected"));
+                return self.fault(format!("'{bytes}' is expected, and {}", self.found()));
             }
             self.pass(1);
         }
         Ok(())
     }
 
-    fn end(&self) -> Result<(), Malformed> {
+    pub fn end(&self) -> Result<(), Malformed> {
         if self.rest.is_empty() {
             return Ok(());
         }
-        self.fault("the line is to end here")
+        self.fault(format!("the line is to end here, and {}", self.found()))
     }
 
     /// The number of a line with a key and a number.
@@ -51,24 +66,38 @@ impl Line<'_> {
         }
     }
 
-    /// A line with a key and this number; what is said of another ends with it.
-    pub fn known(&mut self, key: &str, number: usize, message: &str) -> Result<(), Malformed> {
-        if self.number(key)? != number {
-            return self.fault(format!("{message} {number}"));
+    /// A line with a key and this number, which is the grammar's.
+    pub fn known(&mut self, key: &str, number: usize) -> Result<(), Malformed> {
+        let found = self.number(key)?;
+        if found != number {
+            let other = "is it the certificate of another grammar?";
+            return self.fault(format!("{found} is found, and by the grammar this number is {number}: {other}"));
         }
         Ok(())
     }
 
     pub fn form(&mut self) -> Result<Form, Malformed> {
+        if self.rest.starts_with(b"terminals=") {
+            return self.fault("'certificate-form=' is expected; this is a grammar's text, and no certificate");
+        }
         match self.number("certificate-form=")? {
             1 => Ok(Form::Plain),
             2 => Ok(Form::Checked),
-            _ => self.fault("this program reads the forms 1 and 2"),
+            3 => Ok(Form::Runs),
+            _ => self.fault("this program reads the forms 1, 2 and 3"),
+        }
+    }
+
+    /// A line of bytes, or of bytes and runs, put to its place.
+    pub fn part(&mut self, certificate: &mut Certificate) -> Result<(), Malformed> {
+        match certificate.form {
+            Form::Runs => self.runs(certificate),
+            Form::Plain | Form::Checked => self.bytes(certificate),
         }
     }
 
     /// A line of bytes, put to its place.
-    pub fn bytes(&mut self, certificate: &mut Certificate) -> Result<(), Malformed> {
+    fn bytes(&mut self, certificate: &mut Certificate) -> Result<(), Malformed> {
         let (form, next, length) = (certificate.form, certificate.next(), certificate.bytes.len());
         if next >= length {
             return self.fault(format!("the certificate has {length} bytes: nothing is expected here"));
@@ -78,9 +107,10 @@ impl Line<'_> {
                 self.offset(next)?;
                 next
             }
-            Form::Checked => self.any_offset(form.on_a_line(), length)?,
+            _ => self.any_offset(form.on_a_line(), length)?,
         };
         let mut bytes = Vec::new();
+        let first = self.column + 1;
         for _ in 0..form.on_a_line().min(length - offset) {
             self.not_checked(form)?;
             self.literal(" ")?;
@@ -88,21 +118,30 @@ impl Line<'_> {
         }
         self.not_checked(form)?;
         if form == Form::Checked {
-            self.check(remainder(digits(offset, &bytes)))?;
+            self.check(remainder(digits(offset, &bytes), 16))?;
         }
         self.end()?;
         if offset < next {
-            self.column = 1;
-            return self.fault("this line stands behind one with the same or a larger offset");
+            return self.misplaced();
         }
         certificate.bytes[offset..offset + bytes.len()].copy_from_slice(&bytes);
-        certificate.lines.push((offset, self.line));
+        let part =
+            |place: usize| Part { start: offset + place, end: offset + place + 1, line: self.line, column: first + 3 * place };
+        certificate.parts.extend((0..bytes.len()).map(part));
         Ok(())
     }
 
-    fn digit(&mut self) -> Result<u8, Malformed> {
+    /// The fault of a line that stands too late.
+    pub fn misplaced<T>(&mut self) -> Result<T, Malformed> {
+        self.column = 1;
+        self.fault("this line stands behind one with the same or a larger offset")
+    }
+
+    pub fn digit(&mut self) -> Result<u8, Malformed> {
         let digit = self.rest.first().and_then(|byte| (*byte as char).to_digit(16));
-        let Some(digit) = digit else { return self.fault("a hexadecimal digit is expected, 0 to 9 or a to f") };
+        let Some(digit) = digit else {
+            return self.fault(format!("a hexadecimal digit is expected, 0 to 9 or a to f, and {}", self.found()));
+        };
         self.pass(1);
         Ok(digit as u8)
     }
@@ -135,7 +174,7 @@ impl Line<'_> {
     }
 
     /// Passes check digits, which are to be these.
-    fn check(&mut self, expected: usize) -> Result<(), Malformed> {
+    pub fn check(&mut self, expected: usize) -> Result<(), Malformed> {
         self.literal(" *")?;
         let start = Line { rest: self.rest, ..*self };
         let found = 16 * self.digit()? as usize + self.digit()? as usize;

@@ -1,24 +1,27 @@
-//! A certificate as lines, written and read. bindings/README.md has the two forms.
+//! A certificate as lines, written and read. bindings/README.md has the three forms.
 
 mod line;
+mod runs;
 
 use ambiguity::Grammar;
 
 use line::Line;
 
-/// The forms. Form 2 has check digits at each line's end, and leaves lines out whose bytes are all 0.
+/// The forms. Form 2 has check digits at each line's end, and leaves lines out whose bytes are all 0; form 3 writes runs of zeros by
+/// their length too.
 #[derive(Clone, Copy, Debug, PartialEq, Eq)]
 pub enum Form {
     Plain = 1,
     Checked = 2,
+    Runs = 3,
 }
 
 impl Form {
-    /// Bytes of the certificate on a line.
+    /// Bytes of the certificate on a line; in form 3 bytes and runs.
     fn on_a_line(self) -> usize {
         match self {
             Form::Plain => 32,
-            Form::Checked => 16,
+            Form::Checked | Form::Runs => 16,
         }
     }
 }
@@ -30,9 +33,9 @@ const CHECK: usize = 251;
 /// More than any certificate has as lines, with line ends of two bytes.
 pub const MOST_BYTES: usize = 65_536;
 
-/// The remainder of a row of hexadecimal digits, read as one number.
-fn remainder(digits: impl Iterator<Item = u8>) -> usize {
-    digits.fold(0, |rest, digit| (16 * rest + digit as usize) % CHECK)
+/// The remainder of a row of digits, read as one number to a base.
+fn remainder(digits: impl Iterator<Item = u8>, base: usize) -> usize {
+    digits.fold(0, |rest, digit| (base * rest + digit as usize) % CHECK)
 }
 
 /// The hexadecimal digits of a line: four of the offset, two of each byte.
@@ -44,7 +47,11 @@ fn digits(offset: usize, bytes: &[u8]) -> impl Iterator<Item = u8> + '_ {
 /// The lines of a certificate that holds so many triples.
 pub fn written(grammar: &Grammar, size: usize, certificate: &[u8], form: Form) -> String {
     let (states, rules) = (grammar.states(), grammar.rules().len());
-    let mut lines = format!("certificate-form={}\nstates={states}\nrules={rules}\nsize={size}\n", form as usize);
+    let head = format!("certificate-form={}\nstates={states}\nrules={rules}\nsize={size}\n", form as usize);
+    if form == Form::Runs {
+        return head + &runs::written(certificate);
+    }
+    let mut lines = head;
     for (i, bytes) in certificate.chunks(form.on_a_line()).enumerate() {
         if form == Form::Checked && bytes.iter().all(|byte| *byte == 0) {
             continue;
@@ -52,8 +59,8 @@ pub fn written(grammar: &Grammar, size: usize, certificate: &[u8], form: Form) -
         let offset = i * form.on_a_line();
         let shown: String = bytes.iter().map(|byte| format!(" {byte:02x}")).collect();
         let check = match form {
-            Form::Plain => String::new(),
-            Form::Checked => format!(" *{:02x}", remainder(digits(offset, bytes))),
+            Form::Checked => format!(" *{:02x}", remainder(digits(offset, bytes), 16)),
+            _ => String::new(),
         };
         lines.push_str(&format!("{offset:04x}:{shown}{check}\n"));
     }
@@ -68,62 +75,125 @@ pub struct Malformed {
     pub message: String,
 }
 
+/// A byte, or a run of zeros, and where it stands.
+#[derive(Debug)]
+struct Part {
+    start: usize,
+    end: usize,
+    line: usize,
+    column: usize,
+}
+
 /// A certificate that was read.
 #[derive(Debug)]
 pub struct Certificate {
     pub bytes: Vec<u8>,
     form: Form,
-    /// The offsets that have lines, in order, each with its line.
-    lines: Vec<(usize, usize)>,
+    /// What the lines hold, in order.
+    parts: Vec<Part>,
 }
 
 impl Certificate {
-    /// Line and column of a byte; if its line was left out, those of the next line.
+    /// Line and column of a byte; if it was left out, the line of the next one.
     pub fn place(&self, byte: usize) -> (usize, usize) {
-        let on_a_line = self.form.on_a_line();
-        let here = self.lines.iter().find(|(offset, _)| byte < offset + on_a_line);
-        match here.or(self.lines.last()) {
-            Some((offset, line)) if (*offset..offset + on_a_line).contains(&byte) => (*line, 7 + 3 * (byte - offset)),
-            Some((_, line)) => (*line, 1),
+        match self.parts.iter().find(|part| byte < part.end).or(self.parts.last()) {
+            Some(part) if (part.start..part.end).contains(&byte) => (part.line, part.column),
+            Some(part) => (part.line, 1),
             None => (HEAD, 1),
         }
     }
 
     /// The least offset that the next line may have.
     fn next(&self) -> usize {
-        self.lines.last().map_or(0, |(offset, _)| offset + self.form.on_a_line())
+        self.parts.last().map_or(0, |part| part.end)
     }
 }
 
 /// Lines in front of the bytes.
 const HEAD: usize = 4;
 
-/// The bytes that the lines give, if they are lines of this grammar. Digits of either case, line ends with byte 13 and blank lines
-/// at the end are read too.
-pub fn read(grammar: &Grammar, text: &[u8]) -> Result<Certificate, Malformed> {
+/// Faults that are told at once.
+const MOST_FAULTS: usize = 20;
+
+/// The bytes that the lines give, if they are lines of this grammar; else the faults, in the order of their lines. Digits of either
+/// case, line ends with byte 13, a byte-order mark and blank lines at the end are read too, in forms 2 and 3 blank lines anywhere
+/// behind the head.
+pub fn read(grammar: &Grammar, text: &[u8]) -> Result<Certificate, Vec<Malformed>> {
+    let text = text.strip_prefix(b"\xEF\xBB\xBF").unwrap_or(text);
     let mut lines: Vec<&[u8]> =
         text.split(|byte| *byte == b'\n').map(|line| line.strip_suffix(b"\r").unwrap_or(line)).collect();
     while lines.last().is_some_and(|line| line.is_empty()) {
         lines.pop();
     }
-    let line = |number: usize| Line { rest: lines.get(number - 1).copied().unwrap_or_default(), line: number, column: 1 };
-    let form = line(1).form()?;
-    let by_grammar = "by the grammar this number is";
-    line(2).known("states=", grammar.states(), by_grammar)?;
-    line(3).known("rules=", grammar.rules().len(), by_grammar)?;
-    let size = line(HEAD).number("size=")?;
-    let mut certificate = Certificate { bytes: vec![0; grammar.room().certificate], form, lines: Vec::new() };
+    let (mut certificate, size) = head(grammar, &lines).map_err(|fault| vec![fault])?;
+    let mut faults = Vec::new();
     for number in HEAD + 1..=lines.len() {
-        line(number).bytes(&mut certificate)?;
+        if lines[number - 1].is_empty() && certificate.form != Form::Plain {
+            continue;
+        }
+        if let Err(fault) = line(&lines, number).part(&mut certificate) {
+            if certificate.parts.is_empty() && faults.is_empty() {
+                if let Some(other) = other_form(&certificate, &lines, number) {
+                    return Err(vec![other]);
+                }
+            }
+            faults.push(fault);
+            // Without check digits a wrong line makes the next ones look wrong; a later line may be the first line's fault.
+            if certificate.form == Form::Plain || faults.len() == MOST_FAULTS {
+                break;
+            }
+        }
     }
-    if form == Form::Plain && certificate.next() < certificate.bytes.len() {
-        return line(lines.len() + 1).fault(format!("'{:04x}:' is expected", certificate.next()));
+    if faults.is_empty() {
+        faults.extend(end(&certificate, lines.len(), size));
+    }
+    if faults.is_empty() {
+        Ok(certificate)
+    } else {
+        Err(faults)
+    }
+}
+
+/// The fault of the form's number, if the first line of bytes is good in another form.
+fn other_form(certificate: &Certificate, lines: &[&[u8]], number: usize) -> Option<Malformed> {
+    let forms = [Form::Checked, Form::Runs].into_iter().filter(|form| *form != certificate.form);
+    let is_good = |form: &Form| {
+        let mut other = Certificate { bytes: certificate.bytes.clone(), form: *form, parts: Vec::new() };
+        line(lines, number).part(&mut other).is_ok()
+    };
+    let form = forms.into_iter().find(is_good)? as usize;
+    let message = format!("form {} is found, but line {number} has form {form}", certificate.form as usize);
+    (certificate.form != Form::Plain || form == Form::Runs as usize).then(|| Malformed {
+        line: 1,
+        column: "certificate-form=".len() + 1,
+        message,
+    })
+}
+
+/// A line, empty where there is none.
+fn line<'a>(lines: &[&'a [u8]], number: usize) -> Line<'a> {
+    Line { rest: lines.get(number - 1).copied().unwrap_or_default(), line: number, column: 1 }
+}
+
+/// The certificate without bytes, and its size.
+fn head(grammar: &Grammar, lines: &[&[u8]]) -> Result<(Certificate, usize), Malformed> {
+    let form = line(lines, 1).form()?;
+    line(lines, 2).known("states=", grammar.states())?;
+    line(lines, 3).known("rules=", grammar.rules().len())?;
+    let size = line(lines, HEAD).number("size=")?;
+    Ok((Certificate { bytes: vec![0; grammar.room().certificate], form, parts: Vec::new() }, size))
+}
+
+/// What is wrong when all lines were read.
+fn end(certificate: &Certificate, lines: usize, size: usize) -> Option<Malformed> {
+    let fault = |line, column, message| Some(Malformed { line, column, message });
+    if certificate.form == Form::Plain && certificate.next() < certificate.bytes.len() {
+        return fault(lines + 1, 1, format!("'{:04x}:' is expected", certificate.next()));
     }
     let set = certificate.bytes.iter().map(|byte| byte.count_ones() as usize).sum::<usize>();
-    if set != size {
-        let place = Line { rest: b"", line: HEAD, column: "size=".len() + 1 };
-        return place
-            .fault(format!("the number of bits that are set below is {set}: this number is wrong, or lines are missing"));
+    if set == size {
+        return None;
     }
-    Ok(certificate)
+    let message = format!("the number of bits that are set below is {set}: this number is wrong, or lines are missing");
+    fault(HEAD, "size=".len() + 1, message)
 }

@@ -15,8 +15,8 @@ pub struct Distances {
 type Triple = (usize, State, State);
 
 impl Distances {
-    /// Breadth first, backwards from (1,1,1).
-    pub fn new(items: &Items) -> Distances {
+    /// Breadth first, backwards from (1,1,1), without the partings of known pairs of rules.
+    pub fn new(items: &Items, known: &[(usize, usize)]) -> Distances {
         let states = items.states();
         let row = || vec![FAR; states * states];
         let mut distances = Distances { states, layers: [row(), row()] };
@@ -27,7 +27,7 @@ impl Distances {
             let (layer, left, right) = triple;
             let distance = distances.layers[layer][left * states + right] + 1;
             let mut put = |triple| distances.put(&mut queue, triple, distance);
-            before_one_side(items, triple, &mut put);
+            before_one_side(items, known, triple, &mut put);
             if let (Some((left, passed)), Some((right, same))) = (items.shifter(left), items.shifter(right)) {
                 if passed == same {
                     put((layer, left, right));
@@ -37,8 +37,11 @@ impl Distances {
             let returned = items.returned(left).zip(items.returned(right));
             if let Some((on_left, on_right)) = returned.filter(|pair| layer == 1 && closed.insert(*pair)) {
                 for left in items.ends(on_left) {
-                    for right in items.ends(on_right).iter().filter(|right| items.rule(**right) != items.rule(*left)) {
-                        put((0, *left, *right));
+                    for right in items.ends(on_right) {
+                        let rules = items.rules(*left, *right);
+                        if rules.0 != rules.1 && !known.contains(&rules) {
+                            put((0, *left, *right));
+                        }
                     }
                 }
             }
@@ -62,7 +65,7 @@ impl Distances {
 }
 
 /// The triples from which a move of one side alone leads to this one: an opening, or in layer 1 a closing.
-fn before_one_side(items: &Items, (layer, left, right): Triple, put: &mut impl FnMut(Triple)) {
+fn before_one_side(items: &Items, known: &[(usize, usize)], (layer, left, right): Triple, put: &mut impl FnMut(Triple)) {
     for mirrored in [false, true] {
         let (moved, other) = if mirrored { (right, left) } else { (left, right) };
         let mut from = |layer, state| put(if mirrored { (layer, other, state) } else { (layer, state, other) });
@@ -72,7 +75,7 @@ fn before_one_side(items: &Items, (layer, left, right): Triple, put: &mut impl F
         if let Some(nonterminal) = items.returned(moved).filter(|_| layer == 1) {
             for state in items.ends(nonterminal) {
                 from(1, *state);
-                if items.before_terminal(other) {
+                if items.before_terminal(other) && !known.contains(&items.rules(*state, other)) {
                     from(0, *state);
                 }
             }

@@ -9,11 +9,11 @@ use crate::tree::{Node, Tree};
 /// Nodes of a tree that is shown.
 const MOST_NODES: usize = 4_000;
 
-/// Two trees that were found, finished. Where one is the start standing for itself, a rule is applied to it in both. Leaves that
+/// Two trees that were found, finished. Where one is the root standing for itself, a rule is applied to it in both. Leaves that
 /// have the empty sentence alone get their subtrees, and what both trees have in common is folded. None if they get too large.
-pub fn finished(grammar: &Grammar, mut left: Tree, mut right: Tree) -> Option<(Tree, Tree)> {
-    if [&left, &right].iter().any(|tree| tree[..] == [Node::Leaf(START)]) {
-        let rule = plainest_rule(grammar);
+pub fn finished(grammar: &Grammar, root: Code, mut left: Tree, mut right: Tree) -> Option<(Tree, Tree)> {
+    if [&left, &right].iter().any(|tree| tree[..] == [Node::Leaf(root)]) {
+        let rule = plainest_rule(grammar, root);
         left = with_rule(grammar, &left, rule);
         right = with_rule(grammar, &right, rule);
     }
@@ -60,19 +60,20 @@ fn empty_rules(grammar: &Grammar) -> Vec<Option<usize>> {
     }
 }
 
-/// The live rule of the start with the fewest nonterminals, then the shortest one.
-fn plainest_rule(grammar: &Grammar) -> usize {
-    let live = holes::live_rules(grammar);
-    let rules = grammar.rules().iter().enumerate().filter(|(place, rule)| live[*place] && rule.left == START);
+/// The live rule of the root with the fewest nonterminals, then the shortest one.
+fn plainest_rule(grammar: &Grammar, root: Code) -> usize {
+    let live = holes::rules_under(grammar, root);
+    let rules = grammar.rules().iter().enumerate().filter(|(place, rule)| live[*place] && rule.left == root);
     let nonterminals = |row: &[Code]| row.iter().filter(|code| **code >= START).count();
     let least = rules.min_by_key(|(_, rule)| (nonterminals(&rule.right), rule.right.len()));
-    least.expect("a start that was passed has a tree").0 + 1
+    least.expect("a root that was passed has a tree").0 + 1
 }
 
-/// The tree with a rule applied to the first leaf that is the start.
+/// The tree with a rule applied to the first leaf that is its left side.
 fn with_rule(grammar: &Grammar, tree: &[Node], rule: usize) -> Tree {
     let applied = std::iter::once(Node::Rule(rule)).chain(grammar.rules()[rule - 1].right.iter().map(|code| Node::Leaf(*code)));
-    let place = tree.iter().position(|node| *node == Node::Leaf(START)).expect("the row is the start alone");
+    let root = Node::Leaf(grammar.rules()[rule - 1].left);
+    let place = tree.iter().position(|node| *node == root).expect("the row is the root alone");
     let mut tree = tree.to_vec();
     tree.splice(place..=place, applied);
     tree

@@ -39,13 +39,13 @@ pub struct Items {
 }
 
 impl Items {
-    /// The items of the rules that some sentence uses; rule 0 is one of them, for a grammar that was read has a sentence.
-    pub fn new(grammar: &Grammar) -> Items {
-        let live = holes::live_rules(grammar);
+    /// The items of the rules that finite trees with this root use; rule 0 leads to the root.
+    pub fn new(grammar: &Grammar, root: Code) -> Items {
+        let live = holes::rules_under(grammar, root);
         let by_code = || vec![Vec::new(); CODES];
         let visible = holes::visible(grammar);
         let mut items = Items { items: vec![None; FIRST], openings: by_code(), ends: by_code(), callers: by_code(), visible };
-        items.add(0, PRIMED, &[START], true);
+        items.add(0, PRIMED, &[root], true);
         for (place, rule) in grammar.rules().iter().enumerate() {
             items.add(place + 1, rule.left, &rule.right, live[place]);
         }
@@ -75,6 +75,12 @@ impl Items {
     /// The number of a live item's rule.
     pub fn rule(&self, state: State) -> usize {
         self.items[state].expect("a live item").rule
+    }
+
+    /// The rules of two live items, the smaller number first.
+    pub fn rules(&self, one: State, other: State) -> (usize, usize) {
+        let (one, other) = (self.rule(one), self.rule(other));
+        (one.min(other), one.max(other))
     }
 
     /// The symbols behind the dot.
@@ -142,7 +148,7 @@ mod tests {
     #[test]
     fn numbered_as_the_states() {
         let text = b"terminals=a\nnonterminals=S,U\nrule=S: a S\nrule=U: S\nrule=S:\n";
-        let items = Items::new(&Grammar::read(text).unwrap());
+        let items = Items::new(&Grammar::read(text).unwrap(), START);
         assert_eq!(items.states(), 10);
         assert_eq!((items.opened(FIRST), items.opened(5)), (&[4, 9][..], &[4, 9][..]));
         assert_eq!((items.openers(4), items.ends(START), items.ends(PRIMED)), (&[FIRST, 5][..], &[6, 9][..], &[FIRST + 1][..]));

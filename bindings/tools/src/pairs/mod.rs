@@ -2,6 +2,16 @@
 //!
 //! A stack holds the items of the rules that are open, so its closings return to where they were opened: each side is a walk through
 //! a real tree. The search is deterministic, and bounded by the pairs that it keeps and by the moves that it tries.
+//!
+//! ```
+//! use ambig_tools::pairs::{look, Limits, Outcome};
+//!
+//! let text = b"terminals=a\nnonterminals=S\nrule=S: S S\nrule=S: a\n";
+//! let grammar = ambiguity::Grammar::read(text).unwrap();
+//! let Outcome::Two { row, left, right, .. } = look(&grammar, Limits::default()) else { panic!("it is ambiguous") };
+//! assert_eq!(row.len(), 3);
+//! assert_ne!(left, right);
+//! ```
 
 mod distances;
 mod finishing;
@@ -10,8 +20,9 @@ mod items;
 mod search;
 mod stacks;
 
-use ambiguity::{Code, Grammar};
+use ambiguity::{Code, Grammar, START};
 
+use crate::holes;
 use crate::tree::{self, Tree};
 use items::Items;
 pub use search::Limits;
@@ -19,8 +30,9 @@ pub use search::Limits;
 /// What was found.
 #[derive(Debug, PartialEq, Eq)]
 pub enum Outcome {
-    /// Two different trees with this row.
-    Two { row: Vec<Code>, left: Tree, right: Tree },
+    /// Two different trees of this root with this row. The root is the start, or stands in a tree of some sentence. `rules` are those
+    /// at which the walks through the trees part.
+    Two { root: Code, row: Vec<Code>, left: Tree, right: Tree, rules: (usize, usize) },
     /// No two trees.
     NotFound(Extent),
 }
@@ -36,15 +48,29 @@ pub enum Extent {
     Limit { pairs: usize, moves: usize },
 }
 
-/// Looks for two trees. Those that are found are shown only if the check confirms them.
+/// Looks for two trees of the start; where the limits are met, also for two trees of each other nonterminal that some sentence uses,
+/// which share the limits once more.
 pub fn look(grammar: &Grammar, limits: Limits) -> Outcome {
-    let found = match search::search(&Items::new(grammar), limits) {
-        Ok((left, right)) => finishing::finished(grammar, left, right),
+    let found = look_from(grammar, START, limits, &[]);
+    if matches!(found, Outcome::Two { .. } | Outcome::NotFound(Extent::All { .. })) {
+        return found;
+    }
+    let others = holes::other_live(grammar);
+    let share = Limits { pairs: limits.pairs / others.len().max(1), moves: limits.moves / others.len().max(1) };
+    let mut elsewhere = others.iter().map(|root| look_from(grammar, *root, share, &[]));
+    elsewhere.find(|outcome| matches!(outcome, Outcome::Two { .. })).unwrap_or(found)
+}
+
+/// Looks for two trees of one root that do not part between two known rules. Those that are found are shown only if the check
+/// confirms them.
+pub fn look_from(grammar: &Grammar, root: Code, limits: Limits, known: &[(usize, usize)]) -> Outcome {
+    let found = match search::search(&Items::new(grammar, root), limits, known) {
+        Ok((left, right, rules)) => finishing::finished(grammar, root, left, right).map(|trees| (trees, rules)),
         Err(extent) => return Outcome::NotFound(extent),
     };
-    let confirmed = found.and_then(|(left, right)| Some((tree::common_row(grammar, &left, &right).ok()?, left, right)));
-    match confirmed {
-        Some((row, left, right)) => Outcome::Two { row, left, right },
+    let row = |trees: &(Tree, Tree)| tree::common_row(grammar, root, &trees.0, &trees.1).ok();
+    match found.and_then(|(trees, rules)| Some((row(&trees)?, trees, rules))) {
+        Some((row, (left, right), rules)) => Outcome::Two { root, row, left, right, rules },
         None => Outcome::NotFound(Extent::Unconfirmed),
     }
 }

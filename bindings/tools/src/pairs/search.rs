@@ -67,13 +67,24 @@ struct Search<'a> {
     /// By cost and distance together the pairs to be taken up, the latest first.
     queue: Vec<Vec<u32>>,
     tried: usize,
+    limits: Limits,
+    /// Whether a pair had to be left out.
+    full: bool,
+    /// Pairs of rules that may not part.
+    known: &'a [(usize, usize)],
 }
 
-/// The two trees of a cheapest pair of walks, or how far the search looked.
-pub fn search(items: &Items, limits: Limits) -> Result<(Tree, Tree), Extent> {
+/// Two trees, and the two rules at which their walks part, the smaller number first.
+pub type Parted = (Tree, Tree, (usize, usize));
+
+/// The two trees of a cheapest pair of walks that do not part between known rules, or how far the search looked.
+pub fn search(items: &Items, limits: Limits, known: &[(usize, usize)]) -> Result<Parted, Extent> {
     let mut search = Search {
         items,
-        distances: Distances::new(items),
+        limits,
+        known,
+        full: false,
+        distances: Distances::new(items, known),
         stacks: Stacks::new(items),
         kept: Vec::new(),
         numbers: HashMap::new(),
@@ -88,7 +99,7 @@ pub fn search(items: &Items, limits: Limits) -> Result<(Tree, Tree), Extent> {
             total += 1;
             continue;
         };
-        if search.kept.len() > limits.pairs || search.tried > limits.moves {
+        if search.full || search.tried > limits.moves {
             return Err(Extent::Limit { pairs: search.kept.len(), moves: total });
         }
         let kept = &mut search.kept[number as usize];
@@ -132,6 +143,10 @@ impl Search<'_> {
                 self.kept[*number as usize] = kept;
                 *number
             }
+            None if self.kept.len() >= self.limits.pairs => {
+                self.full = true;
+                return;
+            }
             None => {
                 let number = self.kept.len() as u32;
                 self.kept.push(kept);
@@ -149,6 +164,11 @@ impl Search<'_> {
     fn expand(&mut self, number: u32, pair: Pair) {
         let cost = self.kept[number as usize].cost + 1;
         let (items, left_top, right_top) = (self.items, self.stacks.top(pair.left), self.stacks.top(pair.right));
+        // A rule that is read to its end has to be closed before its side can pass a symbol.
+        if pair.layer == 1 && pair.turn == Turn::Left && items.closes(left_top) {
+            let left = self.stacks.closed(pair.left);
+            return self.add(Pair { left, ..pair }, cost, Some((number, Moved::Closed)));
+        }
         if pair.turn == Turn::Left {
             for top in items.opened(left_top) {
                 if self.leads(pair.layer, *top, right_top) {
@@ -179,9 +199,6 @@ impl Search<'_> {
         let right = if right_closes { self.stacks.closed(pair.right) } else { pair.right };
         let from = Some((number, Moved::Closed));
         if pair.layer == 1 {
-            if left_closes && pair.turn == Turn::Left {
-                self.add(Pair { left, ..pair }, cost, from);
-            }
             if right_closes {
                 self.add(Pair { right, turn: Turn::Right, ..pair }, cost, from);
             }
@@ -192,17 +209,21 @@ impl Search<'_> {
         } else {
             left_closes && items.before_terminal(right_top) || right_closes && items.before_terminal(left_top)
         };
-        if parted {
+        if parted && !self.known.contains(&items.rules(left_top, right_top)) {
             self.add(Pair { layer: 1, turn: Turn::Left, left, right }, cost, from);
         }
     }
 
     /// The trees that the moves up to a pair walk through.
-    fn trees(&self, number: u32) -> (Tree, Tree) {
+    fn trees(&self, number: u32) -> Parted {
         let (mut left, mut right) = (Vec::new(), Vec::new());
+        let mut rules = (0, 0);
         let mut place = &self.kept[number as usize];
         while let Some((from, moved)) = place.from {
             let before = &self.kept[from as usize];
+            if before.pair.layer < place.pair.layer {
+                rules = self.items.rules(self.stacks.top(before.pair.left), self.stacks.top(before.pair.right));
+            }
             let rule = |stack| Node::Rule(self.items.rule(self.stacks.top(stack)));
             match moved {
                 Moved::OpenedLeft => left.push(rule(place.pair.left)),
@@ -218,6 +239,6 @@ impl Search<'_> {
         }
         left.reverse();
         right.reverse();
-        (left, right)
+        (left, right, rules)
     }
 }

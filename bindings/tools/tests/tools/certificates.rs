@@ -40,7 +40,8 @@ fn what_cannot_mean_anything_else_is_read() {
     for lines in [PLAIN, CHECKED] {
         let blank = format!("{lines}\n");
         let blanks = format!("{lines}\n\r\n");
-        for other in [lines.replace('\n', "\r\n"), blank, blanks, lines.trim_end().to_string()] {
+        let marked = format!("\u{feff}{lines}");
+        for other in [lines.replace('\n', "\r\n"), blank, blanks, marked, lines.trim_end().to_string()] {
             assert_eq!(check(&grammar, &other), said(0, "accepted\n"), "{other:?}");
         }
     }
@@ -66,26 +67,30 @@ fn lines_that_are_malformed() {
     let number = "a decimal number without leading zeros is expected";
     let digit = "a hexadecimal digit is expected, 0 to 9 or a to f";
     let bits = "the number of bits that are set below is";
+    let other = "is it the certificate of another grammar?";
     for ((grammar, lines), line, column, message) in [
-        (plain("form=1", "form=3"), 1, 18, "this program reads the forms 1 and 2"),
-        (plain("certificate", "Certificate"), 1, 1, "'certificate-form=' is expected"),
-        (plain("states=6", "states=7"), 2, 8, "by the grammar this number is 6"),
+        (plain("form=1", "form=9"), 1, 18, "this program reads the forms 1, 2 and 3"),
+        (plain("certificate", "Certificate"), 1, 1, "'certificate-form=' is expected, and 'C' is found"),
+        (plain("states=6", "states=7"), 2, 8, &format!("7 is found, and by the grammar this number is 6: {other}")),
         (plain("states=6", "states=06"), 2, 8, number),
         (plain("states=6", "states="), 2, 8, number),
         (plain("states=6", "states=99999999999999999999"), 2, 8, number),
-        (plain("states=6", "states=6 "), 2, 9, "the line is to end here"),
-        (plain("rules=1", "rules=2"), 3, 7, "by the grammar this number is 1"),
+        (plain("states=6", "states=6 "), 2, 9, "the line is to end here, and a space is found"),
+        (plain("rules=1", "rules=2"), 3, 7, &format!("2 is found, and by the grammar this number is 1: {other}")),
         (plain("size=11", "size=12"), 4, 6, &format!("{bits} 11: this number is wrong, or lines are missing")),
         (plain("15 50", "15 51"), 4, 6, &format!("{bits} 12: this number is wrong, or lines are missing")),
         (plain("0000:", "0001:"), 5, 4, "'0000:' is expected"),
-        (plain("15 50", "1g 50"), 5, 8, digit),
-        (plain("15 50", "15  50"), 5, 10, digit),
-        (plain(" 00\n", "\n"), 5, 30, "' ' is expected"),
-        (plain(" 00\n", " 00 00\n"), 5, 33, "the line is to end here"),
+        (plain("15 50", "1g 50"), 5, 8, &format!("{digit}, and 'g' is found")),
+        (plain("15 50", "15 5O"), 5, 11, &format!("{digit}, and 'O' is found")),
+        (plain("15 50", "l5 50"), 5, 7, &format!("{digit}, and 'l' is found")),
+        (plain("15 50", "15  50"), 5, 10, &format!("{digit}, and a space is found")),
+        (plain("15 50", "15\u{a0}50"), 5, 9, "' ' is expected, and a no-break space is found"),
+        (plain(" 00\n", "\n"), 5, 30, "' ' is expected, and the line ends"),
+        (plain(" 00\n", " 00 00\n"), 5, 33, "the line is to end here, and a space is found"),
         (plain(" 00\n", " 00\n\n0020:"), 6, 1, "the certificate has 9 bytes: nothing is expected here"),
         (plain("0000: 15 50 21 15 08 00 00 00 00\n", ""), 5, 1, "'0000:' is expected"),
-        (plain("size=11\n", ""), 4, 1, "'size=' is expected"),
-        (plain("form=1", "form=2"), 5, 33, "' *' is expected"),
+        (plain("size=11\n", ""), 4, 1, "'size=' is expected, and '0' is found"),
+        (plain("form=1", "form=2"), 5, 33, "' *' is expected, and the line ends"),
         (wide(&second, ""), 6, 3, "'0020:' is expected"),
         (wide(&last, ""), 7, 1, "'0040:' is expected"),
         (wide("0020:", "0040:"), 6, 3, "'0020:' is expected"),
@@ -109,17 +114,18 @@ fn lines_that_are_malformed() {
             6,
             &format!("{bits} 0: this number is wrong, or lines are missing"),
         ),
-        ((&grammar, String::new()), 1, 1, "'certificate-form=' is expected"),
-        ((&grammar, "\u{e9}".to_string()), 1, 1, "'certificate-form=' is expected"),
+        ((&grammar, String::new()), 1, 1, "'certificate-form=' is expected, and the line ends"),
+        ((&grammar, "\u{e9}".to_string()), 1, 1, "'certificate-form=' is expected, and '\u{e9}' is found"),
+        ((&grammar, one_a()), 1, 1, "'certificate-form=' is expected; this is a grammar's text, and no certificate"),
     ] {
         let ran = check(grammar, &lines);
         assert_eq!((ran.status, ran.out.as_str()), (1, ""));
-        assert_eq!(ran.err, format!("<stdin>:{line}:{column}: {message}\n"), "{lines}");
+        assert_eq!(ran.err, format!("<stdin>:{line}:{column}: error: {message}\n"), "{lines}");
     }
     let (first, second) = (line(&wide_checked, 4), line(&wide_checked, 5));
     let exchanged = wide_checked.replacen(&(first.clone() + &second), &(second + &first), 1);
     let ran = check(&wide_grammar, &exchanged);
-    assert_eq!(ran.err, "<stdin>:6:1: this line stands behind one with the same or a larger offset\n");
+    assert_eq!(ran.err, "<stdin>:6:1: error: this line stands behind one with the same or a larger offset\n");
 }
 
 #[test]
@@ -149,10 +155,10 @@ fn certificates_that_are_refused() {
         let lines = file("refused-lines", &format!("certificate-form=1\nstates=6\nrules=1\nsize={size}\n0000: {bytes}\n"));
         let ran = run(CHECK, &[&grammar, &lines], b"");
         assert_eq!((ran.status, ran.out.as_str()), (1, ""));
-        assert_eq!(ran.err, format!("{lines}:{place}: {words}\n"));
+        assert_eq!(ran.err, format!("{lines}:{place}: error: {words}\n"));
     }
     let empty = check(&grammar, "certificate-form=2\nstates=6\nrules=1\nsize=0\n");
-    assert_eq!(empty.err, "<stdin>:4:1: the certificate lacks layer 0, left 'start', right 'start' (refused=11 at=0)\n");
+    assert_eq!(empty.err, "<stdin>:4:1: error: the certificate lacks layer 0, left 'start', right 'start' (refused=11 at=0)\n");
 }
 
 /// Certificates of grammars without a sentence, and two strings: the grammar is refused, and told of its file.
@@ -167,9 +173,9 @@ fn certificates_of_grammars_without_a_sentence() {
     ] {
         let grammar = file("without-sentence", &text("", "S", rules));
         let ran = check(&grammar, lines);
-        assert_eq!((ran.status, ran.out.as_str()), (1, ""));
-        assert_eq!(ran.err, format!("{grammar}:2:14: {words} (refused=19 at=0)\n"), "{lines}");
-        let refused = said(1, "refused=19\nat=0\n");
+        assert_eq!((ran.status, ran.out.as_str()), (4, ""));
+        assert_eq!(ran.err, format!("{grammar}:2:14: error: {words} (refused=19 at=0)\n"), "{lines}");
+        let refused = said(4, "refused=19\nat=0\n");
         assert_eq!(run(CHECK, &["--quiet", &grammar, "-"], lines.as_bytes()), refused);
         let strings = b"left=(0 S )0\nright=(0 (1 S )1 )0\n";
         assert_eq!(run(CHECK, &["--quiet", "--lines", &grammar, "-"], strings), refused);
@@ -194,7 +200,11 @@ fn both_forms_give_the_same_bytes() {
     for (grammar, checked) in certified {
         let Searched::Unambiguous { certificate, size, .. } = grammar.search() else { unreachable!() };
         let plain = lines::written(&grammar, size, &certificate, Form::Plain);
-        for lines in [plain, checked] {
+        let runs = lines::written(&grammar, size, &certificate, Form::Runs);
+        assert!(runs.len() <= checked.len() + 20, "{runs}");
+        let spread = checked.replacen("0000:", "\n\n0000:", 1);
+        for lines in [plain, checked, spread, runs.to_uppercase().replace("CERTIFICATE-FORM", "certificate-form"), runs] {
+            let lines = lines.replace("STATES", "states").replace("RULES", "rules").replace("SIZE", "size");
             assert_eq!(lines::read(&grammar, lines.as_bytes()).unwrap().bytes, certificate);
         }
     }
@@ -220,14 +230,51 @@ fn digits(line: &[u8]) -> Vec<usize> {
 fn told_by_line(grammar: &Grammar, lines: &[Vec<u8>], slip: usize) {
     let text: Vec<u8> = lines.join(&b'\n');
     match lines::read(grammar, &text) {
-        Err(Malformed { line, .. }) => assert_eq!(line, slip + 1, "{}", String::from_utf8_lossy(&text)),
+        Err(faults) => match &faults[..] {
+            [Malformed { line, .. }] => assert_eq!(*line, slip + 1, "{}", String::from_utf8_lossy(&text)),
+            faults => panic!("{faults:?}"),
+        },
         Ok(_) => panic!("line {} has a slip: {}", slip + 1, String::from_utf8_lossy(&text)),
     }
 }
 
 #[test]
 fn a_thousand_wrong_digits_and_a_thousand_swaps_are_told_by_line() {
-    let certified = certified();
+    slips_are_told_by_line(certified());
+}
+
+/// The same of form 3, in which `z` is a digit too; and letters put in, left out or doubled.
+#[test]
+fn two_thousand_slips_in_form_3() {
+    let certified: Vec<(Grammar, String)> = certified().into_iter().map(|(grammar, _)| in_runs(grammar)).collect();
+    let mut random = Random(3);
+    for _ in 0..2000 {
+        let (grammar, text) = &certified[random.below(certified.len())];
+        let mut lines: Vec<Vec<u8>> = text.lines().map(|line| line.as_bytes().to_vec()).collect();
+        let slip = 4 + random.below(lines.len() - 4);
+        let place = random.below(lines[slip].len());
+        let letter = b"0123456789abcdefz: *"[random.below(20)];
+        let before = lines[slip].clone();
+        match random.below(3) {
+            0 => lines[slip].insert(place, letter),
+            1 => drop(lines[slip].remove(place)),
+            _ => lines[slip][place] = letter,
+        }
+        if lines[slip] != before {
+            told_by_line(grammar, &lines, slip);
+        }
+    }
+    slips_are_told_by_line(certified);
+}
+
+/// A grammar with its certificate in form 3.
+fn in_runs(grammar: Grammar) -> (Grammar, String) {
+    let Searched::Unambiguous { certificate, size, .. } = grammar.search() else { panic!("it is unambiguous") };
+    let lines = lines::written(&grammar, size, &certificate, Form::Runs);
+    (grammar, lines)
+}
+
+fn slips_are_told_by_line(certified: Vec<(Grammar, String)>) {
     let mut random = Random(1);
     let (mut wrong, mut swapped) = (0, 0);
     while wrong < 1000 || swapped < 1000 {
@@ -293,4 +340,19 @@ fn the_largest_grammar() {
     assert!(lines.starts_with("certificate-form=1\nstates=256\nrules=84\nsize="));
     assert_eq!(check(&grammar, &lines), said(0, "accepted\n"));
     assert_eq!(check(&grammar, &certify(&text).out), said(0, "accepted\n"));
+}
+
+/// Several wrong lines are told at once, each by its line.
+#[test]
+fn several_slips() {
+    let (grammar, text) = certified().into_iter().max_by_key(|(_, lines)| lines.len()).unwrap();
+    let mut lines: Vec<String> = text.lines().map(String::from).collect();
+    for slip in [4, 9, lines.len() - 1] {
+        let last = if lines[slip].ends_with('0') { "1" } else { "0" };
+        let end = lines[slip].len() - 1;
+        lines[slip].replace_range(end.., last);
+    }
+    let faults = lines::read(&grammar, lines.join("\n").as_bytes()).unwrap_err();
+    assert_eq!(faults.iter().map(|fault| fault.line).collect::<Vec<_>>(), [5, 10, lines.len()]);
+    assert!(faults.iter().all(|fault| fault.message.starts_with("the check digits are ")));
 }

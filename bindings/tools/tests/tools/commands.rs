@@ -29,7 +29,20 @@ fn bad_use() {
         (&["--"], "files are missing"),
         (&["-", "-"], "standard input can be read once only"),
         (&["-x", grammar], "there is no option -x"),
-        (&["--form=3", grammar], "there is no option --form=3"),
+        (&["--form=9", grammar], "there is no option --form=9; is --form=1 meant?"),
+        (&["--htlm", grammar], "there is no option --htlm; is --html meant?"),
+        (&["-qV", grammar], "there is no option -qV; write -q -V"),
+        (&["--quie", grammar], "there is no option --quie; is --quiet meant?"),
+        (&["--Werror", grammar], "there is no option --Werror; is -Werror meant?"),
+        (&["--\u{1b}[2J", grammar], "there is no option --\\u{1b}[2J"),
+        (&["--html", grammar, grammar], "--html takes one file"),
+        (&["--html", "-q", grammar], "--html and --quiet do not go together"),
+        (&["--html", "--looked", grammar], "--html and --looked do not go together"),
+        (&["--html", "--steps", grammar], "--html and --steps do not go together"),
+        (&["--html", "--form=1", grammar], "--html and --form=1 do not go together"),
+        (&["-q", "--steps", grammar], "--quiet and --steps do not go together"),
+        (&["--json", "--html", grammar], "--html and --json do not go together"),
+        (&["--form=1", "--form=2", grammar], "--form=1 and --form=2 do not go together"),
     ] {
         let ran = run(CERTIFY, words, b"");
         assert_eq!((ran.status, ran.out.as_str()), (2, ""));
@@ -50,7 +63,7 @@ fn bad_use() {
     let missing = format!("{grammar}-that-is-not-there");
     for ran in [run(CERTIFY, &[&missing], b""), run(CHECK, &[&missing, "-"], b""), run(CHECK, &[grammar, &missing], b"")] {
         assert_eq!((ran.status, ran.out.as_str()), (2, ""));
-        assert!(ran.err.starts_with(&format!("{missing}: ")));
+        assert!(ran.err.starts_with(&format!("{missing}: error: ")));
     }
 }
 
@@ -65,8 +78,11 @@ fn several_files() {
     let yes = "states=6\nverdict=unambiguous\nreached=11\n";
     let potential = "states=8\nverdict=potential\nleft=(0 S )0\nright=(0 (1 S )1 )0\n";
     assert_eq!(quiet(&[&good, "-"]), said(0, &(lines(&good, yes) + &lines("<stdin>", yes))));
-    assert_eq!(quiet(&[&cycle, &good]), said(1, &(lines(&cycle, potential) + &lines(&good, yes))));
-    assert_eq!(quiet(&[&good, &wrong]), said(1, &(lines(&good, yes) + &lines(&wrong, "refused=17\nat=3\n"))));
+    assert_eq!(quiet(&[&cycle, &good]), said(3, &(lines(&cycle, potential) + &lines(&good, yes))));
+    assert_eq!(
+        quiet(&[&good, &wrong, &cycle]),
+        said(4, &(lines(&good, yes) + &lines(&wrong, "refused=17\nat=3\n") + &lines(&cycle, potential)))
+    );
     let with_missing = quiet(&[&missing, &wrong, &good]);
     assert_eq!(with_missing.status, 2);
     assert!(with_missing.out.ends_with(yes) && with_missing.err.starts_with(&missing));
@@ -74,7 +90,7 @@ fn several_files() {
     let certificate = file("several-certificate", &certify(&one_a()).out);
     let pairs = run(CHECK, &[&good, &certificate, &good, "-"], b"certificate-form=2\n");
     assert_eq!((pairs.status, pairs.out), (1, format!("file={certificate}\naccepted\nfile=<stdin>\n")));
-    assert_eq!(pairs.err, "<stdin>:2:1: 'states=' is expected\n");
+    assert_eq!(pairs.err, "<stdin>:2:1: error: 'states=' is expected, and the line ends\n");
 }
 
 #[test]
@@ -111,7 +127,7 @@ fn how_much_the_search_looked_at() {
             assert_eq!(run(CERTIFY, options, text.as_bytes()), expected);
         }
     }
-    assert_eq!(run(CERTIFY, &["--looked", "-"], b""), said(1, "refused=16\nat=1\n"));
+    assert_eq!(run(CERTIFY, &["--looked", "-"], b""), said(4, "refused=16\nat=1\n"));
     assert!(!certify(&one_a()).out.contains("looked="));
 }
 
@@ -126,6 +142,53 @@ fn the_corpus_as_the_program_prints_it() {
         assert_eq!(lines.next(), Some(format!("verdict={verdict}").as_str()));
         let keys = if verdict == "unambiguous" { &["reached="][..] } else { &["left=(0 ", "right=(0 "] };
         assert!(keys.iter().all(|key| lines.next().is_some_and(|line| line.starts_with(key))), "{}", ran.out);
-        assert_eq!((lines.next(), ran.err.as_str(), ran.status), (None, "", i32::from(verdict == "potential")));
+        assert_eq!((lines.next(), ran.err.as_str(), ran.status), (None, "", if verdict == "potential" { 3 } else { 0 }));
     }
+}
+
+/// A file's name cannot add lines, and nothing in it reaches the terminal that a terminal obeys.
+#[test]
+fn names_with_line_breaks_and_escapes() {
+    let forged = file("x\nverdict=unambiguous\n\u{1b}[31m", &text("a", "S", &["S: S", "S: a"]));
+    let shown = forged.replace('\n', "\\n").replace('\u{1b}', "\\u{1b}");
+    let ran = run(CERTIFY, &["-q", &forged, &forged], b"");
+    let lines = format!("file={shown}\nstates=8\nverdict=potential\nleft=(0 S )0\nright=(0 (1 S )1 )0\n");
+    assert_eq!(ran, said(3, &lines.repeat(2)));
+    let told = run(CERTIFY, &[&forged], b"").err;
+    assert!(told.starts_with(&format!("{shown}:3:6: ambiguous: ")) && told.lines().count() == 1, "{told}");
+    assert!(run(CERTIFY, &[&format!("{forged}-missing")], b"").err.starts_with(&format!("{shown}-missing: error: ")));
+}
+
+/// Nothing can be written to a standard output that is closed; where nothing is to be written, that does no harm.
+#[test]
+fn a_closed_standard_output() {
+    let (good, wrong) = (file("closed", &one_a()), file("closed-wrong", "terminals\n"));
+    for (tool, grammar, status) in [(CERTIFY, &good, 2), (CERTIFY, &wrong, 4)] {
+        let command = format!("'{tool}' '{grammar}' >&-");
+        let ran = run("/bin/sh", &["-c", &command], b"");
+        assert_eq!((ran.status, ran.err.contains("standard output: it is closed\n")), (status, status == 2), "{command}");
+    }
+}
+
+/// The verdicts, a refusal and bad use each have a status.
+#[test]
+fn statuses() {
+    let grammars = [
+        (one_a(), 0),
+        (text("a", "S", &["S: S", "S: a"]), 1),
+        (text("a", "S", &["S: a S a", "S: a"]), 3),
+        (text("a", "S", &["S: b"]), 4),
+    ];
+    for (text, status) in &grammars {
+        assert_eq!(certify(text).status, *status, "{text}");
+        assert_eq!(run(CERTIFY, &["--json", "-"], text.as_bytes()).status, *status, "{text}");
+    }
+    // Of several the worst: 2, 4, 1, 3, 0.
+    let files: Vec<String> = (0..4).map(|i| file(&format!("status-{i}"), &grammars[i].0)).collect();
+    let worst = |places: &[usize]| run(CERTIFY, &places.iter().map(|i| files[*i].as_str()).collect::<Vec<_>>(), b"").status;
+    assert_eq!([worst(&[0, 2]), worst(&[1, 2, 0]), worst(&[3, 1, 2]), worst(&[0, 0])], [3, 1, 4, 0]);
+    let missing = format!("{}-missing", files[0]);
+    assert_eq!(run(CERTIFY, &[&files[3], &missing], b"").status, 2);
+    assert_eq!(run(CHECK, &[&files[3], &files[0]], b"").status, 4);
+    assert_eq!(run(CHECK, &[&files[0], &files[0]], b"").status, 1);
 }

@@ -2,6 +2,7 @@
 
 use crate::support::{certify, corpus, file, folder, run, text, Ran, CERTIFY};
 use ambig_tools::pairs::{self, Extent, Limits, Outcome};
+use ambig_tools::parting::{Next, Side};
 use ambig_tools::tree::{self, Node};
 use ambiguity::{Code, Grammar};
 
@@ -10,13 +11,13 @@ verdict=potential
 left=(0 (2 if S else (3 x )3 )0
 right=(0 (1 if S )1 else (3 x )3 )0
 looked=390
-after `if if S`: left ends `S: if S`, line 3, right goes on with `else`
 ambiguous: `if if S else S` has two trees, for example `if if x else x`
-left tree:                  right tree:
-S: if S else S  (line 4)    S: if S  (line 3)
-  if                          if
-  S: if S  (line 3)           S: if S else S  (line 4)
-  else S
+after `if if S`: left goes on with `else`, right ends `S: if S`, line 3
+left tree:                    right tree:
+S: if S  (line 3)             S: if S else S  (line 4)
+  if                            if
+  S: if S else S  (line 4)      S: if S  (line 3)
+                                else S
 ";
 
 const CYCLE: &str = "states=8
@@ -24,8 +25,8 @@ verdict=potential
 left=(0 S )0
 right=(0 (1 S )1 )0
 looked=55
-after `a`: left ends the sentence, right ends `S: S`, line 3
 ambiguous: `a` has two trees
+after `a`: left ends the sentence, right ends `S: S`, line 3
 left tree:        right tree:
 S: a  (line 4)    S: S: a  (lines 3, 4)
 ";
@@ -61,7 +62,7 @@ fn dangling() -> String {
 fn the_dangling_else() {
     let ran = certify(&dangling());
     assert_eq!((ran.status, ran.out.as_str()), (1, DANGLING));
-    assert_eq!(ran.err, "<stdin>: potentially ambiguous: there is no certificate\n");
+    assert_eq!(ran.err, "<stdin>:3:6: ambiguous: after 'if if S' this rule ends, or line 4 goes on with 'else'\n");
 }
 
 #[test]
@@ -102,9 +103,9 @@ fn the_corpus() {
     for entry in corpus() {
         let grammar = Grammar::read(entry.text.as_bytes()).unwrap();
         match pairs::look(&grammar, Limits::default()) {
-            Outcome::Two { row, left, right } => {
+            Outcome::Two { root, row, left, right, .. } => {
                 assert_eq!(entry.truth, "ambiguous", "{}", entry.name);
-                assert_eq!(tree::common_row(&grammar, &left, &right), Ok(row));
+                assert_eq!(tree::common_row(&grammar, root, &left, &right), Ok(row));
                 ambiguous += 1;
             }
             Outcome::NotFound(_) => assert_ne!(entry.truth, "ambiguous", "{}", entry.name),
@@ -118,7 +119,7 @@ fn the_corpus() {
 fn pages_of_the_corpus() {
     for entry in corpus().iter().filter(|entry| entry.truth != "unambiguous") {
         let Ran { status, out, .. } = certify(&entry.text);
-        assert_eq!(status, 1);
+        assert_eq!(status, if entry.truth == "ambiguous" { 1 } else { 3 });
         assert!(out.lines().skip(VERDICT).all(|line| line.len() <= 80), "{out}");
         assert_eq!(out.contains("\nambiguous: "), entry.truth == "ambiguous", "{out}");
         assert_eq!(out.contains("\nno sentence with two trees was found: "), entry.truth == "false-alarm", "{out}");
@@ -130,7 +131,7 @@ fn pages_of_the_corpus() {
 fn false_alarms() {
     let look = |text: String| pairs::look(&Grammar::read(text.as_bytes()).unwrap(), Limits { pairs: 1000, moves: 100_000 });
     let palindromes = look(text("a,b", "S", &["S: a S a", "S: b S b", "S:"]));
-    assert!(matches!(palindromes, Outcome::NotFound(Extent::Limit { pairs, .. }) if (1000..1100).contains(&pairs)));
+    assert!(matches!(palindromes, Outcome::NotFound(Extent::Limit { pairs: 1000, .. })));
     // Rules that no sentence uses have no moves, so that no strings part.
     let unused = look(text("a", "S,W", &["S: a S", "S:", "W: S S"]));
     assert_eq!(unused, Outcome::NotFound(Extent::All { pairs: 0 }));
@@ -155,7 +156,7 @@ fn hostile_grammars() {
     let chain = of("a", &names("N", 97), chain, &["N96: a", "N96: a N96 a"]);
     for grammar in [palindromes, dense, chain] {
         match pairs::look(&grammar, Limits::default()) {
-            Outcome::NotFound(Extent::Limit { pairs, moves }) => assert!(pairs <= 400_300 && moves > 10, "{pairs} {moves}"),
+            Outcome::NotFound(Extent::Limit { pairs, moves }) => assert!(pairs <= 400_000 && moves > 10, "{pairs} {moves}"),
             other => panic!("{}{other:?}", grammar.write()),
         }
     }
@@ -195,7 +196,7 @@ fn the_trees_are_found_by_brute_force_too() {
         &["S: if A x", "S: B x", "A: else", "B: if else"],
     ] {
         let grammar = Grammar::read(text("if,else,x", "S,A,B", rules).as_bytes()).unwrap();
-        let Outcome::Two { row, left, right } = pairs::look(&grammar, Limits::default()) else { panic!("{rules:?}") };
+        let Outcome::Two { row, left, right, .. } = pairs::look(&grammar, Limits::default()) else { panic!("{rules:?}") };
         let trees = trees_of(&grammar, ambiguity::START, &row, 4);
         assert!(trees.contains(&left) && trees.contains(&right) && left != right, "{rules:?}");
     }
@@ -227,7 +228,7 @@ fn steps_hold_together() {
         text("a,b,c", "S,A,B,C,D", &["S: A D", "S: B C", "A: a A", "A:", "D: b D c", "D:", "B: a B b", "B:", "C: c C", "C:"]),
     ] {
         let Ran { status, out, .. } = run(CERTIFY, &["--steps", "-"], text.as_bytes());
-        assert_eq!(status, 1);
+        assert!(status == 1 || status == 3);
         let entries = cells(&out, ["left", "right", "left moves", "right moves"]);
         assert!(out.contains(&format!("\nentries={}\n", entries.len())));
         assert_eq!((entries[0][0], entries[0][1]), ("start", "start"));
@@ -252,4 +253,109 @@ fn steps_hold_together() {
         assert!(strings.iter().any(|row| row[0] != row[1]));
         assert_eq!(symbols(strings.iter().map(|row| row[0])), symbols(strings.iter().map(|row| row[1])));
     }
+}
+
+/// Two grammars whose shortest ambiguous sentences are long: 899 letters and one more, and 2 to the power of 59 letters and more.
+#[test]
+fn ambiguities_far_from_the_start() {
+    let chain = |letter: &str, length: usize| {
+        let rule = |i: usize| format!("{letter}{i}: a {letter}{}", (i + 1) % length);
+        (0..length).map(rule).chain([format!("{letter}0: e")]).collect::<Vec<_>>()
+    };
+    let of = |terminals: &str, nonterminals: String, rules: Vec<String>| {
+        certify(&text(terminals, &nonterminals, &rules.iter().map(String::as_str).collect::<Vec<_>>()))
+    };
+    let names = |letter: &str, count: usize| (0..count).map(|i| format!("{letter}{i}")).collect::<Vec<_>>().join(",");
+    let chains = [vec!["S: a A1".to_string(), "S: a B1".to_string()], chain("A", 31), chain("B", 29)].concat();
+    let two_chains = of("a,e", format!("S,{},{}", names("A", 31), names("B", 29)), chains);
+    assert!(two_chains.out.contains("(900 symbols) has two trees; a sentence with"), "{}", two_chains.out);
+    assert!(two_chains.out.lines().count() < 200 && two_chains.out.lines().skip(VERDICT).all(|line| line.len() <= 80));
+    assert!(two_chains.err.starts_with("<stdin>:66:6: ambiguous: after 'a a a a a a a a ... a a a a a a a e' this rule ends"));
+
+    let mut doubled: Vec<String> = (1..60).map(|i| format!("D{}: D{i} D{i}", i - 1)).collect();
+    doubled.extend(["S: D0", "D59: a", "D59: D59 D59"].map(String::from));
+    let bottom = of("a", format!("S,{}", names("D", 60)), doubled);
+    assert!(bottom.out.contains("ambiguous: the D58 `D59 D59 D59` has two trees; a sentence with it has more than\n"));
+    assert_eq!((two_chains.status, bottom.status), (1, 1));
+}
+
+/// The phrase comes first, and then a sentence around it in which nothing stands that could be left out.
+#[test]
+fn the_phrase_and_its_sentence() {
+    let gcode = text(
+        "g1,x,f,num,eol",
+        "Program,Line,Axes",
+        &[
+            "Program:",
+            "Program: Program Line",
+            "Line: g1 Axes f num eol",
+            "Line: g1 Axes Axes eol",
+            "Axes:",
+            "Axes: x num",
+            "Axes: f num",
+        ],
+    );
+    let out = certify(&gcode).out;
+    let said = "\nambiguous: the Line `g1 Axes f num eol` has two trees, in a sentence: `g1 f num\n  eol`\n";
+    assert!(out.contains(said), "{out}");
+}
+
+/// Of the corpus and of the grammars beside bison: the trees' left is the strings' left wherever one side ends a rule and the other
+/// goes on, with strings and trees alike.
+#[test]
+fn left_is_left() {
+    let mut compared = 0;
+    for entry in corpus().iter().filter(|entry| entry.truth == "ambiguous") {
+        let grammar = Grammar::read(entry.text.as_bytes()).unwrap();
+        let ambiguity::Searched::Potential { witness, .. } = grammar.search() else { panic!("{}", entry.name) };
+        let steps = ambig_tools::readings::steps(&grammar, &witness);
+        let strings = ambig_tools::parting::of_witness(&grammar, &witness, &steps);
+        let trees = ambig_tools::explanation::of(&grammar, &witness).parting;
+        let ends = |side: Side| matches!(side.next, Next::Closing(_));
+        let (string_ends, tree_ends) = ([strings.left, strings.right].map(ends), [trees.left, trees.right].map(ends));
+        if string_ends[0] != string_ends[1] && tree_ends[0] != tree_ends[1] {
+            assert_eq!(string_ends, tree_ends, "{}", entry.name);
+            compared += 1;
+        }
+        assert!(!trees.is_mirrored(&strings), "{}", entry.name);
+    }
+    assert!(compared >= 20, "{compared}");
+}
+
+/// Each pair of rules that part has a line, the first pair its trees.
+#[test]
+fn all_ambiguities() {
+    let typedef = text(
+        "id,star,semi,lparen,rparen",
+        "Block,Stat,Expr,Decl",
+        &[
+            "Block: Stat",
+            "Block: Block Stat",
+            "Stat: Expr semi",
+            "Stat: Decl semi",
+            "Expr: Expr star Expr",
+            "Expr: id",
+            "Decl: id star id",
+        ],
+    );
+    let out = certify(&typedef).out;
+    let first = "\nambiguous: ";
+    let also: Vec<&str> = out.split("\nalso: ").skip(1).collect();
+    assert!(out.matches(first).count() == 1 && also.len() == 1, "{out}");
+    assert!(out.contains("line 9") && out.contains("line 7"), "{out}");
+    let operators: Vec<String> = (0..9).map(|i| format!("E: E o{i} E")).chain(["E: x".to_string()]).collect();
+    let names: Vec<String> = (0..9).map(|i| format!("o{i}")).collect();
+    let many = text(&format!("x,{}", names.join(",")), "E", &operators.iter().map(String::as_str).collect::<Vec<_>>());
+    assert_eq!(certify(&many).out.matches("\nalso: ").count(), 8);
+}
+
+/// Where every pair was tried, the tool says what that means.
+#[test]
+fn an_exhausted_search() {
+    let out = certify(&corpus().into_iter().find(|entry| entry.name == "left-and-right").unwrap().text).out;
+    let said = "no sentence with two trees was found: all 13 pairs of unfinished trees were\n  tried. By this search, which is not proved, \
+                no sentence has two trees.";
+    assert!(out.contains(said), "{out}");
+    let limited = certify(&corpus().into_iter().find(|entry| entry.name == "palin-even").unwrap().text).out;
+    assert!(limited.contains("400000 pairs of unfinished trees") && limited.contains("The alarm may be false."), "{limited}");
 }

@@ -3,6 +3,7 @@
 mod certificates;
 mod commands;
 mod explanations;
+mod fixes;
 mod messages;
 mod pages;
 mod parting_strings;

@@ -9,7 +9,12 @@ use ambiguity::{Grammar, Searched};
 /// By file name what is said of it, without the folder.
 fn expected() -> BTreeMap<String, String> {
     let lines = std::fs::read_to_string(folder("bindings/tools/tests/messages/EXPECTED.txt")).unwrap();
-    lines.lines().map(|line| (line.split(':').next().unwrap().to_string(), format!("{line}\n"))).collect()
+    let mut expected = BTreeMap::new();
+    for line in lines.lines() {
+        let said: &mut String = expected.entry(line.split(':').next().unwrap().to_string()).or_default();
+        said.push_str(&format!("{line}\n"));
+    }
+    expected
 }
 
 #[test]
@@ -24,7 +29,7 @@ fn every_file_gives_its_message() {
         let path = folder.join(name).to_str().unwrap().to_string();
         for (tool, words) in [(CERTIFY, vec![path.as_str()]), (CHECK, vec![path.as_str(), lines.as_str()])] {
             let ran = run(tool, &words, b"");
-            assert_eq!((ran.status, ran.out.as_str()), (1, ""));
+            assert_eq!((ran.status, ran.out.as_str()), (4, ""));
             assert_eq!(ran.err.replace(&path, name), expected[name], "{tool}");
         }
     }
@@ -33,20 +38,20 @@ fn every_file_gives_its_message() {
 /// No two kinds of mistakes share a message.
 #[test]
 fn messages_differ() {
-    let said = |line: &String| line.splitn(4, ':').last().unwrap().to_string();
+    let said = |lines: &String| lines.lines().next().unwrap().splitn(5, ':').last().unwrap().to_string();
     let mut messages: Vec<String> = expected().values().map(said).collect();
     let all = messages.len();
     messages.sort();
     messages.dedup();
-    assert!(all >= 61 && messages.len() >= 54, "{} of {all}", messages.len());
+    assert!(all >= 83 && messages.len() >= 74, "{} of {all}", messages.len());
 }
 
 #[test]
 fn a_text_over_the_limit() {
     let text = "terminals=\n".repeat(6000);
     let ran = certify(&text);
-    let message = "<stdin>:5958:10: the text has more than 65536 bytes; that is the limit (refused=16 at=0)\n";
-    assert_eq!((ran.status, ran.err.as_str()), (1, message));
+    let message = "<stdin>:5958:10: error: the text has more than 65536 bytes; that is the limit (refused=16 at=0)\n";
+    assert_eq!((ran.status, ran.err.as_str()), (4, message));
 }
 
 /// Whatever byte is damaged, the message has the line that the library names, and a column of that line.
@@ -76,10 +81,10 @@ fn grammars_without_a_sentence() {
     let words = "there is no sentence: 'S' has no finite tree; give it a rule without it on the right side";
     for entry in entries {
         let ran = certify(&entry.text);
-        assert_eq!((ran.status, ran.out.as_str()), (1, ""));
-        assert_eq!(ran.err, format!("<stdin>:2:14: {words} (refused=19 at=0)\n"), "{}", entry.name);
+        assert_eq!((ran.status, ran.out.as_str()), (4, ""));
+        assert_eq!(ran.err, format!("<stdin>:2:14: error: {words} (refused=19 at=0)\n"), "{}", entry.name);
         assert_eq!(run(CERTIFY, &["--html", "-"], entry.text.as_bytes()), ran);
-        assert_eq!(run(CERTIFY, &["--quiet", "-"], entry.text.as_bytes()), said(1, "refused=19\nat=0\n"));
+        assert_eq!(run(CERTIFY, &["--quiet", "-"], entry.text.as_bytes()), said(4, "refused=19\nat=0\n"));
     }
 }
 
@@ -92,7 +97,7 @@ fn many_nonterminals_without_a_tree() {
     let named = |has_tree: &dyn Fn(usize) -> bool| {
         let quoted: Vec<String> = (0..127).filter(|i| !has_tree(*i)).map(|i| format!("'N{i}'")).collect();
         let (last, front) = quoted.split_last().unwrap();
-        format!("<stdin>:2:14: there is no sentence: {} and {last} have no finite tree; ", front.join(", "))
+        format!("<stdin>:2:14: error: there is no sentence: {} and {last} have no finite tree; ", front.join(", "))
     };
     assert!(certify(&text).err.starts_with(&named(&|_| false)));
     let mended = certify(&(text + "rule=N126: a\n"));
@@ -145,9 +150,14 @@ fn warnings() {
     let ran = run(CERTIFY, &[&path], b"");
     assert_eq!((ran.status, ran.err), (0, warnings.concat()));
     let counted = run(CERTIFY, &["-Werror", &path], b"");
-    assert_eq!((counted.status, counted.err, &counted.out), (1, warnings.concat(), &ran.out));
+    assert_eq!((counted.status, counted.err, &counted.out), (4, warnings.concat(), &ran.out));
     assert_eq!(run(CHECK, &[&path, "-"], ran.out.as_bytes()).out, "accepted\n");
-    let quiet = run(CERTIFY, &["--quiet", "-Werror", &path], b"");
-    assert_eq!((quiet.status, quiet.err.as_str()), (1, ""));
+    // Warnings that count are told in any case, those that do not are not.
+    for option in ["--quiet", "--looked", "--json"] {
+        let quiet = run(CERTIFY, &[option, "-Werror", &path], b"");
+        assert_eq!((quiet.status, quiet.err), (4, warnings.concat()), "{option}");
+        let quiet = run(CERTIFY, &[option, &path], b"");
+        assert_eq!((quiet.status, quiet.err.as_str()), (0, ""), "{option}");
+    }
     assert_eq!(run(CERTIFY, &["-Werror", &file("no-holes", &one_a())], b"").status, 0);
 }

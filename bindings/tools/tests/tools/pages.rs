@@ -30,7 +30,9 @@ fn a_certificate_on_a_page() {
     assert!(page.contains("<strong>Unambiguous</strong>"));
     assert!(page.contains("States Q = 6, rules 1, size of the certificate 11, successors looked at 14."));
     assert!(page.contains("<td class=\"number\">3</td><td>rule=S: a</td>"));
-    assert!(page.contains(&format!("<pre>{}</pre>", certify(&one_a()).out)));
+    assert!(page.contains(&format!("<pre class=\"one\">{}</pre>", certify(&one_a()).out)));
+    assert!(page.contains("<meta name=\"viewport\" content=\"width=device-width, initial-scale=1\"/>"));
+    assert!(page.contains("<code>ambig-check GRAMMAR CERTIFICATE</code>") && !page.contains("Warnings"));
 }
 
 #[test]
@@ -44,7 +46,10 @@ fn two_trees_on_a_page() {
     // Five leaves and two rules in either tree, each rule with its line.
     assert_eq!(page.matches("<text class=\"leaf\"").count() + page.matches("<text class=\"open\"").count(), 10);
     assert_eq!((page.matches(">line 3</text>").count(), page.matches(">line 4</text>").count()), (2, 2));
-    assert!(page.contains("<tr class=\"parting\"><td class=\"number\">3</td>"));
+    for line in [3, 4] {
+        assert!(page.contains(&format!("<tr class=\"parting\"><td class=\"number\">{line}</td>")));
+    }
+    assert!(!page.contains("<tr class=\"parting\"><td class=\"number\">5</td>"));
     let quiet = run(CERTIFY, &["--quiet", "-"], grammar.as_bytes()).out;
     let lines: String = quiet.split_inclusive('\n').skip(2).collect();
     assert!(lines.starts_with("left=(0 ") && page.contains(&format!("<pre class=\"strings\">{lines}</pre>")));
@@ -55,7 +60,8 @@ fn names_that_need_escaping() {
     let path = file("a <b> & \"c\" 'd'.grammar", &one_a());
     let page = run(CERTIFY, &["--html", &path], b"").out;
     well_formed(&page);
-    assert!(page.contains("a &lt;b&gt; &amp; &quot;c&quot; &#39;d&#39;.grammar</title>"));
+    let name = "a &lt;b&gt; &amp; &quot;c&quot; &#39;d&#39;.grammar";
+    assert!(page.contains(&format!("<title>{name}</title>")) && page.contains(&format!("<h1>Grammar {name}</h1>")));
 }
 
 #[test]
@@ -72,7 +78,35 @@ fn every_grammar_has_a_page() {
 fn one_page_for_one_file() {
     let path = file("page", &one_a());
     let ran = run(CERTIFY, &["--html", &path, &path], b"");
-    assert_eq!((ran.status, ran.out.contains("<html")), (2, false));
+    assert_eq!((ran.status, ran.out.as_str(), ran.err.lines().count()), (2, "", 3));
     let refused = run(CERTIFY, &["--html", "-"], b"");
-    assert_eq!((refused.status, refused.out.as_str()), (1, ""));
+    assert_eq!((refused.status, refused.out.as_str()), (4, ""));
+}
+
+#[test]
+fn warnings_on_a_page() {
+    let page = page(&text("a,b", "S,A", &["S: a", "S: A b"]));
+    well_formed(&page);
+    let warnings = "<p class=\"warnings\"><strong>Warnings</strong>\n<br/>Line 2: the nonterminal &#39;A&#39; has no rule\n\
+                    <br/>Line 4: no sentence uses this rule: &#39;A&#39; has no finite tree\n</p>";
+    assert!(page.contains("<strong>Unambiguous</strong>") && page.contains(warnings), "{page}");
+}
+
+/// A tree that no page holds stands there as text, not as a drawing that is made smaller.
+#[test]
+fn trees_that_are_too_wide_or_too_deep() {
+    let letters = " terminal-letter".repeat(5);
+    let rules = [format!("S:{letters} S"), format!("S: A{letters}"), format!("A:{letters}"), format!("S:{letters}")];
+    let wide = text("terminal-letter", "S,A", &rules.iter().map(String::as_str).collect::<Vec<_>>());
+    let names: Vec<String> = (0..25).map(|i| format!("N{i}")).collect();
+    let mut rules: Vec<String> = (1..25).map(|i| format!("N{}: x N{i}", i - 1)).collect();
+    rules.extend((1..25).map(|i| format!("M{}: x M{i}", i - 1)));
+    rules.extend(["S: N0", "S: M0", "N24: x", "M24: x"].map(String::from));
+    let nonterminals = format!("S,{},{}", names.join(","), names.join(",").replace('N', "M"));
+    let deep = text("x", &nonterminals, &rules.iter().map(String::as_str).collect::<Vec<_>>());
+    for grammar in [wide, deep] {
+        let page = page(&grammar);
+        well_formed(&page);
+        assert!(page.contains("<pre class=\"tree\">left tree:\n") && !page.contains("<svg"), "{page}");
+    }
 }

@@ -36,7 +36,7 @@ fn the_corpus_parts() {
         assert_eq!(strings::printed(text.as_bytes(), grammar, witness), lines);
         let path = file("corpus-parts", text);
         let quiet = run(CERTIFY, &["--quiet", &path], b"");
-        assert_eq!(quiet, said(1, &format!("states={}\nverdict=potential\n{lines}", grammar.states())));
+        assert_eq!(quiet, said(3, &format!("states={}\nverdict=potential\n{lines}", grammar.states())));
         assert_eq!(run(CHECK, &["--lines", &path, "-"], lines.as_bytes()), said(0, "accepted\n"));
         let strings = grammar.read_back(lines.as_bytes()).unwrap();
         assert!(part(grammar, &strings.left, &strings.right), "{text}{lines}");
@@ -125,7 +125,10 @@ const RIGHT: &str = "right=(0 (1 a (2 a )2 )0\n";
 fn told(lines: &str, quiet: &str, message: &str) {
     let path = file("told", &odd());
     let ran = run(CHECK, &["--lines", &path, "-"], lines.as_bytes());
-    assert_eq!((ran.status, ran.out.as_str(), ran.err), (1, "", format!("<stdin>:{message}\n")), "{lines:?}");
+    let (line, rest) = message.split_once(':').unwrap();
+    let (column, words) = rest.split_once(": ").unwrap();
+    let told = format!("<stdin>:{line}:{column}: error: {words}\n");
+    assert_eq!((ran.status, ran.out.as_str(), ran.err), (1, "", told), "{lines:?}");
     assert_eq!(run(CHECK, &["--quiet", "--lines", &path, "-"], lines.as_bytes()), said(1, quiet), "{lines:?}");
 }
 
@@ -163,7 +166,7 @@ fn strings_that_do_not_part() {
     let behind = "behind the parting both lines have terminals alone";
     let grammar = file("nonterminal-behind", &text("a", "S", &["S: S S", "S: a"]));
     let ran = run(CHECK, &["--lines", &grammar, "-"], b"left=(0 (1 S S )1 S\nright=(0 (1 S (1 S (2 a )2\n");
-    assert_eq!(ran.err, format!("<stdin>:1:19: `S` is found, and letter 7 of line 2 is `a`: {behind}\n"));
+    assert_eq!(ran.err, format!("<stdin>:1:19: error: `S` is found, and letter 7 of line 2 is `a`: {behind}\n"));
 }
 
 #[test]
@@ -221,8 +224,8 @@ fn lines_that_are_refused() {
 fn a_grammar_that_is_refused() {
     let lines = file("refused-grammar-lines", "");
     let ran = run(CHECK, &["--lines", "-", &lines], b"terminals=a\nnonterminals=S\nrule=S: b\n");
-    let message = "<stdin>:3:9: 'b' is not declared; add it to the terminals on line 1 or to the nonterminals on line 2";
-    assert_eq!((ran.status, ran.err), (1, format!("{message} (refused=17 at=3)\n")));
+    let message = "<stdin>:3:9: error: 'b' is not declared; add it to the terminals on line 1 or to the nonterminals on line 2";
+    assert_eq!((ran.status, ran.err), (4, format!("{message} (refused=17 at=3)\n")));
 }
 
 /// Whatever byte is damaged, the message has the line that the library names, and a column of that line.
@@ -257,10 +260,10 @@ fn long_strings() {
     }
     let ran = run(CHECK, &["--lines", &grammar, "-"], pair("(2 a )2 ", 100_000, 99_999).as_bytes());
     let behind = "behind the parting both lines have the same terminals";
-    assert_eq!((ran.status, ran.err), (1, format!("<stdin>:1:800014: `a` is found, and line 2 has ended: {behind}\n")));
+    assert_eq!((ran.status, ran.err), (1, format!("<stdin>:1:800014: error: `a` is found, and line 2 has ended: {behind}\n")));
     let ran = run(CHECK, &["--lines", &grammar, "-"], pair("(1 ", 300_000, 300_000).as_bytes());
     let message = "`)0` cannot follow: the reading stands at `S: . S S`, where `(1`, `(2` or `(3` can follow";
-    assert_eq!((ran.status, ran.err), (1, format!("<stdin>:1:900019: {message}\n")));
+    assert_eq!((ran.status, ran.err), (1, format!("<stdin>:1:900019: error: {message}\n")));
 }
 
 #[test]
@@ -269,7 +272,7 @@ fn lines_over_the_limit() {
     let ran = run(CHECK, &["--lines", &file("over-the-limit", &odd()), "-"], lines.as_bytes());
     assert_eq!(
         (ran.status, ran.out.as_str(), ran.err.as_str()),
-        (2, "", "<stdin>: more than 8388608 bytes; that is the limit\n")
+        (2, "", "<stdin>: error: more than 8388608 bytes; that is the limit\n")
     );
 }
 

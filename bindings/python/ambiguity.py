@@ -1,0 +1,127 @@
+"""The proved library for Python, over the shared library that bindings/shared.sh makes.
+
+    grammar = ambiguity.Grammar(b"terminals=a\\nnonterminals=S\\nrule=S: a\\n")
+    found = grammar.search()
+    if found.unambiguous:
+        grammar.check(found.certificate)
+
+Every verdict is the library's. What it refuses is raised as Refused, with the
+cause's number and the position. The shared library is looked for in the file
+that the variable AMBIGUITY_SO names, in ../lib and in ../../target/shared beside
+this file, and then where the loader looks.
+"""
+
+import ctypes
+import os
+from typing import List, NamedTuple, Optional
+
+MAX_TABLE_ENTRIES = 352   # enough for any grammar
+MAX_NAMES = 254
+UNAMBIGUOUS = 1
+HERE = os.path.dirname(os.path.abspath(__file__))
+
+Numbers = ctypes.c_uint64
+Bytes = ctypes.POINTER(ctypes.c_uint8)
+Row = ctypes.POINTER(ctypes.c_uint32)
+Size = ctypes.c_size_t
+
+
+def reply(*fields: str) -> type:
+    """A struct of 64-bit numbers, as every reply is."""
+    return type("Reply", (ctypes.Structure,), {"_fields_": [(name, Numbers) for name in ("cause", "at") + fields]})
+
+
+READ = reply("terminals", "nonterminals", "entries", "states")
+ROOM = reply("states", "certificate", "entries", "moves")
+SEARCH = reply("verdict", "count", "looked")
+CHECK = reply()
+TABLE = [Size, Size, Bytes, Size]
+
+
+def opened() -> ctypes.CDLL:
+    """The shared library, with the types of the functions that are called."""
+    places = [os.environ.get("AMBIGUITY_SO")]
+    places += [os.path.join(HERE, *folder, "libambiguity.so") for folder in (["..", "lib"], ["..", "..", "target", "shared"])]
+    found = next((place for place in places if place and os.path.exists(place)), "libambiguity.so")
+    library = ctypes.CDLL(found)
+    types = {
+        "ambiguity_read_text": (READ, [Bytes, Size, Bytes, Size, Row, Size, Row, Size]),
+        "ambiguity_search_room": (ROOM, TABLE),
+        "ambiguity_search": (SEARCH, TABLE + [Bytes, Size, Row, Size, Row, Size, Row, Size]),
+        "ambiguity_check_certificate": (CHECK, TABLE + [Bytes, Size]),
+        "ambiguity_version": (ctypes.c_char_p, []),
+        "ambiguity_cause_words": (ctypes.c_char_p, [Numbers]),
+    }
+    for name, (result, arguments) in types.items():
+        function = getattr(library, name)
+        function.restype, function.argtypes = result, arguments
+    return library
+
+
+LIBRARY = opened()
+
+
+def version() -> str:
+    """The version of the library that is loaded."""
+    return LIBRARY.ambiguity_version().decode("ascii")
+
+
+class Refused(ValueError):
+    """What the library refuses: `cause` is a number from 1 to 19, `at` a position."""
+
+    def __init__(self, cause: int, at: int) -> None:
+        words = LIBRARY.ambiguity_cause_words(cause).decode("ascii")
+        super().__init__("refused=%d at=%d: %s" % (cause, at, words))
+        self.cause, self.at = cause, at
+
+
+class Searched(NamedTuple):
+    """A verdict: `size` and `certificate` of an unambiguous grammar, else `witness`."""
+
+    unambiguous: bool
+    looked: int
+    size: Optional[int]
+    certificate: Optional[bytes]
+    witness: Optional[List[int]]
+
+
+def taken(answer):
+    """An answer that refuses nothing."""
+    if answer.cause:
+        raise Refused(answer.cause, answer.at)
+    return answer
+
+
+def lent(data: bytes):
+    """Bytes as a row; a row of none has a place too."""
+    return (ctypes.c_uint8 * max(1, len(data))).from_buffer_copy(data or b"\0")
+
+
+class Grammar:
+    """A grammar that was read from its text: `states` is Q, `names` are terminals, then nonterminals."""
+
+    def __init__(self, text: bytes) -> None:
+        table = (ctypes.c_uint8 * MAX_TABLE_ENTRIES)()
+        starts, lengths = (ctypes.c_uint32 * MAX_NAMES)(), (ctypes.c_uint32 * MAX_NAMES)()
+        read = taken(LIBRARY.ambiguity_read_text(
+            lent(text), len(text), table, MAX_TABLE_ENTRIES, starts, MAX_NAMES, lengths, MAX_NAMES))
+        self.states = read.states
+        self.terminals, self.nonterminals = read.terminals, read.nonterminals
+        places = zip(starts[:read.terminals + read.nonterminals], lengths)
+        self.names = [text[start:start + length].decode("ascii") for start, length in places]
+        self._table = self.terminals, self.nonterminals, table, read.entries
+
+    def search(self) -> Searched:
+        """The verdict, lent just what the library says beforehand."""
+        room = taken(LIBRARY.ambiguity_search_room(*self._table))
+        certificate = (ctypes.c_uint8 * room.certificate)()
+        queue, parents, witness = ((ctypes.c_uint32 * room.entries)() for _ in range(3))
+        rows = [part for row in (queue, parents, witness) for part in (row, room.entries)]
+        found = taken(LIBRARY.ambiguity_search(*self._table, certificate, room.certificate, *rows))
+        if found.verdict == UNAMBIGUOUS:
+            return Searched(True, found.looked, found.count, bytes(certificate), None)
+        return Searched(False, found.looked, None, None, witness[:found.count])
+
+    def check(self, certificate: bytes) -> None:
+        """Raises Refused unless the certificate is acceptable: then no sentence has two derivation trees."""
+        taken(LIBRARY.ambiguity_check_certificate(*self._table, lent(certificate), len(certificate)))

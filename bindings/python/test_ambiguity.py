@@ -1,0 +1,58 @@
+"""Compares the module ambiguity with the second program on the corpus.
+
+    test_ambiguity.py FOLDER REPOSITORY     FOLDER holds the module that is tried
+"""
+
+import os
+import sys
+
+FOLDER, ROOT = sys.argv[1:]
+sys.path[:0] = [FOLDER, os.path.join(ROOT, "second")]
+sys.dont_write_bytecode = True
+
+import ambiguity  # noqa: E402
+from corpus import WITHOUT, entries, found_in, text_in  # noqa: E402
+from searches import Potential, needed, search  # noqa: E402
+
+SMALL = 60                # states up to which the second program is quick
+
+
+def refusal(call, *words):
+    """Cause and position of what is refused; None if nothing is."""
+    try:
+        call(*words)
+    except ambiguity.Refused as refused:
+        return refused.cause, refused.at
+    return None
+
+
+def compare(entry):
+    """One grammar of the corpus, read, searched and checked by both."""
+    text = text_in(entry.name)
+    if entry.truth == WITHOUT:
+        assert refusal(ambiguity.Grammar, text) == (19, 0), entry.name
+        return
+    grammar, found = ambiguity.Grammar(text), found_in(text)
+    assert (grammar.states, grammar.names) == (entry.states, found.names), entry.name
+    searched, expected = grammar.search(), search(*found.table, needed(grammar.states))
+    if isinstance(expected, Potential):
+        assert not searched.unambiguous and searched.witness == list(expected.witness), entry.name
+        return
+    assert (searched.size, searched.certificate) == (expected.size, expected.certificate), entry.name
+    grammar.check(searched.certificate)
+    assert refusal(grammar.check, bytes(len(searched.certificate))) == (11, 0), entry.name
+
+
+def main():
+    assert os.path.dirname(os.path.abspath(ambiguity.__file__)) == os.path.abspath(FOLDER)
+    with open(os.path.join(ROOT, "VERSION"), encoding="ascii") as file:
+        assert ambiguity.version() == file.read().strip()
+    small = [entry for entry in entries() if entry.states <= SMALL]
+    for entry in small:
+        compare(entry)
+    assert refusal(ambiguity.Grammar, b"") == (16, 1) and refusal(ambiguity.Grammar, b"\xff" * 70_000) == (16, 0)
+    print("%d grammars" % len(small))
+
+
+if __name__ == "__main__":
+    main()

@@ -1,0 +1,157 @@
+//! What is known of a file as one line of JSON. docs/MANUAL.md says what the keys mean.
+
+use ambiguity::{Code, Grammar, Refusal, Searched};
+
+use crate::command::VERSION;
+use crate::diagnosis::Finding;
+use crate::explanation::{Explanation, Found};
+use crate::lines::{self, Form};
+use crate::parting::{Next, Parting, Side};
+use crate::phrase::{Example, Phrase};
+use crate::tree::Node;
+use crate::warnings::Told;
+use crate::words;
+
+/// A text in quotes.
+pub fn text(text: &str) -> String {
+    let mut quoted = String::from("\"");
+    for letter in text.chars() {
+        match letter {
+            '"' => quoted.push_str("\\\""),
+            '\\' => quoted.push_str("\\\\"),
+            '\n' => quoted.push_str("\\n"),
+            '\0'..='\x1F' | '\x7F' => quoted.push_str(&format!("\\u{:04x}", letter as u32)),
+            _ => quoted.push(letter),
+        }
+    }
+    quoted.push('"');
+    quoted
+}
+
+fn list(values: impl Iterator<Item = String>) -> String {
+    format!("[{}]", values.collect::<Vec<_>>().join(","))
+}
+
+/// Keys and values that are JSON already.
+fn object(members: &[(&str, String)]) -> String {
+    let members: Vec<String> = members.iter().map(|(key, value)| format!("{}:{value}", text(key))).collect();
+    format!("{{{}}}", members.join(","))
+}
+
+fn row(grammar: &Grammar, codes: &[Code]) -> String {
+    list(codes.iter().map(|code| text(words::symbol(grammar, *code))))
+}
+
+/// A tree's nodes, each before its children: a number applies that rule, a name stands for itself.
+fn tree(grammar: &Grammar, nodes: &[Node]) -> String {
+    list(nodes.iter().map(|node| match *node {
+        Node::Rule(number) => number.to_string(),
+        Node::Leaf(code) => text(words::symbol(grammar, code)),
+    }))
+}
+
+/// One side of a parting; the place is that of its rule, and rule 0 has none.
+fn side(grammar: &Grammar, side: Side) -> String {
+    let does = match side.next {
+        Next::Closing(_) => vec![("does", text("ends"))],
+        Next::Symbol(code) => vec![("does", text("goes-on")), ("symbol", text(words::symbol(grammar, code)))],
+    };
+    let rule = vec![("rule", side.rule.to_string())];
+    let line = words::line_of_rule(side.rule);
+    let place = vec![("line", line.to_string()), ("column", (words::key(line).len() + 1).to_string())];
+    object(&[does, rule, if side.rule > 0 { place } else { Vec::new() }].concat())
+}
+
+fn parting(grammar: &Grammar, parting: &Parting) -> String {
+    object(&[
+        ("after", row(grammar, &parting.passed)),
+        ("left", side(grammar, parting.left)),
+        ("right", side(grammar, parting.right)),
+    ])
+}
+
+fn phrase(grammar: &Grammar, phrase: &Phrase) -> Vec<(&'static str, String)> {
+    vec![
+        ("nonterminal", text(words::symbol(grammar, phrase.root))),
+        ("phrase", row(grammar, &phrase.row)),
+        ("left-tree", tree(grammar, &phrase.left)),
+        ("right-tree", tree(grammar, &phrase.right)),
+    ]
+}
+
+/// What is said of a potential verdict.
+fn explained(grammar: &Grammar, explanation: &Explanation) -> Vec<(&'static str, String)> {
+    let mut members = vec![("parting", parting(grammar, &explanation.parting))];
+    if let Found::Two(found, example) = &explanation.found {
+        members.extend(phrase(grammar, found));
+        let sentence = match example {
+            Example::Sentence(sentence) => row(grammar, sentence),
+            Example::TooLong => "null".to_string(),
+        };
+        members.push(("sentence", sentence));
+        let also = explanation
+            .also
+            .iter()
+            .map(|(other, found)| object(&[vec![("parting", parting(grammar, other))], phrase(grammar, found)].concat()));
+        members.push(("also", list(also)));
+    }
+    members
+}
+
+fn head(file: &str, verdict: &str) -> Vec<(&'static str, String)> {
+    vec![("version", text(VERSION.trim_end())), ("file", text(file)), ("verdict", text(verdict))]
+}
+
+/// A file with a verdict. `strings` are the two lines of a potential one.
+pub fn judged(
+    file: &str,
+    grammar: &Grammar,
+    searched: &Searched,
+    explanation: Option<&Explanation>,
+    strings: &str,
+    warnings: &[Told],
+) -> String {
+    let verdict = match explanation {
+        None => "unambiguous",
+        Some(explanation) => explanation.headline(grammar).0,
+    };
+    let mut members = head(file, verdict);
+    members.extend([("states", grammar.states().to_string()), ("rules", grammar.rules().len().to_string())]);
+    members.push(("looked", searched.looked().to_string()));
+    if let Searched::Unambiguous { certificate, size, .. } = searched {
+        members.push(("size", size.to_string()));
+        members.push(("certificate", text(&lines::written(grammar, *size, certificate, Form::Checked))));
+    }
+    for line in strings.lines() {
+        if let Some((key, value)) = line.split_once('=') {
+            members.push((if key == "left" { "left" } else { "right" }, text(value)));
+        }
+    }
+    members.extend(explanation.map_or(Vec::new(), |explanation| explained(grammar, explanation)));
+    let warning = |warning: &Told| {
+        let (line, column) = (warning.line.to_string(), warning.column.to_string());
+        object(&[("line", line), ("column", column), ("message", text(&warning.message))])
+    };
+    members.push(("warnings", list(warnings.iter().map(warning))));
+    object(&members) + "\n"
+}
+
+/// A file that is refused.
+pub fn refused(file: &str, refusal: Refusal, finding: &Finding) -> String {
+    let mut members = head(file, "refused");
+    members.extend([("refused", refusal.cause.number().to_string()), ("at", refusal.at.to_string())]);
+    members.extend([("line", finding.line.to_string()), ("column", finding.column.to_string())]);
+    members.push(("message", text(&finding.message)));
+    object(&members) + "\n"
+}
+
+#[cfg(test)]
+mod tests {
+    use super::*;
+
+    #[test]
+    fn what_needs_escaping() {
+        assert_eq!(text("a \"b\" \\ \n \u{1} é"), "\"a \\\"b\\\" \\\\ \\n \\u0001 é\"");
+        assert_eq!(object(&[("a", list(std::iter::empty())), ("b", "1".to_string())]), "{\"a\":[],\"b\":1}");
+    }
+}
