@@ -1,6 +1,6 @@
 -- Columns of a row: one target, one class, one column more, and the four blocks of a triple. Assumes nothing.
 use mathlib.Core.Path.{_≡_, refl, ap, sym, subst, _∙_}
-use mathlib.Core.Bool.{true, false}
+use mathlib.Core.Bool.{true}
 use mathlib.Core.Logic.{_⊎_, inl, inr}
 use mathlib.Core.List.{List, [], _∷_}
 use Prim.Native.Nat.{ℕ, zero, suc, _+_, _-_, _*_, _/_, _%_, _^_, _≤_, _<_, min}
@@ -21,7 +21,7 @@ use Rattle.bits.specs.Windows.{wideBits, Columns, Window, LowestOne}
 use Rattle.bits.proofs.WindowLaws.{window-clear, lowest-clear}
 use Rattle.plans.specs.declared.Side.{Side}
 use Rattle.plans.specs.declared.Plan.{Plan}
-use Rattle.plans.specs.Plan.{Rows, sideOf, aloneOf, layerAfter, shiftOf, pairsOf, planFor, planOf, pairAt, nextOf}
+use Rattle.plans.specs.Plan.{Rows, sideOf, aloneOf, layerAfter, shiftOf, pairsOf, planFor, pairAt, nextOf}
 use Rattle.plans.specs.Contracts.{mostSquare, Verified, Has}
 use Rattle.plans.proofs.PlanLaws.{plan-digits, alone-le, layer-le, pairs-le, product-le, next-left, next-right, next-shift, next-pair}
 use Rattle.plans.proofs.BlockLaws.{alone-later, layer-later}

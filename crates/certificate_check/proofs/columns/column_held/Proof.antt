@@ -1,18 +1,13 @@
 -- column_held meets its contract: of each of the four blocks it is known that it is empty or held.
 use borrow.Author.Needs.{needs}
 use native.Mathlib.Omega.{arith}
-use mathlib.Core.Path.{_≡_, refl, ap, sym, subst, _∙_}
-use mathlib.Core.Bool.{true}
+use mathlib.Core.Path.{sym, subst}
 use borrow.Author.Tests.{not-false}
 use Prim.Native.Nat.{ℕ, _+_, _*_, _≤_, _<_}
-use lib.ListN.{getD}
 use Rattle.grammar.proofs.Answers.{no-bool}
-use Rattle.triples.specs.Index.{tripleCount}
 use Rattle.triples.proofs.Index.{pair-lt}
-use Rattle.plans.specs.declared.Side.{Side}
-use Rattle.plans.specs.Plan.{Rows, rows, sideOf, layerAfter}
-use Rattle.plans.proofs.PlanLaws.{layer-le, layer-times, span-le}
-use Rattle.certificate_check.specs.Columns.{Placed}
+use Rattle.plans.specs.Plan.{Rows, rows}
+use Rattle.plans.proofs.PlanLaws.{layer-le, span-le}
 use Rattle.certificate_check.proofs.ColumnLaws.{placed-side, column-closed, beside-in}
 use Rattle.certificate_check.proofs.columns.column_held.Statement.{statement}
 use Rattle.certificate_check.proofs.columns.column_held.Tie as tie

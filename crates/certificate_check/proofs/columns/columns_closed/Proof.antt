@@ -1,14 +1,12 @@
 -- columns_closed meets its contract: what is held before the column looked at is closed, and the window has what is held from it on.
 use borrow.Author.Needs.{needs}
 use native.Mathlib.Omega.{arith}
-use mathlib.Core.Path.{_≡_, refl, ap, sym, subst, _∙_}
-use mathlib.Core.Bool.{true}
+use mathlib.Core.Path.{_≡_, sym, subst}
 use borrow.Author.Tests.{not-false, eqb-true}
 use Prim.Native.Nat.{ℕ, _+_, _-_, _*_, _/_, _%_, _^_, _≤_, _<_}
-use lib.ListN.{length}
 use lib.Pow.{pow-pos}
 use Rattle.grammar.proofs.Answers.{no-bool}
-use Rattle.triples.specs.Index.{index, tripleCount}
+use Rattle.triples.specs.Index.{index}
 use Rattle.triples.proofs.Index.{index-below}
 use Rattle.bits.specs.Windows.{Columns, Window}
 use Rattle.bits.proofs.WindowLaws.{columns-window, window-next, lowest-within}

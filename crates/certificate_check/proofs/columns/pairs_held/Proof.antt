@@ -1,11 +1,10 @@
 -- pairs_held meets its contract: the row of one target more in each turn.
 use borrow.Author.Needs.{needs}
 use native.Mathlib.Omega.{arith}
-use mathlib.Core.Path.{_≡_, refl, ap, sym, subst, _∙_}
-use mathlib.Core.Bool.{true}
+use mathlib.Core.Path.{_≡_, ap, sym, subst, _∙_}
 use borrow.Author.Tests.{not-false}
-use Prim.Native.Nat.{ℕ, _+_, _-_, _*_, _≤_, _<_}
-use lib.ListN.{length, getD}
+use Prim.Native.Nat.{ℕ, _+_, _-_, _≤_, _<_}
+use lib.ListN.{getD}
 use Rattle.grammar.proofs.Answers.{no-bool}
 use Rattle.certificate_check.specs.Columns.{spanOf, targetOf, PairsTo}
 use Rattle.certificate_check.proofs.ColumnLaws.{pairs-none, pairs-more}

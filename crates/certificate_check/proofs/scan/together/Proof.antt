@@ -1,5 +1,4 @@
 -- together meets its contract: one column, those that are left, or as many as a window has.
-use borrow.Author.Needs.{needs}
 use native.Mathlib.Omega.{arith}
 use Rattle.certificate_check.proofs.scan.together.Statement.{statement}
 use Rattle.certificate_check.proofs.scan.together.Tie as tie
