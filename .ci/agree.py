@@ -276,7 +276,7 @@ def random_grammars(tools):
             ambiguous += 1
         elif "verdict=potential" in out:
             grammar = found_in(text).grammar
-            short = (bytes(row) for length in range(SHORT + 1)
+            short = (row for length in range(SHORT + 1)
                      for row in itertools.product(range(1, grammar.terminals + 1), repeat=length))
             assert all(tree_count(grammar, row) < MOST for row in short), text
     return "%d grammars, %d of them ambiguous" % (RANDOM, ambiguous)

@@ -49,12 +49,13 @@ static size_t next_number(size_t bytes)
     return number;
 }
 
-static uint8_t *next_bytes(size_t count)
+/* So many entries of a size, in the order of bytes that the machine has. */
+static void *next_entries(size_t count, size_t size)
 {
-    uint8_t *bytes = malloc(count + 1);
-    if (bytes == NULL || fread(bytes, 1, count, stdin) != count)
+    void *entries = malloc(count * size + 1);
+    if (entries == NULL || fread(entries, size, count, stdin) != count)
         stop("the file ends inside it");
-    return bytes;
+    return entries;
 }
 
 static void *filled(size_t bytes, int fill)
@@ -83,7 +84,7 @@ static void print_looked(uint64_t looked)
         printf(" looked=%lu", (unsigned long)looked);
 }
 
-static void answer_search(search_function *search, size_t t, size_t n, const uint8_t *table, size_t len, FILE *found)
+static void answer_search(search_function *search, size_t t, size_t n, const uint16_t *table, size_t len, FILE *found)
 {
     size_t c_len = next_number(4), q_len = next_number(4), p_len = next_number(4), w_len = next_number(4);
     int fill = (int)next_number(1);
@@ -126,10 +127,10 @@ static void answer_search(search_function *search, size_t t, size_t n, const uin
     free(w);
 }
 
-static void answer_check(check_function *check, size_t t, size_t n, const uint8_t *table, size_t len)
+static void answer_check(check_function *check, size_t t, size_t n, const uint16_t *table, size_t len)
 {
     size_t c_len = next_number(4);
-    uint8_t *c = next_bytes(c_len);
+    uint8_t *c = next_entries(c_len, sizeof *c);
     check_reply r = check(t, n, table, len, c, c_len);
     if (r.cause != 0)
         printf("refused=%lu at=%lu\n", (unsigned long)r.cause, (unsigned long)r.at);
@@ -152,7 +153,7 @@ int main(int argc, char **argv)
     uint64_t t;
     while (read_number(8, &t)) {
         size_t n = next_number(8), len = next_number(4);
-        uint8_t *table = next_bytes(len);
+        uint16_t *table = next_entries(len, sizeof *table);
         if (searches)
             answer_search(parties[who].search, t, n, table, len, found);
         else

@@ -1,14 +1,19 @@
-"""The grammars of the benchmark, the same ones every time, within document 01's limits.
+"""The grammars of the benchmark, the same ones every time, within document 02's limits.
 
-    grammars.py FILE    writes a line for each: name, t, n, the table in hexadecimal digits
+    grammars.py FILE    writes a line for each: name, t, n, the table in hexadecimal digits, four for an entry
 """
 
 import random
 import sys
 
-START = 128
-MAX_SYMBOLS, MAX_LENGTH, MAX_RULES, MAX_STATES = 127, 12, 100, 256
+START = 32768
+MAX_SYMBOLS, MAX_LENGTH, MAX_RULES, MAX_STATES = 2000, 12, 400, 1024
 SEED = 20010101
+
+
+def line_of(name, terminals, nonterminals, table):
+    digits = "".join(f"{entry:04x}" for entry in table)
+    return f"{name} {terminals} {nonterminals} {digits}"
 
 
 class Grammar:
@@ -35,8 +40,8 @@ class Grammar:
         assert len(self.rules) <= MAX_RULES and self.states() <= MAX_STATES, self.name
         assert all(len(right) <= MAX_LENGTH for _, right in self.rules), self.name
         assert len({(left, tuple(right)) for left, right in self.rules}) == len(self.rules), self.name
-        table = b"".join(bytes([codes[left], len(right)] + [codes[x] for x in right]) for left, right in self.rules)
-        return f"{self.name} {len(self.terminals)} {len(self.nonterminals)} {table.hex()}"
+        return line_of(self.name, len(self.terminals), len(self.nonterminals),
+                       [entry for left, right in self.rules for entry in (codes[left], len(right), *(codes[x] for x in right))])
 
 
 # Small grammars, of manuals and of textbooks.
@@ -190,11 +195,25 @@ def extremes():
     yield Grammar("right-chain-50", [f"X{i}: a X{i + 1} | b" for i in range(49)] + ["X49: a"])
 
 
+# Some of these families at about 1,000 states.
+
+def large():
+    yield layered(15, 16)
+    yield commands(240, 1000)
+    yield commands(240, 1000, loose=True)
+    yield nested_lists(66)
+    yield drawn(60, 1000, False)
+    yield drawn(60, 1000, True)
+    yield prefix(250)
+    yield suffix(200)
+
+
 def grammars():
     yield from small()
     yield from languages()
     yield from randoms()
     yield from extremes()
+    yield from large()
 
 
 def main():

@@ -10,8 +10,7 @@ enum kind { STAYS, OPENS, CLOSES, READS };
 
 /* What a state does: where its targets stand, the symbol ahead or 0, and the rule that it is in. */
 struct state {
-    uint16_t from, to;
-    uint8_t ahead, kind, rule;
+    uint16_t from, to, ahead, rule, kind;
 };
 
 /* A state is a target of at most one class, so the row has at most one entry for each. */
@@ -24,13 +23,15 @@ struct moves {
  * sentence uses have no moves, and nothing leads to them. */
 static void build(const struct grammar *g, struct moves *m)
 {
-    uint16_t opens[MAX_NONTERMINALS + 1] = {0}, closes[MAX_NONTERMINALS + 1] = {0};
-    uint16_t opens_at[MAX_NONTERMINALS + 1] = {0}, closes_at[MAX_NONTERMINALS + 1] = {0};
+    uint16_t opens[MAX_NONTERMINALS + 1], closes[MAX_NONTERMINALS];
+    uint16_t opens_at[MAX_NONTERMINALS], closes_at[MAX_NONTERMINALS];
     uint8_t live[MAX_RULES + 1];
 
     find_live(g, live);
+    memset(opens, 0, g->n * sizeof *opens);
+    memset(closes, 0, g->n * sizeof *closes);
     for (unsigned i = 0; i < g->rules; i++) {
-        const uint8_t *rule = g->rule[i];
+        const uint16_t *rule = g->rule[i];
         if (!live[i + 1])
             continue;
         opens[rule[0] - START]++;
@@ -43,23 +44,24 @@ static void build(const struct grammar *g, struct moves *m)
     m->targets[0] = 2;
     m->targets[1] = 1;
     unsigned next = 2;
-    for (unsigned b = 0; b < g->n; b++) {
+    unsigned b = 0;
+    do {
         unsigned count = opens[b];
         opens_at[b] = opens[b] = (uint16_t)next;
         next += count;
         count = closes[b];
         closes_at[b] = closes[b] = (uint16_t)next;
         next += count;
-    }
+    } while (++b < g->n);
     opens[g->n] = (uint16_t)next;
 
     m->targets[closes_at[0]++] = 3;
     unsigned p = 4;
     for (unsigned i = 0; i < g->rules; i++) {
-        const uint8_t *rule = g->rule[i];
+        const uint16_t *rule = g->rule[i];
         if (!live[i + 1]) {
             for (unsigned end = p + rule[1]; p <= end; p++)
-                m->state[p] = (struct state){0, 0, 0, STAYS, (uint8_t)(i + 1)};
+                m->state[p] = (struct state){0, 0, 0, (uint16_t)(i + 1), STAYS};
             continue;
         }
         m->targets[opens_at[rule[0] - START]++] = (uint16_t)p;
@@ -67,18 +69,18 @@ static void build(const struct grammar *g, struct moves *m)
             unsigned x = rule[2 + d];
             if (x >= START) {
                 m->targets[closes_at[x - START]++] = (uint16_t)(p + 1);
-                m->state[p] = (struct state){opens[x - START], closes[x - START], (uint8_t)x, OPENS, (uint8_t)(i + 1)};
+                m->state[p] = (struct state){opens[x - START], closes[x - START], (uint16_t)x, (uint16_t)(i + 1), OPENS};
             } else {
-                m->state[p] = (struct state){0, 0, (uint8_t)x, READS, (uint8_t)(i + 1)};
+                m->state[p] = (struct state){0, 0, (uint16_t)x, (uint16_t)(i + 1), READS};
             }
         }
-        unsigned b = rule[0] - START;
-        m->state[p++] = (struct state){closes[b], opens[b + 1], 0, CLOSES, (uint8_t)(i + 1)};
+        b = rule[0] - START;
+        m->state[p++] = (struct state){closes[b], opens[b + 1], 0, (uint16_t)(i + 1), CLOSES};
     }
-    m->state[0] = (struct state){0, 1, 0, OPENS, 0};
-    m->state[1] = (struct state){0, 0, 0, STAYS, 0};
-    m->state[2] = (struct state){opens[0], closes[0], START, OPENS, 0};
-    m->state[3] = (struct state){1, 2, 0, CLOSES, 0};
+    m->state[0] = (struct state){0, 1, 0, 0, OPENS};
+    m->state[1] = (struct state){0, 0, 0, 0, STAYS};
+    m->state[2] = (struct state){opens[0], closes[0], START, 0, OPENS};
+    m->state[3] = (struct state){1, 2, 0, 0, CLOSES};
 }
 
 static inline int is_seen(const uint64_t *seen, size_t index)
@@ -88,7 +90,7 @@ static inline int is_seen(const uint64_t *seen, size_t index)
 
 static inline uint32_t packed(unsigned f, unsigned p, unsigned q)
 {
-    return f << 16 | p << 8 | q;
+    return f << 20 | p << 10 | q;
 }
 
 /* One successor: if it was not seen, it goes to the queue's end. */
@@ -117,7 +119,7 @@ static inline size_t explore(const struct moves *restrict m, size_t states, uint
     seen[0] = 1;
     while (head < tail) {
         uint32_t triple = queue[head++];
-        unsigned f = triple >> 16, p = triple >> 8 & 255, q = triple & 255;
+        unsigned f = triple >> 20, p = triple >> 10 & 1023, q = triple & 1023;
         const struct state *a = &m->state[p], *b = &m->state[q];
         uint32_t from = (uint32_t)(f * square + p * states + q);
         int left = a->kind == OPENS, right = b->kind == OPENS; /* moves alone, and the layer that it leads to */
@@ -157,7 +159,7 @@ static inline size_t explore(const struct moves *restrict m, size_t states, uint
     return tail;
 }
 
-static inline search_reply search(size_t t, size_t n, const uint8_t *table, size_t table_len, uint8_t *certificate,
+static inline search_reply search(size_t t, size_t n, const uint16_t *table, size_t table_len, uint8_t *certificate,
                                   size_t certificate_len, uint32_t *queue, size_t queue_len, uint32_t *parents,
                                   size_t parents_len, uint32_t *witness, size_t witness_len, int stops)
 {
@@ -193,7 +195,7 @@ static inline search_reply search(size_t t, size_t n, const uint8_t *table, size
     return reply;
 }
 
-search_reply plain_search(size_t t, size_t n, const uint8_t *table, size_t table_len, uint8_t *certificate,
+search_reply plain_search(size_t t, size_t n, const uint16_t *table, size_t table_len, uint8_t *certificate,
                           size_t certificate_len, uint32_t *queue, size_t queue_len, uint32_t *parents, size_t parents_len,
                           uint32_t *witness, size_t witness_len)
 {
@@ -201,7 +203,7 @@ search_reply plain_search(size_t t, size_t n, const uint8_t *table, size_t table
                   witness_len, 1);
 }
 
-search_reply plain_search_whole(size_t t, size_t n, const uint8_t *table, size_t table_len, uint8_t *certificate,
+search_reply plain_search_whole(size_t t, size_t n, const uint16_t *table, size_t table_len, uint8_t *certificate,
                                 size_t certificate_len, uint32_t *queue, size_t queue_len, uint32_t *parents,
                                 size_t parents_len, uint32_t *witness, size_t witness_len)
 {
@@ -270,7 +272,7 @@ static inline int is_closed_at(const struct moves *m, size_t states, const uint8
 }
 
 /* The held triples, upwards, eight bytes at a time; each successor of each is tested. */
-check_reply plain_check(size_t t, size_t n, const uint8_t *table, size_t table_len, const uint8_t *certificate,
+check_reply plain_check(size_t t, size_t n, const uint16_t *table, size_t table_len, const uint8_t *certificate,
                         size_t certificate_len)
 {
     struct grammar g;

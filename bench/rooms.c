@@ -2,13 +2,13 @@
  *
  *     rooms GRAMMARS SECONDS
  *
- * GRAMMARS is as for search.c. The names have 15 bytes and differ in their last three. For each grammar a line is printed: name, Q, the
+ * GRAMMARS is as for search.c. The names have 15 bytes and differ in their last four. For each grammar a line is printed: name, Q, the
  * number of moves, the length of the text; medians in nanoseconds of the room by the library and by plain C, and of the length by the
  * library and by plain C. It stops at the first disagreement, with status 1. */
 #include "ambiguity.h"
 #include "timing.h"
 
-enum { NAME = 15, NAMES = MAX_TERMINALS + MAX_NONTERMINALS };
+enum { NAME = 15, NAMES = MAX_TERMINALS + MAX_NONTERMINALS, SLOTS = 8192 };
 
 static uint8_t names[NAMES * NAME];
 static uint32_t starts[NAMES], lengths[NAMES];
@@ -26,7 +26,7 @@ static ambiguity_room_reply plain_room(const struct input *in)
     size_t rules[MAX_NONTERMINALS] = {0}, places[MAX_NONTERMINALS] = {1};
     size_t moves = 3; /* rule 0 is opened and closed, and S passed */
     for (unsigned i = 0; i < g.rules; i++) {
-        const uint8_t *rule = g.rule[i];
+        const uint16_t *rule = g.rule[i];
         if (!live[i + 1])
             continue;
         rules[rule[0] - START]++;
@@ -53,12 +53,34 @@ static int is_name(const uint8_t *name, size_t length)
     return 1;
 }
 
-static int is_double(size_t symbol)
+static uint32_t hash_of(const uint8_t *name, size_t length)
 {
-    for (size_t i = 0; i < symbol; i++)
-        if (lengths[i] == lengths[symbol] && memcmp(names + starts[i], names + starts[symbol], lengths[i]) == 0)
-            return 1;
-    return 0;
+    uint32_t hash = (uint32_t)length;
+    for (size_t i = 0; i < length; i++)
+        hash = (hash ^ name[i]) * 16777619u;
+    return hash ^ hash >> 15;
+}
+
+/* The first symbol whose name an earlier one has, or their number: by a hash table with at least two slots for each. */
+static size_t first_double(size_t symbols)
+{
+    static uint16_t slots[SLOTS];
+    size_t last = 1;
+    while (last < 2 * symbols)
+        last *= 2;
+    memset(slots, 0, last * sizeof *slots);
+    last--;
+    for (size_t i = 0; i < symbols; i++) {
+        const uint8_t *name = names + starts[i];
+        size_t k = hash_of(name, lengths[i]) & last;
+        for (; slots[k] != 0; k = (k + 1) & last) {
+            size_t other = slots[k] - 1u;
+            if (lengths[other] == lengths[i] && memcmp(names + starts[other], name, lengths[i]) == 0)
+                return i;
+        }
+        slots[k] = (uint16_t)(i + 1);
+    }
+    return symbols;
 }
 
 static size_t length_of(const struct grammar *g, unsigned code)
@@ -78,11 +100,11 @@ static ambiguity_length_reply plain_length(const struct input *in)
             return (ambiguity_length_reply){16, i, 0};
         length += lengths[i];
     }
-    for (size_t i = 0; i < symbols; i++)
-        if (is_double(i))
-            return (ambiguity_length_reply){18, i, 0};
+    size_t twice = first_double(symbols);
+    if (twice != symbols)
+        return (ambiguity_length_reply){18, twice, 0};
     for (unsigned i = 0; i < g.rules; i++) {
-        const uint8_t *rule = g.rule[i];
+        const uint16_t *rule = g.rule[i];
         length += strlen("rule=:\n") + length_of(&g, rule[0]);
         for (unsigned d = 0; d < rule[1]; d++)
             length += 1 + length_of(&g, rule[2 + d]);
@@ -128,7 +150,7 @@ static struct told time_calls(const struct input *in, ask_function *library, ask
     double cost = choose_clock(now() - begin);
     size_t turns = 0;
     begin = now();
-    while (turns < MOST_TURNS && (turns < FEWEST_TURNS || now() - begin < budget)) {
+    while (turns < MOST_TURNS && (turns < fewest || now() - begin < budget)) {
         for (size_t k = 0; k < 2; k++) {
             size_t who = (k + turns) % 2;
             double start = now();
@@ -158,7 +180,7 @@ int main(int argc, char **argv)
     for (uint32_t i = 0; i < NAMES; i++) {
         starts[i] = i * NAME;
         lengths[i] = NAME;
-        for (uint32_t digit = 0, rest = i; digit < 3; digit++, rest /= 10)
+        for (uint32_t digit = 0, rest = i; digit < 4; digit++, rest /= 10)
             names[(i + 1) * NAME - 1 - digit] = (uint8_t)('0' + rest % 10);
     }
     static struct input in;

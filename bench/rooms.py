@@ -11,20 +11,20 @@ import statistics
 import subprocess
 import sys
 
-from grammars import MAX_LENGTH, MAX_RULES, MAX_SYMBOLS, START, Grammar, grammars
+from grammars import MAX_LENGTH, MAX_RULES, MAX_SYMBOLS, START, Grammar, grammars, line_of
 from search import BENCH, FLAGS, ROOT, WORK, archive, ratio, run
 
 
 def slow():
     """As lines of grammars.py."""
     led = [" ".join(["S"] * length) for length in range(MAX_LENGTH + 1)]
-    led += [f"t{i} " + ("S S" if i < 2 else "S") for i in range(53)]
+    led += [f"t{i} " + ("S S" if i < 194 else "S") for i in range(245)]
     yield Grammar("most-moves", ["S: " + " | ".join(led)]).line()
     last = MAX_RULES - 1
     deepest = [f"X{last}: a"] + [f"X{i}: X{i + 1}" for i in range(last - 1, 0, -1)]
     yield Grammar("deepest-rule-first", ["X0: X1"] + deepest).line()
-    yield Grammar("equal-beginnings", ["S: " + " | ".join("a a a t%d" % i for i in range(50))]).line()
-    yield f"every-name {MAX_SYMBOLS} {MAX_SYMBOLS} {START:02x}0101"
+    yield Grammar("equal-beginnings", ["S: " + " | ".join("a a a t%d" % i for i in range(200))]).line()
+    yield line_of("every-name", MAX_SYMBOLS, MAX_SYMBOLS, [START, 1, 1])
 
 
 def build(options):
@@ -44,8 +44,8 @@ def main():
     listed = WORK / "rooms.txt"
     listed.write_text("".join(line + "\n" for line in [*slow(), *(grammar.line() for grammar in grammars())]))
     print(f"load {os.getloadavg()[0]:.1f} on {os.cpu_count()} processors")
-    print(f"{'':22s} {'':3s} {'':6s}  room             text")
-    print(f"{'grammar':22s} {'Q':>3s} {'moves':>6s} {'us':>8s} {'plain':>6s} {'bytes':>6s} {'us':>8s} {'plain':>6s}")
+    print(f"{'':22s} {'':4s} {'':6s}  room             text")
+    print(f"{'grammar':22s} {'Q':>4s} {'moves':>6s} {'us':>8s} {'plain':>6s} {'bytes':>6s} {'us':>8s} {'plain':>6s}")
     found = {"room": [], "length": []}
     with subprocess.Popen([program, listed, str(options.seconds)], stdout=subprocess.PIPE, text=True) as process:
         for line in process.stdout:
@@ -53,7 +53,7 @@ def main():
             room, plain_room, text, plain_text = map(float, times)
             found["room"].append((room, ratio(room, plain_room)))
             found["length"].append((text, ratio(text, plain_text)))
-            print(f"{name:22s} {states:>3s} {moves:>6s} {room / 1000:8.2f} {ratio(room, plain_room):6.2f}"
+            print(f"{name:22s} {states:>4s} {moves:>6s} {room / 1000:8.2f} {ratio(room, plain_room):6.2f}"
                   f" {length:>6s} {text / 1000:8.2f} {ratio(text, plain_text):6.2f}", flush=True)
     if process.returncode != 0:
         print("the library and plain C disagree")

@@ -2,10 +2,10 @@
  *
  *     search GRAMMARS SECONDS
  *
- * GRAMMARS has a line for each grammar: name, t, n, the table in hexadecimal digits. SECONDS is spent on each, about. For each
- * grammar a line is printed: name, Q, verdict, count, size of the reached set; medians in nanoseconds of the search by the library,
- * plain C, plain C that finishes the set, the same algorithm in C; of the certificate check by the library, plain C, the same
- * algorithm in C, or 0 0 0 where there is no certificate. It stops at the first disagreement, with status 1. */
+ * GRAMMARS has a line for each grammar: name, t, n, the table in hexadecimal digits, four for an entry. SECONDS is spent on each,
+ * about. For each grammar a line is printed: name, Q, verdict, count, size of the reached set; medians in nanoseconds of the search
+ * by the library, plain C, plain C that finishes the set, the same algorithm in C; of the certificate check by the library, plain C,
+ * the same algorithm in C, or 0 0 0 where there is no certificate. It stops at the first disagreement, with status 1. */
 #include "library.h"
 #include "timing.h"
 #include "witness.h"
@@ -18,7 +18,7 @@ static check_function *const checks[CHECKS] = {library_check, plain_check, same_
 static const char *const names[SEARCHES] = {"library", "plain C", "plain C, whole set", "same algorithm in C"};
 
 static uint8_t certificate[BYTES], right[BYTES];
-static uint32_t queue[ENTRIES], parents[ENTRIES], witness[ENTRIES], garbage[2 * ENTRIES];
+static uint32_t queue[ENTRIES], parents[ENTRIES], witness[ENTRIES], garbage[2 * ENTRIES + 4];
 static double spent[SEARCHES][MOST_TURNS];
 
 /* All that is lent is garbage before a call, not the same each time. */
@@ -74,7 +74,7 @@ static void time_searches(const struct input *in, search_reply expected, double 
     call(plain_search, in);
     cost = choose_clock(now() - begin);
     begin = now();
-    while (turns < MOST_TURNS && (turns < FEWEST_TURNS || now() - begin < budget)) {
+    while (turns < MOST_TURNS && (turns < fewest || now() - begin < budget)) {
         for (size_t k = 0; k < SEARCHES; k++) {
             size_t who = (k + turns) % SEARCHES;
             refill(entries, turns);
@@ -95,7 +95,7 @@ static void time_checks(const struct input *in, double budget, double *medians)
     static const char *const who_is[CHECKS] = {"library", "plain C", "same algorithm in C"};
     size_t q = in->g.states, bytes = (2 * q * q + 7) / 8, turns = 0;
     double cost = clock_cost(), begin = now();
-    while (turns < MOST_TURNS && (turns < FEWEST_TURNS || now() - begin < budget)) {
+    while (turns < MOST_TURNS && (turns < fewest || now() - begin < budget)) {
         for (size_t k = 0; k < CHECKS; k++) {
             size_t who = (k + turns) % CHECKS;
             double start = now();
@@ -110,11 +110,11 @@ static void time_checks(const struct input *in, double budget, double *medians)
         medians[who] = median(spent[who], turns);
 }
 
-/* A damaged certificate is refused by all in the same way: each held bit cleared in turn, some of them. */
+/* A damaged certificate is refused by all in the same way: some of the bits are flipped in turn, fewer of a large one. */
 static void damage(const struct input *in)
 {
     size_t q = in->g.states, entries = 2 * q * q, bytes = (entries + 7) / 8;
-    size_t step = entries / 200 + 1;
+    size_t step = entries / (q < 300 ? 200 : 20) + 1;
     for (size_t i = 0; i < entries; i += step) {
         right[i / 8] ^= (uint8_t)(1 << i % 8);
         check_reply expected = plain_check(in->t, in->n, in->table, in->len, right, bytes);
@@ -136,7 +136,7 @@ int main(int argc, char **argv)
     }
     double budget = atof(argv[2]) * 1e9;
     uint32_t x = 2463534242u;
-    for (size_t i = 0; i < 2 * ENTRIES; i++) {
+    for (size_t i = 0; i < 2 * ENTRIES + 4; i++) {
         x ^= x << 13;
         x ^= x >> 17;
         x ^= x << 5;

@@ -4,7 +4,8 @@
     python3 bench/search.py check         builds all, and compares each with the second program on all of its cases
 
 Options: --seconds N for each grammar (0.5); --archive FILE, a static library with the library's functions, in place of the one
-that rt staticlib makes; --stand-in, same.c in place of the library; --only WORD, the grammars whose names have it.
+that rt staticlib makes; --stand-in, same.c in place of the library; --only WORD, the grammars whose names have it, or hostile for
+the certificates that are made to be slow.
 The compiler is $CC or gcc, with -O3. README.md beside this file says what the numbers mean.
 """
 
@@ -22,7 +23,8 @@ WORK = ROOT / "target" / "bench"
 SOURCES = ("plain.c", "same.c")
 FLAGS = ["-O3", "-std=c11", "-Wall", "-Wextra", "-D_POSIX_C_SOURCE=199309L"]
 PARTIES = {"search": ("plain", "whole", "same", "library"), "certificate": ("plain", "same", "library")}
-LARGE = 40
+LARGE, LARGEST = 40, 900
+HOSTILE_RULES = (40, 62, 125, 250)
 
 
 def run(*words, **more):
@@ -72,6 +74,20 @@ LABELS = (
     "search: the same algorithm in C", "check: plain C", "check: the same algorithm in C")
 
 
+def hostile(options):
+    """The certificate check on certificates that are made to be slow; hostile.c says which."""
+    program = build(options, "hostile")
+    print("hostile certificates, milliseconds of a check:")
+    print(f"  {'kind':9s} {'Q':>4s} {'pairs':>6s} {'successors':>10s} {'library':>9s} {'plain C':>9s} {'same':>9s}")
+    words = [program, str(options.seconds), *map(str, HOSTILE_RULES)]
+    with subprocess.Popen(words, stdout=subprocess.PIPE, text=True) as process:
+        for line in process.stdout:
+            kind, states, pairs, successors, *spent = line.split()
+            shown = ("-" if float(x) == 0 else f"{float(x):.3f}" for x in spent)
+            print(f"  {kind:9s} {states:>4s} {pairs:>6s} {successors:>10s}" + "".join(f" {x:>9s}" for x in shown), flush=True)
+    return process.returncode
+
+
 def times(options):
     program = build(options, "search")
     listed = WORK / "grammars.txt"
@@ -81,8 +97,8 @@ def times(options):
     if options.stand_in:
         print("same.c stands in for the library")
     print(f"load {os.getloadavg()[0]:.1f} on {os.cpu_count()} processors; all that is lent is garbage before each call")
-    print(f"{'':22s} {'':3s} {'':11s} {'':7s}  search                        certificate check")
-    print(f"{'grammar':22s} {'Q':>3s} {'verdict':11s} {'reached':>7s} {'us':>8s} {'plain':>6s} {'whole':>6s} {'same':>6s}"
+    print(f"{'':22s} {'':4s} {'':11s} {'':7s}  search                        certificate check")
+    print(f"{'grammar':22s} {'Q':>4s} {'verdict':11s} {'reached':>7s} {'us':>8s} {'plain':>6s} {'whole':>6s} {'same':>6s}"
           f" {'us':>8s} {'plain':>6s} {'same':>6s}")
     found = {label: [] for label in LABELS}
     with subprocess.Popen([program, listed, str(options.seconds)], stdout=subprocess.PIPE, text=True) as process:
@@ -90,7 +106,7 @@ def times(options):
             name, states, verdict, _, reached, *rest = line.split()
             library, plain, whole, same, check, check_plain, check_same = map(float, rest)
             row = [ratio(library, other) for other in (plain, whole, same)]
-            text = f"{name:22s} {states:>3s} {verdict:11s} {reached:>7s} {library / 1000:8.2f}" + "".join(
+            text = f"{name:22s} {states:>4s} {verdict:11s} {reached:>7s} {library / 1000:8.2f}" + "".join(
                 f" {x:6.2f}" for x in row)
             ratios = [row[0], None, row[1], row[2], None, None]
             if check:
@@ -107,6 +123,10 @@ def times(options):
     print("above 1 the library is faster")
     summary(found, 0, "over all grammars")
     summary(found, LARGE, f"over those of {LARGE} states or more")
+    summary(found, LARGEST, f"over those of {LARGEST} states or more")
+    if options.only in "hostile" and hostile(options) != 0:
+        print("the checks disagree on a hostile certificate")
+        return 1
     return 0
 
 

@@ -1,4 +1,4 @@
-/* What the searches and certificate checks of this folder answer, and what they share: document 01's limits, the causes of
+/* What the searches and certificate checks of this folder answer, and what they share: document 02's limits, the causes of
  * refusal that they meet, the table check, and which rules some sentence uses. */
 #ifndef SEARCHES_H
 #define SEARCHES_H
@@ -7,7 +7,7 @@
 #include <stdint.h>
 #include <string.h>
 
-enum { MAX_TERMINALS = 127, MAX_NONTERMINALS = 127, START = 128, MAX_LENGTH = 12, MAX_RULES = 100, MAX_STATES = 256 };
+enum { MAX_TERMINALS = 2000, MAX_NONTERMINALS = 2000, START = 32768, MAX_LENGTH = 12, MAX_RULES = 400, MAX_STATES = 1024 };
 
 enum { REFUSED = 0, UNAMBIGUOUS = 1, POTENTIAL = 2 };
 
@@ -22,11 +22,11 @@ typedef struct {
     uint64_t cause, at;
 } check_reply;
 
-typedef search_reply search_function(size_t t, size_t n, const uint8_t *table, size_t table_len, uint8_t *certificate,
+typedef search_reply search_function(size_t t, size_t n, const uint16_t *table, size_t table_len, uint8_t *certificate,
                                      size_t certificate_len, uint32_t *queue, size_t queue_len, uint32_t *parents,
                                      size_t parents_len, uint32_t *witness, size_t witness_len);
 
-typedef check_reply check_function(size_t t, size_t n, const uint8_t *table, size_t table_len, const uint8_t *certificate,
+typedef check_reply check_function(size_t t, size_t n, const uint16_t *table, size_t table_len, const uint8_t *certificate,
                                    size_t certificate_len);
 
 struct grammar;
@@ -43,7 +43,7 @@ check_function same_check;
 /* A checked table: each rule is its left code, its length and its codes. By nonterminal whether it has a finite tree. */
 struct grammar {
     unsigned t, n, rules, states;
-    const uint8_t *rule[MAX_RULES];
+    const uint16_t *rule[MAX_RULES];
     uint8_t has_tree[MAX_NONTERMINALS];
 };
 
@@ -57,18 +57,18 @@ static inline int is_declared(unsigned t, unsigned n, unsigned code)
     return (code >= 1 && code <= t) || (code >= START && code < START + n);
 }
 
-static inline int is_repeated(const struct grammar *g, const uint8_t *rule)
+static inline int is_repeated(const struct grammar *g, const uint16_t *rule)
 {
     for (unsigned i = 0; i < g->rules; i++) {
-        const uint8_t *earlier = g->rule[i];
-        if (earlier[0] == rule[0] && earlier[1] == rule[1] && memcmp(earlier + 2, rule + 2, rule[1]) == 0)
+        const uint16_t *earlier = g->rule[i];
+        if (earlier[0] == rule[0] && earlier[1] == rule[1] && memcmp(earlier + 2, rule + 2, rule[1] * sizeof *rule) == 0)
             return 1;
     }
     return 0;
 }
 
 /* Is every nonterminal of a right side marked? */
-static inline int all_marked(const uint8_t *marks, const uint8_t *rule)
+static inline int all_marked(const uint8_t *marks, const uint16_t *rule)
 {
     for (unsigned d = 0; d < rule[1]; d++)
         if (rule[2 + d] >= START && !marks[rule[2 + d] - START])
@@ -83,7 +83,7 @@ static inline void find_trees(struct grammar *g)
     for (int fresh = 1; fresh;) {
         fresh = 0;
         for (unsigned i = g->rules; i-- > 0;) {
-            const uint8_t *rule = g->rule[i];
+            const uint16_t *rule = g->rule[i];
             if (!g->has_tree[rule[0] - START] && all_marked(g->has_tree, rule))
                 fresh = g->has_tree[rule[0] - START] = 1;
         }
@@ -91,7 +91,7 @@ static inline void find_trees(struct grammar *g)
 }
 
 /* Causes 1 to 8, in document 01's order, then 19. */
-static inline check_reply check_table(size_t t, size_t n, const uint8_t *table, size_t table_len, struct grammar *g)
+static inline check_reply check_table(size_t t, size_t n, const uint16_t *table, size_t table_len, struct grammar *g)
 {
     if (t > MAX_TERMINALS || n < 1 || n > MAX_NONTERMINALS)
         return (check_reply){1, 0};
@@ -100,7 +100,7 @@ static inline check_reply check_table(size_t t, size_t n, const uint8_t *table, 
     g->rules = 0;
     g->states = 4;
     for (size_t at = 0; at < table_len;) {
-        const uint8_t *rule = table + at;
+        const uint16_t *rule = table + at;
         if (g->rules == MAX_RULES)
             return (check_reply){7, at};
         if (table_len - at < 2)
@@ -131,11 +131,13 @@ static inline check_reply check_table(size_t t, size_t n, const uint8_t *table, 
  * mark what S reaches through rules that can stand in a tree. */
 static inline void find_live(const struct grammar *g, uint8_t *live)
 {
-    uint8_t is_reached[MAX_NONTERMINALS] = {1};
+    uint8_t is_reached[MAX_NONTERMINALS];
+    memset(is_reached, 0, g->n);
+    is_reached[0] = 1;
     for (int fresh = 1; fresh;) {
         fresh = 0;
         for (unsigned i = 0; i < g->rules; i++) {
-            const uint8_t *rule = g->rule[i];
+            const uint16_t *rule = g->rule[i];
             if (!is_reached[rule[0] - START] || !all_marked(g->has_tree, rule))
                 continue;
             for (unsigned d = 0; d < rule[1]; d++)

@@ -10,10 +10,10 @@
 struct item {
     int rule;
     unsigned left, k, dot;
-    const uint8_t *codes;
+    const uint16_t *codes;
 };
 
-static const uint8_t START_CODE[1] = {START};
+static const uint16_t START_CODE[1] = {START};
 
 static struct item any_item(const struct grammar *g, unsigned p)
 {

@@ -7,10 +7,10 @@ moves, stand before no terminal, and no move leads to them." An item that is not
 taken is None, so that nothing below finds it.
 """
 
-from typing import List, NamedTuple, Optional, Sequence, Tuple
+from typing import Dict, List, NamedTuple, Optional, Sequence, Tuple
 
 from live import live_rules
-from tables import START, Grammar
+from tables import START, Codes, Grammar
 
 BEGIN = 0                 # "State 0 is the start"
 END = 1                   # "1 the end"
@@ -20,6 +20,7 @@ NEW_RULE = 0              # "Rule 0 is S' → S and is not stored"
 NEW_START = 0             # stands for S': no symbol has this code
 
 Arrow = Tuple[int, int]   # a rule's number or a symbol's code, and the next state
+Arrows = Dict[int, List[Arrow]]
 
 
 class Item(NamedTuple):
@@ -27,7 +28,7 @@ class Item(NamedTuple):
 
     rule: int
     left: int
-    right: bytes
+    right: Codes
     dot: int
 
 
@@ -47,7 +48,7 @@ def items_of(grammar: Grammar) -> List[Optional[Item]]:
     2 and 3 are rule 0, "Then come the items of rule 1 from dot 0 to dot k,
     then rule 2, and so on."
     """
-    rules = [(NEW_START, bytes([START]))]
+    rules = [(NEW_START, (START,))]
     rules += [(rule.left, rule.right) for rule in grammar.rules]
     items: List[Optional[Item]] = [None, None]
     for number, (left, right) in enumerate(rules):
@@ -74,7 +75,22 @@ def before_dot(item: Optional[Item]) -> Optional[int]:
     return None if item is None or item.dot == 0 else item.right[item.dot - 1]
 
 
-def openings_from(items: Sequence[Optional[Item]], state: int) -> List[Arrow]:
+def arrows_by_code(items: Sequence[Optional[Item]]) -> Tuple[Arrows, Arrows]:
+    """By nonterminal: dot 0 of each of its rules; "every item just past" it."""
+    first: Arrows = {}
+    past: Arrows = {}
+    for state, item in enumerate(items):
+        code = before_dot(item)
+        if code is not None:
+            past.setdefault(code, []).append((item.rule, state))
+        elif item is not None:
+            first.setdefault(item.left, []).append((item.rule, state))
+    return first, past
+
+
+def openings_from(
+    items: Sequence[Optional[Item]], first: Arrows, state: int
+) -> List[Arrow]:
     """The openings of a state.
 
     "a state with the dot before B moves to dot 0 of each rule i of B. State 0
@@ -83,13 +99,12 @@ def openings_from(items: Sequence[Optional[Item]], state: int) -> List[Arrow]:
     if state == BEGIN:
         return [] if items[BEFORE_START] is None else [(NEW_RULE, BEFORE_START)]
     code = after_dot(items[state])
-    if code is None:
-        return []
-    return [(item.rule, to) for to, item in enumerate(items)
-            if item is not None and item.dot == 0 and item.left == code]
+    return [] if code is None else first.get(code, [])
 
 
-def closings_from(items: Sequence[Optional[Item]], state: int) -> List[Arrow]:
+def closings_from(
+    items: Sequence[Optional[Item]], past: Arrows, state: int
+) -> List[Arrow]:
     """The closings of a state.
 
     "a rule i of B with the dot at its end moves to every item just past a B.
@@ -100,8 +115,7 @@ def closings_from(items: Sequence[Optional[Item]], state: int) -> List[Arrow]:
         return []
     if state == AFTER_START:
         return [(NEW_RULE, END)]
-    return [(closed.rule, to) for to, item in enumerate(items)
-            if before_dot(item) == closed.left]
+    return [(closed.rule, to) for _, to in past.get(closed.left, [])]
 
 
 def shift_from(items: Sequence[Optional[Item]], state: int) -> Optional[Arrow]:
@@ -119,11 +133,12 @@ def stands_before_terminal(item: Optional[Item]) -> bool:
 def automaton_with(grammar: Grammar, taken: Sequence[bool]) -> Automaton:
     """The moves of a checked grammar when these rules are taken, rule 0 first."""
     items = taken_items(grammar, taken)
+    first, past = arrows_by_code(items)
     states = range(len(items))
     return Automaton(
         len(items),
-        tuple(tuple(openings_from(items, state)) for state in states),
-        tuple(tuple(closings_from(items, state)) for state in states),
+        tuple(tuple(openings_from(items, first, state)) for state in states),
+        tuple(tuple(closings_from(items, past, state)) for state in states),
         tuple(shift_from(items, state) for state in states),
         tuple(map(stands_before_terminal, items)),
     )

@@ -250,20 +250,21 @@ def long_strings(rng: Rng) -> Iterator[Case]:
 def long_lines(rng: Rng) -> Iterator[Case]:
     """Lines of more bytes than a text may have."""
     good = some_good(rng)
-    for left, right in ((22000, 1), (1, 22000), (11000, 11500)):
+    for left, right in ((90000, 1), (1, 90000), (44000, 45000)):
         words = good._replace(left=[b"(0"] * left, right=[b")0"] * right)
         for short in (0, 1):
             yield Case(good.base.text, good_lines(words), LentStrings(left - short, right))
 
 
 def at_the_limits(rng: Rng) -> Iterator[Case]:
-    """100 rules, 127 terminals, 127 nonterminals: the last of each, and one more."""
+    """400 rules, 2,000 terminals, 2,000 nonterminals: the last of each, and one more."""
     for _ in range(13):
         grammar = limits_named(rng)
         base = base_of(grammar)
         last = [b"(%d" % base.rules, b")%d" % base.rules, base.names[grammar.t - 1], base.names[-1]]
         for _ in range(4):
-            good = Good(base, rng.sample(last, 4), random_words(rng, base, some_length(rng)))
+            right = random_words(rng, base, some_length(rng)) + [b"(%d" % rng.randrange(10, 100)]
+            good = Good(base, rng.sample(last, 4), right)
             yield Case(base.text, good_lines(good), exact(good))
         words = last + [rng.choice([b"(%d", b")%d"]) % (base.rules + 1 + rng.choice([0, 0, 155]))]
         yield Case(base.text, with_value(good, rng.choice([1, 2]), b" ".join(words)), exact(good))
@@ -638,7 +639,7 @@ def faulty_grammars(rng: Rng) -> Iterator[Case]:
 
 def long_texts(rng: Rng) -> Iterator[Case]:
     """Texts that are too long; else good, or at fault, or no lines at all."""
-    for size in [MAX_TEXT + 1] * 50 + [MAX_BYTES]:
+    for size in [MAX_TEXT + 1] * 11 + [MAX_BYTES]:
         good = some_good(rng, 1)
         text = rng.choice([good.base.text, good.base.text[:-1], b""])
         text += rng.choice([b"rule=%s:\n" % good.base.names[-1], b"\n", b"a", b"\0"]) * size
@@ -650,7 +651,7 @@ def long_texts(rng: Rng) -> Iterator[Case]:
 
 def without_a_sentence(rng: Rng) -> Iterator[Case]:
     """No sentence, with lines of its letters, rows long enough or none; with bad lines."""
-    for table in [*sentenceless(rng, 14), *large_sentenceless(rng, 10)]:
+    for table in [*sentenceless(rng, 14), *large_sentenceless(rng, 5)]:
         base = base_of(named_table(rng, table))
         good = Good(base, *(random_words(rng, base, 1 + some_length(rng)) for _ in range(2)))
         yield Case(base.text, good_lines(good), rng.choice([exact(good), LentStrings(0, 0)]))

@@ -41,13 +41,13 @@ READ_REASONS = [
     "read-more-letters-than-a-witness-has",
     "read-rule-0",
     "read-the-last-rule",
-    "read-rule-100",
+    "read-rule-400",
     "read-a-rule-of-two-digits",
     "read-a-dead-rule",
     "read-a-terminal",
     "read-a-nonterminal",
-    "read-terminal-127",
-    "read-nonterminal-127",
+    "read-terminal-2000",
+    "read-nonterminal-2000",
     "read-a-name-of-15",
     "read-a-name-of-digits",
     "read-not-opened-first",
@@ -142,7 +142,7 @@ REASONS = READ_REASONS + SHORT_REASONS + [
      for first in LINE_CAUSES for second in LINE_CAUSES] + [
     "order-%d-at-%d-before-14" % (cause, line) for cause in LINE_CAUSES for line in (1, 2)
 ] + RULES_REASONS + [TOLD[AFTER_14]]
-ENOUGH = {name: FEWEST for name in RULES_REASONS}
+ENOUGH = {**{name: FEWEST for name in RULES_REASONS}, "grammar-16-at-0": 12}     # long texts
 
 
 class Line(NamedTuple):
@@ -318,13 +318,13 @@ def read_reasons(text: bytes, lines: bytes, pair: Pair, lent: LentStrings) -> Li
         ("read-more-letters-than-a-witness-has", max(left, right) >= 2 * states * states),
         ("read-rule-0", 0 in rules),
         ("read-the-last-rule", known.rules in rules - {0}),
-        ("read-rule-100", MAX_RULES in rules),
+        ("read-rule-400", MAX_RULES in rules),
         ("read-a-rule-of-two-digits", any(10 <= rule < 100 for rule in rules)),
         ("read-a-dead-rule", not dead_in(text).isdisjoint(rules)),
         ("read-a-terminal", any(code < START for code in codes)),
         ("read-a-nonterminal", any(code >= START for code in codes)),
-        ("read-terminal-127", MAX_TERMINALS in codes),
-        ("read-nonterminal-127", START + MAX_NONTERMINALS - 1 in codes),
+        ("read-terminal-2000", MAX_TERMINALS in codes),
+        ("read-nonterminal-2000", START + MAX_NONTERMINALS - 1 in codes),
         ("read-a-name-of-15", any(len(word) == MAX_NAME for word in words)),
         ("read-a-name-of-digits", any(word.isdigit() for word in words)),
         ("read-not-opened-first", any(string and string[0] != (OPENING, 0) for string in pair)),

@@ -3,7 +3,8 @@
     cases FILE                writes the inputs
     answers CASES OUT COUNTS  answers them and counts the reasons
 
-All numbers are little endian. A file depends on the seed alone.
+All numbers are little endian. A table is its number of entries, 4 bytes, followed by
+2 bytes for each entry. A file depends on the seed alone.
 """
 
 import hashlib
@@ -14,13 +15,14 @@ from typing import (
     Callable, Iterator, List, Mapping, NamedTuple, Optional, Sequence, Tuple, TypeVar,
 )
 
-from tables import Refusal
+from tables import Codes, Refusal
 
 SEED = 1
 FEWEST = 20                    # cases that each reason must have
 SHORT = 4                      # bytes of a length, an entry, a layer or a state
 LARGEST = 2 ** (8 * SHORT) - 1
-MAX_TABLE = 65536              # bytes of one table
+ENTRY = 2                      # bytes of an entry of a table
+MAX_TABLE = 65536              # entries of one table
 CASE_HEADER = struct.Struct("<QQI")
 LAST = 2 ** 64 - 1             # largest t or n
 
@@ -68,10 +70,10 @@ def encode_bytes(data: bytes) -> bytes:
     return encode_number(len(data)) + data
 
 
-def encode_table(t: int, n: int, table: bytes) -> bytes:
-    """The front of every case: t and n, the table's length, the table."""
+def encode_table(t: int, n: int, table: Codes) -> bytes:
+    """The front of every case: t and n, the table's number of entries, the entries."""
     assert len(table) <= MAX_TABLE
-    return CASE_HEADER.pack(t, n, len(table)) + table
+    return CASE_HEADER.pack(t, n, len(table)) + struct.pack("<%dH" % len(table), *table)
 
 
 class Reader:
@@ -101,12 +103,12 @@ class Reader:
         return [int.from_bytes(part[place:place + SHORT], "little")
                 for place in range(0, len(part), SHORT)]
 
-    def table(self) -> tuple:
+    def table(self) -> Tuple[int, int, Codes]:
         """t, n and the table in front of a case."""
         t, n, size = CASE_HEADER.unpack(self.take(CASE_HEADER.size))
         if size > MAX_TABLE:
             raise ValueError("a table is too long")
-        return t, n, self.take(size)
+        return t, n, struct.unpack("<%dH" % size, self.take(ENTRY * size))
 
     def entries(self, most: int = LARGEST) -> Tuple[int, ...]:
         """A number of entries, then the entries."""

@@ -5,7 +5,7 @@ A grammar is given as t, n and its table. Those without a sentence, which docume
 """
 
 from functools import lru_cache
-from typing import Callable, Dict, List, Tuple
+from typing import Callable, Dict, List, Sequence, Tuple
 
 from case_files import LAST, Rng
 from derivations import used_rules
@@ -15,12 +15,14 @@ from random_tables import (
 )
 from table_reasons import rule_start
 from tables import (
-    FIXED_STATES, MAX_LENGTH, MAX_STATES, OUT_OF_RANGE, START, TOO_MANY_STATES, Grammar, Refusal,
-    check_rules, check_table,
+    FIXED_STATES, MAX_LENGTH, MAX_NONTERMINALS, MAX_STATES, MAX_TERMINALS, OUT_OF_RANGE, START,
+    TOO_MANY_STATES, Codes, Grammar, Refusal, check_rules, check_table,
 )
 from triples import Triples, triples_of
 
-Table = Tuple[int, int, bytes]
+Table = Tuple[int, int, Codes]
+
+MANY_STATES = 256              # of a grammar whose triples are looked at one by one in many cases
 
 # Document 01, "Grammars on file", in its order.
 ROWS: List[Table] = [(t, n, encode(rules)) for t, n, rules in FIGURES]
@@ -51,7 +53,7 @@ def spelled(*lines: str) -> Table:
                 if symbol not in codes:
                     t += 1
                     codes[symbol] = t
-            rules.append((codes[name], bytes(codes[symbol] for symbol in right.split())))
+            rules.append((codes[name], tuple(codes[symbol] for symbol in right.split())))
     return t, len(nonterminals), encode(rules)
 
 
@@ -135,21 +137,22 @@ STATEMENTS = spelled(
 )
 
 
-def keywords(rng: Rng, count: int, states: int) -> Table:
+def keywords(rng: Rng, count: int, states: int, fewest: int = 2) -> Table:
     """`count` rules, each begun by a terminal of its own; Q = `states`.
 
     After a terminal both sides stand on the same rule, so that nothing parts:
-    unambiguous. All rules are live.
+    unambiguous. All rules are live. There are at least `fewest` nonterminals; with
+    many of them few triples are reached.
     """
     while True:
-        table = any_keywords(rng, count, states)
+        table = any_keywords(rng, count, states, fewest)
         if all(used_rules(grammar_of(table))):
             return table
 
 
-def any_keywords(rng: Rng, count: int, states: int) -> Table:
+def any_keywords(rng: Rng, count: int, states: int, fewest: int) -> Table:
     """The same, though rules may be dead."""
-    t, n = count + rng.randrange(3), 2 + rng.randrange(count // 3)
+    t, n = count + rng.randrange(3), fewest + rng.randrange(count // 3)
     lengths = [1] * count
     while FIXED_STATES + sum(lengths) + count < states:
         place = rng.randrange(count)
@@ -157,9 +160,26 @@ def any_keywords(rng: Rng, count: int, states: int) -> Table:
     rules: List[Rule] = []
     for place, k in enumerate(lengths):
         left = START + (place if place < n else rng.randrange(n))
-        rest = bytes(random_code(rng, t, n) for _ in range(k - 1))
-        rules.append((left, bytes([1 + place]) + rest))
+        rest = tuple(random_code(rng, t, n) for _ in range(k - 1))
+        rules.append((left, (1 + place,) + rest))
     return t, n, encode(rules)
+
+
+def most_keywords(rng: Rng) -> Table:
+    """The same with the most states, and few reached triples for that."""
+    return keywords(rng, 260, MAX_STATES, 50)
+
+
+def most_potential(rng: Rng) -> Table:
+    """The most states, and potential: S→x, and S→A, A→x with a terminal and a nonterminal of their own.
+
+    No right side has S, so that few triples are reached.
+    """
+    t, n, table = keywords(rng, 258, MAX_STATES - 6, 50)
+    x, other = t + 1, START + n
+    rules = [(rule.left, tuple(START + 1 if code == START else code for code in rule.right))
+             for rule in grammar_of((t, n, table)).rules]
+    return x, n + 1, encode(rules + [(START, (x,)), (START, (other,)), (other, (x,))])
 
 
 # Random grammars.
@@ -209,11 +229,11 @@ def any_larger(rng: Rng, states: int) -> Table:
     return t, n, encode(list(dict.fromkeys(rules)))
 
 
-def largest_random(rng: Rng) -> Table:
-    """Q of 256, all rules live."""
+def exact_random(rng: Rng, states: int) -> Table:
+    """Q of exactly `states`, all rules live."""
     while True:
-        table = larger_random(rng, MAX_STATES)
-        if states_of(table) == MAX_STATES:
+        table = larger_random(rng, states)
+        if states_of(table) == states:
             return table
 
 
@@ -261,24 +281,28 @@ def out_of_range(rng: Rng) -> Table:
     t, n, table = small_random(rng)
     kind = rng.randrange(3)
     if kind != 0:
-        t = rng.choice([128, 129, 255, 256, 2 ** 32, 2 ** 32 + t, LAST])
+        t = rng.choice([MAX_TERMINALS + 1, MAX_TERMINALS + 2, 2 ** 16 + t, 2 ** 32, 2 ** 32 + t, LAST])
     if kind != 1:
-        n = rng.choice([0, 128, 129, 256, 256 + n, 2 ** 32 + n, LAST])
+        n = rng.choice([0, MAX_NONTERMINALS + 1, MAX_NONTERMINALS + 2, 2 ** 16 + n, 2 ** 32 + n, LAST])
     return t, n, table
 
 
-def damaged_table(rng: Rng) -> Table:
-    """A table whose last rules may be at fault; also after 100 rules or Q of 256."""
-    t, n, rules = base_grammar(rng, rng.randrange(3))
+def damaged_table(rng: Rng, bases: Sequence[Tuple[int, int, List[Rule]]]) -> Table:
+    """A table whose last rules may be at fault: a small one, or one of these and more."""
+    t, n, rules = rng.choice(bases) if rng.randrange(3) == 0 else base_grammar(rng, 0)
     return t, n, encode(rules) + faulty_rule(rng, t, n, rules, 1 << rng.randrange(6))
 
 
 def faulty_tables(rng: Rng, each: int) -> List[Table]:
-    """`each` tables that are refused for each of causes 1 to 8, cause by cause."""
+    """`each` tables that are refused for each of causes 1 to 8, cause by cause.
+
+    Some have the most rules or states before the fault.
+    """
     found: Dict[int, List[Table]] = {cause: [] for cause in range(1, TOO_MANY_STATES + 1)}
     found[OUT_OF_RANGE] = [out_of_range(rng) for _ in range(each)]
+    bases = [base_grammar(rng, base) for base in (1, 2) * 5]
     while any(len(tables) < each for tables in found.values()):
-        table = damaged_table(rng)
+        table = damaged_table(rng, bases)
         refusal = check_rules(*table)
         if isinstance(refusal, Refusal) and len(found[refusal.cause]) < each:
             found[refusal.cause].append(table)

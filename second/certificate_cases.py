@@ -7,29 +7,30 @@ README.md beside this file has the layout of a case.
 """
 
 import sys
-from typing import Iterator, NamedTuple, Optional
+from typing import Dict, Iterator, List, NamedTuple, Optional, Sequence, Tuple
 
 from case_files import (
     Kind, Reader, Rng, accepted_or_refused, cases_of, encode_bytes, encode_table, main,
 )
 from case_grammars import (
-    CLASSICS, LEFT_LIST, NESTED, ONE_A, ROWS, STATEMENTS, Table, faulty_tables, good, grammar_of,
-    keywords, larger_random, operators, rules_before_the_fault, some, states_of, triples_in,
+    CLASSICS, LEFT_LIST, MANY_STATES, NESTED, ONE_A, ROWS, STATEMENTS, Table, faulty_tables, good,
+    grammar_of, keywords, larger_random, most_keywords, operators, rules_before_the_fault, some,
+    spelled, states_of, triples_in,
 )
-from certificate_reasons import REASONS, reasons_of
+from certificate_reasons import ENOUGH_LARGEST, REASONS, reasons_of
 from certificates import check_certificate
 from dead_grammars import chains, dead_larger, dead_tables
 from dead_rules import ENOUGH as ENOUGH_DEAD
 from dead_rules import KINDS, dead_states
 from live_misreadings import former_triples
-from random_tables import random_bytes
+from random_tables import A, B, S, random_bytes
 from sentence_grammars import (
-    faulty_sentenceless, large_sentenceless, nearly_sentenceless, sentenceless,
+    faulty_sentenceless, large_sentenceless, many_sentenceless, nearly_sentenceless, sentenceless,
 )
 from sentence_reasons import ENOUGH as ENOUGH_NONE
-from tables import MAX_STATES, Grammar
+from tables import FIXED_STATES, Codes, Grammar
 from triples import (
-    BYTE, Triples, certificate_length, certificate_of, closure, held_indices,
+    BYTE, Triple, Triples, certificate_length, certificate_of, closure, held_indices,
     index_of, is_potential, reached, triple_at, triples_of,
 )
 from ways import largest_set
@@ -38,7 +39,7 @@ from ways import largest_set
 class Case(NamedTuple):
     t: int
     n: int
-    table: bytes
+    table: Codes
     certificate: bytes
 
 
@@ -279,9 +280,27 @@ def larger(rng: Rng) -> Iterator[Case]:
             yield Case(*table, certificate_of(triples.states, largest_set(triples)))
 
 
+def most_states(rng: Rng) -> Iterator[Case]:
+    """Q = 1,024: 262,144 bytes, indices up to 2,097,151; most of them refused early."""
+    table = most_keywords(rng)
+    triples = triples_in(table)
+    right, held = smallest(table), sorted(reached(triples))
+    yield Case(*table, right)
+    yield Case(*table, flipped(right, rng.choice(held[len(held) // 2:])))
+    yield Case(*table, flipped(right, triples.count - 1, held[-1]))
+    yield Case(*table, flipped(right, triples.last))
+    yield Case(*table, right[:-1])
+    yield Case(*table, right + b"\0")
+    yield Case(*table, flipped(right, triples.first))
+    for size in (0, 1, 16384, 32768, 65535, 65536):
+        yield Case(*table, right[:size])
+    for table in large_sentenceless(rng, 6):
+        yield Case(*table, rng.choice([b"", b"\1", bytes(16384)]))
+
+
 def largest_grammar(rng: Rng) -> Iterator[Case]:
     """Q = 256: indices up to 131,071."""
-    table = keywords(rng, 30, MAX_STATES)
+    table = keywords(rng, 30, MANY_STATES)
     triples = triples_in(table)
     right, held = smallest(table), sorted(reached(triples))
     yield Case(*table, right)
@@ -299,6 +318,102 @@ def largest_grammar(rng: Rng) -> Iterator[Case]:
         if certificate is not None:
             yield Case(*table, certificate)
             yield Case(*table, flipped(certificate, held_indices(certificate)[-1]))
+
+
+# Pairs of ends.
+
+def branching(count: int) -> Table:
+    """S→t S S for so many terminals t, and S→x: each end closes to every S that was passed."""
+    lines = ["S: t%d S S" % i for i in range(count)]
+    return spelled(*lines, "S: x")
+
+
+def alternating(count: int) -> Table:
+    """Rules of S and A by turns, each with its own terminal: S→t S A; A→u A S; and so on."""
+    pairs = [("S: t%d S A" % i, "A: u%d A S" % i) for i in range(count)]
+    return spelled(*(line for pair in pairs for line in pair), "S: x", "A: y")
+
+
+def kept_apart(count: int) -> Table:
+    """Rules of A and B by turns; S has either between terminals of its own, so nothing follows a parting."""
+    pairs = [("A: t%d A A" % i, "B: u%d B B" % i) for i in range(count)]
+    return spelled("S: a A c | b B d", *(line for pair in pairs for line in pair), "A: x", "B: y")
+
+
+def ends_of(table: Table, by_left: bool) -> List[Tuple[int, int, int]]:
+    """By rule its number, its left code and the state at its end; the number is among all rules or of its left code."""
+    found, state = [], FIXED_STATES - 1
+    counts: Dict[int, int] = {}
+    for number, rule in enumerate(grammar_of(table).rules, 1):
+        state += len(rule.right) + 1
+        counts[rule.left] = counts.get(rule.left, 0) + 1
+        found.append((counts[rule.left] if by_left else number, rule.left, state))
+    return found
+
+
+def end_pairs(table: Table, lefts: Sequence[Tuple[int, int]], by_left: bool, parity: int) -> List[int]:
+    """The indices of (0, end i, end j), i + j even or odd, of rules of these pairs of left codes."""
+    states, ends = states_of(table), ends_of(table, by_left)
+    return [index_of(states, Triple(0, p, q)) for i, left, p in ends for j, right, q in ends
+            if (left, right) in lefts and (i + j) % 2 == parity]
+
+
+def with_a_bit_less(table: Table, certificate: bytes, indices: Sequence[int]) -> Iterator[Case]:
+    """The certificate, and without each of some of its triples."""
+    yield Case(*table, certificate)
+    held = set(held_indices(certificate))
+    for index in dict.fromkeys(indices):
+        if index in held:
+            yield Case(*table, flipped(certificate, index))
+
+
+def places_to_take(rng: Rng, triples: Triples, pairs: Sequence[int], most: int) -> List[int]:
+    """Pairs of ends, what follows them, and other triples of either layer: the first, the last, some."""
+    following = sorted({after for index in pairs for after in triples.successors(index)})
+    found = [triples.first]
+    for row in (pairs, following, sorted(reached(triples)), range(triples.count // 2, triples.count)):
+        if row:
+            found += [row[0], row[-1]] + [rng.choice(row) for _ in range(most)]
+    return found
+
+
+def chequered(rng: Rng) -> Iterator[Case]:
+    """All of layer 1 but (1,1,1), and in layer 0 every second pair of ends beside the smallest set.
+
+    A pair of ends of unequal rules has as many successors as there are pairs of
+    places to return to. One bit is taken away at several places.
+    """
+    one, two = [(S, S)], [(S, A), (A, S)]
+    for table, lefts, by_left, parity in (
+            (branching(6), one, False, 0), (branching(7), one, False, 1), (branching(10), one, False, 0),
+            (alternating(3), two, True, 0), (alternating(4), two, True, 1), (alternating(5), two, True, 0),
+            (alternating(4), two + [(S, S), (A, A)], False, 0), (alternating(5), two + [(S, S), (A, A)], False, 1),
+            (alternating(4), two + [(S, S), (A, A)], True, 0)):
+        triples = triples_in(table)
+        every = end_pairs(table, lefts, by_left, parity)
+        whole = set(range(triples.count // 2, triples.count))
+        for layer in (whole, whole & largest_set(triples)):
+            for pairs in (every, every[rng.randrange(len(every) // 2):]):
+                held = (reached(triples) | set(pairs) | layer) - {triples.last}
+                certificate = certificate_of(triples.states, held)
+                yield from with_a_bit_less(table, certificate, places_to_take(rng, triples, pairs, 2))
+
+
+def chequered_and_closed(rng: Rng) -> Iterator[Case]:
+    """Every second pair of ends of two nonterminals, and what follows: accepted, but for a bit taken away."""
+    both = [(A, B), (B, A)]
+    for count, parity in ((4, 0), (5, 1), (5, 0), (6, 1)):
+        table = kept_apart(count)
+        triples = triples_in(table)
+        for lefts in (both, both[:1], both[1:]):
+            every = end_pairs(table, lefts, True, parity)
+            pairs = every[rng.randrange(len(every) // 3):]
+            closed = closure(triples, pairs, reached(triples))
+            layer = {index for index in largest_set(triples) if index >= triples.count // 2}
+            for held in (closed, closed | layer):
+                assert triples.last not in held
+                certificate = certificate_of(triples.states, held)
+                yield from with_a_bit_less(table, certificate, places_to_take(rng, triples, pairs, 3))
 
 
 def former(rng: Rng) -> Iterator[Case]:
@@ -361,7 +476,7 @@ def unambiguous_since(rng: Rng) -> Iterator[Case]:
 def dead_and_larger(rng: Rng) -> Iterator[Case]:
     """Dead rules in grammars of Q from 60 to 256."""
     tables = [dead_larger(rng, kind, states) for kind in KINDS for states in (90, 120)]
-    tables += [dead_larger(rng, kind, MAX_STATES) for kind in KINDS] + list(chains(rng, (97,)))
+    tables += [dead_larger(rng, kind, MANY_STATES) for kind in KINDS] + list(chains(rng, (97,)))
     for table in tables:
         right = smallest(table)
         yield Case(*table, right)
@@ -391,8 +506,8 @@ def without_a_sentence(rng: Rng) -> Iterator[Case]:
 
 
 def large_without(rng: Rng) -> Iterator[Case]:
-    """The same at the limits of rules and states."""
-    for table in large_sentenceless(rng, 10):
+    """The same with 100 rules and 256 states."""
+    for table in many_sentenceless(rng, 10):
         right = smallest(table)
         for certificate in (right, former_smallest(table), right[:-1], bytes(len(right)), b""):
             yield Case(*table, certificate)
@@ -417,6 +532,7 @@ def faulty_without(rng: Rng) -> Iterator[Case]:
 GROUPS = [
     document, every_bit, every_bit_of_larger_sets, some_bits, lengths, spare_bits,
     closed_sets, extremes, potential, of_other_grammars, faulty, larger, largest_grammar,
+    most_states, chequered, chequered_and_closed,
     former, dead, unambiguous_since, dead_and_larger, without_a_sentence, large_without,
     nearly_without, faulty_without,
 ]
@@ -443,7 +559,7 @@ def decode_case(reader: Reader) -> Case:
 
 
 KIND = Kind(lambda: cases_of(GROUPS), encode_case, decode_case, answer,
-            REASONS, lambda case: reasons_of(*case), enough={**ENOUGH_DEAD, **ENOUGH_NONE})
+            REASONS, lambda case: reasons_of(*case), enough={**ENOUGH_DEAD, **ENOUGH_NONE, **ENOUGH_LARGEST})
 
 if __name__ == "__main__":
     sys.exit(main(__doc__, sys.argv[1:], KIND))

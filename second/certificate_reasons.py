@@ -4,21 +4,22 @@ The counts of these reasons show that a file of cases tries every fault, every
 way in which a successor is missing, and every place where the order shows.
 """
 
+from functools import lru_cache
 from typing import List, Optional, Set, Tuple
 
 import dead_rules
 import sentence_reasons
 from case_files import TABLE_REASONS
-from case_grammars import Table, good, grammar_of
+from case_grammars import MANY_STATES, Table, good, grammar_of
 from certificates import (
     FIRST_MISSING, LAST_PRESENT, SPARE_BIT, SUCCESSOR_MISSING, WRONG_LENGTH,
     certificate_fault, checked_triples, successor_fault,
 )
 from dead_rules import KINDS, dead_states, kind_of
 from live_misreadings import MISREAD, TOLD, former_triples, told
-from tables import MAX_STATES, NO_SENTENCE, Grammar, Refusal
+from tables import FIXED_STATES, MAX_STATES, NO_SENTENCE, Codes, Grammar, Refusal
 from triples import (
-    Triples, certificate_length, certificate_of, held_indices, is_potential, reached, triple_at,
+    BYTE, Triples, certificate_length, certificate_of, held_indices, is_potential, reached, triple_at,
     triples_of,
 )
 from ways import largest_set
@@ -56,7 +57,12 @@ REASONS = [
     "order-11-before-12",
     "order-11-before-13",
     "order-12-before-13",
+    "chequered-ends-accepted",
+    "chequered-ends-13-at-such-a-pair",
+    "chequered-ends-13-elsewhere-in-layer-0",
+    "chequered-ends-13-in-layer-1",
     "256-states",
+    "1024-states",
 ] + dead_rules.REASONS + ["former-certificate-" + kind for kind in KINDS] + [
     "accepted-and-formerly-too",
     "accepted-though-formerly-refused",
@@ -71,10 +77,16 @@ REASONS = [
     "19-though-accepted-by-document-01",
 ] + ["order-19-before-%d" % cause for cause in range(WRONG_LENGTH, SUCCESSOR_MISSING + 1)] + [
     "19-256-states",
+    "19-1024-states",
 ] + sentence_reasons.REASONS
 
 
-def reasons_of(t: int, n: int, table: bytes, certificate: bytes) -> List[str]:
+CHEQUERED = 8             # pairs of ends that are some
+# Cases of the most states: they are long.
+ENOUGH_LARGEST = {"1024-states": 12, "19-1024-states": 3}
+
+
+def reasons_of(t: int, n: int, table: Codes, certificate: bytes) -> List[str]:
     """Every reason of REASONS that this case meets."""
     triples = checked_triples(t, n, table)
     names = list(sentence_reasons.of_table(t, n, table))
@@ -84,12 +96,14 @@ def reasons_of(t: int, n: int, table: bytes, certificate: bytes) -> List[str]:
             return names + none_reasons((t, n, table), certificate)
         return names + ["1-to-8-with-an-empty-certificate"] * (not certificate)
     fault = certificate_fault(triples, certificate)
-    if triples.states == MAX_STATES:
-        names.append("256-states")
+    names += ["256-states"] * (triples.states == MANY_STATES)
+    names += ["1024-states"] * (triples.states == MAX_STATES)
     grammar = good((t, n, table))
     if kind_of(grammar) is not None:
         names += dead_reasons(grammar, triples, certificate, fault)
     names += told(grammar, MISREAD, lambda other: certificate_fault(other, certificate))
+    if fault is None or fault.cause == SUCCESSOR_MISSING:
+        names += chequered_reasons(grammar, triples, certificate, fault)
     if fault is None:
         return names + accepted_reasons(triples, certificate)
     if fault.cause == WRONG_LENGTH:
@@ -109,7 +123,8 @@ def none_reasons(table: Table, certificate: bytes) -> List[str]:
         ("19-though-accepted-before", before is None),
         ("19-though-accepted-by-document-01", former is None),
         ("order-19-before-13", former is not None and former.cause == SUCCESSOR_MISSING),
-        ("19-256-states", grammar.states == MAX_STATES),
+        ("19-256-states", grammar.states == MANY_STATES),
+        ("19-1024-states", grammar.states == MAX_STATES),
     ]
     names = [] if before is None else ["order-19-before-%d" % before.cause]
     return names + [name for name, holds in met if holds]
@@ -128,6 +143,38 @@ def accepted_reasons(triples: Triples, certificate: bytes) -> List[str]:
         ("accepted-over-60-states", triples.states > 60),
     ]
     return [name for name, holds in met if holds]
+
+
+@lru_cache(maxsize=256)
+def end_pairs(grammar: Grammar) -> List[Tuple[int, bool, bool]]:
+    """The index of each (0, end i, end j), i ≠ j, and whether i + j is even.
+
+    i and j are first the numbers among all rules, then among those of their left codes.
+    """
+    ends, state, counts = [], FIXED_STATES - 1, {}
+    for number, rule in enumerate(grammar.rules):
+        state += len(rule.right) + 1
+        counts[rule.left] = counts.get(rule.left, 0) + 1
+        ends.append((state, number, counts[rule.left]))
+    return [(p * grammar.states + q, (i + j) % 2 == 0, (k + m) % 2 == 0)
+            for p, i, k in ends for q, j, m in ends if i != j]
+
+
+def chequered_reasons(
+    grammar: Grammar, triples: Triples, certificate: bytes, fault: Optional[Refusal]
+) -> List[str]:
+    """Whether pairs of ends are held beside the smallest set, some and all of one colour of a chequered board."""
+    least = reached(triples)
+    held = [pair for pair in end_pairs(grammar)
+            if certificate[pair[0] // BYTE] >> pair[0] % BYTE & 1 and pair[0] not in least]
+    if len(held) < CHEQUERED or all(len(set(colours)) > 1 for colours in list(zip(*held))[1:]):
+        return []
+    if fault is None:
+        return ["chequered-ends-accepted"]
+    if fault.position >= triples.count // 2:
+        return ["chequered-ends-13-in-layer-1"]
+    at_pair = any(pair[0] == fault.position for pair in held)
+    return ["chequered-ends-13-" + ("at-such-a-pair" if at_pair else "elsewhere-in-layer-0")]
 
 
 def dead_reasons(

@@ -7,7 +7,7 @@ accepts. "Table faults precede 9 to 15."
 from functools import lru_cache
 from typing import Optional, Sequence, Tuple, Union
 
-from tables import Refusal, check_table
+from tables import Codes, Refusal, check_table
 from triples import (
     FIRST, LAST, Triple, Triples, certificate_length, held_indices, in_range,
     steps, triples_of,
@@ -25,7 +25,7 @@ Record = Tuple[int, int, int]   # layer, left, right
 
 
 @lru_cache(maxsize=256)
-def checked_triples(t: int, n: int, table: bytes) -> Union[Triples, Refusal]:
+def checked_triples(t: int, n: int, table: Codes) -> Union[Triples, Refusal]:
     """The triples of a table that passes its check, or the table's fault."""
     grammar = check_table(t, n, table)
     return grammar if isinstance(grammar, Refusal) else triples_of(grammar)
@@ -34,7 +34,7 @@ def checked_triples(t: int, n: int, table: bytes) -> Union[Triples, Refusal]:
 # The certificate check.
 
 def check_certificate(
-    t: int, n: int, table: bytes, certificate: bytes
+    t: int, n: int, table: Codes, certificate: bytes
 ) -> Optional[Refusal]:
     """Table faults, then "The certificate check goes 9 to 13"."""
     triples = checked_triples(t, n, table)
@@ -72,7 +72,7 @@ def successor_fault(triples: Triples, held: Sequence[int]) -> Optional[Refusal]:
 # The witness check.
 
 def check_witness(
-    t: int, n: int, table: bytes, entries: Sequence[int]
+    t: int, n: int, table: Codes, entries: Sequence[int]
 ) -> Optional[Refusal]:
     """Table faults, then cause 15."""
     triples = checked_triples(t, n, table)
@@ -99,7 +99,7 @@ def witness_fault(triples: Triples, entries: Sequence[int]) -> Optional[Refusal]
 
 
 def check_records(
-    t: int, n: int, table: bytes, records: Sequence[Record]
+    t: int, n: int, table: Codes, records: Sequence[Record]
 ) -> Optional[Refusal]:
     """The witness check on "a lent list of records (layer, left, right)"."""
     triples = checked_triples(t, n, table)

@@ -10,7 +10,7 @@ from typing import Iterator, List, NamedTuple, Optional, Tuple
 
 from readings import named_of
 from searches import Potential, needed, search
-from tables import MAX_STATES, NO_SENTENCE, Grammar, Refusal
+from tables import NO_SENTENCE, Codes, Grammar, Refusal
 from text import AMPLE, Text, read_lines, read_text, write_text
 from trees import MOST, some_sentences, tree_count
 
@@ -48,7 +48,7 @@ class Found(NamedTuple):
     """A text that was read; `names` in order of symbol numbers."""
 
     text: Text
-    table: Tuple[int, int, bytes]
+    table: Tuple[int, int, Codes]
     grammar: Grammar
     names: List[str]
 
@@ -96,7 +96,7 @@ def found_in(text: bytes) -> Optional[Found]:
     return Found(result, table, grammar, [name.decode("ascii") for name in names])
 
 
-def table_in(name: str, folder: str = FOLDER) -> Tuple[int, int, bytes]:
+def table_in(name: str, folder: str = FOLDER) -> Tuple[int, int, Codes]:
     """t, n and table of a grammar of the corpus, also of one without a sentence."""
     found = read_lines(text_in(name, folder))
     assert isinstance(found, Text)
@@ -114,13 +114,13 @@ def verdict_of(found: Found) -> Tuple[str, Optional[int]]:
     return UNAMBIGUOUS, result.size
 
 
-def coded(found: Found, sentence: str) -> Optional[bytes]:
+def coded(found: Found, sentence: str) -> Optional[Codes]:
     """The codes of a sentence's names; None if one is no terminal's."""
     words = [] if sentence == EMPTY else sentence.split(" ")
     terminals = found.names[:found.grammar.terminals]
     if not all(word in terminals for word in words):
         return None
-    return bytes(1 + terminals.index(word) for word in words)
+    return tuple(1 + terminals.index(word) for word in words)
 
 
 def truth_faults(entry: Entry, found: Found) -> Iterator[str]:
@@ -192,8 +192,6 @@ def faults(folder: str = FOLDER) -> Iterator[str]:
     for entry in listed:
         for fault in faults_of(entry, text_in(entry.name, folder)):
             yield "%s: %s" % (entry.name, fault)
-    if max(entry.states for entry in listed) != MAX_STATES:
-        yield "no grammar has the most states that pass"
 
 
 def counts(listed: List[Entry]) -> List[Tuple[str, int]]:

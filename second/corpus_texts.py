@@ -7,7 +7,7 @@ with rules that no sentence uses, and texts without a sentence, or nearly so.
 
 from functools import lru_cache
 from math import gcd
-from typing import Callable, Dict, Iterator, List, NamedTuple, Optional, Sequence, Tuple
+from typing import Callable, Dict, Iterator, List, NamedTuple, Sequence, Tuple
 
 import dead_rules
 import sentence_reasons
@@ -28,10 +28,10 @@ from sentence_grammars import (
 from sentence_misreadings import AFTER_14, TOLD
 from sentence_reasons import has_tree, loose_rules, of_rules
 from tables import (
-    FIXED_STATES, MAX_LENGTH, MAX_NONTERMINALS, MAX_RULES, MAX_TERMINALS, NO_SENTENCE, Refusal,
+    FIXED_STATES, MAX_LENGTH, MAX_RULES, MAX_TERMINALS, NO_SENTENCE, Refusal,
 )
 from tables import MAX_STATES as MOST_STATES
-from text import MAX_NAME, Text, read_lines
+from text import MAX_NAME, MAX_TEXT, NAME_BYTES, Text, read_lines
 from triples import is_potential, triples_of
 
 SEED = 5
@@ -105,13 +105,16 @@ def cut(rng: Rng) -> Iterator[bytes]:
         yield text[:rng.choice([end, text.rfind(b"\n", 0, end) + 1])]
 
 
+LETTERS = [NAME_BYTES[place:place + 1] for place in range(62)]    # names of one byte
+
+
 def counted(count: int) -> List[bytes]:
     """So many names."""
     return [b"x%d" % place for place in range(count)]
 
 
 def many_terminals(rng: Rng, lines: List[bytes]) -> List[bytes]:
-    """Cause 1 at line 1."""
+    """Cause 1 at line 1, in more bytes than the program takes."""
     names = counted(MAX_TERMINALS + 1 + rng.randrange(20))
     return [b"terminals=" + b",".join(names)] + lines[1:]
 
@@ -134,17 +137,19 @@ def equal_rule(rng: Rng, lines: List[bytes]) -> List[bytes]:
 
 
 def many_rules(rng: Rng, lines: List[bytes]) -> List[bytes]:
-    """Cause 7."""
-    names = counted(MAX_RULES + 1 + rng.randrange(20))
-    return [b"terminals=" + b",".join(names), b"nonterminals=S"] + [
-        b"rule=S: " + name for name in names]
+    """Cause 7, in no more bytes than the program takes."""
+    rights = [b""] + [b" " + name for name in LETTERS]
+    rules = [b"rule=" + name + b":" + right for right in rights for name in LETTERS]
+    count = MAX_RULES + 1 + rng.randrange(5)
+    return [b"terminals=", b"nonterminals=" + b",".join(LETTERS)] + rules[:count]
 
 
 def many_states(rng: Rng, lines: List[bytes]) -> List[bytes]:
-    """Cause 8."""
-    names = counted(1 + MOST_STATES // (MAX_LENGTH + 1) + rng.randrange(4))
-    return [b"terminals=" + b",".join(names), b"nonterminals=S"] + [
-        b"rule=S:" + b" ".join([b""] + [name] * MAX_LENGTH) for name in names]
+    """Cause 8, in no more bytes than the program takes."""
+    count = 1 + MOST_STATES // (MAX_LENGTH + 1) + rng.randrange(4)
+    rights = [[one] * (MAX_LENGTH - 1) + [other] for other in LETTERS[1:] for one in LETTERS[1:]]
+    return [b"terminals=" + b",".join(LETTERS[1:]), b"nonterminals=A"] + [
+        b"rule=A: " + b" ".join(right) for right in rights[:count]]
 
 
 def no_equals(rng: Rng, lines: List[bytes]) -> List[bytes]:
@@ -219,28 +224,20 @@ def padding(size: int) -> List[bytes]:
     return names
 
 
-def padded(text: bytes, size: int) -> Optional[bytes]:
-    """A text with names declared that no rule uses; None if so many are too many."""
+def padded(text: bytes, size: int) -> bytes:
+    """A text with names declared in both lists that no rule uses."""
     first, second, rest = text.split(b"\n", 2)
     names = padding(size - len(text))
-    room = MAX_TERMINALS - 1 - first.count(b",")
-    terminals, nonterminals = names[:room], names[room:]
-    if second.count(b",") + 1 + len(nonterminals) > MAX_NONTERMINALS:
-        return None
-    first, second = b",".join([first] + terminals), b",".join([second] + nonterminals)
+    first, second = b",".join([first] + names[::2]), b",".join([second] + names[1::2])
     return b"\n".join([first, second, rest])
 
 
 def filled(rng: Rng) -> Iterator[bytes]:
     """Around 4,096 bytes: the most that is taken, one more, and fewer."""
-    count = 0
-    while count < 30:
+    for _ in range(30):
         text = small(rng)
-        sizes = MAX_BYTES, MAX_BYTES + 1, MAX_BYTES - rng.randrange(1000)
-        texts = [padded(text, size) for size in sizes]
-        if None not in texts:
-            count += 1
-            yield from texts
+        for size in (MAX_BYTES, MAX_BYTES + 1, MAX_BYTES - rng.randrange(1000)):
+            yield padded(text, size)
 
 
 def at_the_limit(rng: Rng) -> Iterator[bytes]:
@@ -256,8 +253,9 @@ def at_the_limit(rng: Rng) -> Iterator[bytes]:
 
 def too_long(rng: Rng) -> Iterator[bytes]:
     """More bytes than the program takes, also with other faults, also far more."""
-    for size in (MAX_BYTES + 1, 2 * MAX_BYTES, 65536, 65537, 100000):
-        for _ in range(3):
+    for size, times in ((MAX_BYTES + 1, 3), (2 * MAX_BYTES, 3), (65537, 3), (MAX_TEXT, 1),
+                        (MAX_TEXT + 1, 2)):
+        for _ in range(times):
             text = rng.choice([small(rng), b"", b"terminals", bytes([rng.randrange(256)])])
             yield text + bytes([rng.choice(MARKS)]) * (size - len(text))
 
@@ -275,9 +273,9 @@ def ring(left: int, helper: int, count: int) -> List[Rule]:
     """Rules by which `left` makes `count` terminals and then itself again."""
     most = MAX_LENGTH - 1
     if count <= most:
-        return [(left, bytes([a] * count + [left]))]
-    return [(left, bytes([a] * most + [helper])),
-            (helper, bytes([a] * (count - most) + [left]))]
+        return [(left, (a,) * count + (left,))]
+    return [(left, (a,) * most + (helper,)),
+            (helper, (a,) * (count - most) + (left,))]
 
 
 def counting(rng: Rng) -> Named:
@@ -288,7 +286,7 @@ def counting(rng: Rng) -> Named:
     while True:
         p, q = (7 + rng.randrange(10) for _ in range(2))
         r, s = (rng.randrange(3) for _ in range(2))
-        rules = [(S, bytes([A])), (S, bytes([B])), (A, bytes([a] * r)), (B, bytes([a] * s))]
+        rules = [(S, (A,)), (S, (B,)), (A, (a,) * r), (B, (a,) * s)]
         rules += ring(A, B + 1, p) + ring(B, B + 2, q)
         rng.shuffle(rules)
         grammar = Named(1, 5, rules, long_names(rng, 6))
@@ -337,19 +335,16 @@ def without_a_sentence(rng: Rng) -> Iterator[bytes]:
     for most in (MAX_STATES, MOST_STATES):
         for _ in range(20):
             yield join_lines(no_sentence(rng, lines_of(grown(rng, 12, most))))
-    for table in large_sentenceless(rng, 12):
+    for table in large_sentenceless(rng, 6):
         yield text_of(named_table(rng, table))
 
 
 def padded_without(rng: Rng) -> Iterator[bytes]:
     """No sentence in 4,096 bytes, and in more: then 14 comes first."""
-    count = 0
-    while count < 12:
+    for _ in range(12):
         text = join_lines(no_sentence(rng, lines_of(grown(rng, 4, MAX_STATES))))
-        texts = [padded(text, size) for size in (MAX_BYTES, MAX_BYTES + 1)]
-        if None not in texts:
-            count += 1
-            yield from texts
+        for size in (MAX_BYTES, MAX_BYTES + 1):
+            yield padded(text, size)
 
 
 def nearly_without(rng: Rng) -> Iterator[bytes]:

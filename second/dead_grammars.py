@@ -12,7 +12,7 @@ from dead_rules import BEHIND, KINDS, MIXED, UNPRODUCTIVE, UNREACHABLE, kind_of
 from live_misreadings import REACHED, found_by_search, told
 from named_grammars import Named, random_names
 from random_tables import Rule, encode, random_code, random_rules
-from tables import START, Grammar, check_table, codes_of
+from tables import START, Codes, Grammar, check_table, codes_of
 
 MOST = 26                  # states of a small grammar
 MANY = 130                 # states of a larger one that may not be potential
@@ -40,12 +40,12 @@ def rules_of(table: Table) -> Rules:
 
 # Dead rules.
 
-def right_with(rng: Rng, base: Rules, *codes: int) -> bytes:
+def right_with(rng: Rng, base: Rules, *codes: int) -> Codes:
     """A right side with these codes, apart from them a few others of the grammar."""
     right = [random_code(rng, base.t, base.n) for _ in range(rng.randrange(4))]
     for code in codes:
         right.insert(rng.randrange(len(right) + 1), code)
-    return bytes(right)
+    return tuple(right)
 
 
 def some_left(rng: Rng, base: Rules) -> int:
@@ -196,19 +196,19 @@ def dead_larger(rng: Rng, kind: str, states: int) -> Table:
 
 def chain(first: int, length: int, last: List[Rule]) -> List[Rule]:
     """X0→X1, X1→X2 and so on, `length` rules from the nonterminal `first`; then others."""
-    return [(first + place, bytes([first + place + 1])) for place in range(length)] + last
+    return [(first + place, (first + place + 1,)) for place in range(length)] + last
 
 
 def chain_of(kind: Optional[str], length: int) -> Rules:
     """A chain all of whose rules are live, or a grammar of a kind by a chain."""
-    a, first = b"\1", START + 1
+    a, first = (1,), START + 1
     end = first + length
     rules = {
-        None: [(START, bytes([first]))] + chain(first, length, [(end, a)]),
-        UNPRODUCTIVE: [(START, a), (START, bytes([first]))] + chain(first, length, []),
-        UNREACHABLE: [(START, a)] + chain(first, length, [(end, bytes([START]))]),
-        BEHIND: [(START, a), (START, bytes([first, end + 1]))] + chain(first, length, [(end, a)]),
-        MIXED: [(START, a), (START, bytes([end + 1]))] + chain(first, length, [(end, a)]),
+        None: [(START, (first,))] + chain(first, length, [(end, a)]),
+        UNPRODUCTIVE: [(START, a), (START, (first,))] + chain(first, length, []),
+        UNREACHABLE: [(START, a)] + chain(first, length, [(end, (START,))]),
+        BEHIND: [(START, a), (START, (first, end + 1))] + chain(first, length, [(end, a)]),
+        MIXED: [(START, a), (START, (end + 1,))] + chain(first, length, [(end, a)]),
     }[kind]
     return Rules(1, length + 3, tuple(rules))
 

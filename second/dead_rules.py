@@ -5,7 +5,7 @@ by live.py.
 """
 
 from functools import lru_cache
-from typing import Dict, List, Optional, Set, Tuple
+from typing import Dict, FrozenSet, List, Optional, Set, Tuple
 
 from automaton import items_of
 from derivations import nonterminals_of, productive, used_rules
@@ -38,9 +38,9 @@ def reachable(grammar: Grammar) -> Set[int]:
     return found
 
 
-def is_complete(finite: List[bool], rule: Rule) -> bool:
+def is_complete(finite: FrozenSet[int], rule: Rule) -> bool:
     """Whether each nonterminal of the right side has a finite subtree."""
-    return all(finite[code] for code in nonterminals_of(rule))
+    return finite.issuperset(nonterminals_of(rule))
 
 
 @lru_cache(maxsize=1024)

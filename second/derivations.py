@@ -3,11 +3,9 @@
 Cases are counted by this, found in another way than in tables.py and live.py.
 """
 
-from typing import List, Sequence
+from typing import Dict, FrozenSet, List, Sequence, Set
 
 from tables import START, Grammar, Rule, RuleCodes, codes_of
-
-CODES = 256  # "A symbol is one byte."
 
 
 def nonterminals_of(rule: Rule) -> List[int]:
@@ -15,19 +13,20 @@ def nonterminals_of(rule: Rule) -> List[int]:
     return [code for code in rule.right if code >= START]
 
 
-def finite_roots(rules: Sequence[RuleCodes]) -> List[bool]:
-    """By code: whether a finite subtree of these rules has this nonterminal at its root."""
-    known = [False] * CODES
+def finite_roots(rules: Sequence[RuleCodes]) -> FrozenSet[int]:
+    """The nonterminals that a finite subtree of these rules has at its root."""
+    known: Set[int] = set()
     changed = True
     while changed:
         changed = False
         for left, right in rules:
-            if not known[left] and all(code < START or known[code] for code in right):
-                known[left] = changed = True
-    return known
+            if left not in known and all(code < START or code in known for code in right):
+                known.add(left)
+                changed = True
+    return frozenset(known)
 
 
-def productive(grammar: Grammar) -> List[bool]:
+def productive(grammar: Grammar) -> FrozenSet[int]:
     """The same of a grammar's rules."""
     return finite_roots(codes_of(grammar))
 
@@ -35,17 +34,15 @@ def productive(grammar: Grammar) -> List[bool]:
 def used_rules(grammar: Grammar) -> List[bool]:
     """By rule: whether some tree applies it, and so some sentence uses it."""
     finite = productive(grammar)
-    complete = [all(finite[c] for c in nonterminals_of(r)) for r in grammar.rules]
-    reached = [False] * CODES
+    complete = [finite.issuperset(nonterminals_of(r)) for r in grammar.rules]
+    below: Dict[int, Set[int]] = {}
+    for rule, whole in zip(grammar.rules, complete):
+        if whole:
+            below.setdefault(rule.left, set()).update(nonterminals_of(rule))
+    reached = {START}
     waiting = [START]
-    reached[START] = True
     while waiting:
-        left = waiting.pop()
-        for rule, whole in zip(grammar.rules, complete):
-            if rule.left != left or not whole:
-                continue
-            for code in nonterminals_of(rule):
-                if not reached[code]:
-                    reached[code] = True
-                    waiting.append(code)
-    return [whole and reached[r.left] for r, whole in zip(grammar.rules, complete)]
+        found = below.get(waiting.pop(), set()) - reached
+        reached |= found
+        waiting += found
+    return [whole and r.left in reached for r, whole in zip(grammar.rules, complete)]

@@ -3,8 +3,8 @@
 from case_files import decode_all, digest
 from sentence_reasons import REASONS as SENTENCE_REASONS
 
-TABLE = 1, 1, b"\x80\x00"
-TABLE_BYTES = b"\x01" + bytes(7) + b"\x01" + bytes(7) + b"\x02\0\0\0" + b"\x80\x00"
+TABLE = 1, 1, (0x8000, 258)
+TABLE_BYTES = b"\x01" + bytes(7) + b"\x01" + bytes(7) + b"\x02\0\0\0" + b"\0\x80\x02\x01"
 
 WAY = 0, 2, 18, 20, 29, 75, 73      # a witness of S→S; S→a, Q = 8
 

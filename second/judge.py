@@ -13,7 +13,7 @@ from certificates import check_certificate
 from corpus import found_in
 from explained import explanation
 from places import Place, place_of
-from printed import CHECKED, Malformed, certificate_in, lines_of
+from printed import CHECKED, MOST_BYTES, RUNS, Malformed, certificate_in, has_form, lines_of
 from program import judged
 from readings import named_of, sides
 from searches import Potential, needed, search
@@ -22,7 +22,7 @@ from text import AMPLE, MAX_TEXT, read_text
 from triples import triples_of
 from two_trees import two_trees
 
-MOST = MAX_TEXT + 1       # bytes that are read of a file: one more than a text has
+MOST = MAX_TEXT + 1       # bytes that are read of a grammar: one more than a text has
 VERSION_FILE = os.path.join(os.path.dirname(os.path.dirname(os.path.abspath(__file__))), "VERSION")
 STATUS = """GRAMMAR is a file of grammar text, CERTIFICATE one of the lines that
 ambig-certify prints; one of them may be -, standard input. For a grammar alone
@@ -65,7 +65,8 @@ def certified(text: bytes) -> Answer:
     result = search(*found.table, needed(found.grammar.states))
     assert not isinstance(result, Refusal), "a text that is read has no table faults"
     if not isinstance(result, Potential):
-        return Answer(lines_of(found, result.certificate, CHECKED).decode("ascii"), YES)
+        form = CHECKED if has_form(found.grammar.states, CHECKED) else RUNS
+        return Answer(lines_of(found, result.certificate, form).decode("ascii"), YES)
     answer = verdict(text)
     trees = two_trees(found.grammar)
     if trees is None:
@@ -92,12 +93,12 @@ def shown(path: str) -> str:
     return "<stdin>" if path == "-" else "".join(c if c.isprintable() else repr(c)[1:-1] for c in name)
 
 
-def contents(path: str) -> bytes:
+def contents(path: str, most: int) -> bytes:
     """The front of a file; what is longer is refused anyway."""
     if path == "-":
-        return sys.stdin.buffer.read(MOST)
+        return sys.stdin.buffer.read(most)
     with open(path, "rb") as file:
-        return file.read(MOST)
+        return file.read(most)
 
 
 def version() -> str:
@@ -150,9 +151,11 @@ def run(words: Sequence[str]) -> int:
     except SystemExit as ended:
         return MISUSE if ended.code else YES
     data = []
-    for path in [asked.grammar] + ([] if asked.certificate is None else [asked.certificate]):
+    files = [(asked.grammar, MOST)]
+    files += [] if asked.certificate is None else [(asked.certificate, MOST_BYTES + 1)]
+    for path, most in files:
         try:
-            data.append(contents(path))
+            data.append(contents(path, most))
         except (OSError, ValueError) as error:
             print("%s: error: %s" % (shown(path), getattr(error, "strerror", None) or error), file=sys.stderr)
             return MISUSE

@@ -19,14 +19,14 @@ from corpus import entries, table_in, text_in
 from dead_grammars import dead_small, rules_of, table_of, with_dead_rules
 from dead_rules import KINDS
 from length_reasons import ENOUGH, REASONS, Case, reasons_of
-from named_grammars import MAX_BYTES, MAX_LENT, Named, full_named, random_names
+from named_grammars import MAX_BYTES, MAX_LENT, Named, random_names, with_names
 from random_tables import encode
 from robot_grammars import grown
 from rooms import text_length
 from sentence_grammars import named_table
 from tables import Refusal
 from text import read_lines
-from text_write_inputs import Rows, laid, packed, scattered, spoil
+from text_write_inputs import Rows, good_rules, laid, packed, scattered, spoil
 
 SEED = text_write_inputs.SEED
 
@@ -83,7 +83,7 @@ def dead(rng: Rng) -> Iterator[Case]:
 
 def only_another_name(rng: Rng) -> Iterator[Case]:
     """One grammar with names that differ in one length alone."""
-    grammar = full_named(rng)
+    grammar = with_names(rng, 60, 66, good_rules(rng, 60, 66, [rng.randrange(5) for _ in range(20)]))
     data = b"".join(random_names(rng, 3000))
     for symbol in rng.sample(range(grammar.t + grammar.n), 40):
         starts = [16 * place for place in range(grammar.t + grammar.n)]

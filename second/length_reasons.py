@@ -11,7 +11,7 @@ import text_write_reasons
 from derivations import used_rules
 from named_grammars import MAX_LENT
 from rooms import text_length
-from tables import Grammar, Refusal, check_table
+from tables import Codes, Grammar, Refusal, check_table
 from text import DECLARED_TWICE, MALFORMED, write_text
 
 FEWEST = 50                # cases of each cause, and of lengths that are told
@@ -29,7 +29,7 @@ REASONS = NAMES_CAUSES + OF_THE_WRITER + [
     "length-a-rule-no-sentence-uses",
 ]
 
-ENOUGH = {name: FEWEST for name in CAUSES + ["written"]}
+ENOUGH = {**text_write_reasons.ENOUGH, **{name: FEWEST for name in CAUSES + ["written"]}}
 
 
 class Case(NamedTuple):
@@ -37,7 +37,7 @@ class Case(NamedTuple):
 
     t: int
     n: int
-    table: bytes
+    table: Codes
     names: bytes
     starts: Tuple[int, ...]
     lengths: Tuple[int, ...]

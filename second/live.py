@@ -9,7 +9,7 @@ have a finite subtree, then from S downwards what rules with only such
 nonterminals lead to. `live_rules` says of each rule whether it is live.
 """
 
-from typing import Tuple
+from typing import Dict, List, Tuple
 
 from tables import START, Grammar, codes_of, finite_nonterminals
 
@@ -18,15 +18,18 @@ def live_rules(grammar: Grammar) -> Tuple[bool, ...]:
     """By number whether a rule is live, rule 0 first."""
     finite = finite_nonterminals(codes_of(grammar))
     live = [False] * len(grammar.rules)
+    rules_of: Dict[int, List[int]] = {}
+    for place, rule in enumerate(grammar.rules):
+        rules_of.setdefault(rule.left, []).append(place)
     reached = set()
     waiting = [START] if START in finite else []
     while waiting:
         left = waiting.pop()
         if left not in reached:
             reached.add(left)
-            for place, rule in enumerate(grammar.rules):
-                below = [code for code in rule.right if code >= START]
-                if rule.left == left and finite.issuperset(below):
+            for place in rules_of.get(left, []):
+                below = [code for code in grammar.rules[place].right if code >= START]
+                if finite.issuperset(below):
                     live[place] = True
                     waiting += below
     return (START in finite, *live)

@@ -30,7 +30,7 @@ def every_rule(grammar: Grammar) -> Taken:
 def productive_rules(grammar: Grammar) -> Taken:
     """Also rules that are not reachable."""
     finite = productive(grammar)
-    return (finite[START], *(is_complete(finite, rule) for rule in grammar.rules))
+    return (START in finite, *(is_complete(finite, rule) for rule in grammar.rules))
 
 
 def reachable_rules(grammar: Grammar) -> Taken:

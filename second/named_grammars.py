@@ -10,11 +10,18 @@ from case_files import Rng
 from random_tables import (
     FIGURES, Rule, encode, large_grammar, random_rules, small_grammar, with_sentence,
 )
-from tables import MAX_LENGTH, MAX_NONTERMINALS, MAX_TERMINALS, START, has_sentence
+from tables import (
+    FIXED_STATES, MAX_LENGTH, MAX_NONTERMINALS, MAX_RULES, MAX_STATES, MAX_TERMINALS, START,
+    has_sentence,
+)
 from text import MAX_NAME, NAME_BYTES, Lent
 
-MAX_BYTES = 70000        # bytes of the longest text, or names, of a case
-MAX_LENT = 70000         # entries of the longest row that a case lends
+MAX_BYTES = 280000       # bytes of the longest text, or names, of a case
+MAX_LENT = 280000        # entries of the longest row that a case lends
+
+
+DIGITS = b"0123456789abcdefghijklmnopqrstuvwxyz"
+COUNTED: List[bytes] = []      # what `counted_names` has made so far
 
 
 class Named(NamedTuple):
@@ -58,9 +65,13 @@ def long_names(rng: Rng, count: int) -> List[bytes]:
 
 def counted_names(count: int) -> List[bytes]:
     """Different names of 4 digits or letters each, for long lists."""
-    digits = b"0123456789abcdefghijklmnopqrstuvwxyz"
-    return [bytes([digits[i // 46656 % 36], digits[i // 1296 % 36],
-                   digits[i // 36 % 36], digits[i % 36]]) for i in range(count)]
+    while len(COUNTED) < count:
+        number, name = len(COUNTED), b""
+        for _ in range(4):
+            number, place = divmod(number, len(DIGITS))
+            name = DIGITS[place:place + 1] + name
+        COUNTED.append(name)
+    return COUNTED[:count]
 
 
 def name_of(grammar: Named, code: int) -> bytes:
@@ -112,8 +123,8 @@ def large_named(rng: Rng, count: int, states: int) -> Named:
 
 def full_named(rng: Rng) -> Named:
     """A grammar at some limit: symbols, rules, states or all of them."""
-    t = rng.choice([0, 1, 126, MAX_TERMINALS])
-    n = rng.choice([1, 2, 126, MAX_NONTERMINALS])
+    t = rng.choice([0, 1, 300, MAX_TERMINALS - 1, MAX_TERMINALS])
+    n = rng.choice([1, 2, 300, MAX_NONTERMINALS - 1, MAX_NONTERMINALS])
     lengths = [rng.randrange(5) for _ in range(rng.randrange(40))]
     return with_names(rng, t, n, with_sentence(rng, t, random_rules(rng, t, n, lengths)))
 
@@ -121,7 +132,7 @@ def full_named(rng: Rng) -> Named:
 def longest_named(rng: Rng) -> Named:
     """All limits at once, with names of 15 bytes: the longest text there is."""
     t, n = MAX_TERMINALS, MAX_NONTERMINALS
-    rules = random_rules(rng, t, n, [MAX_LENGTH] * 5 + [1] * 92 + [0] * 3)
+    rules = random_rules(rng, t, n, [MAX_LENGTH] * 21 + [1] * 368 + [0] * 11)
     return Named(t, n, with_sentence(rng, t, rules), long_names(rng, t + n))
 
 
@@ -138,6 +149,11 @@ def good_figures() -> List[Named]:
 
 # Lent rows.
 
+# The longest table, each rule having two entries more than right codes, and all names.
+SYMBOLS = MAX_TERMINALS + MAX_NONTERMINALS
+LONGEST_ROWS = Lent(MAX_STATES - FIXED_STATES + MAX_RULES, SYMBOLS, SYMBOLS)
+
+
 def exact_lent(grammar: Named) -> Lent:
     """Rows exactly as long as the reader's outputs."""
     symbols = grammar.t + grammar.n
@@ -146,7 +162,7 @@ def exact_lent(grammar: Named) -> Lent:
 
 def ample_lent(rng: Rng) -> Lent:
     """Rows long enough for every grammar."""
-    return Lent(*(size + rng.randrange(200) for size in (352, 254, 254)))
+    return Lent(*(size + rng.randrange(200) for size in LONGEST_ROWS))
 
 
 def any_lent(rng: Rng, grammar: Named) -> Lent:

@@ -34,6 +34,9 @@ make lengths length_cases.py
 make reports report_cases.py
 make backs back_cases.py
 
+python3 carry.py "$folder"
+count "carry: every byte table of the cases that passed the old limits is answered alike when it is carried over" $?
+
 python3 corpus_cases.py check
 count "corpus: every text reads, and states, verdict, size and trees are as its index says" $?
 

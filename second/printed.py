@@ -18,6 +18,8 @@ HEX = "0123456789abcdefABCDEF"
 DIGIT = "h"               # stands for a hexadecimal digit in a template
 RUN = "z"                 # before the length of a run of zeros, in form 3; as a digit it is 16
 LONGEST_RUN = 255
+MOST_STATES = 512         # of forms 1 and 2: their offsets have four digits, so the bytes are at most 65,536
+MOST_BYTES = 1 << 20      # of the lines of a certificate, in each form
 RUNS_LINE = re.compile(r"([0-9a-f]{5}):((?: z?[0-9a-f]{2})+) \*([0-9a-f]{2})")
 
 
@@ -32,6 +34,11 @@ class Malformed(NamedTuple):
 def bytes_needed(states: int) -> int:
     """As few bytes as hold two bits for each pair of states."""
     return (2 * states * states + 7) // 8
+
+
+def has_form(states: int, form: int) -> bool:
+    """Whether certificates of so many states are printed in this form."""
+    return form == RUNS or states <= MOST_STATES
 
 
 def check_digits(offset: int, part: bytes) -> str:
@@ -52,7 +59,7 @@ def run_lines(certificate: bytes) -> List[str]:
     """Form 3: runs of zeros by their length; no line begins or ends with zeros."""
     lines: List[str] = []
     parts: List[str] = []
-    for match in re.finditer(rb"(\0*)([^\0])", certificate, re.DOTALL):
+    for match in re.finditer(rb"(\0*)([^\0])", certificate.rstrip(b"\0"), re.DOTALL):
         zeros, byte = len(match[1]), match[2].hex()
         if not parts or len(parts) + 1 + (zeros > 0) > 1 + ON_A_LINE[RUNS] or zeros > LONGEST_RUN:
             lines.append(" ".join(parts))
@@ -65,6 +72,7 @@ def run_lines(certificate: bytes) -> List[str]:
 
 def lines_of(found: Found, certificate: bytes, form: int) -> bytes:
     """A certificate as it is printed."""
+    assert has_form(found.grammar.states, form), "offsets of four digits"
     numbers = form, found.grammar.states, len(found.grammar.rules), len(held_indices(certificate))
     lines = ["%s%d\n" % pair for pair in zip(KEYS, numbers)]
     if form == RUNS:
@@ -115,6 +123,9 @@ def head_of(lines: List[str], found: Found) -> Union[Tuple[int, int], Malformed]
             return Malformed(place + 1, len(key) + 1, "by the grammar this number is %d" % expected)
         if place == 0 and value not in FORMS:
             return Malformed(1, len(key) + 1, "this program reads the forms 1, 2 and 3")
+        if place == 0 and not has_form(found.grammar.states, value):
+            return Malformed(1, len(key) + 1, "form %d has at most %d states; the grammar has %d"
+                             % (value, MOST_STATES, found.grammar.states))
         numbers.append(value)
     return numbers[0], numbers[3]
 

@@ -18,7 +18,7 @@ from case_files import (
 from case_grammars import good, states_of, triples_in
 from certificates import Record, check_records, checked_triples, records_fault
 from sentence_grammars import sentenceless
-from tables import NO_SENTENCE, Refusal, check_rules
+from tables import NO_SENTENCE, Codes, Refusal, check_rules
 from triples import Triple, Triples, in_range
 from ways import longer, shortest
 from witness_cases import GROUPS as ROW_GROUPS
@@ -32,7 +32,7 @@ PER_GROUP = 250            # cases taken from each group of the witness cases
 class Case(NamedTuple):
     t: int
     n: int
-    table: bytes
+    table: Codes
     records: Tuple[Record, ...]
 
 
@@ -134,7 +134,7 @@ REASONS = ["accepted"] + TABLE_REASONS + [
 ] + sentence_reasons.REASONS
 
 
-def reasons_of(t: int, n: int, table: bytes, records: Sequence[Record]) -> List[str]:
+def reasons_of(t: int, n: int, table: Codes, records: Sequence[Record]) -> List[str]:
     """Every reason of REASONS that this case meets."""
     triples = checked_triples(t, n, table)
     names = list(sentence_reasons.of_table(t, n, table))

@@ -22,7 +22,7 @@ from dead_rules import ENOUGH as ENOUGH_DEAD
 from program import TOO_MUCH, printed
 from sentence_reasons import FEWEST as FEWEST_NONE
 
-MAX_BYTES = 100000         # of a text
+MAX_BYTES = 280000         # of a text
 MAX_ROOM = 70000
 ENOUGH = 8192              # bytes that no report of these texts passes
 FEWEST = 10                # cases that each reason must have

@@ -131,7 +131,7 @@ def named(lines: Lines) -> Named:
     words = dict.fromkeys(word for _, right in pairs for word in right if word not in lines)
     codes = {word: 1 + place for place, word in enumerate(words)}
     codes.update((name, START + place) for place, name in enumerate(nonterminals))
-    rules: List[Rule] = [(codes[left], bytes(codes[word] for word in right))
+    rules: List[Rule] = [(codes[left], tuple(codes[word] for word in right))
                          for left, right in pairs]
     return Named(len(words), len(nonterminals), rules,
                  [word.encode("ascii") for word in list(words) + nonterminals])

@@ -12,8 +12,8 @@ from typing import Iterator, List
 import table_cases
 from case_files import Group, Kind, Reader, Rng, cases_of, encode_table, main, refused
 from case_grammars import (
-    CLASSICS, EIGHT_CHANNELS, ROWS, STATEMENTS, Table, faulty_tables, keywords, larger_random,
-    largest_random, operators, small_random,
+    CLASSICS, EIGHT_CHANNELS, MANY_STATES, ROWS, STATEMENTS, Table, exact_random, faulty_tables,
+    keywords, larger_random, most_keywords, operators, small_random,
 )
 from corpus import entries, table_in
 from dead_grammars import chains, dead_larger, dead_tables
@@ -21,7 +21,7 @@ from dead_rules import KINDS
 from named_grammars import (
     Named, figures_named, full_named, large_named, longest_named, small_named,
 )
-from random_tables import Rule, encode, random_bytes
+from random_tables import Rule, encode, random_entries, some_rules
 from robot_grammars import grown
 from room_reasons import ENOUGH, REASONS, reasons_of
 from rooms import room_of
@@ -59,12 +59,13 @@ def named(rng: Rng) -> Iterator[Table]:
     yield from map(table_of, figures_named())
     for _ in range(220):
         yield table_of(small_named(rng, rng.choice([2, 6, 12])))
-    for _ in range(24):
+    for _ in range(8):
         yield table_of(full_named(rng))
         yield table_of(large_named(rng, MAX_RULES, MAX_STATES))
-        yield table_of(large_named(rng, 22 + rng.randrange(78), MAX_STATES))
-        yield table_of(longest_named(rng))
-    for commands, most, count in ((4, 48, 120), (8, MAX_STATES, 60), (24, MAX_STATES, 20)):
+        yield table_of(large_named(rng, some_rules(rng), MAX_STATES))
+        yield table_of(large_named(rng, 100, MANY_STATES))
+    yield table_of(longest_named(rng))
+    for commands, most, count in ((4, 48, 120), (8, MANY_STATES, 60), (24, MANY_STATES, 20)):
         for _ in range(count):
             yield table_of(grown(rng, commands, most))
 
@@ -75,30 +76,33 @@ def random_small(rng: Rng) -> Iterator[Table]:
 
 
 def random_large(rng: Rng) -> Iterator[Table]:
-    """Q from 40 to 256, all rules live."""
-    for states in range(40, MAX_STATES, 9):
+    """Q from 40 to 256, and 1,024, all rules live."""
+    for states in range(40, MANY_STATES, 9):
         yield larger_random(rng, states)
         yield keywords(rng, 6 + states // 6, states)
     for _ in range(8):
-        yield largest_random(rng)
+        yield exact_random(rng, MANY_STATES)
+        yield most_keywords(rng)
 
 
 def many_moves(rng: Rng) -> Iterator[Table]:
     """Few nonterminals with many rules, and right sides full of them."""
     for n in (1, 2, 3, 5, 9):
         for k in (2, 3, 4, 6, 8, 12):
-            for states in (MAX_STATES, 180 + rng.randrange(76), 60 + rng.randrange(120)):
+            for states in (MANY_STATES, 180 + rng.randrange(76), 60 + rng.randrange(120)):
                 yield crowded(rng, n, k, states)
+    yield crowded(rng, 40, 3, MAX_STATES)
+    yield crowded(rng, 30, 12, MAX_STATES)
 
 
 def crowded(rng: Rng, n: int, k: int, states: int) -> Table:
     """Rules of n nonterminals, each with a terminal of its own, as many as fit; and S→."""
     count = (states - FIXED_STATES - 1) // (k + 1)
-    rules: List[Rule] = [(START, b"")]
+    rules: List[Rule] = [(START, ())]
     for place in range(count):
-        right = bytearray(START + rng.randrange(n) for _ in range(k))
+        right = [START + rng.randrange(n) for _ in range(k)]
         right[rng.randrange(k)] = 1 + place
-        rules.append((START + place % n, bytes(right)))
+        rules.append((START + place % n, tuple(right)))
     rng.shuffle(rules)
     return count, n, encode(rules)
 
@@ -108,7 +112,7 @@ def dead(rng: Rng) -> Iterator[Table]:
     yield from dead_tables(rng, 80)
     yield from chains(rng, (2, 9, 97))
     for kind in KINDS:
-        for states in (88, 115, 200, MAX_STATES):
+        for states in (88, 115, 200, MANY_STATES):
             yield dead_larger(rng, kind, states)
 
 
@@ -122,27 +126,28 @@ def faulty(rng: Rng) -> Iterator[Table]:
 def of_the_table_check(rng: Rng) -> Iterator[Table]:
     """Some of the table check's own cases, good and faulty ones."""
     for group, step in (
-        (table_cases.figures, 1), (table_cases.ranges, 6), (table_cases.edge_codes, 2),
+        (table_cases.figures, 1), (table_cases.ranges, 6), (table_cases.at_limits, 8),
+        (table_cases.edge_codes, 3),
         (table_cases.lengths_of_rules, 3), (table_cases.short_tables, 9),
-        (table_cases.unused_rules, 1), (table_cases.many_rules, 2),
-        (table_cases.many_states, 2), (table_cases.equal_rules, 4),
+        (table_cases.unused_rules, 1), (table_cases.many_rules, 3),
+        (table_cases.many_states, 3), (table_cases.equal_rules, 4),
         (table_cases.several_faults, 8), (table_cases.late_faults, 3),
         (table_cases.faults_in_two_rules, 5), (table_cases.prefixes, 4),
-        (table_cases.replaced_bytes, 8), (table_cases.damaged, 4), (table_cases.noise, 6),
+        (table_cases.replaced_entries, 8), (table_cases.damaged, 4), (table_cases.noise, 6),
         (table_cases.long_tables, 7),
     ):
         yield from list(group(rng))[::step]
 
 
 def damaged_corpus(rng: Rng) -> Iterator[Table]:
-    """The corpus with bytes put in, taken out, swapped or replaced, and symbols undeclared."""
+    """The corpus with entries put in, taken out, swapped or replaced, and symbols undeclared."""
     for entry in entries():
         t, n, table = table_in(entry.name)
         for _ in range(3):
             yield t, n, table_cases.damage(rng, table)
         if table:
             place = rng.randrange(len(table))
-            yield t, n, table[:place] + random_bytes(rng, 1) + table[place + 1:]
+            yield t, n, table[:place] + random_entries(rng, 1) + table[place + 1:]
         yield max(0, t - 1), n, table
         yield t, n - 1, table
 
@@ -152,7 +157,7 @@ def damaged_corpus(rng: Rng) -> Iterator[Table]:
 def without_a_sentence(rng: Rng) -> Iterator[Table]:
     """No finite tree of S, in small grammars and at the limits of rules and states."""
     yield from sentenceless(rng, 25)
-    yield from large_sentenceless(rng, 30)
+    yield from large_sentenceless(rng, 12)
 
 
 def nearly_without(rng: Rng) -> Iterator[Table]:

@@ -11,12 +11,15 @@ import dead_rules
 import sentence_reasons
 from automaton import Automaton, move_count
 from case_files import TABLE_REASONS
+from case_grammars import MANY_STATES
 from corpus_cases import corpus_tables
 from dead_rules import kind_of
 from derivations import used_rules
 from live_misreadings import MISREAD, TOLD, told
 from rooms import Room, room_of
-from tables import FIXED_STATES, MAX_RULES, MAX_STATES, START, Grammar, Refusal, check_table
+from tables import (
+    FIXED_STATES, MAX_RULES, MAX_STATES, START, Codes, Grammar, Refusal, check_table,
+)
 from triples import BYTE, triples_of
 
 FEWEST = 50                        # cases of each cause, and of rooms that are told
@@ -32,7 +35,7 @@ def moves_by_rules(grammar: Grammar) -> int:
     """
     live = [rule for rule, used in zip(grammar.rules, used_rules(grammar)) if used]
     lefts = [rule.left for rule in live]
-    codes = bytes([START]) + b"".join(rule.right for rule in live)
+    codes = [START] + [code for rule in live for code in rule.right]
     openings = 1 + sum(map(lefts.count, codes))
     return 2 * openings + len(codes)
 
@@ -94,7 +97,10 @@ REASONS = TABLE_REASONS + [
     "room-even-states",
     "room-over-60-states",
     "room-256-states",
-    "room-100-rules",
+    "room-1024-states",
+    "room-400-rules",
+    "room-code-past-255",
+    "room-code-past-33023",
     "room-over-255-moves",
     "room-over-4096-moves",
     "room-every-rule-used",
@@ -105,7 +111,7 @@ REASONS = TABLE_REASONS + [
 ENOUGH = {**{name: FEWEST for name in TABLE_REASONS + ["room"]}, **dead_rules.ENOUGH}
 
 
-def reasons_of(case: Tuple[int, int, bytes]) -> List[str]:
+def reasons_of(case: Tuple[int, int, Codes]) -> List[str]:
     """Every reason of REASONS that this case meets."""
     sentences = list(sentence_reasons.of_table(*case))
     grammar = check_table(*case)
@@ -114,14 +120,18 @@ def reasons_of(case: Tuple[int, int, bytes]) -> List[str]:
         assert room == grammar, "the table's fault"
         return sentences + [str(room.cause)]
     assert room.moves == moves_by_rules(grammar), "M is 2 × openings + shifts"
+    codes = {code for rule in grammar.rules for code in (rule.left, *rule.right)}
     met = [
         ("room", True),
         ("room-of-the-corpus", case in corpus_tables()),
         ("room-odd-states", room.states % 2 == 1),
         ("room-even-states", room.states % 2 == 0),
         ("room-over-60-states", room.states > 60),
-        ("room-256-states", room.states == MAX_STATES),
-        ("room-100-rules", len(grammar.rules) == MAX_RULES),
+        ("room-256-states", room.states == MANY_STATES),
+        ("room-1024-states", room.states == MAX_STATES),
+        ("room-400-rules", len(grammar.rules) == MAX_RULES),
+        ("room-code-past-255", any(255 < code < START for code in codes)),
+        ("room-code-past-33023", any(START + 255 < code for code in codes)),
         ("room-over-255-moves", room.moves > 255),
         ("room-over-4096-moves", room.moves > 4096),
         ("room-every-rule-used", kind_of(grammar) is None),

@@ -9,7 +9,7 @@ live rules alone; Q counts the items of every rule.
 from typing import FrozenSet, NamedTuple, Sequence, Tuple, Union
 
 from automaton import Automaton, automaton_of
-from tables import START, Grammar, Refusal, check_table
+from tables import START, Codes, Grammar, Refusal, check_table
 from text import COLON, COMMA, END, EQUALS, NONTERMINALS, RULE, SPACE, TERMINALS, lent_names
 from triples import BYTE, CLOSING, LAYERS, OPENING, SYMBOL, Move
 
@@ -41,7 +41,7 @@ def letter_moves(automaton: Automaton) -> FrozenSet[LetterMove]:
     return frozenset(found)
 
 
-def room_of(t: int, n: int, table: bytes) -> Union[Room, Refusal]:
+def room_of(t: int, n: int, table: Codes) -> Union[Room, Refusal]:
     """What a search of these tables must be lent, and M; or the table's fault."""
     grammar = check_table(t, n, table)
     if isinstance(grammar, Refusal):
@@ -73,7 +73,7 @@ def rules_length(grammar: Grammar, names: Sequence[bytes]) -> int:
     length = 0
     for rule in grammar.rules:
         symbols = [code - 1 if code < START else grammar.terminals + code - START
-                   for code in bytes([rule.left]) + rule.right]
+                   for code in (rule.left, *rule.right)]
         value = sum(len(names[symbol]) for symbol in symbols)
         value += len(COLON) + len(rule.right) * len(SPACE)
         length += line_length(RULE, value)
@@ -81,7 +81,7 @@ def rules_length(grammar: Grammar, names: Sequence[bytes]) -> int:
 
 
 def text_length(
-    t: int, n: int, table: bytes, names: bytes, starts: Sequence[int], lengths: Sequence[int]
+    t: int, n: int, table: Codes, names: bytes, starts: Sequence[int], lengths: Sequence[int]
 ) -> Union[int, Refusal]:
     """"the exact byte length of what it would write", or the writer's refusal but 14."""
     grammar = check_table(t, n, table)

@@ -17,9 +17,9 @@ from case_files import (
     numbers, read_cases, refused,
 )
 from case_grammars import (
-    CLASSICS, EIGHT_CHANNELS, MUCH_LOOKED_AT, ROWS, STATEMENTS, Table, dense, faulty_tables,
-    keywords, larger_random, largest_random, operators, rules_before_the_fault, small_random,
-    some, spelled, states_of,
+    CLASSICS, EIGHT_CHANNELS, MANY_STATES, MUCH_LOOKED_AT, ROWS, STATEMENTS, Table, dense,
+    exact_random, faulty_tables, grammar_of, keywords, larger_random, most_keywords, most_potential,
+    operators, rules_before_the_fault, small_random, some, spelled, states_of,
 )
 from certificates import check_witness, checked_triples
 from dead_grammars import chains, dead_larger, dead_tables, telling_tables
@@ -30,14 +30,14 @@ from live_misreadings import (
 )
 from looked_misreadings import TOLD as TOLD_LOOKED
 from looked_misreadings import told_by_figure
-from random_tables import encode
+from random_tables import A, B, S, encode, large_grammar
 from searches import Lent, Potential, Unambiguous, needed, search
 from sentence_grammars import (
-    faulty_sentenceless, large_sentenceless, nearly_sentenceless, sentenceless,
+    faulty_sentenceless, large_sentenceless, many_sentenceless, nearly_sentenceless, sentenceless,
 )
 from sentence_misreadings import AFTER_14
 from sentence_misreadings import TOLD as TOLD_SENTENCES
-from tables import MAX_STATES, NO_SENTENCE, Grammar, Refusal, check_table
+from tables import MAX_RULES, MAX_STATES, NO_SENTENCE, Codes, Grammar, Refusal, check_table
 from triples import is_potential, reached, triples_of
 
 NAMES = Lent._fields      # certificate, queue, parents, witness
@@ -46,7 +46,7 @@ NAMES = Lent._fields      # certificate, queue, parents, witness
 class Case(NamedTuple):
     t: int
     n: int
-    table: bytes
+    table: Codes
     lent: Lent
     fill: int
 
@@ -131,11 +131,21 @@ def larger(rng: Rng) -> Iterator[Case]:
 
 
 def largest(rng: Rng) -> Iterator[Case]:
-    """Q = 256, the most that passes."""
-    tables = [keywords(rng, count, MAX_STATES) for count in (22, 30, 50)]
-    for table in tables + [largest_random(rng)]:
+    """Q = 256, and Q = 1,024, the most that passes."""
+    tables = [keywords(rng, count, MANY_STATES) for count in (22, 30, 50)]
+    tables += [exact_random(rng, MANY_STATES), most_keywords(rng), most_potential(rng), few_commands(rng)]
+    for table in tables:
         yield from exact_and_longer(rng, table)
         yield from too_short(rng, table)
+
+
+def few_commands(rng: Rng) -> Table:
+    """The most states and rules, of which only few are reached: potential, or not."""
+    while True:
+        t, n, rules = large_grammar(rng, MAX_RULES, MAX_STATES)
+        table = t, n, encode(rules)
+        if sum(used_rules(grammar_of(table))) > 3:
+            return table
 
 
 def faulty(rng: Rng) -> Iterator[Case]:
@@ -152,14 +162,11 @@ def many_ways(rng: Rng) -> Iterator[Case]:
     Each has dead rules, and once more with rules by which all are live.
     """
     for (t, n, rules), more in [
-        ((2, 2, [(128, bytes([129, 2, 128, 129])), (129, bytes([129, 128])),
-                 (129, bytes([128, 128, 128]))]), [(128, b"")]),
-        ((3, 3, [(129, bytes([3, 130])), (128, bytes([129, 129, 128, 128])), (128, b""),
-                 (129, bytes([130, 129, 129, 1]))]), [(130, b"")]),
-        ((2, 2, [(128, bytes([2, 129])), (128, bytes([128, 129, 129])),
-                 (128, bytes([128, 128])), (129, bytes([129, 128, 128, 129]))]), [(129, b"")]),
-        ((2, 3, [(128, bytes([1, 1, 130, 128])), (128, b""), (129, bytes([1, 2, 129, 128])),
-                 (129, bytes([1, 128, 130, 128]))]), [(130, b""), (128, bytes([129]))]),
+        ((2, 2, [(S, (A, 2, S, A)), (A, (A, S)), (A, (S, S, S))]), [(S, ())]),
+        ((3, 3, [(A, (3, B)), (S, (A, A, S, S)), (S, ()), (A, (B, A, A, 1))]), [(B, ())]),
+        ((2, 2, [(S, (2, A)), (S, (S, A, A)), (S, (S, S)), (A, (A, S, S, A))]), [(A, ())]),
+        ((2, 3, [(S, (1, 1, B, S)), (S, ()), (A, (1, 2, A, S)), (A, (1, S, B, S))]),
+         [(B, ()), (S, (A,))]),
     ]:
         for row in (rules, rules + more, more + rules):
             yield from exact_and_longer(rng, (t, n, encode(row)))
@@ -187,14 +194,14 @@ def dead_short(rng: Rng) -> Iterator[Case]:
 def dead_and_larger(rng: Rng) -> Iterator[Case]:
     """Dead rules in grammars of Q from 60 to 256."""
     tables = [dead_larger(rng, kind, states)
-              for kind in KINDS for states in (88, 97, 106, 115, 124, MAX_STATES)]
+              for kind in KINDS for states in (88, 97, 106, 115, 124, MANY_STATES)]
     for table in tables + list(chains(rng, (97,))):
         yield rng.choice(list(exact_and_longer(rng, table)))
 
 
 def without_a_sentence(rng: Rng) -> Iterator[Case]:
     """No sentence, lent exactly enough, more, one entry too little, or nothing."""
-    for table in [*sentenceless(rng, 14), *large_sentenceless(rng, 8)]:
+    for table in [*sentenceless(rng, 14), *many_sentenceless(rng, 5), *large_sentenceless(rng, 3)]:
         yield rng.choice(list(exact_and_longer(rng, table)))
         yield rng.choice(list(too_short(rng, table)))
         yield rng.choice(list(short_and_empty(rng, table)))
@@ -259,6 +266,9 @@ REASONS = TABLE_REASONS + [
 ] + [
     "unambiguous-with-layer-1",
     "256-states",
+    "1024-states",
+    "unambiguous-1024-states",
+    "potential-1024-states",
 ] + dead_rules.REASONS + [
     "unambiguous-dead-" + kind for kind in KINDS
 ] + [
@@ -279,6 +289,10 @@ REASONS = TABLE_REASONS + [
 ] + sentence_reasons.REASONS
 
 
+# Cases of the most states are few.
+ENOUGH_LARGEST = {"1024-states": 12, "unambiguous-1024-states": 2, "potential-1024-states": 2}
+
+
 def reasons_of(case: Case) -> List[str]:
     """Every reason of REASONS that this case meets."""
     sentences = list(sentence_reasons.of_table(*case[:3]))
@@ -293,7 +307,11 @@ def reasons_of(case: Case) -> List[str]:
         met = short_reasons(case, grammar)
     else:
         met = found_reasons(case, grammar, result)
-    met.append(("256-states", grammar.states == MAX_STATES))
+    met.append(("256-states", grammar.states == MANY_STATES))
+    met.append(("1024-states", grammar.states == MAX_STATES))
+    if not isinstance(result, Refusal):
+        verdict = "potential" if isinstance(result, Potential) else "unambiguous"
+        met.append((verdict + "-1024-states", grammar.states == MAX_STATES))
     if kind_of(grammar) is not None:
         met += dead_reasons(grammar, result)
     found = sentences + [name for name, holds in met if holds]
@@ -438,7 +456,7 @@ def decode_case(reader: Reader) -> Case:
 
 
 KIND = Kind(lambda: cases_of(GROUPS), encode_case, decode_case, answer, REASONS, reasons_of,
-            enough={**dead_rules.ENOUGH, **sentence_reasons.ENOUGH})
+            enough={**dead_rules.ENOUGH, **sentence_reasons.ENOUGH, **ENOUGH_LARGEST})
 
 
 def run(words: Sequence[str]) -> int:

@@ -9,7 +9,7 @@ from typing import NamedTuple, Tuple, Union
 from certificates import checked_triples
 from looked import looked_at
 from shortest import shortest_witness
-from tables import Refusal
+from tables import Codes, Refusal
 from triples import LAYERS, certificate_length, certificate_of, reached
 
 ROW_TOO_SHORT = 14        # "a lent output or work row too short"
@@ -46,7 +46,7 @@ def needed(states: int) -> Lent:
 
 
 def search(
-    t: int, n: int, table: bytes, lent: Lent
+    t: int, n: int, table: Codes, lent: Lent
 ) -> Union[Refusal, Unambiguous, Potential]:
     """Table faults, then 14 at 0 if anything lent is too short, then the verdict."""
     triples = checked_triples(t, n, table)

@@ -7,39 +7,40 @@ from typing import Callable, Dict, Iterator, List
 
 from case_files import Rng
 from case_grammars import (
-    ENDLESS, NO_RULES, Table, grammar_of, live_small, out_of_range, small_random, spelled,
+    ENDLESS, MANY_STATES, NO_RULES, Table, grammar_of, live_small, out_of_range, small_random, spelled,
 )
 from dead_grammars import (
     Rules, add_unproductive, chain, endless, put_in, right_with, rules_of, some_left, table_of,
 )
 from named_grammars import Named, with_names
-from random_tables import Rule, encode, faulty_rule, large_grammar, random_code, small_rules
+from random_tables import Rule, encode, faulty_rule, large_grammar, random_code, small_rules, some_rules
 from sentence_reasons import has_tree, loose_rules
 from tables import (
-    MAX_LENGTH, MAX_RULES, MAX_STATES, MAX_TERMINALS, OUT_OF_RANGE, START, TOO_MANY_STATES,
-    Refusal, check_rules, codes_of,
+    MAX_LENGTH, MAX_NONTERMINALS, MAX_RULES, MAX_STATES, MAX_TERMINALS, OUT_OF_RANGE, START,
+    TOO_MANY_STATES,
+    Codes, Refusal, check_rules, codes_of,
 )
 
 S, A, B = START, START + 1, START + 2
-a = b"\1"
+a = (1,)
 
 # By hand: no rules; S→S; all rules of S need S; S on right sides only; S nowhere.
 BY_HAND: List[Table] = [
-    NO_RULES, (1, 1, b""), (127, 127, b""), ENDLESS, (1, 1, ENDLESS[2]),
+    NO_RULES, (1, 1, ()), (MAX_TERMINALS, MAX_NONTERMINALS, ()), ENDLESS, (1, 1, ENDLESS[2]),
     spelled("S: a S"), spelled("S: S a"), spelled("S: a S | S S"), spelled("S: A a", "A: S"),
     spelled("S: A", "A: B", "B: A"), spelled("S: A | B", "A: a B", "B: A b"),
-    (1, 2, encode([(A, a), (A, b"")])), (1, 2, encode([(A, bytes([1, S]))])),
-    (1, 2, encode([(A, bytes([S])), (A, a)])), (0, 2, encode([(S, bytes([A]))])),
-    (1, 3, encode([(S, bytes([A, B])), (B, a)])),
+    (1, 2, encode([(A, a), (A, ())])), (1, 2, encode([(A, (1, S))])),
+    (1, 2, encode([(A, (S,)), (A, a)])), (0, 2, encode([(S, (A,))])),
+    (1, 3, encode([(S, (A, B)), (B, a)])),
 ]
 # By hand: one rule more and there is a sentence.
 NEAR_BY_HAND: List[Table] = [
-    (0, 1, encode([(S, b"")])), (127, 127, encode([(S, b"")])), spelled("S: S |"),
+    (0, 1, encode([(S, ())])), (MAX_TERMINALS, MAX_NONTERMINALS, encode([(S, ())])), spelled("S: S |"),
     spelled("S: S S |"), spelled("S: A", "A: B", "B:"), spelled("S: A B | S", "A: | B", "B: A |"),
     spelled("S: S | a"), spelled("S: a S | S S | a"), spelled("S: A a", "A: S | b"),
-    (1, 2, encode([(S, bytes([A])), (A, a)])), (1, 2, encode([(A, a), (S, bytes([A, A]))])),
-    (1, 3, encode([(A, bytes([S])), (B, bytes([A])), (S, a)])),
-    (2, 3, encode([(S, bytes([A, B, 1])), (B, b""), (A, bytes([B, 2]))])),
+    (1, 2, encode([(S, (A,)), (A, a)])), (1, 2, encode([(A, a), (S, (A, A))])),
+    (1, 3, encode([(A, (S,)), (B, (A,)), (S, a)])),
+    (2, 3, encode([(S, (A, B, 1)), (B, ()), (A, (B, 2))])),
 ]
 
 
@@ -47,8 +48,9 @@ NEAR_BY_HAND: List[Table] = [
 
 def no_rules(rng: Rng) -> Rules:
     """No rules, with any number of symbols."""
-    t, n = rng.choice([0, 1, 126, 127, rng.randrange(128)]), 1 + rng.randrange(127)
-    return Rules(t, rng.choice([1, 2, 127, n]), ())
+    t = rng.choice([0, 1, rng.randrange(MAX_TERMINALS // 7)])
+    n = rng.choice([1, 2, 1 + rng.randrange(MAX_NONTERMINALS // 7)])
+    return Rules(t, n, ())
 
 
 def needs_itself(rng: Rng) -> Rules:
@@ -59,11 +61,11 @@ def needs_itself(rng: Rng) -> Rules:
     return base._replace(rules=tuple(dict.fromkeys(rules)))
 
 
-def with_code(rng: Rng, right: bytes, code: int) -> bytes:
+def with_code(rng: Rng, right: Codes, code: int) -> Codes:
     """A right side with this code in it; a code of it is left out if it was full."""
     place = rng.randrange(min(len(right), MAX_LENGTH - 1) + 1)
     rest = right[place + (len(right) == MAX_LENGTH):]
-    return right[:place] + bytes([code]) + rest
+    return right[:place] + (code,) + rest
 
 
 def needs_endless(rng: Rng) -> Rules:
@@ -92,7 +94,7 @@ def of_others(rng: Rng) -> Rules:
     """Rules in which S does not occur."""
     base = rules_of(live_small(rng))
     other = S + base.n
-    rules = [(other if left == S else left, bytes(other if code == S else code for code in right))
+    rules = [(other if left == S else left, tuple(other if code == S else code for code in right))
              for left, right in base.rules]
     return Rules(base.t, base.n + 1, tuple(rules))
 
@@ -101,7 +103,7 @@ def in_a_circle(rng: Rng) -> Rules:
     """S→X0, X0→X1 and so on back to one of them, in any order."""
     length = 1 + rng.randrange(24)
     back = A + rng.randrange(length + 1) - (rng.randrange(3) == 0)
-    rules = [(S, bytes([A]))] + chain(A, length, [(A + length, bytes([back]))])
+    rules = [(S, (A,))] + chain(A, length, [(A + length, (back,))])
     return Rules(1, length + 2, tuple(rng.sample(rules, len(rules))))
 
 
@@ -115,20 +117,20 @@ def one_rule_lost(rng: Rng) -> Rules:
         if right and rng.randrange(2):
             at = rng.randrange(len(right))
             code = random_code(rng, base.t, base.n)
-            rules.insert(place, (left, right[:at] + bytes([code]) + right[at + 1:]))
+            rules.insert(place, (left, right[:at] + (code,) + right[at + 1:]))
         found = base._replace(rules=tuple(dict.fromkeys(rules)))
         if not has_tree(found.rules):
             return found
 
 
-def large(rng: Rng) -> Rules:
-    """100 rules, or Q of 256, or both; S has none of them, or needs S."""
-    count, states = rng.choice([(MAX_RULES, 150 + rng.randrange(107)), (MAX_RULES, MAX_STATES),
-                                (20 + rng.randrange(9), MAX_STATES)])
+def large(rng: Rng, rules: int = MAX_RULES, states: int = MAX_STATES) -> Rules:
+    """So many rules, or so many states, or both; S has none of the rules, or needs S."""
+    count, states = rng.choice([
+        (rules, states - rng.randrange(states // 2)), (rules, states), (some_rules(rng, states), states)])
     while True:
-        t, n, rules = large_grammar(rng, count, states)
-        found = Rules(t, n, tuple(dict.fromkeys(without_trees(rng, n, rules))))
-        if len(found.rules) == len(rules) and not has_tree(found.rules):
+        t, n, made = large_grammar(rng, count, states)
+        found = Rules(t, n, tuple(dict.fromkeys(without_trees(rng, n, made))))
+        if len(found.rules) == len(made) and not has_tree(found.rules):
             return found
 
 
@@ -138,7 +140,7 @@ def without_trees(rng: Rng, n: int, rules: List[Rule]) -> List[Rule]:
     for left, right in rules:
         if left == S and right and rng.randrange(2):
             place = rng.randrange(len(right))
-            right = right[:place] + bytes([S]) + right[place + 1:]
+            right = right[:place] + (S,) + right[place + 1:]
         elif left == S:
             left = A + rng.randrange(n - 1)
         found.append((left, right))
@@ -169,6 +171,12 @@ def large_sentenceless(rng: Rng, count: int) -> Iterator[Table]:
     """`count` grammars without a sentence at the limits of rules and states."""
     for _ in range(count):
         yield checked(table_of(large(rng)), False)
+
+
+def many_sentenceless(rng: Rng, count: int) -> Iterator[Table]:
+    """The same, with at most 100 rules and 256 states."""
+    for _ in range(count):
+        yield checked(table_of(large(rng, 100, MANY_STATES)), False)
 
 
 def checked(table: Table, sentence: bool) -> Table:
@@ -218,11 +226,12 @@ def nearly_sentenceless(rng: Rng, each: int) -> Iterator[Table]:
 def faulty_sentenceless(rng: Rng, each: int) -> Iterator[Table]:
     """`each` tables for each of causes 1 to 8 whose rules have no sentence either."""
     found = {cause: 0 for cause in range(OUT_OF_RANGE, TOO_MANY_STATES + 1)}
+    bases = [large(rng) for _ in range(10)]
     while min(found.values()) < each:
-        base = rng.choice([large, large, *NONE.values()])(rng)
-        t = min(base.t, MAX_TERMINALS - 1)
-        last = faulty_rule(rng, t, base.n, base.rules, 1 << rng.randrange(6))
-        table = t, base.n, encode(base.rules) + last
+        base = rng.choice(bases) if rng.randrange(4) == 0 else rng.choice(list(NONE.values()))(rng)
+        t, n = min(base.t, MAX_TERMINALS - 1), min(base.n, MAX_NONTERMINALS - 1)
+        last = faulty_rule(rng, t, n, base.rules, 1 << rng.randrange(6))
+        table = t, n, encode(base.rules) + last
         if rng.randrange(12) == 0:
             table = (*out_of_range(rng)[:2], table[2])
         refusal = check_rules(*table)

@@ -8,14 +8,14 @@ in another order. A case that is answered otherwise in one of them tells it from
 from typing import Callable, Dict, List, Sequence, Set
 
 from derivations import finite_roots
-from tables import START, RuleCodes
+from tables import START, Codes, RuleCodes
 
 Rules = Sequence[RuleCodes]
 
 
 # Another answer to whether there is a sentence.
 
-def nonterminals_in(right: bytes) -> List[int]:
+def nonterminals_in(right: Codes) -> List[int]:
     return [code for code in right if code >= START]
 
 
@@ -28,7 +28,7 @@ def a_longer_sentence(rules: Rules) -> bool:
     """Whether there is a sentence that is not empty."""
     finite = finite_roots(rules)
     whole = [(left, right) for left, right in rules
-             if all(finite[code] for code in nonterminals_in(right))]
+             if finite.issuperset(nonterminals_in(right))]
     longer: Set[int] = set()
     count = -1
     while count < len(longer):
@@ -45,14 +45,14 @@ def a_rule_of_s(rules: Rules) -> bool:
 
 def a_finite_tree(rules: Rules) -> bool:
     """Whether any nonterminal has a finite subtree."""
-    return any(finite_roots(rules))
+    return bool(finite_roots(rules))
 
 
 def finite_trees_of_all(rules: Rules) -> bool:
     """Whether S and every nonterminal of the rules has a finite subtree."""
     finite = finite_roots(rules)
     codes = {START}.union(*({left, *nonterminals_in(right)} for left, right in rules))
-    return all(finite[code] for code in codes)
+    return finite.issuperset(codes)
 
 
 def in_one_round(rules: Rules) -> bool:
@@ -91,5 +91,5 @@ TOLD_BY_RULES = [TOLD[name] for name in HAS_SENTENCE]
 
 def told(rules: Rules) -> List[str]:
     """The reasons of those misreadings in which rules without faults are answered otherwise."""
-    right = finite_roots(rules)[START]
+    right = START in finite_roots(rules)
     return [TOLD[name] for name, misread in HAS_SENTENCE.items() if misread(rules) != right]

@@ -9,7 +9,8 @@ from typing import List, Sequence, Tuple
 from derivations import finite_roots
 from sentence_misreadings import BEFORE_8, TOLD, TOLD_BY_RULES, a_longer_sentence, told
 from tables import (
-    HEADER, NO_SENTENCE, START, TOO_MANY_STATES, Refusal, RuleCodes, check_rules, codes_of,
+    HEADER, NO_SENTENCE, START, TOO_MANY_STATES, Codes, Refusal, RuleCodes, check_rules,
+    codes_of,
 )
 
 # Why a grammar has no sentence, and what else it has.
@@ -37,7 +38,7 @@ ENOUGH = {CAUSE: FEWEST}
 
 def has_tree(rules: Sequence[RuleCodes]) -> bool:
     """Whether S has a finite tree."""
-    return finite_roots(rules)[START]
+    return START in finite_roots(rules)
 
 
 def none_reasons(rules: Sequence[RuleCodes]) -> List[str]:
@@ -50,7 +51,7 @@ def none_reasons(rules: Sequence[RuleCodes]) -> List[str]:
         ("19-S-on-right-sides-only", seen and not own),
         ("19-every-rule-of-S-needs-S", bool(own) and all(START in right for right in own)),
         ("19-S-needs-another", any(START not in right for right in own)),
-        ("19-though-another-has-a-finite-tree", any(finite_roots(rules))),
+        ("19-though-another-has-a-finite-tree", bool(finite_roots(rules))),
     ]
     return [name for name, holds in met if holds]
 
@@ -70,7 +71,7 @@ def of_rules(rules: Sequence[RuleCodes]) -> List[str]:
     return found + told(rules)
 
 
-def loose_rules(table: bytes) -> List[RuleCodes]:
+def loose_rules(table: Codes) -> List[RuleCodes]:
     """The whole rules in front of a table, whatever else is wrong with them."""
     rules = []
     offset = 0
@@ -92,7 +93,7 @@ def order_reasons(cause: int) -> List[str]:
 
 
 @lru_cache(maxsize=4096)
-def of_table(t: int, n: int, table: bytes) -> Tuple[str, ...]:
+def of_table(t: int, n: int, table: Codes) -> Tuple[str, ...]:
     """Every reason of REASONS that a table meets."""
     result = check_rules(t, n, table)
     if not isinstance(result, Refusal):

@@ -11,7 +11,7 @@ from tables import FIXED_STATES, START
 def every_rule(t: int, n: int, k: int) -> List[Rule]:
     """Every rule of length k over t terminals and n nonterminals."""
     codes = list(range(1, 1 + t)) + list(range(START, START + n))
-    return [(left, bytes(right)) for left in range(START, START + n)
+    return [(left, tuple(right)) for left in range(START, START + n)
             for right in product(codes, repeat=k)]
 
 

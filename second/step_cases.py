@@ -16,8 +16,8 @@ from case_files import (
     main, refused,
 )
 from case_grammars import (
-    CLASSICS, ONE_A, ROWS, STATEMENTS, Table, faulty_tables, good, grammar_of, keywords,
-    larger_random, operators, some, triples_in,
+    CLASSICS, MANY_STATES, ONE_A, ROWS, STATEMENTS, Table, faulty_tables, good, grammar_of,
+    keywords, larger_random, most_keywords, operators, some, triples_in,
 )
 from certificates import checked_triples
 from dead_grammars import chains, dead_larger, dead_tables
@@ -25,9 +25,9 @@ from dead_rules import KINDS, dead_states
 from live_misreadings import MISREAD, TOLD, WRONG_STEPS, former_triples, told, wrong_steps
 from random_tables import encode
 from sentence_grammars import (
-    faulty_sentenceless, large_sentenceless, nearly_sentenceless, sentenceless,
+    faulty_sentenceless, large_sentenceless, many_sentenceless, nearly_sentenceless, sentenceless,
 )
-from tables import MAX_STATES, NO_SENTENCE, START, Grammar, Refusal
+from tables import MAX_STATES, MAX_TERMINALS, NO_SENTENCE, START, Codes, Grammar, Refusal
 from triples import (
     CLOSING, OPENING, STILL, SYMBOL, Move, Step, Triple, Triples, in_range,
     index_of, reached, steps, triple_at, triples_of,
@@ -40,7 +40,7 @@ MANY = 100                # records of a triple that count as many
 class Case(NamedTuple):
     t: int
     n: int
-    table: bytes
+    table: Codes
     triple: Triple
 
 
@@ -66,11 +66,12 @@ def small(rng: Rng) -> Iterator[Case]:
 
 
 def larger_grammars(rng: Rng) -> List[Table]:
-    """Classic grammars, and larger ones up to Q = 256."""
+    """Classic grammars, and larger ones up to Q = 256, some of Q = 1,024."""
     tables = list(CLASSICS.values()) + [operators(3), operators(12), STATEMENTS]
     tables += some(rng, 20, lambda triples: triples.states > 18, 34)
-    tables += [larger_random(rng, states) for states in (60, 90, 120, MAX_STATES)]
-    return tables + [keywords(rng, 24, 100), keywords(rng, 40, MAX_STATES)]
+    tables += [larger_random(rng, states) for states in (60, 90, 120, MANY_STATES)]
+    tables += [keywords(rng, 24, 100), keywords(rng, 40, MANY_STATES)]
+    return tables + [most_keywords(rng) for _ in range(2)]
 
 
 def larger(rng: Rng) -> Iterator[Case]:
@@ -104,7 +105,7 @@ def dead_small(rng: Rng) -> Iterator[Case]:
 def dead(rng: Rng) -> Iterator[Case]:
     """Triples with items of dead rules on one side or both, and others, of larger grammars."""
     tables = list(dead_tables(rng, 18)) + list(chains(rng, (2, 9, 97)))
-    tables += [dead_larger(rng, kind, states) for kind in KINDS for states in (90, MAX_STATES)]
+    tables += [dead_larger(rng, kind, states) for kind in KINDS for states in (90, MANY_STATES)]
     for table in tables:
         items, others = sorted(dead_states(good(table))), live_states(good(table))
         for _ in range(3):
@@ -140,17 +141,18 @@ def many_closings(rng: Rng) -> Iterator[Case]:
 def many_pasts(past: int) -> Table:
     """A grammar with `past` codes A on its right sides, then A→ and A→A."""
     A = START + 1
-    rules = [(START, bytes([1 + first // 11] + [A] * min(11, past - first)))
+    rules = [(START, (1 + first // 11,) + (A,) * min(11, past - first))
              for first in range(0, past, 11)]
-    return 4, 2, encode(rules + [(A, b""), (A, bytes([A]))])
+    return 4, 2, encode(rules + [(A, ()), (A, (A,))])
 
 
 def out_of_range(rng: Rng) -> Iterator[Case]:
     """Layers above 1 and states of Q or more, also where fewer bits hide them."""
-    tables = ROWS + [CLASSICS["json"], operators(12), keywords(rng, 40, MAX_STATES)]
+    tables = ROWS + [CLASSICS["json"], operators(12), keywords(rng, 40, MANY_STATES), most_keywords(rng)]
     for table in tables:
         states = triples_in(table).states
-        beyond = [states, states + 1, 255 + states, 256, 256 + 2, 65536, 2 ** 31, LARGEST]
+        beyond = [states, states + 1, 255 + states, 256, 256 + 2, 1024, 65536, 65536 + 2, 2 ** 31,
+                  LARGEST]
         for layer in (2, 3, 255, 256, 257, 65536, 2 ** 31, LARGEST):
             yield Case(*table, Triple(layer, 0, 0))
             yield Case(*table, Triple(layer, rng.randrange(states), 2))
@@ -168,12 +170,12 @@ def faulty(rng: Rng) -> Iterator[Case]:
     """Faulty tables, with triples in range and out of it."""
     for table in faulty_tables(rng, 30):
         yield Case(*table, Triple(rng.randrange(3), rng.randrange(6), rng.randrange(6)))
-    yield Case(128, *ONE_A[1:], Triple(LARGEST, LARGEST, LARGEST))
+    yield Case(MAX_TERMINALS + 1, *ONE_A[1:], Triple(LARGEST, LARGEST, LARGEST))
 
 
 def without_a_sentence(rng: Rng) -> Iterator[Case]:
     """No sentence: the start, triples that had moves before [3], others, ones out of range."""
-    for table in [*sentenceless(rng, 12), *large_sentenceless(rng, 8)]:
+    for table in [*sentenceless(rng, 12), *many_sentenceless(rng, 6), *large_sentenceless(rng, 2)]:
         states, former = triples_in(table).states, former_triples(grammar_of(table))
         yield Case(*table, Triple(0, 0, 0))
         yield Case(*table, busy_triple(rng, former))
@@ -254,6 +256,7 @@ REASONS = TABLE_REASONS + sorted(SHOWN.values()) + [
     "layer-1-equal-nonterminals-do-not-shift",
     "unequal-symbols-do-not-shift",
     "256-states",
+    "1024-states",
     "out-of-range-layer",
     "out-of-range-left",
     "out-of-range-right",
@@ -309,7 +312,8 @@ def range_reasons(triples: Triples, triple: Triple) -> List[Tuple[str, bool]]:
     index = triple.layer * states * states + triple.left * states + triple.right
     outside = not in_range(states, triple)
     return [
-        ("256-states", states == MAX_STATES),
+        ("256-states", states == MANY_STATES),
+        ("1024-states", states == MAX_STATES),
         ("out-of-range-layer", triple.layer > 1),
         ("out-of-range-left", triple.left >= states),
         ("out-of-range-right", triple.right >= states),

@@ -31,10 +31,10 @@ class StatesTest(unittest.TestCase):
     def test_items_come_rule_by_rule_and_dot_by_dot(self):
         grammar = check_table(*spelled("S: a S |", "A: b"))
         self.assertEqual(items_of(grammar), [
-            None, None, Item(0, 0, bytes([S]), 0), Item(0, 0, bytes([S]), 1),
-            Item(1, S, bytes([a, S]), 0), Item(1, S, bytes([a, S]), 1),
-            Item(1, S, bytes([a, S]), 2), Item(2, S, b"", 0),
-            Item(3, A, bytes([b]), 0), Item(3, A, bytes([b]), 1)])
+            None, None, Item(0, 0, (S,), 0), Item(0, 0, (S,), 1),
+            Item(1, S, (a, S), 0), Item(1, S, (a, S), 1),
+            Item(1, S, (a, S), 2), Item(2, S, (), 0),
+            Item(3, A, (b,), 0), Item(3, A, (b,), 1)])
 
 
 class MovesTest(unittest.TestCase):
@@ -113,7 +113,7 @@ class LiveTest(unittest.TestCase):
         self.nothing(moves, range(6, 13))
 
     def test_a_nonterminal_without_rules(self):
-        moves = automaton_of(check_table(1, 2, bytes([S, 1, A, S, 1, a])))
+        moves = automaton_of(check_table(1, 2, (S, 1, A, S, 1, a)))
         self.assertEqual(moves.openings[2], ((2, 6),))
         self.nothing(moves, [4, 5])
 

@@ -25,7 +25,7 @@ def two(left, right=b""):
 
 class FileTest(FileTests, unittest.TestCase):
     KIND = KIND
-    DIGEST = "25791a6c979217e2da29e5b56533fcabb02b4a2a94ba9a2bb5970c7cedace893"
+    DIGEST = "7d57bcfe77c8c56f09ad124a56579846ab643d2dc14a264abcb13f0defaae55b"
     CASE = Case(b"ab", b"left=\n", LentStrings(258, 3))
     BYTES = b"\2\0\0\0ab" + b"\6\0\0\0left=\n" + b"\2\1\0\0" + b"\3\0\0\0"
 
@@ -41,7 +41,7 @@ class AnswerTest(unittest.TestCase):
         for lines, line in [
             (two(b""), "read left= right="),
             (two(b"(0 )2", b"a"), "read left=65536,131074 right=196609"),
-            (two(b"", b"b S Ab )0 (1"), "read left= right=196610,196736,196737,131072,65537"),
+            (two(b"", b"b S Ab )0 (1"), "read left= right=196610,229376,229377,131072,65537"),
         ]:
             self.assertEqual(answer(Case(TEXT, lines, AMPLE)), line)
 
@@ -200,7 +200,7 @@ class ReasonsTest(unittest.TestCase):
     def test_grammars(self):
         for text, names in [
             (b"", ["grammar-16", "grammar-16-at-1"]),
-            (b"a" * 65537, ["grammar-16", "grammar-16-at-0"]),
+            (b"a" * 262145, ["grammar-16", "grammar-16-at-0"]),
             (b"terminals=\n", ["grammar-16", "grammar-16-at-2"]),
             (TEXT[:-1], ["grammar-16", "grammar-16-at-a-rule"]),
             (TEXT + b"rule=Ab:\n", ["grammar-6"]), (ENDLESS, ["grammar-19"]),

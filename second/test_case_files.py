@@ -31,10 +31,10 @@ class BytesTest(unittest.TestCase):
         self.assertTrue(reader.at_end())
 
     def test_table(self):
-        data = encode_table(2 ** 64 - 1, 258, b"\x80\x00")
+        data = encode_table(2 ** 64 - 1, 258, (0x8000, 13))
         self.assertEqual(
-            data, b"\xff" * 8 + b"\x02\x01" + bytes(6) + b"\x02\0\0\0" + b"\x80\x00")
-        self.assertEqual(Reader(data).table(), (2 ** 64 - 1, 258, b"\x80\x00"))
+            data, b"\xff" * 8 + b"\x02\x01" + bytes(6) + b"\x02\0\0\0" + b"\0\x80\x0d\0")
+        self.assertEqual(Reader(data).table(), (2 ** 64 - 1, 258, (0x8000, 13)))
 
     def test_a_cut_file_is_refused(self):
         for data in (b"\x01", b"\x01\0\0\0\x02\0"):

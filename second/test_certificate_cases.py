@@ -5,11 +5,14 @@ import unittest
 from case_files import Rng, cases_of
 from case_grammars import COURSE, CYCLE, ENDLESS, NO_RULES, ONE_A, ROWS, spelled, triples_in
 from certificate_cases import (
-    KIND, Case, answer, closed_superset, flipped, former, former_smallest, smallest,
+    KIND, Case, answer, branching, closed_superset, end_pairs, ends_of, flipped, former,
+    former_smallest, kept_apart, smallest,
 )
 from certificate_reasons import REASONS, reasons_of
+from certificates import check_certificate
 from file_tests import TABLE, TABLE_BYTES, FileTests, without_sentences
-from triples import certificate_of, held_indices, reached
+from random_tables import S
+from triples import certificate_of, closure, held_indices, reached
 from ways import largest_set
 
 EMPTY = ROWS[1]           # S→, Q = 5: bits 50 to 55 are spare
@@ -17,7 +20,7 @@ EMPTY = ROWS[1]           # S→, Q = 5: bits 50 to 55 are spare
 
 class FileTest(FileTests, unittest.TestCase):
     KIND = KIND
-    DIGEST = "3718e56441defed3b37583c3a4e6ac15262b6bf39bb3e4caa01351ad57f02dbf"
+    DIGEST = "aecd707f480e71f699247abd1643e7b6a5d0be0f02453c81560f6ff650a92687"
     CASE = Case(*TABLE, b"\x15\x50\x21")
     BYTES = TABLE_BYTES + b"\x03\0\0\0" + b"\x15\x50\x21"
 
@@ -26,7 +29,7 @@ class FileTest(FileTests, unittest.TestCase):
         self.assertEqual(answer(Case(*ONE_A, right)), "accepted")
         self.assertEqual(answer(Case(*ONE_A, right[:8])), "refused=9 at=0")
         self.assertEqual(answer(Case(*ONE_A, b"\xff" * 9)), "refused=12 at=43")
-        self.assertEqual(answer(Case(0, 0, b"", right)), "refused=1 at=0")
+        self.assertEqual(answer(Case(0, 0, (), right)), "refused=1 at=0")
         for table in (NO_RULES, ENDLESS):
             for certificate in (smallest(table), former_smallest(table), b"", bytes(4), bytes(9)):
                 self.assertEqual(answer(Case(*table, certificate)), "refused=19 at=0")
@@ -103,6 +106,37 @@ class ReasonsTest(unittest.TestCase):
                      "13-missing-index-below-its-holder")
         self.reasons(ONE_A, flipped(smallest(ONE_A), 33, 67), "13-parting-missing",
                      "13-missing-index-above-its-holder", "13-lowest-of-several")
+
+    def test_chequered_ends(self):
+        """S→t S S for ten t: 13 at (1,1,3), whose right side closes rule 0 to (1,1,1)."""
+        table = branching(10)
+        triples = triples_in(table)
+        half, states = triples.count // 2, triples.states
+        self.assertEqual((states, [end for _, _, end in ends_of(table, False)]),
+                         (46, [*range(7, 44, 4), 45]))
+        pairs = end_pairs(table, [(S, S)], False, 0)
+        self.assertEqual(pairs[:2], [7 * states + 7, 7 * states + 15])
+        held = (reached(triples) | set(pairs) | set(range(half, triples.count))) - {triples.last}
+        certificate = certificate_of(states, held)
+        self.assertEqual(check_certificate(*table, certificate), (13, half + states + 3))
+        self.assertIn("chequered-ends-13-in-layer-1", reasons_of(*table, certificate))
+        # (1,6,7) follows (0,7,15), and no lower index: 6 and 7 are past the S of rule 1.
+        less = flipped(certificate, half + 6 * states + 7)
+        self.assertEqual(check_certificate(*table, less), (13, pairs[1]))
+        self.assertIn("chequered-ends-13-at-such-a-pair", reasons_of(*table, less))
+
+    def test_chequered_ends_that_are_accepted(self):
+        """The ends of A and of B are never ends of one sentence."""
+        table = kept_apart(5)
+        triples = triples_in(table)
+        pairs = end_pairs(table, [(S + 1, S + 2)], True, 0)
+        self.assertEqual(len(pairs), 18)
+        certificate = certificate_of(triples.states, closure(triples, pairs, reached(triples)))
+        self.assertEqual(answer(Case(*table, certificate)), "accepted")
+        self.assertIn("chequered-ends-accepted", reasons_of(*table, certificate))
+        after = triples.successors(pairs[0])[-1]
+        less = flipped(certificate, after)
+        self.assertEqual(answer(Case(*table, less)), "refused=13 at=%d" % pairs[0])
 
     def test_dead_rules(self):
         taken = ["told-from-every-rule-is-taken", "told-from-unproductive-rules-are-taken"]

@@ -15,7 +15,7 @@ from live_misreadings import former_triples
 from misreadings import NAMES, misread_indices
 from sentence_grammars import nearly_sentenceless, sentenceless
 from small_grammars import every_table
-from tables import Refusal, codes_of, has_sentence
+from tables import START, Refusal, codes_of, has_sentence
 from triples import certificate_of, held_indices, is_potential, reached, triple_at
 from ways import largest_set, shortest, way_to
 from witness_cases import cut, extended, first_entries, wrong_entries
@@ -65,10 +65,10 @@ class DocumentTest(CertificateTest):
 class FaultsTest(CertificateTest):
     def test_table_faults_come_first(self):
         for certificate in (b"", ONE_A_BYTES, b"\xff" * 9):
-            self.refused((128, 1, ONE_A[2]), certificate, 1, 0)
+            self.refused((2001, 1, ONE_A[2]), certificate, 1, 0)
             self.refused((0, 1, ONE_A[2]), certificate, 5, 2)
             self.refused((1, 1, ONE_A[2] * 2), certificate, 6, 3)
-            self.refused((1, 1, ONE_A[2] + b"\x80"), certificate, 2, 3)
+            self.refused((1, 1, ONE_A[2] + (START,)), certificate, 2, 3)
 
     def test_9_too_long_and_empty(self):
         self.refused(ONE_A, ONE_A_BYTES + b"\0", 9, 0)
@@ -303,9 +303,9 @@ class WitnessTest(unittest.TestCase):
     def test_table_faults_come_first(self):
         for entries in ([], [0], self.WAY):
             records = [(0, 0, entry) for entry in entries]
-            for table, refusal in (((1, 1, b"\x80"), Refusal(2, 0)),
-                                   ((1, 0, b""), Refusal(1, 0)),
-                                   ((0, 1, b"\x80\0\x80\0"), Refusal(6, 2))):
+            for table, refusal in (((1, 1, (START,)), Refusal(2, 0)),
+                                   ((1, 0, ()), Refusal(1, 0)),
+                                   ((0, 1, (START, 0, START, 0)), Refusal(6, 2))):
                 self.assertEqual(check_witness(*table, entries), refusal)
                 self.assertEqual(check_records(*table, records), refusal)
 

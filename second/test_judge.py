@@ -11,13 +11,17 @@ from io import StringIO
 
 from case_grammars import ONE_A_BYTES, grammar_of
 from corpus import Found, entries, found_in, table_in, text_in
+from judge import certified as judge_certified
 from judge import checked, run, verdict
 from live_misreadings import former_triples
 from places import place_of
-from printed import CHECKED, FORMS, PLAIN, Malformed, certificate_in, lines_of
+from printed import (
+    CHECKED, FORMS, MOST_BYTES, MOST_STATES, PLAIN, RUNS, Malformed, bytes_needed, certificate_in,
+    has_form, lines_of,
+)
 from program import printed
 from searches import Unambiguous, needed, search
-from tables import Refusal
+from tables import MAX_STATES, Grammar, Refusal
 from text import AMPLE, read_text
 from text_read_inputs import EXAMPLE
 from triples import certificate_of, reached, triples_of
@@ -52,9 +56,48 @@ class CertificateTest(unittest.TestCase):
             self.assertEqual(checked(EXAMPLE[:-1], lines)[0], "refused=16\nat=3\n")
 
     def test_the_corpus(self):
+        tried = {form: 0 for form in FORMS}
         for text, found, certificate in certified():
             for form in FORMS:
-                self.assertEqual(checked(text, lines_of(found, certificate, form))[0], "accepted\n")
+                if has_form(found.grammar.states, form):
+                    self.assertEqual(checked(text, lines_of(found, certificate, form))[0], "accepted\n")
+                    tried[form] += 1
+        self.assertEqual(tried[PLAIN], tried[CHECKED])
+        self.assertEqual(tried[RUNS], tried[CHECKED] + 1, "chemistry-300 has form 3 alone")
+
+    def test_512_states_have_every_form_and_513_form_3(self):
+        """Offsets up to ffe0 or fff0 in forms 1 and 2; form 3 has one digit more."""
+        names = [b"x%d" % place for place in range(39)]
+        front = b"terminals=" + b",".join(names) + b"\nnonterminals=S\n"
+        front += b"".join(b"rule=S:" + (b" " + name) * 12 + b"\n" for name in names)
+        text, longer = front + b"rule=S:\n", front + b"rule=S: x0\n"
+        found, other = found_in(text), found_in(longer)
+        certificate = search(*found.table, needed(MOST_STATES)).certificate
+        self.assertEqual((found.grammar.states, len(certificate)), (512, 65536))
+        self.assertEqual(other.grammar.states, 513)
+        for form, last in ((PLAIN, b"\nffe0: "), (CHECKED, b"\nfff0: "), (RUNS, b"\n0fff0: ")):
+            lines = lines_of(found, certificate, form)
+            self.assertEqual(last in lines, form == PLAIN)
+            self.assertEqual(checked(text, lines)[0], "accepted\n")
+            lines = lines.replace(b"states=512", b"states=513")
+            if form != RUNS:
+                printed_, _, _, fault = checked(longer, lines)
+                self.assertEqual((printed_, fault[:2]), ("malformed\n", (1, 18)))
+                self.assertIn("form %d has at most 512 states; the grammar has 513" % form, fault.message)
+        printed_, status, _, _ = judge_certified(longer)
+        self.assertTrue(printed_.startswith("certificate-form=3\nstates=513\n"))
+        self.assertEqual((status, checked(longer, printed_.encode())[0]), (0, "accepted\n"))
+
+    def test_the_longest_lines(self):
+        """1,024 states and no byte of 0: form 3 has one line for 16 bytes."""
+        found = Found(None, None, Grammar(1, 1, (), MAX_STATES), [])
+        certificate = b"\xff" * bytes_needed(MAX_STATES)
+        lines = lines_of(found, certificate, RUNS)
+        self.assertEqual(len(lines), len(b"certificate-form=3\nstates=1024\nrules=0\nsize=2097152\n") + 59 * 16384)
+        self.assertLess(len(lines) + lines.count(b"\n"), MOST_BYTES)
+        self.assertIn(b"\n3fff0: ff", lines)
+        self.assertEqual(certificate_in(found, lines), certificate)
+        self.assertEqual(certificate_in(found, lines[:-60]).line, 4)
 
     def test_certificates_from_before_dead_rules_lost_their_moves(self):
         """Printed then for a grammar of the corpus, with another size than now."""
@@ -105,7 +148,7 @@ class CertificateTest(unittest.TestCase):
 
     def test_slips_are_told_by_line(self):
         rng = random.Random(1)
-        cases = list(certified())
+        cases = [case for case in certified() if has_form(case[1].grammar.states, CHECKED)]
         for _ in range(300):
             _, found, certificate = rng.choice(cases)
             lines = lines_of(found, certificate, CHECKED).split(b"\n")[:-1]
@@ -141,7 +184,7 @@ class PlaceTest(unittest.TestCase):
                 (lists + b"rule=S: a | b\n", 3, 11), (lists + b"rule=S: c\n", 3, 9), (lists + b"rule=a: a\n", 3, 6),
                 (b"terminals=a,b,a\n", 1, 15), (b"terminals=a\nnonterminals=S,a\n", 2, 16), (b"terminals=\nnonterminals=\n", 2, 14),
                 (lists + b"rule=S:" + b" a" * 13 + b"\n", 3, 6), (lists + b"rule=S: a\nrule=S:\nrule=S: a\n", 5, 6),
-                (b"x" * 65537, 1, 1), (lists, 2, 14), (lists + b"rule=S: a S\n", 2, 14)]:
+                (b"x" * 262145, 1, 1), (lists, 2, 14), (lists + b"rule=S: a S\n", 2, 14)]:
             self.assertEqual(self.place(text)[:2], (line, column), text[:60])
 
     def test_every_refusal_has_its_line(self):

@@ -68,8 +68,9 @@ def row_of(grammar, tree):
     """The tree's terminals, left to right."""
     number, children = tree
     rest = list(children)
-    return b"".join(bytes([code]) if code < START else row_of(grammar, rest.pop(0))
-                    for code in grammar.rules[number - 1].right)
+    parts = [(code,) if code < START else row_of(grammar, rest.pop(0))
+             for code in grammar.rules[number - 1].right]
+    return sum(parts, ())
 
 
 def rules_of(tree):
@@ -99,7 +100,7 @@ class FiguresTest(unittest.TestCase):
         self.live(spelled("S: a | S W | W S", "W: a W"), True, True, False, False, False)
 
     def test_a_nonterminal_without_rules(self):
-        self.live((1, 2, bytes([128, 1, 1, 128, 1, 129])), True, True, False)
+        self.live((1, 2, (START, 1, 1, START, 1, START + 1)), True, True, False)
 
     def test_unreachable(self):
         self.live(CLASSICS["never-opened"], True, True, True, False, False)
@@ -154,7 +155,7 @@ class DefinitionTest(unittest.TestCase):
             grammar = grammar_of(table)
             if grammar.terminals > 4:
                 continue
-            rows = [bytes(row) for length in range(4)
+            rows = [tuple(row) for length in range(4)
                     for row in product(range(1, 1 + grammar.terminals), repeat=length)]
             found = any(tree_count(grammar, row) for row in rows)
             self.assertTrue(live_rules(grammar)[0] or not found)

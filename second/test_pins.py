@@ -187,7 +187,7 @@ class LiveTest(unittest.TestCase):
             self.assertEqual(wrong_steps(grammar, index(*before), index(*after)), [])
         self.assertEqual(wrong_steps(grammar, 450, 2), [])
         # 4 and 5 S→a, 6 to 8 S→S W: rule 1 closes to 7
-        self.assertEqual(wrong_steps(good((1, 2, bytes([128, 1, 1, 128, 2, 128, 129]))),
+        self.assertEqual(wrong_steps(good((1, 2, (START, 1, 1, START, 2, START, START + 1))),
                                      81 + 5 * 9 + 1, 81 + 7 * 9 + 1), WRONG_STEPS[1:2])
 
 

@@ -24,7 +24,7 @@ from test_partings import accepts, strings_of
 from test_triples import closing, opening, symbol
 from triples import is_potential
 
-AMPLE = LentStrings(2 * 256 * 256, 2 * 256 * 256)
+AMPLE = LentStrings(2 * 1024 * 1024, 2 * 1024 * 1024)
 FRONT = b"terminals=a,b\nnonterminals=S,A\n"
 TWO = FRONT + b"rule=S: a A\nrule=A:\n"      # rules 0, 1 and 2
 ODD = text_of(figures_named()[7])            # S→a S a; S→a
@@ -206,7 +206,7 @@ class ReadBackTest(unittest.TestCase):
     def test_the_grammars_own_faults_come_first(self):
         for lines in (b"", two(b"c"), two(b"a"), two(b"(", b"(")):
             for text, cause, position in [
-                (b"", 16, 1), (b"a" * 65537, 16, 0), (b"terminals=a\n", 16, 2),
+                (b"", 16, 1), (b"a" * 262145, 16, 0), (b"terminals=a\n", 16, 2),
                 (b"terminals=a\nnonterminals=a\n", 18, 2),
                 (b"terminals=\nnonterminals=\n", 1, 2), (FRONT + b"rule=S: c\n", 17, 3),
                 (FRONT + b"rule=S:" + b" a" * 13 + b"\n", 4, 3),
@@ -235,11 +235,11 @@ class ReadBackTest(unittest.TestCase):
         self.assertEqual(read_back(one, two(b"(0", b")1"), AMPLE),
                          Pair((opening(0),), (closing(1),)))
         self.refused(two(b"(2"), 16, 1, one)
-        hundred = (b"terminals=%s\nnonterminals=S\n" % b",".join(b"%d" % i for i in range(100))
-                   + b"".join(b"rule=S: %d\n" % i for i in range(100)))
-        self.assertEqual(read_back(hundred, two(b")100 99"), AMPLE),
-                         Pair((closing(100), symbol(100)), ()))
-        self.refused(two(b"(101"), 16, 1, hundred)
+        many = (b"terminals=%s\nnonterminals=S\n" % b",".join(b"%d" % i for i in range(400))
+                + b"".join(b"rule=S: %d\n" % i for i in range(400)))
+        self.assertEqual(read_back(many, two(b")400 399"), AMPLE),
+                         Pair((closing(400), symbol(400)), ()))
+        self.refused(two(b"(401"), 16, 1, many)
 
 
 class RoundTripTest(unittest.TestCase):

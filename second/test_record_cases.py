@@ -13,7 +13,7 @@ WAY = records_of(8, file_tests.WAY)
 
 class FileTest(FileTests, unittest.TestCase):
     KIND = KIND
-    DIGEST = "201bc65c8d8d5e5146cc84f2299c4a7fbf61da38f750becc9a6fe3acbddf3730"
+    DIGEST = "cc8dad4b865f8eaf48bcd1a18214a4e9d4b7530b6db8d9033d20393c7d33f8af"
     CASE = Case(*TABLE, ((2, 258, LARGEST),))
     BYTES = TABLE_BYTES + b"\x01\0\0\0" + b"\x02\0\0\0" + b"\x02\x01\0\0" + b"\xff" * 4
 

@@ -16,7 +16,7 @@ SHORT = "refused=14 at=0"
 
 class FileTest(FileTests, unittest.TestCase):
     KIND = KIND
-    DIGEST = "51d64fc9519b133f8286ff23c063310728835c1bce012473d1ba999bc996232a"
+    DIGEST = "67ad3d38075abdb277427127c3b05715608d5a201a725dc209642e395128d030"
     CASE = Case(b"ab", 258)
     BYTES = b"\x02\0\0\0" + b"ab" + b"\x02\x01\0\0"
 

@@ -17,7 +17,7 @@ OPENINGS = "told-from-openings-before-a-nonterminal-are-counted-once"
 
 class FileTest(FileTests, unittest.TestCase):
     KIND = KIND
-    DIGEST = "146844e2b08873642a7905efa87da5a65b70d0a2fdf6043a7233aa5c6c262bd9"
+    DIGEST = "53c96b297bc930960c672de0b90a53692658e01ad3ec372df30e33fdb3fa637b"
     CASE = TABLE
     BYTES = TABLE_BYTES
 
@@ -29,10 +29,10 @@ class AnswerTest(unittest.TestCase):
         self.assertEqual(answer(COURSE), "room states=10 certificate=25 entries=200 moves=6")
 
     def test_refusals(self):
-        self.assertEqual(answer((0, 1, bytes([S, 1, a]))), "refused=5 at=2")
-        self.assertEqual(answer((128, 1, b"")), "refused=1 at=0")
+        self.assertEqual(answer((0, 1, (S, 1, a))), "refused=5 at=2")
+        self.assertEqual(answer((2001, 1, ())), "refused=1 at=0")
         self.assertEqual(answer(ENDLESS), "refused=19 at=0")
-        self.assertEqual(answer((0, 1, bytes([S, 0, S, 1, S, S, 0]))), "refused=6 at=5")
+        self.assertEqual(answer((0, 1, (S, 0, S, 1, S, S, 0))), "refused=6 at=5")
 
 
 class ReasonsTest(unittest.TestCase):
@@ -42,19 +42,20 @@ class ReasonsTest(unittest.TestCase):
         self.assertLessEqual(set(found), set(REASONS))
 
     def test_rooms(self):
-        self.reasons((1, 1, encode([(S, bytes([a] * 3))])), *ALWAYS, *EVEN, "room-every-rule-used")
+        self.reasons((1, 1, encode([(S, (a,) * 3)])), *ALWAYS, *EVEN, "room-every-rule-used")
         self.reasons(spelled("S: | a"), *ALWAYS, *ODD, OPENINGS, "room-every-rule-used")
         self.reasons(spelled("S: a a S b |"), *ALWAYS, *EVEN, CLOSINGS, OPENINGS,
                      "room-every-rule-used")
         self.reasons(ONE_A, *ALWAYS, *EVEN, "room-every-rule-used", "room-of-the-corpus")
 
     def test_many(self):
-        rules = [(S, bytes([1 + i] + [S] * 5)) for i in range(35)] + [(S, bytes([a] * 6))]
+        rules = [(S, (1 + i,) + (S,) * 5) for i in range(35)] + [(S, (a,) * 6)]
         self.reasons((35, 1, encode(rules)), *ALWAYS, *EVEN, CLOSINGS, OPENINGS,
                      "room-256-states", "room-over-60-states", "room-over-255-moves",
                      "room-over-4096-moves", "room-every-rule-used")
-        rules = [(S, bytes([1 + i])) for i in range(99)] + [(S, b"")]
-        self.reasons((99, 1, encode(rules)), *ALWAYS, *ODD, OPENINGS, "room-100-rules",
+        rules = [(S, (1 + i,)) for i in range(399)] + [(S, ())]
+        self.reasons((399, 1, encode(rules)), *ALWAYS, *ODD, OPENINGS, "room-400-rules",
+                     "room-code-past-255",
                      "room-over-60-states", "room-over-255-moves", "room-every-rule-used")
 
     def test_dead_rules(self):
@@ -67,8 +68,8 @@ class ReasonsTest(unittest.TestCase):
                      "told-from-unreachable-rules-are-taken", "told-from-dead-items-move")
 
     def test_refusals(self):
-        self.reasons((0, 1, bytes([S, 1, a])), "5")
-        self.reasons((0, 0, b""), "1")
+        self.reasons((0, 1, (S, 1, a)), "5")
+        self.reasons((0, 0, ()), "1")
         self.reasons(ENDLESS, "19")
 
 

@@ -12,7 +12,7 @@ from dead_grammars import chains, dead_tables
 from derivations import used_rules
 from live_misreadings import former_automaton
 from named_grammars import full_named, large_named, longest_named, random_names, small_named
-from random_tables import FIGURES, encode
+from random_tables import FIGURES, encode, some_rules
 from room_reasons import moves_by_rules
 from rooms import Room, letter_moves, room_of, text_length
 from searches import Lent, Potential, Unambiguous, needed, search
@@ -89,10 +89,10 @@ class FiguresTest(unittest.TestCase):
         self.assertEqual(move_count(former_automaton(good(COURSE))), 14)
 
     def test_the_largest_and_the_smallest(self):
-        self.assertEqual(room_of(0, 1, bytes([START, 0])), Room(5, 7, 50, 5))
-        rules = [(START, bytes([1 + i] * 12)) for i in range(19)] + [(START, bytes([1] * 4))]
-        self.assertEqual(room_of(19, 1, encode(rules)),
-                         Room(256, 16384, 131072, 2 * (1 + 20) + 1 + 19 * 12 + 4))
+        self.assertEqual(room_of(0, 1, (START, 0)), Room(5, 7, 50, 5))
+        rules = [(START, (1 + i,) * 12) for i in range(78)] + [(START, (1,) * 5)]
+        self.assertEqual(room_of(78, 1, encode(rules)),
+                         Room(1024, 262144, 2097152, 2 * (1 + 79) + 1 + 78 * 12 + 5))
 
 
 class MovesTest(unittest.TestCase):
@@ -211,7 +211,7 @@ class TextLengthTest(unittest.TestCase):
             yield small_named(rng, 8)
         for _ in range(15):
             yield full_named(rng)
-            yield large_named(rng, 22 + rng.randrange(79), 250 + rng.randrange(7))
+            yield large_named(rng, some_rules(rng), 1018 + rng.randrange(7))
         yield longest_named(rng)
 
     def test_exactly_what_is_written(self):
@@ -226,8 +226,8 @@ class TextLengthTest(unittest.TestCase):
                 self.assertEqual(write_text(*table, *rows, length - 1), Refusal(14, 0))
 
     def test_figures(self):
-        self.assertEqual(text_length(0, 1, bytes([START, 0]), b"-", [0], [1]), 34)
-        self.assertEqual(text_length(0, 1, b"", b"-", [0], [1]), Refusal(NO_SENTENCE, 0))
+        self.assertEqual(text_length(0, 1, (START, 0), b"-", [0], [1]), 34)
+        self.assertEqual(text_length(0, 1, (), b"-", [0], [1]), Refusal(NO_SENTENCE, 0))
         self.assertEqual(text_length(*ONE_A, b"aS", [0, 1], [1, 1]),
                          len(b"terminals=a\nnonterminals=S\nrule=S: a\n"))
         self.assertEqual(
@@ -237,7 +237,7 @@ class TextLengthTest(unittest.TestCase):
     def test_the_longest(self):
         longest = longest_named(random.Random(1))
         table = longest.t, longest.n, encode(longest.rules)
-        self.assertEqual(text_length(*table, *packed(longest.names)), 8719)
+        self.assertEqual(text_length(*table, *packed(longest.names)), 82743)
 
     def test_the_writers_refusals(self):
         rng = random.Random(5)

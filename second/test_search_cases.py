@@ -10,6 +10,7 @@ from case_files import encode_entries
 from case_grammars import COURSE, CYCLE, ENDLESS, NO_RULES, ONE_A, ROWS, good, spelled
 from file_tests import TABLE, TABLE_BYTES, WAY, FileTests, without_sentences
 from looked_misreadings import TOLD, told_by_figure
+from random_tables import A
 from search_cases import KIND, REASONS, Case, answer, encode_case, reasons_of, run
 from searches import Lent
 
@@ -19,7 +20,7 @@ CYCLE_ENOUGH = Lent(16, 128, 128, 128)
 
 class FileTest(FileTests, unittest.TestCase):
     KIND = KIND
-    DIGEST = "41c70acf76d05282f13f3fdc79a2ba3fe22007ff04383913011419f26004e6d3"
+    DIGEST = "892dcb0345dada04427f0ea2a1fa83b0ec00bbef5033c1990e7d127e30ad6784"
     CASE = Case(*TABLE, Lent(258, 3, 4, 5), 255)
     BYTES = (TABLE_BYTES + b"\x02\x01\0\0" + b"\x03\0\0\0" + b"\x04\0\0\0" + b"\x05\0\0\0"
              + b"\xff")
@@ -78,12 +79,12 @@ class ReasonsTest(unittest.TestCase):
                      "told-from-unproductive-rules-are-taken", "told-from-dead-items-are-entered")
         self.reasons(COURSE, ENOUGH, "14-several", "14-of-an-unambiguous-grammar",
                      "dead-unproductive", "14-with-dead-rules")
-        unused = 1, 2, ONE_A[2] + bytes([129, 0])             # S→a; A→
+        unused = 1, 2, ONE_A[2] + (A, 0)             # S→a; A→
         self.reasons(unused, ENOUGH._replace(certificate=13, queue=98, parents=98, witness=98),
                      "unambiguous-exactly-enough", "unambiguous-a-rule-no-sentence-uses",
                      "unambiguous-odd-states", "dead-unreachable", "unambiguous-dead-unreachable",
                      "unambiguous-formerly-of-the-same-set")
-        unused = 1, 2, bytes([129, 0]) + CYCLE[2]             # A→; S→S; S→a
+        unused = 1, 2, (A, 0) + CYCLE[2]             # A→; S→S; S→a
         self.reasons(unused, Lent(21, 162, 162, 162), "potential-exactly-enough",
                      "potential-a-rule-no-sentence-uses", "potential-odd-states",
                      "dead-unreachable", "potential-dead-unreachable",
@@ -108,7 +109,7 @@ class ReasonsTest(unittest.TestCase):
 
 class WitnessOkTest(unittest.TestCase):
     CASES = [Case(*ONE_A, ENOUGH, 0), Case(*CYCLE, CYCLE_ENOUGH, 0),
-             Case(128, 1, b"", ENOUGH, 0), Case(*CYCLE, Lent(0, 0, 0, 0), 0),
+             Case(2001, 1, (), ENOUGH, 0), Case(*CYCLE, Lent(0, 0, 0, 0), 0),
              Case(*CYCLE, CYCLE_ENOUGH, 1)]
 
     def found(self, *rows):

@@ -7,7 +7,7 @@ from case_grammars import CLASSICS, COURSE, GOOD_ROWS, ONE_A, ONE_A_BYTES, state
 from certificates import check_certificate
 from searches import Lent, Potential, Unambiguous, needed, search
 from sentence_grammars import nearly_sentenceless, sentenceless
-from tables import Refusal
+from tables import START, Refusal
 
 PLENTY = Lent(20000, 140000, 140000, 140000)
 
@@ -17,6 +17,7 @@ class LentTest(unittest.TestCase):
         self.assertEqual(needed(4), Lent(4, 32, 32, 32))
         self.assertEqual(needed(9), Lent(21, 162, 162, 162))
         self.assertEqual(needed(256), Lent(16384, 131072, 131072, 131072))
+        self.assertEqual(needed(1024), Lent(262144, 2097152, 2097152, 2097152))
 
     def test_each_too_short(self):
         for row in GOOD_ROWS:
@@ -32,8 +33,8 @@ class LentTest(unittest.TestCase):
 
     def test_table_faults_come_first(self):
         for lent in (PLENTY, Lent(0, 0, 0, 0)):
-            self.assertEqual(search(128, 1, b"", lent), Refusal(1, 0))
-            self.assertEqual(search(1, 1, b"\x80\x01", lent), Refusal(2, 0))
+            self.assertEqual(search(2001, 1, (), lent), Refusal(1, 0))
+            self.assertEqual(search(1, 1, (START, 1), lent), Refusal(2, 0))
             self.assertEqual(search(1, 1, ONE_A[2] * 2, lent), Refusal(6, 3))
 
     def test_without_a_sentence(self):

@@ -10,7 +10,7 @@ from triples import Triple
 
 class FileTest(FileTests, unittest.TestCase):
     KIND = KIND
-    DIGEST = "4fa0c6226f4151f3ac3de57a6072d26101d9d68a30efcb1a79d2ea3f5ab76ace"
+    DIGEST = "5361f7f684c97389cbbba45d20e2466515988adde4b80db2f9936b17f06bc0f3"
     CASE = Case(*TABLE, Triple(1, 2, 258))
     BYTES = TABLE_BYTES + b"\x01\0\0\0" + b"\x02\0\0\0" + b"\x02\x01\0\0"
 
@@ -21,12 +21,12 @@ class AnswerTest(unittest.TestCase):
 
     def test_records(self):
         self.line(ONE_A, (0, 0, 0), "records=2 0,0,2,-,o0 0,2,0,o0,-")
-        self.line(ONE_A, (0, 2, 2), "records=3 0,2,4,-,o1 0,3,3,s128,s128 0,4,2,o1,-")
+        self.line(ONE_A, (0, 2, 2), "records=3 0,2,4,-,o1 0,3,3,s32768,s32768 0,4,2,o1,-")
         self.line(ONE_A, (0, 5, 4), "records=1 1,3,4,c1,-")
         self.line(ONE_A, (0, 3, 5), "records=1 1,1,3,c0,c1")
         self.line(ONE_A, (1, 4, 4), "records=1 1,5,5,s1,s1")
         self.line(CYCLE, (0, 4, 4), "records=5 0,4,4,o1,- 0,4,4,-,o1 0,4,6,-,o2"
-                                    " 0,5,5,s128,s128 0,6,4,o2,-")
+                                    " 0,5,5,s32768,s32768 0,6,4,o2,-")
         self.line(COURSE, (0, 2, 6), "records=1 0,4,6,o1,-")
 
     def test_no_records(self):

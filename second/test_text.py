@@ -7,18 +7,18 @@ from named_grammars import (
     Named, ample_lent, exact_lent, figures_named, full_named,
     large_named, longest_named, random_names, small_named, text_of,
 )
-from random_tables import A, S, encode
+from random_tables import A, S, encode, some_rules
 from sentence_grammars import named_table, nearly_sentenceless, sentenceless
 from tables import Refusal
 from test_tables import STATES, WITHOUT
 from text import Lent, Text, is_name, read_text, write_text
 from text_write_inputs import overlapping, packed, scattered
 
-AMPLE = Lent(400, 300, 300)
+AMPLE = Lent(1500, 4000, 4000)
 FRONT = b"terminals=a,b\nnonterminals=S,A\n"
 LETTERS = b"ABCDEFGHIJKLMNOPQRSTUVWXYZabcdefghijklmnopqrstuvwxyz"
 WORD = 2 ** 32
-EMPTY = bytes([S, 0])     # the table of S→ (empty)
+EMPTY = S, 0              # the table of S→ (empty)
 
 
 def text(*lines):
@@ -37,16 +37,16 @@ def names(count):
 
 
 def many(count, front=b""):
-    """A text with `count` unequal rules of 3 bytes and 2 states each."""
+    """A text with `count` unequal rules of 3 entries and 2 states each."""
     return (b"terminals=" + names(count) + b"\nnonterminals=S\n" + front
             + b"".join(b"rule=S: n%d\n" % i for i in range(count)))
 
 
 def full(*more):
-    """Q = 256: 19 rules of 14 bytes, then one of 6; 272 bytes; then more lines."""
-    twelve = [b"rule=S:" + b" n%d" % i * 12 for i in range(19)]
-    return text(b"terminals=" + names(19), b"nonterminals=S,A", *twelve,
-                b"rule=S: n0 n0 n0 n0", *more)
+    """Q = 1,024: 78 rules of 14 entries, then one of 7; 1,099 entries; then more lines."""
+    twelve = [b"rule=S:" + b" n%d" % i * 12 for i in range(78)]
+    return text(b"terminals=" + names(78), b"nonterminals=S,A", *twelve,
+                b"rule=S: n0 n0 n0 n0 n0", *more)
 
 
 class ReaderTest(unittest.TestCase):
@@ -56,7 +56,7 @@ class ReaderTest(unittest.TestCase):
     def read(self, data, t, n, table, states, lent=AMPLE):
         result = read_text(data, lent)
         self.assertIsInstance(result, Text)
-        self.assertEqual(result[:4], (t, n, bytes(table), states))
+        self.assertEqual(result[:4], (t, n, tuple(table), states))
         return result
 
 
@@ -79,20 +79,20 @@ class FiguresTest(ReaderTest):
         self.read(rules(b"S:" + b" a" * 12), 2, 2, [S, 12] + [1] * 12, 17)
         self.refused(rules(b"S:" + b" a" * 13), 4, 3)
 
-    def test_100_rules_pass_and_101_do_not(self):
-        table = [byte for i in range(100) for byte in (S, 1, 1 + i)]
-        self.read(many(100), 100, 1, table, 204)
-        self.refused(many(101), 7, 300)
+    def test_400_rules_pass_and_401_do_not(self):
+        table = [entry for i in range(400) for entry in (S, 1, 1 + i)]
+        self.read(many(400), 400, 1, table, 804)
+        self.refused(many(401), 7, 1200)
 
-    def test_256_states_pass_and_257_do_not(self):
-        self.assertEqual(read_text(full(), AMPLE).states, 256)
-        self.refused(full(b"rule=A:"), 8, 272)
+    def test_1024_states_pass_and_1025_do_not(self):
+        self.assertEqual(read_text(full(), AMPLE).states, 1024)
+        self.refused(full(b"rule=A:"), 8, 1099)
 
     def test_the_longest_text_that_is_read(self):
         grammar = longest_named(random.Random(1))
-        self.assertEqual(len(text_of(grammar)), 8719)
+        self.assertEqual(len(text_of(grammar)), 82743)
         table = encode(grammar.rules)
-        self.read(text_of(grammar), 127, 127, table, 256, exact_lent(grammar))
+        self.read(text_of(grammar), 2000, 2000, table, 1024, exact_lent(grammar))
 
 
 class ReadingsTest(ReaderTest):
@@ -104,17 +104,17 @@ class ReadingsTest(ReaderTest):
         long = b"rule=S:" + b" S" * 13
         for line, cause in ((b"rule=S: x", 17), (b"rule", 16), (long, 4)):
             self.refused(rules(b"S:", b"S:") + line + b"\n", cause, 5)
-            self.refused(many(101) + line + b"\n", cause, 104)
-            self.refused(full(b"rule=A:", line), cause, 24)
+            self.refused(many(401) + line + b"\n", cause, 404)
+            self.refused(full(b"rule=A:", line), cause, 83)
         self.refused(rules(b"S:", b"S:"), 6, 2)
 
     def test_02_16_in_the_whole_line_then_18_then_the_count(self):
-        equal = b",".join([b"a"] * 128)
+        equal = b",".join([b"a"] * 2001)
         self.refused(text(b"terminals=" + equal), 18, 1)
         self.refused(text(b"terminals=", b"nonterminals=" + equal), 18, 2)
         self.refused(text(b"terminals=" + equal + b","), 16, 1)
         self.refused(text(b"terminals=a,a,b_"), 16, 1)
-        self.refused(text(b"terminals=" + names(128)), 1, 1)
+        self.refused(text(b"terminals=" + names(2001)), 1, 1)
         self.refused(text(b"terminals=" + names(9000)), 1, 1)
         self.refused(text(b"terminals=" + names(9000) + b",n8999"), 18, 1)
         self.refused(text(b"terminals=" + names(9000) + b",n8999,"), 16, 1)
@@ -129,24 +129,24 @@ class ReadingsTest(ReaderTest):
             self.refused(text(b"terminals=", b"nonterminals=" + value), 16, 2)
 
     def test_04_7_before_2_and_4_before_2_and_17_before_4(self):
-        hundred = b"".join(bytes([S, 1, 1 + i]) for i in range(100))
-        stray = hundred + b"\0"
-        self.assertEqual(write_text(100, 1, stray, b"", [], [], 0), Refusal(7, 300))
-        self.assertEqual(write_text(1, 1, bytes([S, 13]), b"", [], [], 0), Refusal(4, 0))
+        most = tuple(entry for i in range(400) for entry in (S, 1, 1 + i))
+        stray = most + (0,)
+        self.assertEqual(write_text(400, 1, stray, b"", [], [], 0), Refusal(7, 1200))
+        self.assertEqual(write_text(1, 1, (S, 13), b"", [], [], 0), Refusal(4, 0))
         self.refused(rules(b"S:" + b" a" * 13 + b" x"), 17, 3)
         self.refused(rules(b"a:" + b" a" * 13), 17, 3)
 
     def test_05_t_and_n_of_any_size(self):
-        for t, n in ((128, 1), (0, 0), (0, 128), (WORD, 1), (256, 257), (0, WORD + 1),
+        for t, n in ((2001, 1), (0, 0), (0, 2001), (WORD, 1), (65536, 65537), (0, WORD + 1),
                      (2 ** 64 - 1, 2 ** 64 - 1), (2 ** 64 - 1, 2)):
             self.assertEqual(write_text(t, n, b"\0", b"", [], [], 0), Refusal(1, 0))
 
     def test_06_too_long_before_everything_and_missing_lines(self):
         for data in (b"", text(b"terminals=a,a"), FRONT, text(b"terminals=" + names(200)),
                      rules(b"S:", b"S:")):
-            self.refused(data + b"\n" * (65537 - len(data)), 16, 0, Lent(0, 0, 0))
-        self.refused(b"\n" * 65536, 16, 1)
-        self.refused(FRONT + b"rule=S:\n" * ((65536 - len(FRONT)) // 8), 6, 2)
+            self.refused(data + b"\n" * (262145 - len(data)), 16, 0, Lent(0, 0, 0))
+        self.refused(b"\n" * 262144, 16, 1)
+        self.refused(FRONT + b"rule=S:\n" * ((262144 - len(FRONT)) // 8), 6, 2)
         self.refused(b"", 16, 1)
         self.refused(text(b"terminals=a"), 16, 2)
         self.refused(text(b"nonterminals=S", b"rule=S:"), 16, 1)
@@ -164,7 +164,7 @@ class ReadingsTest(ReaderTest):
 
     def test_08_starts_are_offsets_in_the_whole_text(self):
         data = text(b"terminals=ab,c", b"nonterminals=Start,T-1,u", b"rule=Start: ab")
-        result = self.read(data, 2, 3, [128, 1, 1], 6)
+        result = self.read(data, 2, 3, [S, 1, 1], 6)
         self.assertEqual(result.starts, (10, 13, 28, 34, 38))
         self.assertEqual(result.lengths, (2, 1, 5, 3, 1))
 
@@ -183,8 +183,8 @@ class ReadingsTest(ReaderTest):
 
     def test_10_offsets_for_6_7_8_and_lines_for_all_else(self):
         self.refused(rules(b"S: a", b"A:", b"S: a"), 6, 5)
-        self.refused(many(101), 7, 300)
-        self.refused(full(b"rule=A: A A"), 8, 272)
+        self.refused(many(401), 7, 1200)
+        self.refused(full(b"rule=A: A A"), 8, 1099)
         self.refused(rules(b"S: a", b"A:", b"S: c"), 17, 5)
         self.refused(rules(b"S: a", b"A:", b"S: c "), 16, 5)
         self.refused(rules(b"S: a", b"A:", b"S:" + b" a" * 13), 4, 5)
@@ -236,12 +236,12 @@ class ListTest(ReaderTest):
         self.read(text(b"terminals=a,A,aa,a-", b"nonterminals=S,s", b"rule=S:"), 4, 2, EMPTY, 5)
 
     def test_counts(self):
-        self.read(text(b"terminals=" + names(127), b"nonterminals=S", b"rule=S:"),
-                  127, 1, EMPTY, 5)
-        self.read(text(b"terminals=", b"nonterminals=" + names(127), b"rule=n0:"),
-                  0, 127, EMPTY, 5)
-        self.refused(text(b"terminals=" + names(128), b"nonterminals=S"), 1, 1)
-        self.refused(text(b"terminals=", b"nonterminals=" + names(128)), 1, 2)
+        self.read(text(b"terminals=" + names(2000), b"nonterminals=S", b"rule=S:"),
+                  2000, 1, EMPTY, 5)
+        self.read(text(b"terminals=", b"nonterminals=" + names(2000), b"rule=n0:"),
+                  0, 2000, EMPTY, 5)
+        self.refused(text(b"terminals=" + names(2001), b"nonterminals=S"), 1, 1)
+        self.refused(text(b"terminals=", b"nonterminals=" + names(2001)), 1, 2)
         self.refused(text(b"terminals=a", b"nonterminals="), 1, 2)
 
 
@@ -282,8 +282,8 @@ class RuleTest(ReaderTest):
                   [S, 1, 1, A, 1, 1, S, 2, 1, 1, S, 0], 12)
 
     def test_states_pass_256(self):
-        self.refused(full(b"rule=S: n1"), 8, 272)
-        self.refused(full(b"rule=S:", b"rule=A:"), 8, 272)
+        self.refused(full(b"rule=S: n1"), 8, 1099)
+        self.refused(full(b"rule=S:", b"rule=A:"), 8, 1099)
 
 
 class ReaderOrderTest(ReaderTest):
@@ -291,7 +291,7 @@ class ReaderOrderTest(ReaderTest):
 
     def test_lines_in_order(self):
         self.refused(text(b"terminals=a,a", b"nonterminals"), 18, 1)
-        self.refused(text(b"terminals=" + names(128), b"x"), 1, 1)
+        self.refused(text(b"terminals=" + names(2001), b"x"), 1, 1)
         self.refused(text(b"terminals=a,a"), 18, 1)
         self.refused(text(b"terminals=a", b"nonterminals=", b"rule"), 1, 2)
         self.refused(text(b"terminals=a", b"nonterminals=a", b"rule"), 18, 2)
@@ -302,13 +302,13 @@ class ReaderOrderTest(ReaderTest):
     def test_16_before_18_and_1(self):
         self.refused(text(b"terminals=a,a,"), 16, 1)
         self.refused(b"terminals=a,a", 16, 1)
-        self.refused(text(b"terminals=" + names(128) + b",_"), 16, 1)
+        self.refused(text(b"terminals=" + names(2001) + b",_"), 16, 1)
         self.refused(text(b"terminals=a", b"nonterminals=a,"), 16, 2)
         self.refused(b"terminals=a\nnonterminals=", 16, 2)
 
     def test_18_before_1(self):
-        self.refused(text(b"terminals=" + names(128) + b",n0"), 18, 1)
-        self.refused(text(b"terminals=x", b"nonterminals=x," + names(127)), 18, 2)
+        self.refused(text(b"terminals=" + names(2001) + b",n0"), 18, 1)
+        self.refused(text(b"terminals=x", b"nonterminals=x," + names(2000)), 18, 2)
 
     def test_16_before_17_and_4(self):
         self.refused(rules(b"x: "), 16, 3)
@@ -317,10 +317,10 @@ class ReaderOrderTest(ReaderTest):
         self.refused(FRONT + b"rule=x:", 16, 3)
 
     def test_7_before_6_before_8(self):
-        self.refused(many(100) + b"rule=S: n5\n", 7, 300)
-        self.refused(full(b"rule=S: n0 n0 n0 n0"), 6, 272)
-        self.refused(full(b"rule=A:", b"rule=A:"), 8, 272)
-        self.refused(many(101, b"rule=S: n0\n"), 6, 3)
+        self.refused(many(400) + b"rule=S: n5\n", 7, 1200)
+        self.refused(full(b"rule=S: n0 n0 n0 n0 n0"), 6, 1099)
+        self.refused(full(b"rule=A:", b"rule=A:"), 8, 1099)
+        self.refused(many(401, b"rule=S: n0\n"), 6, 3)
 
     def test_14_comes_last(self):
         none = Lent(0, 0, 0)
@@ -330,8 +330,8 @@ class ReaderOrderTest(ReaderTest):
         self.refused(rules(b"S: x"), 17, 3, none)
         self.refused(rules(b"S:" + b" a" * 13), 4, 3, none)
         self.refused(rules(b"S:", b"S:"), 6, 2, none)
-        self.refused(many(101), 7, 300, none)
-        self.refused(full(b"rule=A:"), 8, 272, none)
+        self.refused(many(401), 7, 1200, none)
+        self.refused(full(b"rule=A:"), 8, 1099, none)
         self.refused(rules(b"S: S"), 19, 0, none)
         self.refused(rules(b"S:"), 14, 0, none)
 
@@ -363,9 +363,9 @@ class SentenceTest(ReaderTest):
         self.refused(rules(b"S: S", b"S"), 16, 4)
         self.refused(rules(b"S: S") + b"\n", 16, 4)
         self.refused(rules(b"S: S", b"S:" + b" a" * 13), 4, 4)
-        self.refused(many(101).replace(b"=S:", b"=A:").replace(b"s=S", b"s=S,A"), 7, 300)
-        self.refused(full(b"rule=S:").replace(b"=S:", b"=A:"), 8, 272)
-        self.refused(FRONT + b"rule=S: S\n" * 8000, 16, 0)
+        self.refused(many(401).replace(b"=S:", b"=A:").replace(b"s=S", b"s=S,A"), 7, 1200)
+        self.refused(full(b"rule=S:").replace(b"=S:", b"=A:"), 8, 1099)
+        self.refused(FRONT + b"rule=S: S\n" * 32000, 16, 0)
 
     def test_many(self):
         rng = random.Random(3)
@@ -388,7 +388,7 @@ class SentenceTest(ReaderTest):
 
 
 class WriterTest(unittest.TestCase):
-    TABLE = bytes([S, 2, 1, A, A, 0])
+    TABLE = S, 2, 1, A, A, 0
     NAMES = b"abSA"
     STARTS = (0, 1, 2, 3)
     ONES = (1, 1, 1, 1)
@@ -421,14 +421,14 @@ class WriterTest(unittest.TestCase):
         for table, cause, position in (
                 ([S], 2, 0), ([S, 0, 1, 0], 3, 2), ([S, 13], 4, 0), ([S, 0, S, 1, 3], 5, 4),
                 ([S, 0, S, 0], 6, 2)):
-            self.assertEqual(self.answer(table=bytes(table)), Refusal(cause, position))
+            self.assertEqual(self.answer(table=tuple(table)), Refusal(cause, position))
             self.assertEqual(
-                self.answer(table=bytes(table), starts=(), lengths=(0, 16), room=0),
+                self.answer(table=tuple(table), starts=(), lengths=(0, 16), room=0),
                 Refusal(cause, position))
-        more = b"".join(bytes([S, 1, 1 + i]) for i in range(101))
-        self.assertEqual(write_text(101, 1, more, b"", [], [], 0), Refusal(7, 300))
-        twelve = b"".join(bytes([S, 12] + [1 + i] * 12) for i in range(20))
-        self.assertEqual(write_text(100, 1, twelve, b"", [], [], 0), Refusal(8, 266))
+        more = tuple(entry for i in range(401) for entry in (S, 1, 1 + i))
+        self.assertEqual(write_text(401, 1, more, b"", [], [], 0), Refusal(7, 1200))
+        twelve = tuple(entry for i in range(79) for entry in (S, 12) + (1 + i,) * 12)
+        self.assertEqual(write_text(100, 1, twelve, b"", [], [], 0), Refusal(8, 1092))
 
     def test_malformed_names(self):
         for length in (0, 16, 17, 256, WORD - 1):
@@ -470,7 +470,7 @@ class RoundTripTest(unittest.TestCase):
             yield small_named(rng, 8)
         for _ in range(20):
             yield full_named(rng)
-            yield large_named(rng, 22 + rng.randrange(79), 250 + rng.randrange(7))
+            yield large_named(rng, some_rules(rng), 1018 + rng.randrange(7))
         yield longest_named(rng)
 
     def test_read_then_write(self):
@@ -493,7 +493,7 @@ class RoundTripTest(unittest.TestCase):
     def written_and_read(self, grammar: Named, rows, lent):
         data, starts, lengths = rows
         table = encode(grammar.rules)
-        written = write_text(grammar.t, grammar.n, table, data, starts, lengths, 8719)
+        written = write_text(grammar.t, grammar.n, table, data, starts, lengths, 82743)
         result = read_text(written, lent)
         self.assertEqual(result[:3], (grammar.t, grammar.n, table))
         self.assertEqual(

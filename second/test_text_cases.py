@@ -23,14 +23,14 @@ GOOD = FRONT + b"rule=S:\n"
 
 class ReadFileTest(FileTests, unittest.TestCase):
     KIND = READ
-    DIGEST = "bbd01f703b84cdd594523f0140b76764521129e324bed64dd3ca37f5a7f3f577"
+    DIGEST = "7de97d0973f7ffe229a7a98842a89a64e44e6b6c3d608dfef2a41fffb7843848"
     CASE = b"a\n", Lent(258, 3, 0)
     BYTES = b"\2\0\0\0a\n\2\1\0\0\3\0\0\0\0\0\0\0"
 
 
 class WriteFileTest(FileTests, unittest.TestCase):
     KIND = WRITE
-    DIGEST = "8b4b5059d6479122169408aa71c719265147576c5fc4614e51d28595e2699ef0"
+    DIGEST = "6647bae0995a1ebae1e3d0b4240018d427570ea7e1904253c4faa3fea06cd01e"
     CASE = Case(*TABLE, b"ab", (WORD - 1, 1), (3,), 513)
     BYTES = (TABLE_BYTES + b"\2\0\0\0ab" + b"\2\0\0\0\xff\xff\xff\xff\1\0\0\0"
              + b"\1\0\0\0\3\0\0\0" + b"\1\2\0\0")
@@ -40,15 +40,15 @@ class InputsTest(unittest.TestCase):
     def test_too_large_numbers_are_refused(self):
         for kind in (READ, WRITE):
             with self.assertRaises(ValueError):
-                list(decode_all(kind, b"\xff" * 99999))
+                list(decode_all(kind, b"\xff" * 999999))
 
     def test_sizes_of_long_texts(self):
-        for size in (65535, 65536, 65537, 70000):
+        for size in (262143, 262144, 262145, 280000):
             for text in text_read_inputs.long_texts_of(random.Random(size), size):
                 self.assertEqual(len(text), size)
 
     def test_first_faults_of_long_texts(self):
-        texts = text_read_inputs.long_texts_of(random.Random(1), 65536)
+        texts = text_read_inputs.long_texts_of(random.Random(1), 262144)
         causes = [read_lines(text).cause for text in texts]
         self.assertEqual(causes, [1, 18, 16, 1, 18, 6, 17, 16, 4, 7, 8])
 
@@ -57,11 +57,11 @@ class AnswerTest(unittest.TestCase):
     def test_read_answers(self):
         self.assertEqual(
             read_answer((FRONT + b"rule=A: b S\nrule=S:\n", AMPLE)),
-            "read terminals=2 nonterminals=2 states=8 table=129,2,2,128,128,0 "
+            "read terminals=2 nonterminals=2 states=8 table=32769,2,2,32768,32768,0 "
             "starts=10,12,27,29 lengths=1,1,1,1")
         self.assertEqual(
             read_answer((b"terminals=\nnonterminals=Start\nrule=Start:\n", Lent(2, 1, 1))),
-            "read terminals=0 nonterminals=1 states=5 table=128,0 starts=24 lengths=5")
+            "read terminals=0 nonterminals=1 states=5 table=32768,0 starts=24 lengths=5")
         self.assertEqual(read_answer((b"", AMPLE)), "refused=16 at=1")
         self.assertEqual(read_answer((FRONT, AMPLE)), "refused=19 at=0")
 
@@ -71,7 +71,7 @@ class AnswerTest(unittest.TestCase):
             write_answer(case), "written=34 text=7465726d696e616c733d0a"
             "6e6f6e7465726d696e616c733d530a72756c653d533a0a")
         self.assertEqual(write_answer(case._replace(room=33)), "refused=14 at=0")
-        self.assertEqual(write_answer(case._replace(table=b"", starts=())), "refused=19 at=0")
+        self.assertEqual(write_answer(case._replace(table=(), starts=())), "refused=19 at=0")
 
     def test_what_is_read_is_written_back(self):
         for text, lent in text_read_inputs.all_cases():
@@ -115,8 +115,8 @@ class ReadReasonsTest(unittest.TestCase):
                      "16-key-in-wrong-case-or-with-spaces")
         self.reasons(GOOD + b"rule=S: a  b \n", "16-in-a-rule-line",
                      "16-rule-with-double-space", "16-rule-with-space-at-its-end")
-        self.reasons(b"a" * 65537, "16-text-of-65537-bytes", "order-16-at-0-before-a-line")
-        self.reasons(b"\n" * 65536, "text-of-65536-bytes", "16-in-line-1", "16-blank-line")
+        self.reasons(b"a" * 262145, "16-text-of-262145-bytes", "order-16-at-0-before-a-line")
+        self.reasons(b"\n" * 262144, "text-of-262144-bytes", "16-in-line-1", "16-blank-line")
 
     def test_17_and_18_and_1_and_4(self):
         self.reasons(GOOD + b"rule=a: c\n", "17-left-a-terminal", "17-right-unknown")
@@ -126,6 +126,15 @@ class ReadReasonsTest(unittest.TestCase):
         self.reasons(b"terminals=a\nnonterminals=a,S,S\n", "18-among-nonterminals",
                      "18-across-the-lists")
         self.reasons(b"terminals=\nnonterminals=\n", "1-no-nonterminals")
+        names = b",".join(b"n%d" % number for number in range(2000))
+        missing, both = "order-18-before-a-missing-line", "order-18-before-1-in-a-line"
+        self.reasons(b"terminals=%s,n7\n" % names, "18-among-terminals", "18-before-1-on-line-1",
+                     missing, both)
+        self.reasons(b"terminals=a\nnonterminals=%s,n7\n" % names, "18-among-nonterminals",
+                     "18-before-1-on-line-2", both)
+        self.reasons(b"terminals=a\nnonterminals=%s,a\n" % names, "18-across-the-lists",
+                     "18-before-1-across-both-lines", both)
+        self.reasons(b"terminals=a\nnonterminals=%s,b\n" % names, "1-2001-nonterminals")
         self.reasons(GOOD + b"rule=S:" + b" S" * 13 + b"\n", "4-k-of-13")
 
     def test_14(self):
@@ -157,7 +166,7 @@ class ReadReasonsTest(unittest.TestCase):
 
 
 class WriteReasonsTest(unittest.TestCase):
-    CASE = Case(1, 1, bytes([S, 1, 1]), b"aS", (0, 1), (1, 1), 99)
+    CASE = Case(1, 1, (S, 1, 1), b"aS", (0, 1), (1, 1), 99)
 
     def reasons(self, changes, *names):
         case = self.CASE._replace(**changes)
@@ -192,12 +201,12 @@ class WriteReasonsTest(unittest.TestCase):
 
     def test_table(self):
         self.reasons({"t": 0, "room": 0}, "table-5", "order-table-before-14")
-        self.reasons({"table": b"\x80", "names": b"aa"}, "table-2", "order-table-before-18")
+        self.reasons({"table": (S,), "names": b"aa"}, "table-2", "order-table-before-18")
         self.reasons({"n": 2 ** 64 - 1}, "table-1", "order-table-before-16")
 
     def test_table_19(self):
         told = "told-from-14-comes-before-19", "told-from-names-come-before-19"
-        none = {"table": bytes([S, 1, S])}
+        none = {"table": (S, 1, S)}
         self.reasons(none, "table-19", "19-alone")
         self.reasons({**none, "room": 36}, "table-19", "order-19-before-14", told[0])
         self.reasons({**none, "names": b"aa"}, "table-19", "order-19-before-18", told[1])

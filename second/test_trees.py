@@ -23,18 +23,18 @@ def written_out(grammar, depth):
     for _ in range(depth):
         deeper = {left: [] for left in rows}
         for rule in grammar.rules:
-            parts = [rows.get(code, []) if code >= START else [bytes([code])]
+            parts = [rows.get(code, []) if code >= START else [(code,)]
                      for code in rule.right]
             if prod(map(len, parts)) > MOST:
                 return None
-            deeper[rule.left] += [b"".join(row) for row in product(*parts)]
+            deeper[rule.left] += [sum(row, ()) for row in product(*parts)]
         rows = deeper
     return rows.get(START, [])
 
 
 class CountTest(unittest.TestCase):
     def count(self, table, sentence):
-        return tree_count(grammar_of(table), bytes(sentence))
+        return tree_count(grammar_of(table), tuple(sentence))
 
     def test_rows(self):
         self.assertEqual(self.count(ROWS[0], []), 0)

@@ -67,6 +67,7 @@ class IndexTest(unittest.TestCase):
     def test_index(self):
         self.assertEqual(index_of(6, Triple(1, 1, 1)), 43)
         self.assertEqual(index_of(256, Triple(1, 255, 255)), 131071)
+        self.assertEqual(index_of(1024, Triple(1, 1023, 1023)), 2097151)
 
     def test_triple_of_an_index(self):
         for index in range(2 * 7 * 7):
@@ -74,8 +75,8 @@ class IndexTest(unittest.TestCase):
         self.assertEqual(triple_at(7, 98), Triple(2, 0, 0))
 
     def test_certificate_lengths(self):
-        lengths = [certificate_length(states) for states in (4, 5, 6, 9, 27, 256)]
-        self.assertEqual(lengths, [4, 7, 9, 21, 183, 16384])
+        lengths = [certificate_length(states) for states in (4, 5, 6, 9, 27, 256, 1024)]
+        self.assertEqual(lengths, [4, 7, 9, 21, 183, 16384, 262144])
 
     def test_bits(self):
         self.assertEqual(certificate_of(4, [0, 9, 31]), bytes([1, 2, 0, 128]))
@@ -208,7 +209,7 @@ class DefinitionTest(unittest.TestCase):
     def follows(self, items, one, other):
         if one.layer == 0 and other.layer == 0:
             return (self.alone(self.opens, items, one, other)
-                    or self.shift(items, one, other, 256))
+                    or self.shift(items, one, other, 65536))
         if one.layer == 0:
             return self.parts(items, one, other)
         return other.layer == 1 and (

@@ -60,11 +60,11 @@ class TwoTreesTest(unittest.TestCase):
                 self.assertIsNotNone(trees, entry.name)
                 self.assertNotEqual(trees.left, trees.right)
                 for tree in trees.left, trees.right:
-                    self.assertEqual(bytes(row_by_rules(found.grammar, tree)), trees.sentence)
+                    self.assertEqual(tuple(row_by_rules(found.grammar, tree)), trees.sentence)
                 self.assertEqual(tree_count(found.grammar, trees.sentence), MOST)
                 self.part(found, trees)
                 count += 1
-        self.assertEqual(count, 35)
+        self.assertEqual(count, 36)
 
     def part(self, found, trees):
         """The smallest part has one row and two trees, also when it is folded; left is the strings' left."""

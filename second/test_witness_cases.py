@@ -6,6 +6,7 @@ from case_files import LARGEST, Rng
 from case_grammars import COURSE, CYCLE, ENDLESS, ONE_A, ROWS, triples_in
 from certificates import witness_fault
 from file_tests import TABLE, TABLE_BYTES, WAY, FileTests, without_sentences
+from random_tables import S
 from ways import longer, shortest, wander
 from witness_cases import KIND, Case, answer
 from witness_reasons import REASONS, reasons_of
@@ -16,7 +17,7 @@ FORMER_WAY = 0, 2, 4, 16, 23, 45, 43      # the shortest witness of S→S before
 
 class FileTest(FileTests, unittest.TestCase):
     KIND = KIND
-    DIGEST = "a2eb413f2dec400005ba3132093b6999a8ad672cb6bf644e6f7822ed88e5799d"
+    DIGEST = "5944439707798e901e577c30ee8c98a2dfc053a2f892dbf5a9b962a949632512"
     CASE = Case(*TABLE, (258, LARGEST))
     BYTES = TABLE_BYTES + b"\x02\0\0\0" + b"\x02\x01\0\0" + b"\xff" * 4
 
@@ -98,7 +99,7 @@ class ReasonsTest(unittest.TestCase):
         self.reasons(COURSE, (0, 2, 22, 26), "15-no-successor-and-not-reached", "15-last-entry",
                      "15-of-an-unambiguous-grammar", "15-opening-of-an-unproductive-rule",
                      "dead-unproductive", *told)
-        table = 1, 2, CYCLE[2] + bytes([128, 1, 129])         # S→A put behind
+        table = 1, 2, CYCLE[2] + (S, 1, S + 1)         # S→A put behind
         way = 0, 2, 22, 24, 35, 113, 111
         self.reasons(table, way, "accepted-shortest", "dead-unproductive",
                      "accepted-dead-unproductive")

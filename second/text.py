@@ -12,11 +12,11 @@ from typing import Dict, List, NamedTuple, Optional, Sequence, Tuple, Union
 from tables import (
     EQUAL_RULE, FIXED_STATES, MAX_LENGTH, MAX_NONTERMINALS, MAX_RULES,
     MAX_STATES, MAX_TERMINALS, OUT_OF_RANGE, START, TOO_LONG, TOO_MANY_RULES,
-    TOO_MANY_STATES, Grammar, Refusal, RuleCodes, check_table,
+    TOO_MANY_STATES, Codes, Grammar, Refusal, RuleCodes, check_table,
 )
 
-# The limits and forms of document 01.
-MAX_TEXT = 65536          # "At most 65,536 bytes."
+# The limits and forms of document 01 and of document 02's [8].
+MAX_TEXT = 262144         # "the text limit 262,144 bytes", document 02, [8]
 MAX_NAME = 15             # "Names are 1 to 15 ASCII letters, digits or hyphens"
 NAME_BYTES = (b"ABCDEFGHIJKLMNOPQRSTUVWXYZabcdefghijklmnopqrstuvwxyz"
               b"0123456789-")
@@ -66,7 +66,7 @@ class Text(NamedTuple):
 
     terminals: int
     nonterminals: int
-    table: bytes
+    table: Codes
     states: int
     starts: Tuple[int, ...]
     lengths: Tuple[int, ...]
@@ -179,7 +179,7 @@ def read_rule(line: Line, codes: Dict[bytes, int]) -> Union[RuleCodes, Refusal]:
         return Refusal(UNKNOWN_NAME, line.number)
     if len(right) > MAX_LENGTH:
         return Refusal(TOO_LONG, line.number)
-    return codes[left], bytes(codes[name] for name in right)
+    return codes[left], tuple(codes[name] for name in right)
 
 
 def symbol_codes(
@@ -204,12 +204,12 @@ def read_rules(
     return rules
 
 
-def join_rules(rules: Sequence[RuleCodes]) -> Union[Tuple[bytes, int], Refusal]:
+def join_rules(rules: Sequence[RuleCodes]) -> Union[Tuple[Codes, int], Refusal]:
     """The table and Q, or the first fault: "then 7, 6, 8 rule by rule".
 
     "6, 7 and 8 give the rule's offset in the table it would write."
     """
-    table = bytearray()
+    table: List[int] = []
     states = FIXED_STATES
     seen = set()
     for count, rule in enumerate(rules):
@@ -221,9 +221,9 @@ def join_rules(rules: Sequence[RuleCodes]) -> Union[Tuple[bytes, int], Refusal]:
         if states + len(right) + 1 > MAX_STATES:
             return Refusal(TOO_MANY_STATES, len(table))
         seen.add(rule)
-        table += bytes([left, len(right)]) + right
+        table += [left, len(right), *right]
         states += len(right) + 1
-    return bytes(table), states
+    return tuple(table), states
 
 
 def read_lines(text: bytes) -> Union[Text, Refusal]:
@@ -324,7 +324,7 @@ def compose(grammar: Grammar, names: Sequence[bytes]) -> bytes:
 
 
 def write_text(
-    t: int, n: int, table: bytes, names: bytes, starts: Sequence[int],
+    t: int, n: int, table: Codes, names: bytes, starts: Sequence[int],
     lengths: Sequence[int], room: int
 ) -> Union[bytes, Refusal]:
     """"The writer: table faults, 16, 18, 14"; `room` is the output's length."""

@@ -10,7 +10,6 @@ README.md beside this file has the layout of a case.
 
 import sys
 
-import sentence_reasons
 import text_read_inputs
 import text_read_reasons
 import text_write_inputs
@@ -80,7 +79,7 @@ def write_answer(case: WriteCase) -> str:
 
 READ = Kind(text_read_inputs.all_cases, encode_read_case, decode_read_case, read_answer,
             text_read_reasons.REASONS, lambda case: text_read_reasons.reasons_of(*case), "read-",
-            enough=sentence_reasons.ENOUGH)
+            enough=text_read_reasons.ENOUGH)
 WRITE = Kind(text_write_inputs.all_cases, encode_write_case, decode_write_case, write_answer,
              text_write_reasons.REASONS, text_write_reasons.reasons_of, "write-",
              enough=text_write_reasons.ENOUGH)

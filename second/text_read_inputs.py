@@ -3,16 +3,17 @@
 from typing import Iterator, List, Sequence, Tuple
 
 from case_files import Group, Rng, cases_of
+from dead_grammars import table_of
 from named_grammars import (
     MAX_BYTES, MAX_LENT, Named, ample_lent, any_lent, counted_names, exact_lent,
     figures_named, full_named, join_lines, large_named, lines_of, long_names,
     longest_named, random_name, random_names, rule_line, small_named, text_of, with_names,
 )
-from random_tables import random_rule, random_rules
+from random_tables import Rule, random_rule, random_rules, some_rules
 from sentence_grammars import (
-    large_sentenceless, named_table, nearly_sentenceless, sentenceless,
+    large, large_sentenceless, named_table, nearly_sentenceless, sentenceless,
 )
-from tables import MAX_LENGTH, MAX_RULES, MAX_STATES, START
+from tables import MAX_LENGTH, MAX_NONTERMINALS, MAX_RULES, MAX_STATES, MAX_TERMINALS, START
 from text import MAX_NAME, MAX_TEXT, Lent
 
 SEED = 2
@@ -96,19 +97,21 @@ def good_small(rng: Rng) -> Iterator[Case]:
 
 def good_large(rng: Rng) -> Iterator[Case]:
     """Texts at the limits of symbols, rules, states and bytes."""
-    for _ in range(90):
+    for _ in range(50):
         grammar = full_named(rng)
         yield text_of(grammar), any_lent(rng, grammar)
-    for _ in range(40):
+    for _ in range(15):
         grammar = large_named(rng, MAX_RULES, MAX_STATES - rng.randrange(3))
         yield text_of(grammar), any_lent(rng, grammar)
-        grammar = large_named(rng, 22 + rng.randrange(78), MAX_STATES)
+        grammar = large_named(rng, some_rules(rng), MAX_STATES)
         yield text_of(grammar), any_lent(rng, grammar)
-    for _ in range(24):
+    for _ in range(4):
         grammar = longest_named(rng)
         yield text_of(grammar), any_lent(rng, grammar)
-        last = [(254, bytes([127, 254])), (S, bytes([1, 254, 126, 254])), (254, b"")]
-        grammar = with_names(rng, 127, 127, last)
+    t, end = MAX_TERMINALS, S + MAX_NONTERMINALS - 1
+    for _ in range(12):
+        last = [(end, (t, end)), (S, (1, end, t - 1, end)), (end, ())]
+        grammar = with_names(rng, t, MAX_NONTERMINALS, last)
         yield text_of(grammar), any_lent(rng, grammar)
 
 
@@ -118,8 +121,8 @@ def lent_rows(rng: Rng) -> Iterator[Case]:
                (9, -1, 9), (9, 9, -1), (-1, -1, 0), (0, -1, -1), (-1, 0, -1),
                (-1, -1, -1), (900, 0, 0), (0, 900, 0), (0, 0, 900), (MAX_LENT,) * 3,
                (-MAX_LENT, 0, 0), (0, -MAX_LENT, 0), (0, 0, -MAX_LENT)]
-    grammars = [small_named(rng) for _ in range(22)] + [full_named(rng) for _ in range(4)]
-    grammars += [longest_named(rng), large_named(rng, MAX_RULES, MAX_STATES)]
+    grammars = [small_named(rng) for _ in range(22)] + [full_named(rng) for _ in range(2)]
+    grammars += [large_named(rng, MAX_RULES, MAX_STATES)]
     for grammar in grammars:
         for more in changes:
             sizes = (size + m for size, m in zip(exact_lent(grammar), more))
@@ -345,8 +348,8 @@ def equal_names(rng: Rng) -> Iterator[Case]:
 # Counts of names.
 
 def counts_of_names(rng: Rng) -> Iterator[Case]:
-    """126 to 130 and more names, different, or one twice, or all equal."""
-    for count in (126, 127, 128, 129, 130, 255, 256, 257, 300, 384):
+    """1,999 to 2,002 names, and fewer, different, or one twice, or all equal."""
+    for count in (127, 128, 256, 1999, 2000, 2001, 2002):
         for names in (counted_names(count), random_names(rng, count)):
             double = names[:-1] + [rng.choice(names[:-1])]
             for some in (names, double, [names[0]] * count):
@@ -358,7 +361,7 @@ def counts_of_names(rng: Rng) -> Iterator[Case]:
                     b"terminals=\nnonterminals=%s\n" % listed,
                     b"terminals=a\nnonterminals=%s\nrule=a:\n" % listed])
     for _ in range(24):
-        names = random_names(rng, 128)
+        names = random_names(rng, 50) + counted_names(MAX_NONTERMINALS - 49)
         yield from at_ease(rng, [
             b"terminals=%s\nnonterminals=S-S\n" % b",".join(names),
             b"terminals=a-a\nnonterminals=%s\n" % b",".join(names),
@@ -368,10 +371,11 @@ def counts_of_names(rng: Rng) -> Iterator[Case]:
 
 def thousands_of_names(rng: Rng) -> Iterator[Case]:
     """Lines of thousands of names: different, one double at the end, a bad one."""
-    for count in (1001, 1500, 2000, 3000, 5000, 9000):
+    for count in (2001, 2050, 3000, 5000, 12000):
         names = counted_names(count)
         for some in (names, names[:-1] + names[:1], names[:-1] + names[-2:-1],
-                     names[:-1] + [names[200]], names[:-1] + [b""], names[:-1] + [b"a_b"],
+                     names[:-1] + [names[200]], names[:-1] + [names[1998]],
+                     names[:1] + names[:-1], names[:-1] + [b""], names[:-1] + [b"a_b"],
                      names[:-1] + names[:1] + [b"0123456789abcdef"]):
             listed = b",".join(some)
             yield from at_ease(rng, [
@@ -382,6 +386,29 @@ def thousands_of_names(rng: Rng) -> Iterator[Case]:
         yield from at_ease(rng, [
             b"terminals=%s\nnonterminals=%s\n" % (front, b",".join(names[60:-60] + across)),
             b"terminals=%s\nnonterminals=%s\n" % (front, b",".join(names[60:-60]))])
+
+
+def far_apart(rng: Rng) -> Iterator[Case]:
+    """Lines past the limit with one double, its two places before, at or past the limit.
+
+    Blocks of any size that are tried one by one would miss a double across two of them.
+    """
+    places = [0, 1, 255, 256, 1023, 1998, 1999, 2000, 2001, 4095, 4999]
+    names = counted_names(5000)
+    for later in range(1, len(places)):
+        for first in {0, rng.randrange(later), later - 1}:
+            some = list(names)
+            some[places[later]] = some[places[first]]
+            listed = b",".join(some[:max(places[later] + 1, MAX_TERMINALS + 1)])
+            yield from at_ease(rng, [rng.choice([
+                b"terminals=%s\nnonterminals=S\nrule=S:\n" % listed,
+                b"terminals=S-\nnonterminals=%s\n" % listed])])
+    for _ in range(24):
+        earlier, own = names[:rng.choice([1, 200, 2000])], [b"x-" + name for name in names[:2003]]
+        count = rng.choice([2001, 2002, 2003])
+        own[rng.choice([0, 1000, 1999, 2000, count - 1])] = rng.choice(earlier)
+        yield from at_ease(rng, [
+            b"terminals=%s\nnonterminals=%s\n" % (b",".join(earlier), b",".join(own[:count]))])
 
 
 # Rules at fault.
@@ -428,7 +455,7 @@ def unknown_names(rng: Rng) -> Iterator[Case]:
 
 def right_lengths(rng: Rng) -> Iterator[Case]:
     """Right sides of 0 to 14 names and of many more."""
-    for k in list(range(15)) + [12, 12, 13, 13, 20, 100, 255, 256, 257, 268, 3000]:
+    for k in list(range(15)) + [12] * 9 + [13, 13, 20, 100, 255, 256, 257, 268, 3000]:
         for _ in range(4):
             grammar = named_with_rules(rng)
             rule = random_rule(rng, grammar.t, grammar.n, k)
@@ -441,31 +468,30 @@ def right_lengths(rng: Rng) -> Iterator[Case]:
 
 
 def many_rules(rng: Rng) -> Iterator[Case]:
-    """98 to 103 rules, then equal ones, ones past Q = 256, lines at fault."""
-    for count in (98, 99, 100, 101, 102, 103):
-        for _ in range(4):
-            grammar = large_named(rng, count, 110 + rng.randrange(146))
+    """398 to 403 rules, then equal ones, ones past Q = 1,024, lines at fault."""
+    for count in (398, 399, 400, 401, 402, 403):
+        for _ in range(2):
+            grammar = large_named(rng, count, 420 + rng.randrange(604))
             yield text_of(grammar), any_lent(rng, grammar)
-    for _ in range(22):
-        grammar = large_named(rng, MAX_RULES, 200 + rng.randrange(57))
+    for _ in range(20):
+        grammar = large_named(rng, MAX_RULES, 820 + rng.randrange(205))
         new = random_rule(rng, grammar.t, grammar.n, rng.randrange(4))
         yield from with_lent(rng, grammar, after_rules(rng, grammar, new))
         grammar = large_named(rng, MAX_RULES, MAX_STATES)
         equal = rng.choice(grammar.rules)
         yield from with_lent(rng, grammar, after_rules(rng, grammar, equal))
         again = grammar._replace(rules=grammar.rules[:1] + grammar.rules)
-        past = large_named(rng, 101 + rng.randrange(4), 280 + rng.randrange(90))
+        past = large_named(rng, 401 + rng.randrange(4), 1100 + rng.randrange(90))
         yield from with_lent(rng, grammar, [text_of(again), text_of(past)])
 
 
 def many_states(rng: Rng) -> Iterator[Case]:
-    """Q from just under 256 to just past it, then more rules or lines at fault."""
-    for states in list(range(251, 262)) + [256, 256, 257, 257, 268]:
-        for _ in range(5):
-            grammar = large_named(rng, 21 + rng.randrange(79), states)
-            yield text_of(grammar), any_lent(rng, grammar)
-    for _ in range(22):
-        grammar = large_named(rng, 21 + rng.randrange(60), MAX_STATES)
+    """Q from just under 1,024 to just past it, then more rules or lines at fault."""
+    for states in list(range(1019, 1030)) + [1024, 1024, 1025, 1025, 1036]:
+        grammar = large_named(rng, some_rules(rng), states)
+        yield text_of(grammar), any_lent(rng, grammar)
+    for _ in range(20):
+        grammar = large_named(rng, some_rules(rng), MAX_STATES)
         new = random_rule(rng, grammar.t, grammar.n, rng.randrange(4))
         yield from with_lent(rng, grammar, after_rules(rng, grammar, new))
         more = grammar._replace(rules=grammar.rules + [new])
@@ -474,7 +500,7 @@ def many_states(rng: Rng) -> Iterator[Case]:
         yield from with_lent(rng, grammar, after_rules(rng, grammar, equal))
 
 
-def after_rules(rng: Rng, grammar: Named, rule: Tuple[int, bytes]) -> List[bytes]:
+def after_rules(rng: Rng, grammar: Named, rule: Rule) -> List[bytes]:
     """The text with one rule more, and with a line at fault after that."""
     lines = lines_of(grammar) + [rule_line(grammar, rule)]
     long = random_rule(rng, grammar.t, grammar.n, MAX_LENGTH + 1 + rng.randrange(3))
@@ -501,7 +527,7 @@ def equal_rules(rng: Rng) -> Iterator[Case]:
 
 def without_a_sentence(rng: Rng) -> Iterator[Case]:
     """No sentence, with rows long enough, exact, too short, and without entries."""
-    for table in [*sentenceless(rng, 16), *large_sentenceless(rng, 24)]:
+    for table in [*sentenceless(rng, 16), *large_sentenceless(rng, 16)]:
         grammar = named_table(rng, table)
         yield text_of(grammar), any_lent(rng, grammar)
         exact = exact_lent(grammar)
@@ -526,7 +552,8 @@ def faulty_without(rng: Rng) -> Iterator[Case]:
         for fault in (1, 2, 4):
             line = faulty_rule_line(rng, grammar, fault)
             yield join_lines(put(lines, place, [line])), any_lent(rng, grammar)
-    for table in large_sentenceless(rng, 84):
+    fewer = [table_of(large(rng, 300, MAX_STATES)) for _ in range(34)]
+    for table in [*large_sentenceless(rng, 34), *fewer]:
         grammar = named_table(rng, table)
         _, right = random_rule(rng, grammar.t, grammar.n, 1 + rng.randrange(3))
         for rule in ((S + 1, right), rng.choice(grammar.rules)):
@@ -552,8 +579,8 @@ def faulty_list(
     """A list's line with a fault for each bit: 1 is 16, 2 is 18, 4 is cause 1."""
     some = list(names)
     if faults & 4:
-        fresh = [b"q-" + name for name in counted_names(140)]
-        some += fresh[:128 - len(some) + rng.choice([0, 0, 1, 9])]
+        fresh = [b"q" + name for name in counted_names(2010)]
+        some += fresh[:2001 - len(some) + rng.choice([0, 0, 1, 9])]
     if faults & 2:
         other = rng.choice((list(earlier) + some) or [b"S"])
         some.insert(rng.randrange(len(some) + 1), other)
@@ -584,8 +611,10 @@ def faulty_lines(rng: Rng) -> Iterator[Case]:
     for _ in range(8):
         for first in range(8):
             for second in range(8):
+                if first & 4 and rng.randrange(2):
+                    continue
                 yield faulty_case(rng, first, second, rng.randrange(8), rng.randrange(8))
-    for _ in range(10):
+    for _ in range(12):
         for third in range(8):
             for last in range(8):
                 yield faulty_case(rng, 0, 0, third, last)
@@ -611,7 +640,7 @@ def faulty_case(rng: Rng, first: int, second: int, third: int, last: int) -> Cas
 def without_line_2(rng: Rng) -> Iterator[Case]:
     """A first line alone, good or at fault."""
     for faults in range(8):
-        for _ in range(8):
+        for _ in range(16 if faults == 4 else 6):
             names = random_names(rng, rng.randrange(6))
             line = faulty_list(rng, b"terminals", names, [], faults)
             yield from at_ease(rng, [line + b"\n", line, line + b"\n\n"])
@@ -619,8 +648,8 @@ def without_line_2(rng: Rng) -> Iterator[Case]:
 
 def faults_and_short_rows(rng: Rng) -> Iterator[Case]:
     """Each cause together with rows that are too short, one or all of them."""
-    rows = [Lent(0, 0, 0), Lent(400, 0, 300), Lent(400, 300, 0), Lent(0, 300, 300)]
-    for _ in range(7):
+    rows = [Lent(0, 0, 0), Lent(1500, 0, 4000), Lent(1500, 4000, 0), Lent(0, 4000, 4000)]
+    for _ in range(6):
         grammar = named_with_rules(rng)
         lines = lines_of(grammar)
         texts = [join_lines(change(lines, 0, spoiled(rng, lines[0])))]
@@ -631,7 +660,7 @@ def faults_and_short_rows(rng: Rng) -> Iterator[Case]:
         texts += [join_lines(lines + [faulty_rule_line(rng, grammar, fault)])
                   for fault in (1, 2, 4)]
         texts.append(join_lines(lines + lines[-1:]))
-        for other in (large_named(rng, 101, 220), large_named(rng, 40, 257)):
+        for other in (large_named(rng, 401, 820), large_named(rng, 160, 1025)):
             texts.append(text_of(other))
         for text in texts:
             for lent in rows:
@@ -671,7 +700,7 @@ def long_texts_of(rng: Rng, size: int) -> List[bytes]:
     texts += [plain + padded_rules(size - len(plain))]
     for tail in (b"rule=S: c\n", b"rule=S:\n\n", b"rule=S:" + b" a" * 13 + b"\n"):
         texts.append(plain + padded_rules(size - len(plain) - len(tail)) + tail)
-    for grammar in (large_named(rng, MAX_RULES + 1, 200), large_named(rng, 40, 300)):
+    for grammar in (large_named(rng, MAX_RULES + 1, 800), large_named(rng, 160, 1200)):
         names = [b"a", b"bb"] + long_names(rng, grammar.t - 2)
         names += [b"S"] + long_names(rng, grammar.n - 1)
         text = text_of(grammar._replace(names=names))
@@ -680,21 +709,21 @@ def long_texts_of(rng: Rng, size: int) -> List[bytes]:
 
 
 def longest_texts(rng: Rng) -> Iterator[Case]:
-    """65,535 to 65,537 bytes, and longer; good texts with bytes after them."""
-    for size, times in ((MAX_TEXT, 2), (MAX_TEXT + 1, 4), (MAX_BYTES, 3)):
-        for _ in range(times):
-            yield from at_ease(rng, long_texts_of(rng, size))
+    """262,143 to 262,145 bytes, and longer; good texts with bytes after them."""
+    for size in (MAX_TEXT, MAX_TEXT + 1):
+        yield from at_ease(rng, long_texts_of(rng, size))
     for size in (MAX_TEXT - 1, MAX_TEXT, MAX_TEXT + 1, MAX_TEXT + 2, MAX_BYTES):
-        yield from at_ease(rng, [
-            (EXAMPLE + bytes([mark]) * size)[:size] for mark in b"\n\0 a"])
+        mark = rng.choice(b"\n\0 a")
+        yield from at_ease(rng, [(EXAMPLE + bytes([mark]) * size)[:size]])
         yield from at_ease(rng, [b"a" * size, (EXAMPLE * size)[:size - 1] + b"\n"])
-    yield from at_ease(rng, long_texts_of(rng, MAX_TEXT - 1))
+    yield from at_ease(rng, [b"\n" * 65536, b"a" * 65537])
 
 
 GROUPS: List[Group] = [
     figures, good_small, good_large, lent_rows, replaced_bytes, changed_bytes,
     cut_texts, no_lines, damaged, noise, line_ends, moved_lines, blank_lines, keys,
     lists, name_lengths, all_bytes, equal_names, counts_of_names, thousands_of_names,
+    far_apart,
     rule_forms, unknown_names, right_lengths, many_rules, many_states, equal_rules,
     faulty_lines, without_line_2, faults_and_short_rows, longest_texts,
     without_a_sentence, nearly_without, faulty_without,

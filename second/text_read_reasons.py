@@ -7,12 +7,13 @@ the order hides are found too. The first of them must be the reader's refusal.
 import re
 from typing import Dict, List, NamedTuple, Sequence, Tuple
 
+import sentence_reasons
 from sentence_misreadings import AFTER_14, BEFORE_8, TOLD
 from sentence_reasons import CAUSE, RULES_REASONS, has_tree, of_rules
 from tables import (
     EQUAL_RULE, FIXED_STATES, HEADER, MAX_LENGTH, MAX_NONTERMINALS, MAX_RULES,
     MAX_STATES, MAX_TERMINALS, NO_SENTENCE, OUT_OF_RANGE, START, TOO_LONG, TOO_MANY_RULES,
-    TOO_MANY_STATES, Refusal, RuleCodes,
+    TOO_MANY_STATES, Codes, Refusal, RuleCodes,
 )
 from text import (
     DECLARED_TWICE, KEYS, MALFORMED, MAX_NAME, MAX_TEXT, ROW_TOO_SHORT,
@@ -28,14 +29,14 @@ FORMS = [re.compile(pattern) for pattern in (
 )]
 WHOLE_NAME = re.compile(NAME)
 BAD_BYTE = re.compile(rb"[^-0-9A-Za-z]")
-MANY = 1000              # names in a line "of thousands"
+MANY = 2003              # names in a line "of thousands"
 
 # The faults that one line can have together, in the order of tests.
 IN_LINE = [(16, 18), (16, 1), (18, 1), (16, 17), (16, 4), (17, 4)]
 # A fault, and one on a later line that would come first in one line.
 LATER_LINE = [(18, 16), (1, 16), (1, 18), (17, 16), (4, 16), (4, 17)]
 # The faults that one rule can have together, and those of an earlier and a
-# later rule; all rules after one that passes Q = 256 pass it as well.
+# later rule; all rules after one that passes Q = 1,024 pass it as well.
 IN_RULE = [(7, 6), (7, 8), (6, 8)]
 LATER_RULE = [(6, 7), (6, 8), (8, 7), (8, 6)]
 LINE_CAUSES = (MALFORMED, UNKNOWN_NAME, TOO_LONG)
@@ -44,18 +45,18 @@ RULE_CAUSES = (TOO_MANY_RULES, EQUAL_RULE, TOO_MANY_STATES)
 REASONS = [
     "read",
     "read-no-terminals",
-    "read-127-terminals",
-    "read-127-nonterminals",
+    "read-2000-terminals",
+    "read-2000-nonterminals",
     "read-a-name-of-15",
     "read-an-empty-rule",
     "read-k-of-12",
-    "read-100-rules",
-    "read-256-states",
+    "read-400-rules",
+    "read-1024-states",
     "read-rows-exactly-enough",
     "read-rows-all-longer",
-    "16-text-of-65537-bytes",
+    "16-text-of-262145-bytes",
     "16-text-longer",
-    "text-of-65536-bytes",
+    "text-of-262144-bytes",
     "16-line-1-missing",
     "16-line-2-missing",
     "16-in-line-1",
@@ -85,17 +86,20 @@ REASONS = [
     "18-among-nonterminals",
     "18-across-the-lists",
     "18-in-a-line-of-thousands",
-    "1-128-terminals",
+    "18-before-1-on-line-1",
+    "18-before-1-on-line-2",
+    "18-before-1-across-both-lines",
+    "1-2001-terminals",
     "1-more-terminals",
     "1-no-nonterminals",
-    "1-128-nonterminals",
+    "1-2001-nonterminals",
     "1-more-nonterminals",
     "1-in-a-line-of-thousands",
     "4-k-of-13",
     "4-k-above-13",
     "6-next-to-the-earlier-rule",
     "6-further-away",
-    "7-a-101st-rule",
+    "7-a-401st-rule",
     "8-by-one-state",
     "8-by-more",
     "14-only-the-table-by-one",
@@ -115,11 +119,16 @@ REASONS = [
     "order-%d-before-%d-of-a-later-rule" % pair for pair in LATER_RULE
 ] + ["order-%d-before-14" % cause for cause in (16, 18, 1, 17, 4, 7, 6, 8, 19)] + [
     CAUSE,
-    "19-100-rules",
-    "19-256-states",
+    "19-400-rules",
+    "19-1024-states",
 ] + RULES_REASONS + [
     "order-%d-before-19" % cause for cause in LINE_CAUSES + RULE_CAUSES
 ] + [TOLD[BEFORE_8], TOLD[AFTER_14]]
+
+# Long texts are few.
+ENOUGH = {**sentence_reasons.ENOUGH, "16-text-of-262145-bytes": 12, "16-text-longer": 5,
+          "text-of-262144-bytes": 12, "order-16-at-0-before-a-line": 12,
+          "order-16-at-0-before-a-rule": 3}
 
 
 class Faults(NamedTuple):
@@ -132,7 +141,7 @@ class Faults(NamedTuple):
 def reasons_of(text: bytes, lent: Lent) -> List[str]:
     """Every reason of REASONS that this case meets."""
     result = read_text(text, lent)
-    names = ["text-of-65536-bytes"] if len(text) == MAX_TEXT else []
+    names = ["text-of-262144-bytes"] if len(text) == MAX_TEXT else []
     if isinstance(result, Text):
         assert not has_faults(text), "what is read is without fault"
         rules = rules_of(result.table)
@@ -158,13 +167,13 @@ def passed_reasons(result: Text, lent: Lent) -> List[str]:
     met = [
         ("read", True),
         ("read-no-terminals", result.terminals == 0),
-        ("read-127-terminals", result.terminals == MAX_TERMINALS),
-        ("read-127-nonterminals", result.nonterminals == MAX_NONTERMINALS),
+        ("read-2000-terminals", result.terminals == MAX_TERMINALS),
+        ("read-2000-nonterminals", result.nonterminals == MAX_NONTERMINALS),
         ("read-a-name-of-15", MAX_NAME in result.lengths),
         ("read-an-empty-rule", any(not right for _, right in rules)),
         ("read-k-of-12", any(len(right) == MAX_LENGTH for _, right in rules)),
-        ("read-100-rules", len(rules) == MAX_RULES),
-        ("read-256-states", result.states == MAX_STATES),
+        ("read-400-rules", len(rules) == MAX_RULES),
+        ("read-1024-states", result.states == MAX_STATES),
         ("read-rows-exactly-enough", spare == (0, 0, 0)),
         ("read-rows-all-longer", min(spare) > 0),
     ]
@@ -181,15 +190,15 @@ def none_reasons(text: bytes, lent: Lent) -> List[str]:
     short = min(spare_of(result, lent)) < 0
     met = [
         (CAUSE, True),
-        ("19-100-rules", len(rules) == MAX_RULES),
-        ("19-256-states", result.states == MAX_STATES),
+        ("19-400-rules", len(rules) == MAX_RULES),
+        ("19-1024-states", result.states == MAX_STATES),
         ("order-19-before-14", short),
         (TOLD[AFTER_14], short),
     ]
     return [name for name, holds in met if holds] + of_rules(rules)
 
 
-def rules_of(table: bytes) -> List[RuleCodes]:
+def rules_of(table: Codes) -> List[RuleCodes]:
     """The rules of a checked table."""
     rules = []
     offset = 0
@@ -207,8 +216,8 @@ def spare_of(result: Text, lent: Lent) -> Tuple[int, int, int]:
 
 
 def too_long_reasons(text: bytes) -> List[str]:
-    """A text of more than 65,536 bytes: always one with another fault."""
-    names = ["16-text-of-65537-bytes" if len(text) == MAX_TEXT + 1 else "16-text-longer"]
+    """A text of more than 262,144 bytes: always one with another fault."""
+    names = ["16-text-of-262145-bytes" if len(text) == MAX_TEXT + 1 else "16-text-longer"]
     inner = read_lines(text)
     assert isinstance(inner, Refusal), "no text is read that is so long"
     kind = "rule" if inner.cause in RULE_CAUSES else "line"
@@ -310,11 +319,11 @@ def rule_pieces(line: Line) -> Tuple[bytes, List[bytes]]:
 
 
 def loose_codes(names: Sequence[Sequence[bytes]]) -> Dict[bytes, int]:
-    """The names' codes, those of lists at fault as well; past 127 all alike."""
+    """The names' codes, those of lists at fault as well; past 2,000 all alike."""
     codes: Dict[bytes, int] = {}
     for first, kind in zip((1, START), names):
         for place, name in enumerate(kind):
-            codes.setdefault(name, first + min(place, 126))
+            codes.setdefault(name, first + min(place, MAX_TERMINALS - 1))
     return codes
 
 
@@ -421,7 +430,16 @@ def double_kinds(names: Sequence[List[bytes]]) -> List[str]:
         kinds.append("18-among-nonterminals" if earlier else "18-among-terminals")
     if earlier and set(own) & set(earlier[0]):
         kinds.append("18-across-the-lists")
-    return kinds + (["18-in-a-line-of-thousands"] if len(own) > MANY else [])
+    return kinds + many_kinds(len(own), kinds)
+
+
+def many_kinds(count: int, kinds: Sequence[str]) -> List[str]:
+    """Where the double stands if the line has too many names as well."""
+    if count <= MAX_TERMINALS:
+        return []
+    where = ("on-line-1" if "18-among-terminals" in kinds
+             else "on-line-2" if "18-among-nonterminals" in kinds else "across-both-lines")
+    return ["18-before-1-" + where] + ["18-in-a-line-of-thousands"] * (count > MANY)
 
 
 def count_kinds(number: int, count: int) -> List[str]:
@@ -429,7 +447,7 @@ def count_kinds(number: int, count: int) -> List[str]:
     what = ("terminals", "nonterminals")[number - 1]
     if count == 0:
         return ["1-no-" + what]
-    kinds = ["1-128-" + what if count == 128 else "1-more-" + what]
+    kinds = ["1-2001-" + what if count == 2001 else "1-more-" + what]
     return kinds + (["1-in-a-line-of-thousands"] if count > MANY else [])
 
 
@@ -456,7 +474,7 @@ def hidden_on_later_lines(found: Sequence[Faults], count: int) -> List[str]:
 def codes_of(line: Line, codes: Dict[bytes, int]) -> RuleCodes:
     """The rule of a line without faults."""
     left, right = rule_pieces(line)
-    return codes[left], bytes(codes[name] for name in right)
+    return codes[left], tuple(codes[name] for name in right)
 
 
 def faults_of_rules(rules: Sequence[RuleCodes]) -> List[Faults]:
@@ -493,7 +511,7 @@ def rule_fault_reasons(rules: Sequence[RuleCodes], refusal: Refusal) -> List[str
 def finer_rule(rules: Sequence[RuleCodes], refusal: Refusal) -> str:
     """The reason behind the first fault of the rules."""
     if refusal.cause == TOO_MANY_RULES:
-        return "7-a-101st-rule"
+        return "7-a-401st-rule"
     place, offset, states = 0, 0, FIXED_STATES
     while offset < refusal.position:
         offset += HEADER + len(rules[place][1])

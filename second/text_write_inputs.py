@@ -6,9 +6,9 @@ import table_cases
 from case_files import LAST, Group, Rng, cases_of
 from named_grammars import (
     MAX_LENT, Named, figures_named, full_named, large_named, longest_named, random_name,
-    random_names, small_named, text_of,
+    random_names, small_named, text_of, with_names,
 )
-from random_tables import Rule, encode, random_rules, with_sentence
+from random_tables import Rule, encode, random_rules, some_rules, with_sentence
 from sentence_grammars import (
     faulty_sentenceless, large_sentenceless, named_table, nearly_sentenceless, sentenceless,
 )
@@ -17,7 +17,7 @@ from text import MAX_NAME, NAME_BYTES
 from text_write_reasons import SHORTEST, WORD, Case
 
 SEED = 3
-EMPTY = bytes([START, 0])      # the table of S→ (empty)
+EMPTY = START, 0               # the table of S→ (empty)
 
 Rows = Tuple[bytes, List[int], List[int]]      # name bytes, starts and lengths
 
@@ -101,7 +101,7 @@ def some_room(rng: Rng, size: int) -> int:
 
 def enough_room(rng: Rng) -> int:
     """Room for every text, now and then none at all."""
-    return 0 if rng.randrange(6) == 0 else 9000 + rng.randrange(100)
+    return 0 if rng.randrange(6) == 0 else 100000 + rng.randrange(100)
 
 
 def written_length(grammar: Named, lengths: Sequence[int]) -> int:
@@ -128,12 +128,12 @@ def good_small(rng: Rng) -> Iterator[Case]:
 
 def good_large(rng: Rng) -> Iterator[Case]:
     """Grammars at the limits of symbols, rules, states and bytes."""
-    for _ in range(60):
+    for _ in range(24):
         for grammar in (full_named(rng), large_named(rng, MAX_RULES, MAX_STATES),
-                        large_named(rng, 22 + rng.randrange(78), MAX_STATES)):
+                        large_named(rng, some_rules(rng), MAX_STATES)):
             size = len(text_of(grammar))
             yield make(grammar, laid(rng, grammar), some_room(rng, size))
-    for _ in range(16):
+    for _ in range(3):
         grammar = longest_named(rng)
         size = len(text_of(grammar))
         for room in (size, size - 1, size + 1):
@@ -143,7 +143,7 @@ def good_large(rng: Rng) -> Iterator[Case]:
 def overlapping_names(rng: Rng) -> Iterator[Case]:
     """Names that share bytes; then each two symbols' spans exchanged."""
     for _ in range(220):
-        grammar = small_named(rng) if rng.randrange(8) else full_named(rng)
+        grammar = small_named(rng) if rng.randrange(20) else full_named(rng)
         rows = overlapping(rng, grammar.t + grammar.n)
         yield make(grammar, rows, some_room(rng, written_length(grammar, rows[2])))
     for count in range(1, 16):
@@ -166,6 +166,14 @@ def rooms(rng: Rng) -> Iterator[Case]:
             yield make(grammar, laid(rng, grammar), room)
 
 
+def longest_rules(rng: Rng) -> Iterator[Case]:
+    """Right sides of 12 and of 11 symbols."""
+    for _ in range(40):
+        t, n = 1 + rng.randrange(5), 1 + rng.randrange(3)
+        grammar = with_names(rng, t, n, good_rules(rng, t, n, [12, 11, 12]))
+        yield make(grammar, laid(rng, grammar), some_room(rng, len(text_of(grammar))))
+
+
 def longer_rows(rng: Rng) -> Iterator[Case]:
     """Rows with entries, good or not, past the symbols'."""
     for _ in range(100):
@@ -182,16 +190,17 @@ def longer_rows(rng: Rng) -> Iterator[Case]:
 
 def ranges(rng: Rng) -> Iterator[Case]:
     """t and n at and past their limits, with rows of all sizes."""
-    values = [0, 1, 2, 126, 127, 128, 129, 255, 256, 257, 2 ** 32, 2 ** 32 + 1,
-              2 ** 63, LAST - 126, LAST - 127, LAST]
-    names = random_names(rng, 254)
+    values = [0, 1, 2, 128, 256, 1999, 2000, 2001, 2002, 2 ** 16 + 1, 2 ** 32, 2 ** 32 + 1,
+              2 ** 63, LAST - 1999, LAST - 2000, LAST]
+    names = random_names(rng, 4000)
     for t in values:
         for n in values:
-            count = rng.choice([0, 1, min(254, t + n), 254])
+            whole = rng.randrange(3) == 0 and t <= 2000 and n <= 2000
+            count = t + n if whole else rng.choice([0, 1, min(300, t + n), 300])
             data, starts, lengths = packed(names[:count])
             if count and rng.randrange(3) == 0:
                 starts[-1], lengths[-1] = starts[0], lengths[0]
-            table = rng.choice([EMPTY, EMPTY, b"", bytes([START, 13])])
+            table = rng.choice([EMPTY, EMPTY, (), (START, 13)])
             yield Case(t, n, table, data, tuple(starts), tuple(lengths), enough_room(rng))
 
 
@@ -202,9 +211,10 @@ def faulty_tables(rng: Rng) -> Iterator[Case]:
     chosen += list(table_cases.equal_rules(rng))[::8]
     chosen += list(table_cases.many_states(rng))[::4]
     for t, n, table in chosen:
-        data, starts, lengths = packed(random_names(rng, t + n))
+        count = min(t + n, 300)
+        data, starts, lengths = packed(random_names(rng, count))
         kind = rng.randrange(5)
-        symbol = rng.randrange(t + n)
+        symbol = rng.randrange(count)
         if kind == 0:
             starts[symbol], lengths[symbol] = starts[0], lengths[0]
         elif kind == 1:
@@ -219,7 +229,7 @@ def faulty_tables(rng: Rng) -> Iterator[Case]:
 def short_rows(rng: Rng) -> Iterator[Case]:
     """Rows of starts or lengths one entry short, shorter, or empty."""
     for _ in range(40):
-        grammar = small_named(rng) if rng.randrange(8) else full_named(rng)
+        grammar = small_named(rng) if rng.randrange(14) else full_named(rng)
         names, starts, lengths = laid(rng, grammar)
         cut = rng.randrange(len(starts))
         for end in sorted({-1, cut - len(starts), -len(starts)}):
@@ -283,7 +293,7 @@ def all_bytes(rng: Rng) -> Iterator[Case]:
 def equal_names(rng: Rng) -> Iterator[Case]:
     """Equal names, by one span or by equal bytes; several; nearly equal ones."""
     for _ in range(130):
-        grammar = small_named(rng) if rng.randrange(6) else full_named(rng)
+        grammar = small_named(rng) if rng.randrange(18) else full_named(rng)
         count = grammar.t + grammar.n
         names = list(grammar.names)
         for _ in range(1 + rng.randrange(3)):
@@ -326,7 +336,7 @@ def several_faults(rng: Rng) -> Iterator[Case]:
             spoil(rng, len(data), starts, lengths)
         case = make(grammar, (data, starts, lengths), enough_room(rng))
         if rng.randrange(4) == 0:
-            wrong = rng.choice([b"\0", b"\x80\x0d", b"\x80\x01\0"])
+            wrong = rng.choice([(0,), (START, 13), (START, 1, 0)])
             case = case._replace(table=case.table + wrong)
         if rng.randrange(5) == 0:
             case = case._replace(starts=case.starts[:-1])
@@ -371,8 +381,8 @@ def damaged_bytes(rng: Rng) -> Iterator[Case]:
 
 def no_names(rng: Rng) -> Iterator[Case]:
     """Empty name bytes, and no rows at all."""
-    for t in (0, 1, 127):
-        for n in (1, 127):
+    for t in (0, 1, 2000):
+        for n in (1, 2000):
             zeros = (0,) * (t + n)
             for starts, lengths in (((), ()), (zeros, ()), ((), zeros), (zeros, zeros),
                                     (zeros, (1,) * (t + n))):
@@ -383,7 +393,7 @@ def no_names(rng: Rng) -> Iterator[Case]:
 
 def without_a_sentence(rng: Rng) -> Iterator[Case]:
     """No sentence, with good names and enough room, and with names at fault or no room."""
-    for table in [*sentenceless(rng, 14), *large_sentenceless(rng, 16)]:
+    for table in [*sentenceless(rng, 14), *large_sentenceless(rng, 8)]:
         grammar = named_table(rng, table)
         data, starts, lengths = laid(rng, grammar)
         size = len(text_of(grammar))
@@ -407,12 +417,13 @@ def nearly_without(rng: Rng) -> Iterator[Case]:
 def faulty_without(rng: Rng) -> Iterator[Case]:
     """Each of causes 1 to 8 where there is no sentence either."""
     for t, n, table in faulty_sentenceless(rng, 22):
-        data, starts, lengths = packed(random_names(rng, min(t + n, 254)))
+        data, starts, lengths = packed(random_names(rng, min(t + n, 300)))
         yield Case(t, n, table, data, tuple(starts), tuple(lengths), enough_room(rng))
 
 
 GROUPS: List[Group] = [
-    figures, good_small, good_large, overlapping_names, rooms, longer_rows, ranges,
+    figures, good_small, good_large, overlapping_names, rooms, longest_rules, longer_rows,
+    ranges,
     faulty_tables, short_rows, spans_past_the_bytes, name_lengths, all_bytes,
     equal_names, crossing_names, several_faults, damaged_bytes, no_names,
     without_a_sentence, nearly_without, faulty_without,

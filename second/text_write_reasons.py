@@ -11,7 +11,7 @@ import sentence_reasons
 from sentence_misreadings import AFTER_14, AFTER_NAMES, TOLD
 from tables import (
     MAX_LENGTH, MAX_NONTERMINALS, MAX_RULES, MAX_STATES, MAX_TERMINALS, NO_SENTENCE,
-    OUT_OF_RANGE, START, TOO_MANY_STATES, Grammar, Refusal, check_table,
+    OUT_OF_RANGE, START, TOO_MANY_STATES, Codes, Grammar, Refusal, check_table,
 )
 from text import (
     DECLARED_TWICE, MALFORMED, MAX_NAME, ROW_TOO_SHORT, write_text,
@@ -24,13 +24,13 @@ WORD = 2 ** 32                                     # starts and lengths are belo
 REASONS = [
     "written",
     "written-no-terminals",
-    "written-127-terminals",
-    "written-127-nonterminals",
+    "written-2000-terminals",
+    "written-2000-nonterminals",
     "written-a-name-of-15",
     "written-an-empty-rule",
     "written-k-of-12",
-    "written-100-rules",
-    "written-256-states",
+    "written-400-rules",
+    "written-1024-states",
     "written-a-symbol-that-no-rule-has",
     "written-names-that-overlap",
     "written-names-not-in-order",
@@ -76,7 +76,9 @@ REASONS = [
     TOLD[AFTER_14],
 ] + sentence_reasons.REASONS
 
-ENOUGH = {"table-19": sentence_reasons.FEWEST}
+# Texts at the limits are long, and few.
+LONG = ["written-2000-terminals", "written-2000-nonterminals", "written-400-rules"]
+ENOUGH = {"table-19": sentence_reasons.FEWEST, **{name: 8 for name in LONG}}
 
 
 class Case(NamedTuple):
@@ -84,7 +86,7 @@ class Case(NamedTuple):
 
     t: int
     n: int
-    table: bytes
+    table: Codes
     names: bytes
     starts: Tuple[int, ...]
     lengths: Tuple[int, ...]
@@ -126,8 +128,8 @@ def written_reasons(case: Case, text: bytes) -> List[str]:
     met = [
         ("written", True),
         ("written-no-terminals", case.t == 0),
-        ("written-127-terminals", case.t == MAX_TERMINALS),
-        ("written-127-nonterminals", case.n == MAX_NONTERMINALS),
+        ("written-2000-terminals", case.t == MAX_TERMINALS),
+        ("written-2000-nonterminals", case.n == MAX_NONTERMINALS),
         ("written-a-name-of-15", MAX_NAME in case.lengths[:case.t + case.n]),
     ]
     met += grammar_reasons(grammar) + span_reasons(case)
@@ -144,8 +146,8 @@ def grammar_reasons(grammar: Grammar) -> List[Tuple[str, bool]]:
     return [
         ("written-an-empty-rule", 0 in lengths),
         ("written-k-of-12", MAX_LENGTH in lengths),
-        ("written-100-rules", len(lengths) == MAX_RULES),
-        ("written-256-states", grammar.states == MAX_STATES),
+        ("written-400-rules", len(lengths) == MAX_RULES),
+        ("written-1024-states", grammar.states == MAX_STATES),
         ("written-a-symbol-that-no-rule-has",
          len(used) < grammar.terminals + grammar.nonterminals),
     ]
@@ -261,7 +263,7 @@ def length_of_text(case: Case) -> int:
         left, k = case.table[offset], case.table[offset + 1]
         right = case.table[offset + 2:offset + 2 + k]
         total += len(b"rule=:\n") + k
-        for code in bytes([left]) + right:
+        for code in (left, *right):
             total += length[code - 1 if code < START else case.t + code - START]
         offset += 2 + k
     return total

@@ -11,9 +11,8 @@ again by trees.py.
 from typing import Dict, List, NamedTuple, Optional, Sequence, Tuple
 
 from automaton import AFTER_START, BEFORE_START, END, Item, after_dot, taken_items
-from derivations import CODES
 from live import live_rules
-from tables import START, Grammar
+from tables import START, Codes, Grammar
 from trees import MOST, tree_count
 from triples import Triple, Triples, index_of, reached, triples_of
 
@@ -27,7 +26,7 @@ Tree = Tuple[int, ...]    # rule numbers, and codes as negative numbers; a node 
 class TwoTrees(NamedTuple):
     """A sentence of terminals, and two different trees of it."""
 
-    sentence: bytes
+    sentence: Codes
     left: Tree
     right: Tree
 
@@ -175,34 +174,34 @@ def trees_in(built: Optional[Built]) -> Tuple[List[int], List[int]]:
     return left[::-1], right[::-1]
 
 
-def shortest_rules(grammar: Grammar, shown: bool) -> List[Optional[int]]:
-    """By code the rule that begins a shortest sentence, one that is not empty if it is to be shown."""
-    lengths: List[Optional[int]] = [1] * START + [None] * (CODES - START)
-    rules: List[Optional[int]] = [None] * CODES
+def shortest_rules(grammar: Grammar, shown: bool) -> Dict[int, int]:
+    """By nonterminal the rule that begins a shortest sentence, one that is not empty if it is to be shown."""
+    lengths: Dict[int, int] = {}
+    rules: Dict[int, int] = {}
     changed = True
     while changed:
         changed = False
         for number, rule in enumerate(grammar.rules, 1):
-            parts = [lengths[code] for code in rule.right]
+            parts = [1 if code < START else lengths.get(code) for code in rule.right]
             if None in parts or shown and not parts:
                 continue
             length = sum(part for part in parts if part is not None)
-            if lengths[rule.left] is None or length < lengths[rule.left]:
+            if rule.left not in lengths or length < lengths[rule.left]:
                 lengths[rule.left], rules[rule.left] = length, number
                 changed = True
     return rules
 
 
-def filled(grammar: Grammar, tree: Sequence[int], rules: Sequence[Optional[int]]) -> Optional[Tree]:
+def filled(grammar: Grammar, tree: Sequence[int], rules: Dict[int, int]) -> Optional[Tree]:
     """The tree with a shortest sentence for each nonterminal that stands for itself."""
     nodes: List[int] = []
     waiting = list(reversed(tree))
     while waiting and len(nodes) <= 20 * LONGEST:
         node = waiting.pop()
         if -node >= START:
-            node = rules[-node] or 0
-            if not node:
+            if -node not in rules:
                 return None
+            node = rules[-node]
             waiting += [-code for code in reversed(grammar.rules[node - 1].right)]
         nodes.append(node)
     return None if waiting else tuple(nodes)
@@ -219,7 +218,7 @@ def two_trees(grammar: Grammar, most: int = KEPT) -> Optional[TwoTrees]:
         left, right = (filled(grammar, tree, rules) for tree in pair)
         if left is None or right is None or left == right:
             continue
-        sentence = bytes(-node for node in left if node < 0)
+        sentence = tuple(-node for node in left if node < 0)
         if len(sentence) <= LONGEST and tree_count(grammar, sentence) == MOST:
             return TwoTrees(sentence, left, right)
     return None

@@ -14,8 +14,9 @@ from case_files import (
     encode_table, main,
 )
 from case_grammars import (
-    CLASSICS, CYCLE, GOOD_ROWS, ONE_A, ROWS, STATEMENTS, Table, faulty_tables, good, grammar_of,
-    keywords, larger_random, operators, rules_before_the_fault, some, states_of, triples_in,
+    CLASSICS, CYCLE, GOOD_ROWS, MANY_STATES, ONE_A, ROWS, STATEMENTS, Table, faulty_tables, good,
+    grammar_of, keywords, larger_random, most_keywords, most_potential, operators,
+    rules_before_the_fault, some, states_of, triples_in,
 )
 from certificates import check_witness
 from dead_grammars import chains, dead_larger, dead_tables
@@ -24,19 +25,19 @@ from dead_rules import KINDS
 from live_misreadings import WRONG_STEPS, former_triples, wrong_steps
 from misreadings import NAMES, misread_indices
 from sentence_grammars import (
-    faulty_sentenceless, large_sentenceless, nearly_sentenceless, sentenceless,
+    faulty_sentenceless, many_sentenceless, nearly_sentenceless, sentenceless,
 )
 from sentence_reasons import ENOUGH as ENOUGH_NONE
-from tables import MAX_STATES
+from tables import MAX_TERMINALS, Codes
 from triples import Triples, is_potential, reached
 from ways import longer, shortest, wander, way_from, way_to
-from witness_reasons import REASONS, reasons_of
+from witness_reasons import ENOUGH_LARGEST, REASONS, reasons_of
 
 
 class Case(NamedTuple):
     t: int
     n: int
-    table: bytes
+    table: Codes
     entries: Tuple[int, ...]
 
 
@@ -149,10 +150,10 @@ def unambiguous(rng: Rng) -> Iterator[Case]:
 
 
 def larger(rng: Rng) -> Iterator[Case]:
-    """Q from 60 to 256, potential and not."""
-    tables = [larger_random(rng, states) for states in (*range(62, 121, 8), MAX_STATES)]
-    tables += [keywords(rng, 30, 110), keywords(rng, 40, MAX_STATES)]
-    tables += [operators(10), STATEMENTS]
+    """Q from 60 to 256, potential and not, and Q = 1,024."""
+    tables = [larger_random(rng, states) for states in (*range(62, 121, 8), MANY_STATES)]
+    tables += [keywords(rng, 30, 110), keywords(rng, 40, MANY_STATES), most_keywords(rng)]
+    tables += [operators(10), STATEMENTS, most_potential(rng)]
     for table in tables:
         triples = triples_in(table)
         walk = longer if is_potential(triples) else wander
@@ -173,7 +174,7 @@ def faulty(rng: Rng) -> Iterator[Case]:
             yield Case(*table, tuple(shortest(triples_in(good))))
         yield Case(*table, rng.choice([(), (0,), (0, LARGEST), (1, 2, 3)]))
     way = tuple(shortest(triples_in(CYCLE)))
-    for t in range(128, 160):
+    for t in range(MAX_TERMINALS + 1, MAX_TERMINALS + 33):
         yield Case(t, *CYCLE[1:], way)
     yield Case(*ONE_A, way)
 
@@ -222,7 +223,7 @@ def dead_and_larger(rng: Rng) -> Iterator[Case]:
 
 def without_a_sentence(rng: Rng) -> Iterator[Case]:
     """No sentence: what were witnesses or ways before document 02's [3], cut, wrong, empty."""
-    for table in [*sentenceless(rng, 12), *large_sentenceless(rng, 6)]:
+    for table in [*sentenceless(rng, 12), *many_sentenceless(rng, 6)]:
         former = former_triples(grammar_of(table))
         yield from of_either(rng, table, former)
         yield Case(*table, rng.choice([(), (0,), (0, former.last), (former.count,), (LARGEST,)]))
@@ -266,7 +267,8 @@ def decode_case(reader: Reader) -> Case:
 
 
 KIND = Kind(lambda: cases_of(GROUPS), encode_case, decode_case, answer,
-            REASONS, lambda case: reasons_of(*case), enough={**ENOUGH_DEAD, **ENOUGH_NONE})
+            REASONS, lambda case: reasons_of(*case),
+            enough={**ENOUGH_DEAD, **ENOUGH_NONE, **ENOUGH_LARGEST})
 
 if __name__ == "__main__":
     sys.exit(main(__doc__, sys.argv[1:], KIND))

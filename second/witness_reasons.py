@@ -16,7 +16,7 @@ from live_misreadings import (
     REACHED, TOLD_BY_SEARCH, WRONG_STEPS, former_triples, told, wrong_steps,
 )
 from misreadings import NAMES, misread_indices
-from tables import NO_SENTENCE, Grammar, Refusal
+from tables import MAX_STATES, NO_SENTENCE, Codes, Grammar, Refusal
 from triples import Triples, is_potential, reached
 from ways import shortest
 
@@ -43,6 +43,8 @@ REASONS = [
     "15-first-of-several",
     "15-of-an-unambiguous-grammar",
     "15-over-60-states",
+    "accepted-1024-states",
+    "15-1024-states",
 ] + ["15-" + name for name in NAMES] + dead_rules.REASONS + [
     "accepted-dead-" + kind for kind in KINDS
 ] + [
@@ -54,8 +56,11 @@ REASONS = [
     "order-19-before-15",
 ] + sentence_reasons.REASONS
 
+# Cases of the most states are few.
+ENOUGH_LARGEST = {"accepted-1024-states": 5}
 
-def reasons_of(t: int, n: int, table: bytes, entries: Sequence[int]) -> List[str]:
+
+def reasons_of(t: int, n: int, table: Codes, entries: Sequence[int]) -> List[str]:
     """Every reason of REASONS that this case meets."""
     triples = checked_triples(t, n, table)
     sentences = list(sentence_reasons.of_table(t, n, table))
@@ -70,6 +75,8 @@ def reasons_of(t: int, n: int, table: bytes, entries: Sequence[int]) -> List[str
     else:
         met = refused_reasons(triples, entries, fault.position)
     grammar = good((t, n, table))
+    met.append(("accepted-1024-states" if fault is None else "15-1024-states",
+                grammar.states == MAX_STATES))
     if kind_of(grammar) is not None:
         met += dead_reasons(grammar, triples, entries, fault)
     return sentences + [name for name, holds in met if holds] + told(

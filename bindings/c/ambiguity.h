@@ -2,8 +2,8 @@
  * search, the reader and the writer of grammar text, what search and writer are to be lent, told beforehand, the report that the program
  * prints, and reading back of the two strings that it prints. Each function answers as its entry promises;
  * crates/ambiguity_c/src/lib.rt has the promises, proved.
- * "Document 01" is the paper that the library follows: it has the tables, the certificates and the causes of refusal. Cause 19 is
- * document 02's, which has the requests after it.
+ * "Document 01" is the paper that the library follows: it has the tables, the certificates and the causes of refusal. Cause 19, the
+ * codes of 16 bits and the limits are document 02's, which has the requests after it.
  *
  * What holds of every function:
  * - Every input is taken: what is wrong is refused, with a cause from 1 to 19 and a position. `cause` 0 says that nothing is
@@ -25,15 +25,19 @@
 #endif
 
 /* The version of the whole: library, header, wrapper, tools. The first number changes when a caller has to. */
-#define AMBIGUITY_VERSION "2.0.0"
-#define AMBIGUITY_VERSION_MAJOR 2
+#define AMBIGUITY_VERSION "3.0.0"
+#define AMBIGUITY_VERSION_MAJOR 3
 
-/* Document 01's limits. */
-#define AMBIGUITY_MAX_TERMINALS 127
-#define AMBIGUITY_MAX_NONTERMINALS 127
-#define AMBIGUITY_MAX_RULES 100
-#define AMBIGUITY_MAX_STATES 256
-#define AMBIGUITY_MAX_TEXT_BYTES 65536
+/* The limits of document 02. A right side has at most 12 codes. */
+#define AMBIGUITY_MAX_TERMINALS 2000
+#define AMBIGUITY_MAX_NONTERMINALS 2000
+#define AMBIGUITY_MAX_RULES 400
+#define AMBIGUITY_MAX_STATES 1024
+#define AMBIGUITY_MAX_TEXT_BYTES 262144
+
+/* The code of the first nonterminal, the start. Terminals have the codes 1 to t, nonterminals the n codes from this one on; all others
+ * are undeclared. */
+#define AMBIGUITY_START 32768
 
 /* Sizes by Q, the number of states: the triples, so the entries of a row with one for each; the bytes of a certificate. They serve
  * where memory is set aside when a program is compiled; ambiguity_search_room tells the same of a table, at run time. */
@@ -55,17 +59,15 @@
 #define AMBIGUITY_LETTER_KIND(entry) ((entry) / 65536)
 #define AMBIGUITY_LETTER_NUMBER(entry) ((entry) % 65536)
 
-/* The stack that a call may use, below the caller's frame. It is measured on a painted stack, at Q = 256 (bindings/c/stack.c), and not
- * proved: where there is less, a call crashes.
- * The reader has rows there for the names and rules of a grammar, and for the names of a line that has too many (54,407 bytes
- * measured); reading back calls the reader (58,279 bytes); the report calls the reader and the search and lends them their
- * rows (300,311 bytes). The search's stack does not grow with Q (10,663 bytes); of the others the witness check over records
- * goes deepest (13,911 bytes). */
-#define AMBIGUITY_STACK_BYTES 14336
-#define AMBIGUITY_READ_TEXT_STACK_BYTES 57344
-#define AMBIGUITY_SEARCH_STACK_BYTES 12288
-#define AMBIGUITY_REPORT_STACK_BYTES 307200
-#define AMBIGUITY_READ_BACK_STACK_BYTES 61440
+/* The stack that a call may use, below the caller's frame. It is measured on a painted stack, with the largest grammars and texts, and
+ * not proved: where there is less, a call crashes. bindings/c/stack.c measures it, and prints the figure of each function.
+ * The reader, the search, the report, which lends both of them their rows, and reading back, which calls the reader, have figures of
+ * their own; the first figure is for all others. */
+#define AMBIGUITY_STACK_BYTES 61440
+#define AMBIGUITY_READ_TEXT_STACK_BYTES 65536
+#define AMBIGUITY_SEARCH_STACK_BYTES 55296
+#define AMBIGUITY_REPORT_STACK_BYTES 352256
+#define AMBIGUITY_READ_BACK_STACK_BYTES 65536
 
 /* The causes of refusal. */
 enum ambiguity_cause {
@@ -76,8 +78,8 @@ enum ambiguity_cause {
     AMBIGUITY_RULE_TOO_LONG = 4,      /* more than 12 codes: at the rule's offset, or line */
     AMBIGUITY_CODE_UNDECLARED = 5,    /* right code undeclared: at the code's offset */
     AMBIGUITY_RULE_REPEATED = 6,      /* rule equals an earlier one: at the later rule's offset */
-    AMBIGUITY_TOO_MANY_RULES = 7,     /* a 101st rule: at its offset */
-    AMBIGUITY_TOO_MANY_STATES = 8,    /* Q would pass 256: at the rule's offset */
+    AMBIGUITY_TOO_MANY_RULES = 7,     /* a 401st rule: at its offset */
+    AMBIGUITY_TOO_MANY_STATES = 8,    /* Q would pass 1024: at the rule's offset */
     AMBIGUITY_CERTIFICATE_LENGTH = 9, /* certificate length wrong: at 0 */
     AMBIGUITY_SPARE_BIT = 10,         /* bit past 2Q^2 set: at the lowest such index */
     AMBIGUITY_START_MISSING = 11,     /* (0,0,0) missing: at 0 */
@@ -190,28 +192,29 @@ typedef struct {
 extern "C" {
 #endif
 
-/* Checks a grammar's table: t terminals, n nonterminals, the rules end to end. Back comes Q. Refuses with 1 to 8, then with 19 a
- * grammar without a sentence; so do all functions that take a table, before their own causes. */
-ambiguity_table_reply ambiguity_check_table(size_t t, size_t n, const uint8_t *table, size_t table_entries);
+/* Checks a grammar's table: t terminals, n nonterminals, the rules end to end, each as its left code, the length of its right side and
+ * the codes of that, an entry of 16 bits for each. Offsets count entries. Back comes Q. Refuses with 1 to 8, then with 19 a grammar
+ * without a sentence; so do all functions that take a table, before their own causes. */
+ambiguity_table_reply ambiguity_check_table(size_t t, size_t n, const uint16_t *table, size_t table_entries);
 
 /* The step record of the triple (layer, left, right) at place nth, counted from 0: those back to the triple itself first, left
  * before right, then ascending by the next triple's index. AMBIGUITY_NO_MORE past the last, and for a triple out of range. An item
  * of a rule that no sentence uses has no moves, and no move leads to it. */
-ambiguity_step_reply ambiguity_nth_step(size_t t, size_t n, const uint8_t *table, size_t table_entries, size_t layer, size_t left,
+ambiguity_step_reply ambiguity_nth_step(size_t t, size_t n, const uint16_t *table, size_t table_entries, size_t layer, size_t left,
                                         size_t right, size_t nth);
 
 /* Checks a certificate of AMBIGUITY_CERTIFICATE_BYTES(Q) bytes: accepted exactly if it is acceptable, and then no sentence of the
  * grammar has two derivation trees. Refuses with 9 to 13. Whatever certificate comes with a grammar without a sentence, it is 19. */
-ambiguity_check_reply ambiguity_check_certificate(size_t t, size_t n, const uint8_t *table, size_t table_entries,
+ambiguity_check_reply ambiguity_check_certificate(size_t t, size_t n, const uint16_t *table, size_t table_entries,
                                                   const uint8_t *certificate, size_t certificate_bytes);
 
 /* Checks a witness, a row of triples' indices: accepted exactly if it leads from (0,0,0) to (1,1,1) by successors, and then two
  * strings part. Refuses with 15. */
-ambiguity_check_reply ambiguity_check_witness(size_t t, size_t n, const uint8_t *table, size_t table_entries, const uint32_t *row,
+ambiguity_check_reply ambiguity_check_witness(size_t t, size_t n, const uint16_t *table, size_t table_entries, const uint32_t *row,
                                               size_t row_entries);
 
 /* The witness check over a row of records, which answers alike: a layer above 1 or a state of Q or more is a wrong entry. */
-ambiguity_check_reply ambiguity_check_witness_records(size_t t, size_t n, const uint8_t *table, size_t table_entries,
+ambiguity_check_reply ambiguity_check_witness_records(size_t t, size_t n, const uint16_t *table, size_t table_entries,
                                                       const ambiguity_triple_record *records, size_t records_entries);
 
 /* What a search of this table is to be lent, from the table alone: no search is made. Back come Q, the bytes of the certificate, the
@@ -225,7 +228,7 @@ ambiguity_check_reply ambiguity_check_witness_records(size_t t, size_t n, const 
  *     uint32_t *queue = malloc(room.entries * sizeof *queue);     ... and so parents and witness
  *
  * That is room.certificate + 12 * room.entries bytes in all. */
-ambiguity_room_reply ambiguity_search_room(size_t t, size_t n, const uint8_t *table, size_t table_entries);
+ambiguity_room_reply ambiguity_search_room(size_t t, size_t n, const uint16_t *table, size_t table_entries);
 
 /* Searches: the smallest acceptable certificate, or the shortest witness, which has the fewest entries and, among those, the smaller
  * index where two first differ. Lent are AMBIGUITY_CERTIFICATE_BYTES(Q) bytes of certificate, and
@@ -238,7 +241,7 @@ ambiguity_room_reply ambiguity_search_room(size_t t, size_t n, const uint8_t *ta
  * counted, over all triples that are reached from (0,0,0). Each such triple is taken up once; of its successors the code may try
  * fewer, since it leaves out blocks that were had. The figure depends on the table alone, and is at most M * M + 2 * Q * M, with
  * `moves` and `states` of ambiguity_search_room, which needs no search. */
-ambiguity_search_reply ambiguity_search(size_t t, size_t n, const uint8_t *table, size_t table_entries, uint8_t *certificate,
+ambiguity_search_reply ambiguity_search(size_t t, size_t n, const uint16_t *table, size_t table_entries, uint8_t *certificate,
                                         size_t certificate_bytes, uint32_t *queue, size_t queue_entries, uint32_t *parents,
                                         size_t parents_entries, uint32_t *witness, size_t witness_entries);
 
@@ -246,20 +249,20 @@ ambiguity_search_reply ambiguity_search(size_t t, size_t n, const uint8_t *table
  * AMBIGUITY_MAX_TABLE_ENTRIES and AMBIGUITY_MAX_NAMES are always enough. Refuses with 16, 17, 18, 1, 4, 7, 6, 8, 19, 14; the
  * positions of 6, 7 and 8 are offsets in the table that it would write, those of 19 and 14 are 0, all others are lines from 1. A
  * text of more than AMBIGUITY_MAX_TEXT_BYTES is 16 at 0. */
-ambiguity_read_reply ambiguity_read_text(const uint8_t *text, size_t text_bytes, uint8_t *table, size_t table_entries,
+ambiguity_read_reply ambiguity_read_text(const uint8_t *text, size_t text_bytes, uint16_t *table, size_t table_entries,
                                          uint32_t *starts, size_t starts_entries, uint32_t *lengths, size_t lengths_entries);
 
 /* How many bytes ambiguity_write_text would write, from what it would be given; nothing is written. Refuses as the writer does, but
  * never with 14: with the causes of the table, then with 16, 18. The writer, lent so many bytes, writes as many; lent fewer it always
  * refuses with 14. */
-ambiguity_length_reply ambiguity_written_length(size_t t, size_t n, const uint8_t *table, size_t table_entries, const uint8_t *names,
+ambiguity_length_reply ambiguity_written_length(size_t t, size_t n, const uint16_t *table, size_t table_entries, const uint8_t *names,
                                                 size_t names_bytes, const uint32_t *starts, size_t starts_entries,
                                                 const uint32_t *lengths, size_t lengths_entries);
 
 /* Writes grammar text. The name of symbol i, terminals first, is the part of `names` that starts at starts[i] and has lengths[i]
  * bytes; the text that was read serves as `names`. Lent are as many bytes as ambiguity_written_length tells;
  * AMBIGUITY_MAX_TEXT_BYTES is always enough. Refuses with 16, 18, 14. */
-ambiguity_write_reply ambiguity_write_text(size_t t, size_t n, const uint8_t *table, size_t table_entries, const uint8_t *names,
+ambiguity_write_reply ambiguity_write_text(size_t t, size_t n, const uint16_t *table, size_t table_entries, const uint8_t *names,
                                            size_t names_bytes, const uint32_t *starts, size_t starts_entries,
                                            const uint32_t *lengths, size_t lengths_entries, uint8_t *out, size_t out_bytes);
 

@@ -7,7 +7,7 @@
 #include "ambiguity.h"
 
 static uint8_t text[AMBIGUITY_MAX_TEXT_BYTES + 1];
-static uint8_t table[AMBIGUITY_MAX_TABLE_ENTRIES];
+static uint16_t table[AMBIGUITY_MAX_TABLE_ENTRIES];
 static uint32_t starts[AMBIGUITY_MAX_NAMES];
 static uint32_t lengths[AMBIGUITY_MAX_NAMES];
 
@@ -62,7 +62,7 @@ static ambiguity_step_reply step_between(ambiguity_read_reply grammar, uint32_t 
 static void print_letter(ambiguity_read_reply grammar, ambiguity_move move)
 {
     if (move.moved == AMBIGUITY_SYMBOL) {
-        size_t symbol = (size_t)(move.number < 128 ? move.number - 1 : grammar.terminals + move.number - 128);
+        size_t symbol = (size_t)(move.number < AMBIGUITY_START ? move.number - 1 : grammar.terminals + move.number - AMBIGUITY_START);
         printf("%.*s", (int)lengths[symbol], (const char *)text + starts[symbol]);
     } else {
         printf("%c%llu", move.moved == AMBIGUITY_OPENING ? '(' : ')', (unsigned long long)move.number);

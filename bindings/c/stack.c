@@ -1,7 +1,7 @@
 /* The stack that each function uses, in bytes. A thread runs on a stack that was painted; after the call the paint tells how deep
  * the stack went below the caller. Exits with 0 if none went deeper than ambiguity.h says. The frames are of fixed size and no
- * function calls itself, so the largest grammar has the deepest calls that there are. A line with more names than the limit is
- * read another way, which is measured too. The report takes no more than 48 states; its two strings are read back. */
+ * function calls itself, so the largest grammar, with the most names, has the deepest calls that there are. A line with more names
+ * than the limit is read another way, which is measured too. The report takes no more than 48 states; its two strings are read back. */
 #define _XOPEN_SOURCE 700
 #include <pthread.h>
 #include <stdio.h>
@@ -10,29 +10,34 @@
 
 #include "ambiguity.h"
 
-#define STACK (1 << 20)
+#define STACK (1 << 23)
 #define PAINT 0xA5
-#define ROW AMBIGUITY_ROW_ENTRIES(AMBIGUITY_MAX_STATES)
+#define MOST AMBIGUITY_MAX_STATES
+#define ROW AMBIGUITY_ROW_ENTRIES(MOST)
+#define END (ROW / 2 + MOST + 1)
 #define REPORT_STATES 46
-#define LAST "rule=S: a9 a9\n"
+#define REPORT_NAMES 150
+#define LAST "rule=S: a19 a19\n"
 #define LAST_POTENTIAL "rule=S: S\nrule=S:\n"
 #define LINES "left=(0 (1 a0 )1 )0\nright=S (0 a9\n"
 #define LETTERS 5
 
-static uint8_t table[AMBIGUITY_MAX_TABLE_ENTRIES];
-static uint8_t certificate[AMBIGUITY_CERTIFICATE_BYTES(AMBIGUITY_MAX_STATES)];
-static uint8_t text[AMBIGUITY_MAX_TEXT_BYTES];
-static uint8_t out[AMBIGUITY_MAX_REPORT_BYTES];
+static uint16_t table[AMBIGUITY_MAX_TABLE_ENTRIES];
+static uint8_t certificate[AMBIGUITY_CERTIFICATE_BYTES(MOST)];
+static uint8_t text[AMBIGUITY_MAX_TEXT_BYTES + 1];
+static uint8_t out[AMBIGUITY_MAX_TEXT_BYTES];
 static uint32_t starts[AMBIGUITY_MAX_NAMES];
 static uint32_t lengths[AMBIGUITY_MAX_NAMES];
 static uint32_t queue[ROW];
 static uint32_t parents[ROW];
 static uint32_t witness[ROW];
-static uint32_t row[] = {0, 256 * 2 + 2, 256 * 2 + 3};
+static uint32_t row[] = {0, MOST * 2 + 2, MOST * 2 + 3};
 static ambiguity_triple_record records[] = {{0, 0, 0}, {0, 2, 2}, {0, 2, 3}};
 static uint32_t strings[2][LETTERS];
 static ambiguity_read_back_reply read_back;
 static ambiguity_read_reply grammar;
+static ambiguity_check_reply checked;
+static ambiguity_write_reply written;
 static uint64_t verdict;
 static uint8_t *caller;
 
@@ -48,7 +53,8 @@ static void run_step(void)
 
 static void run_certificate(void)
 {
-    ambiguity_check_certificate(grammar.terminals, grammar.nonterminals, table, grammar.entries, certificate, sizeof certificate);
+    checked = ambiguity_check_certificate(grammar.terminals, grammar.nonterminals, table, grammar.entries, certificate,
+                                          sizeof certificate);
 }
 
 static void run_witness(void) { ambiguity_check_witness(grammar.terminals, grammar.nonterminals, table, grammar.entries, row, 3); }
@@ -70,14 +76,14 @@ static void run_room(void) { ambiguity_search_room(grammar.terminals, grammar.no
 
 static void run_read(void)
 {
-    grammar = ambiguity_read_text(text, strlen((char *)text), table, sizeof table, starts, AMBIGUITY_MAX_NAMES, lengths,
-                                  AMBIGUITY_MAX_NAMES);
+    grammar = ambiguity_read_text(text, strlen((char *)text), table, AMBIGUITY_MAX_TABLE_ENTRIES, starts, AMBIGUITY_MAX_NAMES,
+                                  lengths, AMBIGUITY_MAX_NAMES);
 }
 
 static void run_write(void)
 {
-    ambiguity_write_text(grammar.terminals, grammar.nonterminals, table, grammar.entries, text, strlen((char *)text), starts,
-                         AMBIGUITY_MAX_NAMES, lengths, AMBIGUITY_MAX_NAMES, out, sizeof out);
+    written = ambiguity_write_text(grammar.terminals, grammar.nonterminals, table, grammar.entries, text, strlen((char *)text),
+                                   starts, AMBIGUITY_MAX_NAMES, lengths, AMBIGUITY_MAX_NAMES, out, sizeof out);
 }
 
 static void run_length(void)
@@ -121,87 +127,129 @@ static int measure(const char *name, void (*run)(void), size_t most)
     return depth > most;
 }
 
-/* Rules of two terminals each, no two equal, until Q is so many states; the last three states are those of `last`. */
-static void make_text(int states, const char *last)
+/* So many names of either kind; rules of two terminals each, no two equal, until Q is so many states; the last three states are those
+ * of `last`. */
+static void make_text(int states, int names, const char *last)
 {
     char *end = (char *)text;
     int i;
     end += sprintf(end, "terminals=a0");
-    for (i = 1; i < 10; i++)
+    for (i = 1; i < names; i++)
         end += sprintf(end, ",a%d", i);
-    end += sprintf(end, "\nnonterminals=S\n");
+    end += sprintf(end, "\nnonterminals=S");
+    for (i = 1; i < names; i++)
+        end += sprintf(end, ",Nonterminal%d", i);
+    end += sprintf(end, "\n");
     for (i = 0; 3 * i + 4 < states - 3; i++)
-        end += sprintf(end, "rule=S: a%d a%d\n", i / 10, i % 10);
+        end += sprintf(end, "rule=S: a%d a%d\n", i / 20, i % 20);
     strcpy(end, last);
-    memset(certificate, 0xFF, sizeof certificate);
-    certificate[(256 * 256 + 256 + 1) / 8] &= (uint8_t)~(1 << (256 * 256 + 256 + 1) % 8);
 }
 
-/* A first line of so many bytes, whose names are unequal and more than a grammar may have. */
-static void make_long_text(size_t bytes)
+/* The certificate that holds all triples but (1,1,1). */
+static void make_certificate(void)
+{
+    memset(certificate, 0xFF, sizeof certificate);
+    certificate[END / 8] &= (uint8_t)~(1 << END % 8);
+}
+
+/* A line of names that are unequal and more than a grammar may have, behind `front`; the text has so many bytes. */
+static void make_long_text(size_t bytes, const char *front)
 {
     char *end = (char *)text;
     int i;
-    end += sprintf(end, "terminals=n0");
+    end += sprintf(end, "%sn0", front);
     for (i = 1; (size_t)(end - (char *)text) + 8 < bytes; i++)
         end += sprintf(end, ",n%x", i);
     strcpy(end, "\n");
 }
 
-/* The reader, reading back and the report, of a text whose first line has too many names. */
-static int measure_long_text(void)
+/* A first line with the name `a` as often as so many bytes allow. */
+static void make_doubled_text(size_t bytes)
+{
+    char *end = (char *)text;
+    end += sprintf(end, "terminals=a");
+    while ((size_t)(end - (char *)text) + 3 <= bytes)
+        end += sprintf(end, ",a");
+    strcpy(end, "\n");
+}
+
+/* The reader, and reading back, of a text that is refused with this cause at a line. */
+static int measure_refused_text(const char *reader, const char *back, uint64_t cause, uint64_t at)
+{
+    int wrong = measure(reader, run_read, AMBIGUITY_READ_TEXT_STACK_BYTES);
+    wrong += grammar.cause != cause || grammar.at != at;
+    wrong += measure(back, run_read_back, AMBIGUITY_READ_BACK_STACK_BYTES);
+    return wrong + (read_back.cause != cause || read_back.at != at);
+}
+
+/* Texts with a line of too many names. In a report's text so many cannot be unequal. */
+static int measure_long_texts(void)
 {
     int wrong;
-    make_long_text(AMBIGUITY_MAX_TEXT_BYTES);
-    wrong = measure("ambiguity_read_text, many names", run_read, AMBIGUITY_READ_TEXT_STACK_BYTES);
-    wrong += grammar.cause != AMBIGUITY_OUT_OF_RANGE || grammar.at != 1;
-    wrong += measure("ambiguity_read_back, many names", run_read_back, AMBIGUITY_READ_BACK_STACK_BYTES);
-    wrong += read_back.cause != AMBIGUITY_OUT_OF_RANGE || read_back.at != 1;
-    make_long_text(AMBIGUITY_MAX_REPORT_TEXT_BYTES);
-    wrong += measure("ambiguity_report, many names", run_report, AMBIGUITY_REPORT_STACK_BYTES);
-    return wrong + (memcmp(out, "refused=1\nat=1\n", 15) != 0);
+    make_long_text(AMBIGUITY_MAX_TEXT_BYTES, "terminals=");
+    wrong = measure_refused_text("ambiguity_read_text, many terminals", "ambiguity_read_back, many terminals",
+                                 AMBIGUITY_OUT_OF_RANGE, 1);
+    make_long_text(AMBIGUITY_MAX_TEXT_BYTES, "terminals=a\nnonterminals=");
+    wrong += measure_refused_text("ambiguity_read_text, many nonterminals", "ambiguity_read_back, many nonterminals",
+                                  AMBIGUITY_OUT_OF_RANGE, 2);
+    make_doubled_text(AMBIGUITY_MAX_TEXT_BYTES);
+    wrong += measure_refused_text("ambiguity_read_text, many doubles", "ambiguity_read_back, many doubles",
+                                  AMBIGUITY_NAME_REPEATED, 1);
+    make_doubled_text(AMBIGUITY_MAX_REPORT_TEXT_BYTES);
+    wrong += measure("ambiguity_report, many doubles", run_report, AMBIGUITY_REPORT_STACK_BYTES);
+    return wrong + (memcmp(out, "refused=18\nat=1\n", 16) != 0);
 }
 
-/* The search of a text that has this verdict. */
-static int measure_search(const char *name, int states, const char *last, uint64_t right, size_t most)
+/* The search of the largest grammar that ends so and has this verdict. */
+static int measure_search(const char *name, const char *last, uint64_t right)
 {
-    make_text(states, last);
+    make_text(MOST, AMBIGUITY_MAX_TERMINALS, last);
     run_read();
-    if (grammar.cause != AMBIGUITY_NOT_REFUSED || grammar.states != (uint64_t)states)
+    if (grammar.cause != AMBIGUITY_NOT_REFUSED || grammar.states != MOST)
         return 1;
-    return measure(name, run_search, most) + (verdict != right);
+    return measure(name, run_search, AMBIGUITY_SEARCH_STACK_BYTES) + (verdict != right);
 }
 
-/* The report of a text that begins so. */
+/* The report of a grammar that ends so; it begins with these lines. */
 static int measure_report(const char *name, const char *last, const char *right)
 {
-    make_text(REPORT_STATES, last);
+    make_text(REPORT_STATES, REPORT_NAMES, last);
     return measure(name, run_report, AMBIGUITY_REPORT_STACK_BYTES) + (memcmp(out, right, strlen(right)) != 0);
+}
+
+/* Of the largest grammar, all but searches and reports. */
+static int measure_grammar(void)
+{
+    int wrong = measure("ambiguity_read_back", run_read_back, AMBIGUITY_READ_BACK_STACK_BYTES);
+    wrong += read_back.cause != AMBIGUITY_NOT_REFUSED || read_back.left != LETTERS;
+    wrong += measure("ambiguity_write_text", run_write, AMBIGUITY_STACK_BYTES);
+    wrong += written.cause != AMBIGUITY_NOT_REFUSED || written.length != strlen((char *)text);
+    wrong += measure("ambiguity_written_length", run_length, AMBIGUITY_STACK_BYTES);
+    wrong += measure("ambiguity_search_room", run_room, AMBIGUITY_STACK_BYTES);
+    wrong += measure("ambiguity_check_table", run_table, AMBIGUITY_STACK_BYTES);
+    wrong += measure("ambiguity_nth_step", run_step, AMBIGUITY_STACK_BYTES);
+    wrong += measure("ambiguity_check_witness", run_witness, AMBIGUITY_STACK_BYTES);
+    wrong += measure("ambiguity_check_witness_records", run_records, AMBIGUITY_STACK_BYTES);
+    make_certificate();
+    wrong += measure("ambiguity_check_certificate, refused", run_certificate, AMBIGUITY_STACK_BYTES);
+    return wrong + (checked.cause != AMBIGUITY_SUCCESSOR_MISSING);
 }
 
 int main(void)
 {
     int wrong = 0;
-    make_text(AMBIGUITY_MAX_STATES, LAST);
+    make_text(MOST, AMBIGUITY_MAX_TERMINALS, LAST);
     wrong += measure("ambiguity_read_text", run_read, AMBIGUITY_READ_TEXT_STACK_BYTES);
-    if (grammar.cause != AMBIGUITY_NOT_REFUSED || grammar.states != AMBIGUITY_MAX_STATES)
+    if (grammar.cause != AMBIGUITY_NOT_REFUSED || grammar.states != MOST
+        || grammar.terminals + grammar.nonterminals != AMBIGUITY_MAX_NAMES)
         return 1;
-    wrong += measure("ambiguity_read_back", run_read_back, AMBIGUITY_READ_BACK_STACK_BYTES);
-    wrong += read_back.cause != AMBIGUITY_NOT_REFUSED || read_back.left != LETTERS;
-    wrong += measure("ambiguity_write_text", run_write, AMBIGUITY_STACK_BYTES);
-    wrong += measure("ambiguity_written_length", run_length, AMBIGUITY_STACK_BYTES);
-    wrong += measure("ambiguity_search_room", run_room, AMBIGUITY_STACK_BYTES);
-    wrong += measure("ambiguity_check_table", run_table, AMBIGUITY_STACK_BYTES);
-    wrong += measure("ambiguity_nth_step", run_step, AMBIGUITY_STACK_BYTES);
-    wrong += measure("ambiguity_check_certificate", run_certificate, AMBIGUITY_STACK_BYTES);
-    wrong += measure("ambiguity_check_witness", run_witness, AMBIGUITY_STACK_BYTES);
-    wrong += measure("ambiguity_check_witness_records", run_records, AMBIGUITY_STACK_BYTES);
-    wrong += measure_search("ambiguity_search, unambiguous", AMBIGUITY_MAX_STATES, LAST, AMBIGUITY_UNAMBIGUOUS,
-                            AMBIGUITY_SEARCH_STACK_BYTES);
-    wrong += measure_search("ambiguity_search, potential", AMBIGUITY_MAX_STATES, LAST_POTENTIAL, AMBIGUITY_POTENTIAL,
-                            AMBIGUITY_SEARCH_STACK_BYTES);
+    wrong += measure_grammar();
+    wrong += measure_search("ambiguity_search, potential", LAST_POTENTIAL, AMBIGUITY_POTENTIAL);
+    wrong += measure_search("ambiguity_search, unambiguous", LAST, AMBIGUITY_UNAMBIGUOUS);
+    wrong += measure("ambiguity_check_certificate, accepted", run_certificate, AMBIGUITY_STACK_BYTES);
+    wrong += checked.cause != AMBIGUITY_NOT_REFUSED;
     wrong += measure_report("ambiguity_report, unambiguous", LAST, "states=46\nverdict=unambiguous\n");
     wrong += measure_report("ambiguity_report, potential", LAST_POTENTIAL, "states=46\nverdict=potential\nleft=(0 ");
-    wrong += measure_long_text();
+    wrong += measure_long_texts();
     return wrong != 0;
 }

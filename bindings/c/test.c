@@ -1,6 +1,7 @@
 /* The certificate check on document 01's cases of S -> a, the witness check over records on those of S -> S; S -> a, the report,
- * and reading its two strings back; searches and texts lent just what is told beforehand, and one less; and all twelve functions on
- * grammars without a sentence. Exits with 0 if every answer is document 01's and document 02's. */
+ * and reading its two strings back; searches and texts lent just what is told beforehand, and one less; all twelve functions on
+ * grammars without a sentence; and tables and texts at the limits and just past them. Exits with 0 if every answer is document 01's
+ * and document 02's. */
 #include <stdio.h>
 #include <string.h>
 
@@ -8,18 +9,20 @@
 
 #define STATES 6
 #define BYTES AMBIGUITY_CERTIFICATE_BYTES(STATES)
+#define ENTRIES(row) (sizeof(row) / sizeof((row)[0]))
+#define S AMBIGUITY_START
 
 /* S -> a: left code, length, codes. */
-static const uint8_t TABLE[] = {128, 1, 1};
+static const uint16_t TABLE[] = {S, 1, 1};
 
 static const uint8_t CERTIFICATE[] = {0x15, 0x50, 0x21, 0x15, 0x08, 0x00, 0x00, 0x00, 0x00};
 
 /* S -> S; S -> a, and a witness of its eight states. */
-static const uint8_t CYCLE[] = {128, 1, 128, 128, 1, 1};
+static const uint16_t CYCLE[] = {S, 1, S, S, 1, 1};
 
 static const ambiguity_triple_record WITNESS[] = {{0, 0, 0}, {0, 0, 2}, {0, 2, 2}, {0, 2, 4}, {0, 3, 5}, {1, 1, 3}, {1, 1, 1}};
 
-#define WITNESS_ENTRIES (sizeof WITNESS / sizeof WITNESS[0])
+#define WITNESS_ENTRIES ENTRIES(WITNESS)
 
 /* The same as text, and the two strings of its shortest witness. */
 static const char CYCLE_TEXT[] = "terminals=a\nnonterminals=S\nrule=S: S\nrule=S: a\n";
@@ -41,7 +44,7 @@ static void expect(const char *what, ambiguity_check_reply reply, uint64_t cause
 
 static ambiguity_check_reply check(const uint8_t *certificate, size_t bytes)
 {
-    return ambiguity_check_certificate(1, 1, TABLE, sizeof TABLE, certificate, bytes);
+    return ambiguity_check_certificate(1, 1, TABLE, ENTRIES(TABLE), certificate, bytes);
 }
 
 static ambiguity_check_reply check_filled(uint8_t first, uint8_t others)
@@ -54,7 +57,7 @@ static ambiguity_check_reply check_filled(uint8_t first, uint8_t others)
 
 static ambiguity_check_reply check_records(size_t records_entries)
 {
-    return ambiguity_check_witness_records(1, 1, CYCLE, sizeof CYCLE, WITNESS, records_entries);
+    return ambiguity_check_witness_records(1, 1, CYCLE, ENTRIES(CYCLE), WITNESS, records_entries);
 }
 
 /* The witness with another record at a place. */
@@ -63,7 +66,7 @@ static ambiguity_check_reply check_other(size_t place, uint32_t layer, uint32_t 
     ambiguity_triple_record records[WITNESS_ENTRIES];
     memcpy(records, WITNESS, sizeof WITNESS);
     records[place] = (ambiguity_triple_record){layer, left, right};
-    return ambiguity_check_witness_records(1, 1, CYCLE, sizeof CYCLE, records, WITNESS_ENTRIES);
+    return ambiguity_check_witness_records(1, 1, CYCLE, ENTRIES(CYCLE), records, WITNESS_ENTRIES);
 }
 
 /* The report of a text is these lines, at the front of what is lent; one byte less is refused and stays as it was. */
@@ -90,7 +93,7 @@ static void put_letter(char *word, uint32_t entry)
 {
     uint32_t kind = AMBIGUITY_LETTER_KIND(entry), number = AMBIGUITY_LETTER_NUMBER(entry);
     if (kind == AMBIGUITY_SYMBOL)
-        sprintf(word, "%s", number == 128 ? "S" : "?");
+        sprintf(word, "%s", number == S ? "S" : "?");
     else
         sprintf(word, "%s%u", kind == AMBIGUITY_OPENING ? "(" : kind == AMBIGUITY_CLOSING ? ")" : "?", (unsigned)number);
 }
@@ -132,9 +135,10 @@ static void expect_read_back(const char *what, const char *text, const char *lin
 }
 
 /* S -> S has no finite tree. Its triples would have this smallest certificate. */
-static const uint8_t ENDLESS[] = {128, 1, 128};
+static const uint16_t ENDLESS[] = {S, 1, S};
 static const char ENDLESS_TEXT[] = "terminals=\nnonterminals=S\nrule=S: S\n";
 static const uint8_t ENDLESS_CERTIFICATE[BYTES] = {0x01};
+static const uint8_t NO_NAMES[] = {0};
 
 /* So with no rules; and what is acceptable of them in document 01's automaton, where every rule has moves, rule 0 too. */
 static const uint8_t NONE_CERTIFICATES[][4] = {{0x01}, {0x05, 0x85}};
@@ -143,12 +147,15 @@ static const uint8_t NONE_CERTIFICATES[][4] = {{0x01}, {0x05, 0x85}};
 #define LENT AMBIGUITY_ROW_ENTRIES(27)
 
 static uint8_t lent_bytes[LENT];
+static uint16_t lent_table[LENT];
 static uint32_t lent_rows[3][LENT];
 
 static void fill_lent(void)
 {
     size_t i;
     memset(lent_bytes, 7, sizeof lent_bytes);
+    for (i = 0; i < LENT; i++)
+        lent_table[i] = 7;
     for (i = 0; i < 3 * LENT; i++)
         lent_rows[i / LENT][i % LENT] = 7;
 }
@@ -159,7 +166,7 @@ static int is_kept(size_t bytes, size_t queue, size_t parents, size_t witness)
     size_t i;
     for (i = 0; i < LENT; i++)
         if ((i >= bytes && lent_bytes[i] != 7) || (i >= queue && lent_rows[0][i] != 7) || (i >= parents && lent_rows[1][i] != 7)
-            || (i >= witness && lent_rows[2][i] != 7))
+            || (i >= witness && lent_rows[2][i] != 7) || lent_table[i] != 7)
             return 0;
     return 1;
 }
@@ -176,17 +183,17 @@ static void expect_no_sentence(const char *what, uint64_t cause, uint64_t at, ui
 /* All functions that take a table, with rows of so many entries: certificate, witness and names are at fault too. */
 static void expect_table_without_sentence(size_t lent)
 {
-    ambiguity_table_reply table = ambiguity_check_table(0, 1, ENDLESS, sizeof ENDLESS);
-    ambiguity_step_reply step = ambiguity_nth_step(0, 1, ENDLESS, sizeof ENDLESS, 0, 0, 0, 0);
-    ambiguity_check_reply certificate = ambiguity_check_certificate(0, 1, ENDLESS, sizeof ENDLESS, lent_bytes, lent);
-    ambiguity_check_reply witness = ambiguity_check_witness(0, 1, ENDLESS, sizeof ENDLESS, lent_rows[0], lent);
-    ambiguity_check_reply records = ambiguity_check_witness_records(0, 1, ENDLESS, sizeof ENDLESS, WITNESS, lent == 0 ? 0 : 1);
-    ambiguity_search_reply search = ambiguity_search(0, 1, ENDLESS, sizeof ENDLESS, lent_bytes, lent, lent_rows[0], lent,
+    ambiguity_table_reply table = ambiguity_check_table(0, 1, ENDLESS, ENTRIES(ENDLESS));
+    ambiguity_step_reply step = ambiguity_nth_step(0, 1, ENDLESS, ENTRIES(ENDLESS), 0, 0, 0, 0);
+    ambiguity_check_reply certificate = ambiguity_check_certificate(0, 1, ENDLESS, ENTRIES(ENDLESS), lent_bytes, lent);
+    ambiguity_check_reply witness = ambiguity_check_witness(0, 1, ENDLESS, ENTRIES(ENDLESS), lent_rows[0], lent);
+    ambiguity_check_reply records = ambiguity_check_witness_records(0, 1, ENDLESS, ENTRIES(ENDLESS), WITNESS, lent == 0 ? 0 : 1);
+    ambiguity_search_reply search = ambiguity_search(0, 1, ENDLESS, ENTRIES(ENDLESS), lent_bytes, lent, lent_rows[0], lent,
                                                      lent_rows[1], lent, lent_rows[2], lent);
-    ambiguity_write_reply written = ambiguity_write_text(0, 1, ENDLESS, sizeof ENDLESS, ENDLESS, 0, lent_rows[0], lent,
+    ambiguity_write_reply written = ambiguity_write_text(0, 1, ENDLESS, ENTRIES(ENDLESS), NO_NAMES, 0, lent_rows[0], lent,
                                                          lent_rows[1], lent, lent_bytes, lent);
-    ambiguity_room_reply room = ambiguity_search_room(0, 1, ENDLESS, sizeof ENDLESS);
-    ambiguity_length_reply length = ambiguity_written_length(0, 1, ENDLESS, sizeof ENDLESS, ENDLESS, 0, lent_rows[0], lent,
+    ambiguity_room_reply room = ambiguity_search_room(0, 1, ENDLESS, ENTRIES(ENDLESS));
+    ambiguity_length_reply length = ambiguity_written_length(0, 1, ENDLESS, ENTRIES(ENDLESS), NO_NAMES, 0, lent_rows[0], lent,
                                                              lent_rows[1], lent);
     expect_no_sentence("table check", table.cause, table.at, table.states);
     expect_no_sentence("step record", step.cause, step.at,
@@ -203,7 +210,7 @@ static void expect_table_without_sentence(size_t lent)
 /* Both functions that take a text and refuse it, with rows of so many entries; the two lines are at fault too. */
 static void expect_text_without_sentence(size_t lent)
 {
-    ambiguity_read_reply read = ambiguity_read_text((const uint8_t *)ENDLESS_TEXT, strlen(ENDLESS_TEXT), lent_bytes, lent,
+    ambiguity_read_reply read = ambiguity_read_text((const uint8_t *)ENDLESS_TEXT, strlen(ENDLESS_TEXT), lent_table, lent,
                                                     lent_rows[0], lent, lent_rows[1], lent);
     ambiguity_read_back_reply back = ambiguity_read_back((const uint8_t *)ENDLESS_TEXT, strlen(ENDLESS_TEXT), lent_bytes, lent,
                                                          lent_rows[0], lent, lent_rows[1], lent);
@@ -220,38 +227,43 @@ static void expect_without_sentence(void)
     expect_text_without_sentence(0);
     expect_text_without_sentence(LENT);
     expect("a certificate of S -> S",
-           ambiguity_check_certificate(0, 1, ENDLESS, sizeof ENDLESS, ENDLESS_CERTIFICATE, sizeof ENDLESS_CERTIFICATE),
+           ambiguity_check_certificate(0, 1, ENDLESS, ENTRIES(ENDLESS), ENDLESS_CERTIFICATE, sizeof ENDLESS_CERTIFICATE),
            AMBIGUITY_NO_SENTENCE, 0);
     for (i = 0; i < 2; i++)
         expect("a certificate of no rules", ambiguity_check_certificate(0, 1, ENDLESS, 0, NONE_CERTIFICATES[i], 4),
                AMBIGUITY_NO_SENTENCE, 0);
 }
 
-/* The twelve rules of a nonterminal with 1 to 12 codes S, which have 90 states and 102 entries. */
-static void put_rules(uint8_t *table, uint8_t left)
+/* A rule of a nonterminal with so many times the same code; back comes where it ends. */
+static uint16_t *put_rule(uint16_t *table, unsigned left, unsigned length, unsigned code)
 {
-    uint8_t length;
-    for (length = 1; length <= 12; table += 2 + length++) {
-        table[0] = left;
-        table[1] = length;
-        memset(table + 2, 128, length);
-    }
+    unsigned i;
+    table[0] = (uint16_t)left;
+    table[1] = (uint16_t)length;
+    for (i = 0; i < length; i++)
+        table[2 + i] = (uint16_t)code;
+    return table + 2 + length;
 }
 
-/* 8 comes before 19, here at the eleventh rule of the third nonterminal, and 19 before the report's limit of states. */
+static ambiguity_check_reply check_table(size_t t, size_t n, const uint16_t *table, size_t entries)
+{
+    ambiguity_table_reply reply = ambiguity_check_table(t, n, table, entries);
+    return (ambiguity_check_reply){reply.cause, reply.at};
+}
+
+/* The twelve rules of a nonterminal with 1 to 12 codes S have 90 states and 102 entries. 8 comes before 19, here at the seventh rule of
+ * the twelfth nonterminal, and 19 before the report's limit of states. */
 static void expect_order(void)
 {
-    uint8_t table[3 * 102];
+    static uint16_t table[12 * 102];
     char text[512] = "terminals=\nnonterminals=S\n";
-    ambiguity_table_reply few, many;
-    int length, i;
-    put_rules(table, 128);
-    put_rules(table + 102, 129);
-    put_rules(table + 204, 130);
-    few = ambiguity_check_table(0, 3, table, 204);
-    many = ambiguity_check_table(0, 3, table, sizeof table);
-    expect("184 states without a sentence", (ambiguity_check_reply){few.cause, few.at}, AMBIGUITY_NO_SENTENCE, 0);
-    expect("too many states without a sentence", (ambiguity_check_reply){many.cause, many.at}, AMBIGUITY_TOO_MANY_STATES, 279);
+    uint16_t *end = table;
+    unsigned left, length, i;
+    for (left = S; left < S + 12; left++)
+        for (length = 1; length <= 12; length++)
+            end = put_rule(end, left, length, S);
+    expect("994 states without a sentence", check_table(0, 12, table, 11 * 102), AMBIGUITY_NO_SENTENCE, 0);
+    expect("too many states without a sentence", check_table(0, 12, table, ENTRIES(table)), AMBIGUITY_TOO_MANY_STATES, 11 * 102 + 33);
     for (length = 1; length <= 12; length++) {
         strcat(text, "rule=S:");
         for (i = 0; i < length; i++)
@@ -261,31 +273,81 @@ static void expect_order(void)
     expect_report(text, "refused=19\nat=0\n");
 }
 
+/* S -> , and a last rule with these two codes: what the table check says with so many symbols. */
+static ambiguity_check_reply check_codes(size_t t, size_t n, unsigned left, unsigned code)
+{
+    const uint16_t table[] = {S, 0, (uint16_t)left, 2, (uint16_t)code, (uint16_t)code};
+    return check_table(t, n, table, ENTRIES(table));
+}
+
+static void expect_codes(void)
+{
+    expect("the most symbols, the last terminal", check_codes(2000, 2000, S + 1999, 2000), AMBIGUITY_NOT_REFUSED, 0);
+    expect("the most symbols, the last nonterminal", check_codes(2000, 2000, S + 1999, S + 1999), AMBIGUITY_NOT_REFUSED, 0);
+    expect("a terminal too many", check_codes(2001, 1, S, 1), AMBIGUITY_OUT_OF_RANGE, 0);
+    expect("a nonterminal too many", check_codes(1, 2001, S, 1), AMBIGUITY_OUT_OF_RANGE, 0);
+    expect("no nonterminal", check_codes(1, 0, S, 1), AMBIGUITY_OUT_OF_RANGE, 0);
+    expect("the left code 32767", check_codes(2000, 2000, S - 1, 1), AMBIGUITY_LEFT_UNDECLARED, 2);
+    expect("the left code 34768", check_codes(2000, 2000, S + 2000, 1), AMBIGUITY_LEFT_UNDECLARED, 2);
+    expect("a terminal on the left", check_codes(2000, 2000, 1, 1), AMBIGUITY_LEFT_UNDECLARED, 2);
+    expect("the code 0", check_codes(2000, 2000, S, 0), AMBIGUITY_CODE_UNDECLARED, 4);
+    expect("the code 2001", check_codes(2000, 2000, S, 2001), AMBIGUITY_CODE_UNDECLARED, 4);
+    expect("the code 32767", check_codes(2000, 2000, S, S - 1), AMBIGUITY_CODE_UNDECLARED, 4);
+    expect("the code 34768", check_codes(2000, 2000, S, S + 2000), AMBIGUITY_CODE_UNDECLARED, 4);
+    expect("the code 65535", check_codes(2000, 2000, S, 65535), AMBIGUITY_CODE_UNDECLARED, 4);
+}
+
+/* 400 rules of a code each, and one more; 78 rules of twelve codes and one of five, or of six. */
+static void expect_limits(void)
+{
+    static uint16_t units[401 * 3], longs[79 * 14];
+    static uint8_t text[AMBIGUITY_MAX_TEXT_BYTES + 1];
+    uint16_t *end = units;
+    unsigned code, left;
+    ambiguity_read_reply just, over;
+    for (code = 1; code <= 401; code++)
+        end = put_rule(end, S, 1, code);
+    expect("400 rules", check_table(401, 1, units, 400 * 3), AMBIGUITY_NOT_REFUSED, 0);
+    expect("401 rules", check_table(401, 1, units, 401 * 3), AMBIGUITY_TOO_MANY_RULES, 400 * 3);
+    end = longs;
+    for (left = S; left < S + 78; left++)
+        end = put_rule(end, left, 12, 1);
+    put_rule(end, S, 5, 1);
+    expect("1024 states", check_table(1, 78, longs, 78 * 14 + 7), AMBIGUITY_NOT_REFUSED, 0);
+    put_rule(end, S, 6, 1);
+    expect("1025 states", check_table(1, 78, longs, 78 * 14 + 8), AMBIGUITY_TOO_MANY_STATES, 78 * 14);
+    memset(text, 'a', sizeof text);
+    just = ambiguity_read_text(text, AMBIGUITY_MAX_TEXT_BYTES, lent_table, 0, lent_rows[0], 0, lent_rows[1], 0);
+    over = ambiguity_read_text(text, AMBIGUITY_MAX_TEXT_BYTES + 1, lent_table, 0, lent_rows[0], 0, lent_rows[1], 0);
+    expect("262144 bytes of a text", (ambiguity_check_reply){just.cause, just.at}, AMBIGUITY_MALFORMED, 1);
+    expect("262145 bytes of a text", (ambiguity_check_reply){over.cause, over.at}, AMBIGUITY_MALFORMED, 0);
+}
+
 /* A table, with what a search of it is to be lent, its verdict, and how much it looks at. */
 struct told {
     const char *name;
     size_t t, n, entries;
-    const uint8_t *table;
+    const uint16_t *table;
     ambiguity_room_reply room;
     uint64_t verdict, looked;
 };
 
 /* S -> ; S -> S S. */
-static const uint8_t PAIRS[] = {128, 0, 128, 2, 128, 128};
+static const uint16_t PAIRS[] = {S, 0, S, 2, S, S};
 
 /* Of S -> a; S -> A; A -> A only the first rule has moves. */
-static const uint8_t DEAD[] = {128, 1, 1, 128, 1, 129, 129, 1, 129};
+static const uint16_t DEAD[] = {S, 1, 1, S, 1, S + 1, S + 1, 1, S + 1};
 
 /* Document 02's eight-channel command set: P -> , P -> P K; K -> take L vol, give L vol, repeat num P close; L -> ch, L sep ch. */
-static const uint8_t CHANNELS[] = {128, 0, 128, 2, 128, 129, 129, 3, 1, 130, 2, 129, 3, 3, 130, 2, 129, 4, 4, 5, 128, 6,
-                                   130, 1, 7, 130, 3, 130, 8, 7};
+static const uint16_t CHANNELS[] = {S, 0, S, 2, S, S + 1, S + 1, 3, 1, S + 2, 2, S + 1, 3, 3, S + 2, 2, S + 1, 4, 4, 5, S, 6,
+                                    S + 2, 1, 7, S + 2, 3, S + 2, 8, 7};
 
 static const struct told TOLD[] = {
-    {"room of S -> a", 1, 1, sizeof TABLE, TABLE, {0, 0, 6, 9, 72, 6}, AMBIGUITY_UNAMBIGUOUS, 14},
-    {"room of S -> S; S -> a", 1, 1, sizeof CYCLE, CYCLE, {0, 0, 8, 16, 128, 13}, AMBIGUITY_POTENTIAL, 55},
-    {"room of S -> ; S -> S S", 0, 1, sizeof PAIRS, PAIRS, {0, 0, 8, 16, 128, 17}, AMBIGUITY_POTENTIAL, 235},
-    {"room of S -> a; S -> A; A -> A", 1, 2, sizeof DEAD, DEAD, {0, 0, 10, 25, 200, 6}, AMBIGUITY_UNAMBIGUOUS, 14},
-    {"room of the eight-channel command set", 8, 3, sizeof CHANNELS, CHANNELS, {0, 0, 27, 183, 1458, 49}, AMBIGUITY_UNAMBIGUOUS, 163},
+    {"room of S -> a", 1, 1, ENTRIES(TABLE), TABLE, {0, 0, 6, 9, 72, 6}, AMBIGUITY_UNAMBIGUOUS, 14},
+    {"room of S -> S; S -> a", 1, 1, ENTRIES(CYCLE), CYCLE, {0, 0, 8, 16, 128, 13}, AMBIGUITY_POTENTIAL, 55},
+    {"room of S -> ; S -> S S", 0, 1, ENTRIES(PAIRS), PAIRS, {0, 0, 8, 16, 128, 17}, AMBIGUITY_POTENTIAL, 235},
+    {"room of S -> a; S -> A; A -> A", 1, 2, ENTRIES(DEAD), DEAD, {0, 0, 10, 25, 200, 6}, AMBIGUITY_UNAMBIGUOUS, 14},
+    {"room of the eight-channel command set", 8, 3, ENTRIES(CHANNELS), CHANNELS, {0, 0, 27, 183, 1458, 49}, AMBIGUITY_UNAMBIGUOUS, 163},
 };
 
 static int expect_room(const char *what, ambiguity_room_reply room, ambiguity_room_reply expected)
@@ -322,7 +384,7 @@ static void expect_rooms(void)
 {
     size_t i;
     int less;
-    for (i = 0; i < sizeof TOLD / sizeof TOLD[0]; i++) {
+    for (i = 0; i < ENTRIES(TOLD); i++) {
         const struct told *told = &TOLD[i];
         ambiguity_room_reply room = ambiguity_search_room(told->t, told->n, told->table, told->entries);
         if (expect_room(told->name, room, told->room))
@@ -330,7 +392,7 @@ static void expect_rooms(void)
                 expect_search(told, room, less);
     }
     expect_room("the room of a table cut", ambiguity_search_room(1, 1, CYCLE, 5), (ambiguity_room_reply){2, 3, 0, 0, 0, 0});
-    expect_room("the room with 128 terminals", ambiguity_search_room(128, 1, CYCLE, 5), (ambiguity_room_reply){1, 0, 0, 0, 0, 0});
+    expect_room("the room with 2001 terminals", ambiguity_search_room(2001, 1, CYCLE, 5), (ambiguity_room_reply){1, 0, 0, 0, 0, 0});
 }
 
 /* The names of S -> S; S -> a in CYCLE_TEXT, and such as are malformed or doubled. */
@@ -345,7 +407,7 @@ static ambiguity_length_reply length_of(size_t entries, const uint32_t *starts)
 static ambiguity_write_reply write_in(size_t bytes)
 {
     fill_lent();
-    return ambiguity_write_text(1, 1, CYCLE, sizeof CYCLE, (const uint8_t *)CYCLE_TEXT, strlen(CYCLE_TEXT), STARTS, 2, LENGTHS, 2,
+    return ambiguity_write_text(1, 1, CYCLE, ENTRIES(CYCLE), (const uint8_t *)CYCLE_TEXT, strlen(CYCLE_TEXT), STARTS, 2, LENGTHS, 2,
                                 lent_bytes, bytes);
 }
 
@@ -360,10 +422,10 @@ static void expect_length(const char *what, ambiguity_length_reply reply, uint64
 static void expect_lengths(void)
 {
     size_t length = strlen(CYCLE_TEXT);
-    expect_length("the length of a text", length_of(sizeof CYCLE, STARTS), AMBIGUITY_NOT_REFUSED, 0, length);
-    expect_length("a name past the end", length_of(sizeof CYCLE, PAST_THE_END), AMBIGUITY_MALFORMED, 1, 0);
-    expect_length("a name that stands twice", length_of(sizeof CYCLE, TWICE), AMBIGUITY_NAME_REPEATED, 1, 0);
-    expect_length("the table cut", length_of(sizeof CYCLE - 1, TWICE), AMBIGUITY_TRUNCATED, 3, 0);
+    expect_length("the length of a text", length_of(ENTRIES(CYCLE), STARTS), AMBIGUITY_NOT_REFUSED, 0, length);
+    expect_length("a name past the end", length_of(ENTRIES(CYCLE), PAST_THE_END), AMBIGUITY_MALFORMED, 1, 0);
+    expect_length("a name that stands twice", length_of(ENTRIES(CYCLE), TWICE), AMBIGUITY_NAME_REPEATED, 1, 0);
+    expect_length("the table cut", length_of(ENTRIES(CYCLE) - 1, TWICE), AMBIGUITY_TRUNCATED, 3, 0);
     ambiguity_write_reply written = write_in(length);
     int right = written.cause == AMBIGUITY_NOT_REFUSED && written.length == length && memcmp(lent_bytes, CYCLE_TEXT, length) == 0
         && is_kept(length, 0, 0, 0);
@@ -409,5 +471,7 @@ int main(void)
     expect_report(ENDLESS_TEXT, "refused=19\nat=0\n");
     expect_without_sentence();
     expect_order();
+    expect_codes();
+    expect_limits();
     return wrong != 0;
 }

@@ -15,13 +15,14 @@ import ctypes
 import os
 from typing import List, NamedTuple, Optional
 
-MAX_TABLE_ENTRIES = 352   # enough for any grammar
-MAX_NAMES = 254
+MAX_TABLE_ENTRIES = 1420  # enough for any grammar
+MAX_NAMES = 4000
 UNAMBIGUOUS = 1
 HERE = os.path.dirname(os.path.abspath(__file__))
 
 Numbers = ctypes.c_uint64
 Bytes = ctypes.POINTER(ctypes.c_uint8)
+Codes = ctypes.POINTER(ctypes.c_uint16)
 Row = ctypes.POINTER(ctypes.c_uint32)
 Size = ctypes.c_size_t
 
@@ -35,7 +36,7 @@ READ = reply("terminals", "nonterminals", "entries", "states")
 ROOM = reply("states", "certificate", "entries", "moves")
 SEARCH = reply("verdict", "count", "looked")
 CHECK = reply()
-TABLE = [Size, Size, Bytes, Size]
+TABLE = [Size, Size, Codes, Size]
 
 
 def opened() -> ctypes.CDLL:
@@ -45,7 +46,7 @@ def opened() -> ctypes.CDLL:
     found = next((place for place in places if place and os.path.exists(place)), "libambiguity.so")
     library = ctypes.CDLL(found)
     types = {
-        "ambiguity_read_text": (READ, [Bytes, Size, Bytes, Size, Row, Size, Row, Size]),
+        "ambiguity_read_text": (READ, [Bytes, Size, Codes, Size, Row, Size, Row, Size]),
         "ambiguity_search_room": (ROOM, TABLE),
         "ambiguity_search": (SEARCH, TABLE + [Bytes, Size, Row, Size, Row, Size, Row, Size]),
         "ambiguity_check_certificate": (CHECK, TABLE + [Bytes, Size]),
@@ -101,7 +102,7 @@ class Grammar:
     """A grammar that was read from its text: `states` is Q, `names` are terminals, then nonterminals."""
 
     def __init__(self, text: bytes) -> None:
-        table = (ctypes.c_uint8 * MAX_TABLE_ENTRIES)()
+        table = (ctypes.c_uint16 * MAX_TABLE_ENTRIES)()
         starts, lengths = (ctypes.c_uint32 * MAX_NAMES)(), (ctypes.c_uint32 * MAX_NAMES)()
         read = taken(LIBRARY.ambiguity_read_text(
             lent(text), len(text), table, MAX_TABLE_ENTRIES, starts, MAX_NAMES, lengths, MAX_NAMES))

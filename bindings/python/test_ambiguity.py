@@ -50,7 +50,15 @@ def main():
     small = [entry for entry in entries() if entry.states <= SMALL]
     for entry in small:
         compare(entry)
-    assert refusal(ambiguity.Grammar, b"") == (16, 1) and refusal(ambiguity.Grammar, b"\xff" * 70_000) == (16, 0)
+    largest = max(entries(), key=lambda entry: entry.states)
+    grammar = ambiguity.Grammar(text_in(largest.name))
+    assert grammar.states == largest.states and len(grammar.names) == grammar.terminals + grammar.nonterminals
+    found = grammar.search()
+    assert (found.unambiguous, found.size) == (largest.size is not None, largest.size)
+    names = b",".join(b"t%d" % place for place in range(2000))
+    most = ambiguity.Grammar(b"terminals=" + names + b"\nnonterminals=" + names.replace(b"t", b"N") + b"\nrule=N0:\n")
+    assert (len(most.names), most.names[-1], most.search().size) == (4000, "N1999", 10)
+    assert refusal(ambiguity.Grammar, b"") == (16, 1) and refusal(ambiguity.Grammar, b"\xff" * 262_145) == (16, 0)
     print("%d grammars" % len(small))
 
 

@@ -3,11 +3,11 @@
 use crate::{check_certificate, read_text, search, search_room, write_text, written_length};
 use crate::{Names, Refusal, Room, Table, Verdict, MAX_NAMES, MAX_TABLE_ENTRIES};
 
-/// A symbol's code: terminals are 1 to t, nonterminals [`START`] and up.
-pub type Code = u8;
+/// An entry of a table, above all a symbol's code: terminals are 1 to t, nonterminals [`START`] and up.
+pub type Code = u16;
 
 /// The code of the first nonterminal, the start.
-pub const START: Code = 128;
+pub const START: Code = 32_768;
 
 /// A stored rule. Rule 0, from the primed start to the start, is not stored: `rules()[i]` is rule i + 1.
 #[derive(Clone, Debug, PartialEq, Eq)]
@@ -64,13 +64,13 @@ impl Searched {
 pub struct Grammar {
     names: Vec<String>,
     terminals: usize,
-    entries: Vec<u8>,
+    entries: Vec<Code>,
     rules: Vec<Rule>,
     states: usize,
 }
 
 /// The rules of a table that passed its check.
-fn rules_of(mut entries: &[u8]) -> Vec<Rule> {
+fn rules_of(mut entries: &[Code]) -> Vec<Rule> {
     let mut rules = Vec::new();
     while let [left, length, rest @ ..] = entries {
         let (right, rest) = rest.split_at(*length as usize);
@@ -81,7 +81,7 @@ fn rules_of(mut entries: &[u8]) -> Vec<Rule> {
 }
 
 impl Grammar {
-    /// Reads grammar text. Uses up to 268 KiB of stack, as [`read_text`] does.
+    /// Reads grammar text. Uses as much stack as [`read_text`] does.
     ///
     /// # Errors
     ///
@@ -94,7 +94,7 @@ impl Grammar {
     /// ```
     pub fn read(text: &[u8]) -> Result<Grammar, Refusal> {
         let mut entries = vec![0; MAX_TABLE_ENTRIES];
-        let (mut starts, mut lengths) = ([0; MAX_NAMES], [0; MAX_NAMES]);
+        let (mut starts, mut lengths) = (vec![0; MAX_NAMES], vec![0; MAX_NAMES]);
         let read = read_text(text, &mut entries, &mut starts, &mut lengths)?;
         entries.truncate(read.entries);
         let name = |i: usize| {

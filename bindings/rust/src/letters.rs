@@ -33,7 +33,7 @@ impl Letter {
         match entry / KIND {
             1 => Some(Letter::Opening(number)),
             2 => Some(Letter::Closing(number)),
-            3 => Code::try_from(number).ok().map(Letter::Symbol),
+            3 => Some(Letter::Symbol(number)),
             _ => None,
         }
     }
@@ -93,15 +93,15 @@ impl std::error::Error for PartRefusal {}
 #[cfg(test)]
 mod tests {
     use super::*;
-    use crate::Cause;
+    use crate::{Cause, START};
 
     #[test]
     fn entries_of_letters() {
-        for letter in [Letter::Opening(0), Letter::Closing(100), Letter::Symbol(255), Letter::Opening(u16::MAX)] {
+        for letter in [Letter::Opening(0), Letter::Closing(400), Letter::Symbol(34_767), Letter::Opening(u16::MAX)] {
             assert_eq!(Letter::of_entry(letter.entry()), Some(letter));
         }
-        assert_eq!(Letter::Symbol(128).entry(), 3 * 65_536 + 128);
-        for entry in [0, 65_535, 3 * 65_536 + 256, 4 * 65_536, u32::MAX] {
+        assert_eq!(Letter::Symbol(START).entry(), 3 * 65_536 + 32_768);
+        for entry in [0, 65_535, 4 * 65_536, u32::MAX] {
             assert_eq!(Letter::of_entry(entry), None);
         }
         assert_eq!(std::mem::size_of::<Letter>(), 4);

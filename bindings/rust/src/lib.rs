@@ -5,7 +5,8 @@
 //! that.
 //!
 //! Every input is taken. A refusal changes no lent row. A written row may be longer than needed: its rest stays as it was. The stack
-//! that a call uses is measured and not proved: bindings/c/ambiguity.h has the figures.
+//! that a call uses is measured and not proved: bindings/c/ambiguity.h has the figures, for reader, search, report and reading back
+//! `AMBIGUITY_READ_TEXT_STACK_BYTES` and so on, for all others `AMBIGUITY_STACK_BYTES`.
 //!
 //! [`Grammar`] owns its rows: read a text, search it, check a certificate, read two strings back. The functions below it lend rows.
 
@@ -28,16 +29,16 @@ pub use refusal::{Cause, Refusal};
 pub use room::{search_room, written_length, Room};
 pub use strings::Strings;
 
-/// Document 01's limit of terminals.
-pub const MAX_TERMINALS: usize = 127;
-/// Document 01's limit of nonterminals.
-pub const MAX_NONTERMINALS: usize = 127;
-/// Document 01's limit of rules, rule 0 not counted.
-pub const MAX_RULES: usize = 100;
-/// Document 01's limit of states.
-pub const MAX_STATES: usize = 256;
-/// Document 01's limit of a text's bytes.
-pub const MAX_TEXT_BYTES: usize = 65_536;
+/// Document 02's limit of terminals.
+pub const MAX_TERMINALS: usize = 2_000;
+/// Document 02's limit of nonterminals.
+pub const MAX_NONTERMINALS: usize = 2_000;
+/// Document 02's limit of rules, rule 0 not counted.
+pub const MAX_RULES: usize = 400;
+/// Document 02's limit of states.
+pub const MAX_STATES: usize = 1_024;
+/// Document 02's limit of a text's bytes.
+pub const MAX_TEXT_BYTES: usize = 262_144;
 
 /// Enough for any grammar: the entries of its table.
 pub const MAX_TABLE_ENTRIES: usize = MAX_STATES - 4 + MAX_RULES;
@@ -71,7 +72,7 @@ pub struct Table<'a> {
     /// n.
     pub nonterminals: usize,
     /// Of each rule the left code, the length of its right side and the codes of that.
-    pub rules: &'a [u8],
+    pub rules: &'a [Code],
 }
 
 /// What moved on one side of a step: a rule opened or closed, by its number, or a symbol passed, by its code.
@@ -197,13 +198,13 @@ fn verdict_of(reply: &raw::SearchReply) -> Verdict {
 /// Causes 1 to 8, then 19 for a grammar without a sentence; all functions that take a table refuse with them before their own.
 ///
 /// ```
-/// use ambiguity::{check_table, Cause, Refusal, Table};
+/// use ambiguity::{check_table, Cause, Refusal, Table, START};
 ///
-/// let table = Table { terminals: 1, nonterminals: 1, rules: &[128, 1, 1] };
+/// let table = Table { terminals: 1, nonterminals: 1, rules: &[START, 1, 1] };
 /// assert_eq!(check_table(table), Ok(6));
-/// let cut = Table { rules: &[128, 1], ..table };
+/// let cut = Table { rules: &[START, 1], ..table };
 /// assert_eq!(check_table(cut), Err(Refusal { cause: Cause::Truncated, at: 0 }));
-/// let endless = Table { rules: &[128, 1, 128], ..table };
+/// let endless = Table { rules: &[START, 1, START], ..table };
 /// assert_eq!(check_table(endless), Err(Refusal { cause: Cause::NoSentence, at: 0 }));
 /// ```
 pub fn check_table(table: Table) -> Result<usize, Refusal> {
@@ -269,8 +270,7 @@ pub fn check_witness_records(table: Table, records: &[TripleRecord]) -> Result<(
 
 /// Searches: `certificate_bytes(Q)` bytes and `row_entries(Q)` entries of each row are just enough, as [`search_room`] tells them.
 /// Unambiguous leaves the smallest acceptable certificate at the front of `certificate` and keeps the witness row; potential leaves the
-/// shortest witness at the front of that row and keeps the certificate. The fronts of queue and parents are 0 afterwards. Uses up to
-/// 12 KiB of stack.
+/// shortest witness at the front of that row and keeps the certificate. The fronts of queue and parents are 0 afterwards.
 ///
 /// # Errors
 ///
@@ -303,12 +303,12 @@ pub fn search(
 }
 
 /// Reads grammar text; the table, and the start and length of each name, come at the fronts of the lent rows. `MAX_TABLE_ENTRIES`
-/// and `MAX_NAMES` entries are always enough. Uses up to 56 KiB of stack.
+/// and `MAX_NAMES` entries are always enough.
 ///
 /// # Errors
 ///
 /// Causes 16, 17, 18, 1, 4, 7, 6, 8, 19, 14.
-pub fn read_text(text: &[u8], table: &mut [u8], starts: &mut [u32], lengths: &mut [u32]) -> Result<Read, Refusal> {
+pub fn read_text(text: &[u8], table: &mut [Code], starts: &mut [u32], lengths: &mut [u32]) -> Result<Read, Refusal> {
     let reply = unsafe {
         raw::ambiguity_read_text(
             text.as_ptr(),
@@ -358,15 +358,14 @@ pub fn write_text(table: Table, names: Names, out: &mut [u8]) -> Result<usize, R
 
 /// Writes what the program prints for a text to the front of `out`: states, verdict, and the size or the two strings of the shortest
 /// witness; or a refusal's two lines: 14 for a longer text, a fault of the text, 19 among them, or 14 for more states. Back comes its
-/// length; the only refusal is an output that is too short, and `MAX_REPORT_BYTES` are always enough. Uses up to 300 KiB of stack.
+/// length; the only refusal is an output that is too short, and `MAX_REPORT_BYTES` are always enough.
 pub fn report(text: &[u8], out: &mut [u8]) -> Result<usize, Refusal> {
     let reply = unsafe { raw::ambiguity_report(text.as_ptr(), text.len(), out.as_mut_ptr(), out.len()) };
     refusal::or_else(reply.cause, reply.at, || reply.length as usize)
 }
 
 /// Reads two lines `left=` and `right=` back, in the grammar of a text: the letters of the two strings come at the fronts of the lent
-/// rows, an entry each ([`Letter::of_entry`]). Rows of as many entries as the lines have bytes are always enough. Uses up to
-/// 60 KiB of stack.
+/// rows, an entry each ([`Letter::of_entry`]). Rows of as many entries as the lines have bytes are always enough.
 ///
 /// # Errors
 ///

@@ -93,12 +93,12 @@ pub struct ReadBackReply {
 }
 
 extern "C" {
-    pub fn ambiguity_check_table(t: usize, n: usize, table: *const u8, table_entries: usize) -> TableReply;
+    pub fn ambiguity_check_table(t: usize, n: usize, table: *const u16, table_entries: usize) -> TableReply;
 
     pub fn ambiguity_nth_step(
         t: usize,
         n: usize,
-        table: *const u8,
+        table: *const u16,
         table_entries: usize,
         layer: usize,
         left: usize,
@@ -109,7 +109,7 @@ extern "C" {
     pub fn ambiguity_check_certificate(
         t: usize,
         n: usize,
-        table: *const u8,
+        table: *const u16,
         table_entries: usize,
         certificate: *const u8,
         certificate_bytes: usize,
@@ -118,7 +118,7 @@ extern "C" {
     pub fn ambiguity_check_witness(
         t: usize,
         n: usize,
-        table: *const u8,
+        table: *const u16,
         table_entries: usize,
         row: *const u32,
         row_entries: usize,
@@ -127,18 +127,18 @@ extern "C" {
     pub fn ambiguity_check_witness_records(
         t: usize,
         n: usize,
-        table: *const u8,
+        table: *const u16,
         table_entries: usize,
         records: *const TripleRecord,
         records_entries: usize,
     ) -> CheckReply;
 
-    pub fn ambiguity_search_room(t: usize, n: usize, table: *const u8, table_entries: usize) -> RoomReply;
+    pub fn ambiguity_search_room(t: usize, n: usize, table: *const u16, table_entries: usize) -> RoomReply;
 
     pub fn ambiguity_search(
         t: usize,
         n: usize,
-        table: *const u8,
+        table: *const u16,
         table_entries: usize,
         certificate: *mut u8,
         certificate_bytes: usize,
@@ -153,7 +153,7 @@ extern "C" {
     pub fn ambiguity_read_text(
         text: *const u8,
         text_bytes: usize,
-        table: *mut u8,
+        table: *mut u16,
         table_entries: usize,
         starts: *mut u32,
         starts_entries: usize,
@@ -164,7 +164,7 @@ extern "C" {
     pub fn ambiguity_written_length(
         t: usize,
         n: usize,
-        table: *const u8,
+        table: *const u16,
         table_entries: usize,
         names: *const u8,
         names_bytes: usize,
@@ -177,7 +177,7 @@ extern "C" {
     pub fn ambiguity_write_text(
         t: usize,
         n: usize,
-        table: *const u8,
+        table: *const u16,
         table_entries: usize,
         names: *const u8,
         names_bytes: usize,

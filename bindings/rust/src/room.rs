@@ -31,9 +31,9 @@ impl Room {
 /// Those of the table.
 ///
 /// ```
-/// use ambiguity::{search, search_room, Room, Table, Verdict};
+/// use ambiguity::{search, search_room, Room, Table, Verdict, START};
 ///
-/// let table = Table { terminals: 1, nonterminals: 1, rules: &[128, 1, 1] };
+/// let table = Table { terminals: 1, nonterminals: 1, rules: &[START, 1, 1] };
 /// let room = search_room(table)?;
 /// assert_eq!(room, Room { states: 6, certificate: 9, entries: 72, moves: 6 });
 /// let mut certificate = vec![0; room.certificate];
@@ -63,9 +63,9 @@ pub fn search_room(table: Table) -> Result<Room, Refusal> {
 /// Those of the table, then 16, 18, as the writer has them; never 14.
 ///
 /// ```
-/// use ambiguity::{write_text, written_length, Names, Table};
+/// use ambiguity::{write_text, written_length, Names, Table, START};
 ///
-/// let table = Table { terminals: 1, nonterminals: 1, rules: &[128, 1, 1] };
+/// let table = Table { terminals: 1, nonterminals: 1, rules: &[START, 1, 1] };
 /// let names = Names { bytes: b"aS", starts: &[0, 1], lengths: &[1, 1] };
 /// let mut text = vec![0; written_length(table, names)?];
 /// assert_eq!(write_text(table, names, &mut text), Ok(text.len()));

@@ -1,6 +1,6 @@
 //! The two strings of a witness, as letters and as the lines that the program prints.
 
-use crate::{nth_step, read_back, Code, Grammar, Letter, Move, Refusal, Step};
+use crate::{check_witness, nth_step, read_back, Cause, Code, Grammar, Letter, Move, Refusal, Step, START};
 
 /// Two strings, as the lines `left=` and `right=` have them.
 #[derive(Clone, Debug, Default, PartialEq, Eq)]
@@ -24,25 +24,103 @@ impl Move {
     }
 }
 
+/// The rule of an item, by its number, and the symbol behind its dot.
+#[derive(Clone, Copy)]
+struct Item {
+    rule: u64,
+    next: Option<Code>,
+}
+
+/// What moved where a side goes from a state to another. An item before a nonterminal goes on to the next item of its rule by a symbol,
+/// and to the first one of a rule by an opening; an item at its rule's end closes that. State 0 opens rule 0.
+fn moved(items: &[Item], from: usize, to: usize) -> Move {
+    match items[from].next {
+        _ if from == 0 => Move::Opening(0),
+        None => Move::Closing(items[from].rule),
+        Some(code) if to == from + 1 => Move::Symbol(u64::from(code)),
+        Some(_) => Move::Opening(items[to].rule),
+    }
+}
+
 impl Grammar {
-    /// The step record that leads from a triple to another; none if that is no successor.
-    fn step(&self, from: u32, to: u32) -> Option<Step> {
-        let (from, to, states) = (from as usize, to as usize, self.states());
-        let (layer, left, right) = (from / states / states, from / states % states, from % states);
-        let mut records = (0..).map_while(|nth| nth_step(self.table(), layer, left, right, nth).ok().flatten());
-        records.find(|step| (step.layer * states + step.left) * states + step.right == to)
+    /// The items by state; the start and the end are taken for items of rule 0 without a symbol.
+    fn items(&self) -> Vec<Item> {
+        let of = |rule: u64, right: &[Code]| {
+            let ahead = right.iter().map(|code| Some(*code)).chain([None]);
+            ahead.map(|next| Item { rule, next }).collect::<Vec<_>>()
+        };
+        let mut items = [of(0, &[]), of(0, &[]), of(0, &[START])].concat();
+        for (number, rule) in (1..).zip(self.rules()) {
+            items.extend(of(number, &rule.right));
+        }
+        items
+    }
+
+    /// Layer, left and right of a triple's index.
+    fn triple(&self, index: u32) -> (usize, usize, usize) {
+        let (index, states) = (index as usize, self.states());
+        (index / states / states, index / states % states, index % states)
+    }
+
+    /// The first step record that leads from a triple to another, of all that the library has; none if that is no successor. Behind
+    /// the records that lead back to the triple itself the next indices ascend.
+    fn recorded(&self, from: u32, to: u32) -> Option<Step> {
+        let (layer, left, right) = self.triple(from);
+        let record = |nth: usize| nth_step(self.table(), layer, left, right, nth).ok().flatten();
+        let index = |step: &Step| (step.layer * self.states() + step.left) * self.states() + step.right;
+        let place = |index: usize| (index != from as usize, index);
+        let is_before = |nth: usize| record(nth).is_some_and(|step| place(index(&step)) < place(to as usize));
+        let mut past = 1;
+        while is_before(past - 1) {
+            past *= 2;
+        }
+        let (mut first, mut last) = (past / 2, past - 1);
+        while first < last {
+            let middle = (first + last) / 2;
+            if is_before(middle) {
+                first = middle + 1;
+            } else {
+                last = middle;
+            }
+        }
+        record(first).filter(|step| index(step) == to as usize)
+    }
+
+    /// The step record of a triple and its successor, by their states: only where they are the same triple do these not tell it.
+    fn step(&self, items: &[Item], from: u32, to: u32) -> Option<Step> {
+        if from == to {
+            return self.recorded(from, to);
+        }
+        let ((from_layer, from_left, from_right), (layer, left, right)) = (self.triple(from), self.triple(to));
+        let side = |from: usize, to: usize| {
+            // At the parting a side that is at a rule's end closes it; the other one stays before its terminal.
+            let moves = if layer > from_layer { items[from].next.is_none() } else { from != to };
+            if moves {
+                moved(items, from, to)
+            } else {
+                Move::Still
+            }
+        };
+        Some(Step { layer, left, right, on_left: side(from_left, left), on_right: side(from_right, right) })
+    }
+
+    /// The step records that lead through a row of triples' indices, as [`nth_step`] has them. None where an entry is no successor of
+    /// the one before. For a row that begins with 0, as a witness does, the time grows with its length.
+    #[must_use]
+    pub fn steps(&self, row: &[u32]) -> Option<Vec<Step>> {
+        let items = self.items();
+        let only_the_end_fails = |refusal: Refusal| refusal.cause == Cause::WitnessWrong && refusal.at == row.len();
+        let leads_on = check_witness(self.table(), row).map_or_else(only_the_end_fails, |()| true);
+        let step = |from, to| if leads_on { self.step(&items, from, to) } else { self.recorded(from, to) };
+        row.windows(2).map(|entries| step(entries[0], entries[1])).collect()
     }
 
     /// The two strings of a witness: what either side moves, in order. None where an entry is no successor of the one before.
     #[must_use]
     pub fn strings(&self, witness: &[u32]) -> Option<Strings> {
-        let mut strings = Strings::default();
-        for entries in witness.windows(2) {
-            let step = self.step(entries[0], entries[1])?;
-            strings.left.extend(step.on_left.letter());
-            strings.right.extend(step.on_right.letter());
-        }
-        Some(strings)
+        let steps = self.steps(witness)?;
+        let letters = |side: fn(&Step) -> Move| steps.iter().filter_map(|step| side(step).letter()).collect();
+        Some(Strings { left: letters(|step| step.on_left), right: letters(|step| step.on_right) })
     }
 
     /// The word of a letter: `(2` opens rule 2, `)2` closes it, a symbol's word is its name. None for a rule or a code that the
@@ -77,8 +155,8 @@ impl Grammar {
         Some(format!("left={}\nright={}\n", left.join(" "), right.join(" ")))
     }
 
-    /// The two strings of the lines `left=` and `right=`. They need be neither accepted by the automaton nor parting. Uses up to
-    /// 272 KiB of stack, as [`read_back`] does.
+    /// The two strings of the lines `left=` and `right=`. They need be neither accepted by the automaton nor parting. Uses as
+    /// much stack as [`read_back`] does.
     ///
     /// # Errors
     ///
@@ -94,7 +172,7 @@ impl Grammar {
 #[cfg(test)]
 mod tests {
     use super::*;
-    use crate::{Searched, START};
+    use crate::Searched;
 
     #[test]
     fn strings_and_words() {
@@ -114,6 +192,39 @@ mod tests {
         }
         for row in [[0, 0], [0, u32::MAX], [u32::MAX, 0]] {
             assert_eq!(grammar.strings(&row), None);
+        }
+    }
+
+    /// All step records of a triple, one after the other.
+    fn all(grammar: &Grammar, from: u32) -> Vec<Step> {
+        let (layer, left, right) = grammar.triple(from);
+        (0..).map_while(|nth| nth_step(grammar.table(), layer, left, right, nth).unwrap()).collect()
+    }
+
+    /// Along witnesses, and between any two triples of small grammars, the steps are the library's records.
+    #[test]
+    fn steps_are_records() {
+        for rules in
+            ["S: S\nrule=S: a", "S: a S a\nrule=S: a", "S: S S\nrule=S: a\nrule=S:", "S: T\nrule=S: a S\nrule=T: S\nrule=S: a"]
+        {
+            let text = format!("terminals=a\nnonterminals=S,T\nrule={rules}\n");
+            let grammar = Grammar::read(text.as_bytes()).unwrap();
+            let index = |step: &Step| ((step.layer * grammar.states() + step.left) * grammar.states() + step.right) as u32;
+            let Searched::Potential { witness, .. } = grammar.search() else { panic!("{rules}") };
+            let steps = grammar.steps(&witness).unwrap();
+            for (entries, step) in witness.windows(2).zip(&steps) {
+                let records = all(&grammar, entries[0]);
+                assert_eq!(records.iter().find(|record| index(record) == entries[1]), Some(step), "{rules}");
+            }
+            let triples = 0..2 * (grammar.states() * grammar.states()) as u32;
+            for from in triples.clone() {
+                let records = all(&grammar, from);
+                for to in triples.clone() {
+                    let record = records.iter().find(|record| index(record) == to).copied();
+                    assert_eq!(grammar.recorded(from, to), record, "{rules}: {from} {to}");
+                    assert!(record.is_none() || grammar.step(&grammar.items(), from, to) == record, "{rules}: {from} {to}");
+                }
+            }
         }
     }
 }

@@ -2,22 +2,23 @@
 
 mod support;
 
-use ambiguity::{certificate_bytes, row_entries, Cause, Names, Part, PartRefusal, Read, ReadBack, Refusal, Table, Verdict};
-use support::{grammar, refused, Lent};
+use ambiguity::{certificate_bytes, row_entries, Cause, Code, Names, Part, PartRefusal, Read, ReadBack, Refusal, Table};
+use ambiguity::{Verdict, MAX_NONTERMINALS, MAX_TERMINALS};
+use support::{grammar, refused, Lent, S};
 
-const RULES: [u8; 3] = [128, 1, 1];
+const RULES: [Code; 3] = [S, 1, 1];
 const CERTIFICATE: [u8; 9] = [0x15, 0x50, 0x21, 0x15, 0x08, 0x00, 0x00, 0x00, 0x00];
 const TEXT: &[u8] = b"terminals=a\nnonterminals=S\nrule=S: a\n";
 const STARTS: [u32; 2] = [10, 25];
 const LENGTHS: [u32; 2] = [1, 1];
 
-fn one_a(rules: &[u8]) -> Table<'_> {
+fn one_a(rules: &[Code]) -> Table<'_> {
     grammar(1, 1, rules)
 }
 
 #[test]
 fn tables_of_every_length() {
-    let rules = Lent::new(&[128, 1, 1, 128], 0xFF);
+    let rules = Lent::new(&[S, 1, 1, S], 0xFFFF);
     let answers: Vec<_> = (0..5).map(|length| ambiguity::check_table(one_a(&rules.row()[..length]))).collect();
     let cut = refused(Cause::Truncated, 0);
     assert_eq!(answers, [refused(Cause::NoSentence, 0), cut, cut, Ok(6), refused(Cause::Truncated, 3)]);
@@ -26,7 +27,9 @@ fn tables_of_every_length() {
 
 #[test]
 fn numbers_of_every_size() {
-    for (terminals, nonterminals) in [(128, 1), (usize::MAX, 1), (1, 0), (1, 128), (1, usize::MAX)] {
+    for (terminals, nonterminals) in
+        [(MAX_TERMINALS + 1, 1), (usize::MAX, 1), (1, 0), (1, MAX_NONTERMINALS + 1), (1, usize::MAX)]
+    {
         let table = Table { terminals, nonterminals, rules: &RULES };
         assert_eq!(ambiguity::check_table(table), refused(Cause::OutOfRange, 0));
         assert_eq!(ambiguity::check_certificate(table, &CERTIFICATE), refused(Cause::OutOfRange, 0));
@@ -64,7 +67,7 @@ fn witnesses_that_are_empty_or_only_begin() {
 
 /// Reads the text into rows of these lengths.
 fn read_into(table: usize, starts: usize, lengths: usize) {
-    let mut table = Lent::new(&vec![7; table], 0xFF);
+    let mut table = Lent::new(&vec![7; table], 0xFFFF);
     let mut starts = Lent::new(&vec![7; starts], u32::MAX);
     let mut lengths = Lent::new(&vec![7; lengths], u32::MAX);
     let enough = table.row().len() >= 3 && starts.row().len() >= 2 && lengths.row().len() >= 2;
@@ -146,7 +149,7 @@ fn a_text_too_long() {
 /// Its strings have two and three letters: opening 1, a; S, closing 0, a.
 const LINES: &[u8] = b"left=(1 a\nright=S )0 a\n";
 const LEFT: [u32; 2] = [0x1_0001, 0x3_0001];
-const RIGHT: [u32; 3] = [0x3_0080, 0x2_0000, 0x3_0001];
+const RIGHT: [u32; 3] = [0x3_8000, 0x2_0000, 0x3_0001];
 
 #[test]
 fn rows_of_every_length_for_reading_back() {

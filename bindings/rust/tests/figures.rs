@@ -3,13 +3,13 @@
 mod support;
 
 use ambiguity::{
-    certificate_bytes, row_entries, Cause, Grammar, Refusal, Searched, Table, Verdict, MAX_NAMES, MAX_REPORT_BYTES,
+    certificate_bytes, row_entries, Cause, Code, Grammar, Refusal, Searched, Table, Verdict, MAX_NAMES, MAX_REPORT_BYTES,
     MAX_TABLE_ENTRIES,
 };
-use support::{bytes_of, grammar, refused};
+use support::{bytes_of, grammar, refused, A, B, S};
 
 /// S→S a; S→a
-const LEFT_RECURSION: [u8; 7] = [128, 2, 128, 1, 128, 1, 1];
+const LEFT_RECURSION: [Code; 7] = [S, 2, S, 1, S, 1, 1];
 
 /// Terminals, nonterminals, rules, Q, how much the search looks at, and the size if the verdict is unambiguous, else the two strings.
 type OnFile = (&'static str, &'static str, &'static str, usize, usize, Result<usize, &'static str>);
@@ -141,56 +141,70 @@ fn witness_of(table: Table, states: usize) -> Vec<u32> {
 #[test]
 fn shortest_witnesses() {
     // S→S and S→; S→S and S→a; S→a S a and S→a; S→A, S→B, A→ and B→.
-    assert_eq!(witness_of(grammar(0, 1, &[128, 1, 128, 128, 0]), 7), [0, 2, 4, 18, 26, 59, 57]);
-    assert_eq!(witness_of(grammar(1, 1, &[128, 1, 128, 128, 1, 1]), 8), [0, 2, 4, 20, 29, 75, 73]);
-    let palindromes = witness_of(grammar(1, 1, &[128, 3, 1, 128, 1, 128, 1, 1]), 10);
+    assert_eq!(witness_of(grammar(0, 1, &[S, 1, S, S, 0]), 7), [0, 2, 4, 18, 26, 59, 57]);
+    assert_eq!(witness_of(grammar(1, 1, &[S, 1, S, S, 1, 1]), 8), [0, 2, 4, 20, 29, 75, 73]);
+    let palindromes = witness_of(grammar(1, 1, &[S, 3, 1, S, 1, S, 1, 1]), 10);
     assert_eq!(palindromes, [0, 2, 4, 24, 84, 95, 98, 168, 179, 139, 119, 113, 111]);
-    let two_empty = witness_of(grammar(0, 3, &[128, 1, 129, 128, 1, 130, 129, 0, 130, 0]), 10);
+    let two_empty = witness_of(grammar(0, 3, &[S, 1, A, S, 1, B, A, 0, B, 0]), 10);
     assert_eq!(two_empty, [0, 2, 4, 8, 28, 68, 98, 175, 135, 115, 113, 111]);
 }
 
 /// So many rules S→x, each of another terminal.
-fn unit_rules(count: u8) -> Vec<u8> {
-    (1..=count).flat_map(|code| [128, 1, code]).collect()
+fn unit_rules(count: Code) -> Vec<Code> {
+    (1..=count).flat_map(|code| [S, 1, code]).collect()
 }
 
 /// A rule of twelve codes for each of so many nonterminals.
-fn long_rules(count: u8) -> Vec<u8> {
-    (128..128 + count).flat_map(|left| [vec![left, 12], vec![1; 12]].concat()).collect()
+fn long_rules(count: Code) -> Vec<Code> {
+    (S..S + count).flat_map(|left| [vec![left, 12], vec![1; 12]].concat()).collect()
 }
 
 /// t, n and a table, and Q or its refusal.
-type Checked = (usize, usize, Vec<u8>, Result<usize, Refusal>);
+type Checked = (usize, usize, Vec<Code>, Result<usize, Refusal>);
 
 #[test]
 fn tables() {
-    let thirteen = [vec![128, 13], vec![1; 13]].concat();
-    let twelve = [vec![128, 12], vec![1; 12]].concat();
-    // 19 rules of 13 items each, and 5 items more: Q is 256, and 257 with one item more.
-    let full = [long_rules(19), vec![128, 4, 1, 1, 1, 1]].concat();
-    let over = [long_rules(19), vec![128, 5, 1, 1, 1, 1, 1]].concat();
+    let thirteen = [vec![S, 13], vec![1; 13]].concat();
+    let twelve = [vec![S, 12], vec![1; 12]].concat();
+    // 78 rules of 13 items each, and 6 items more: Q is 1,024, and 1,025 with one item more.
+    let full = [long_rules(78), vec![S, 5, 1, 1, 1, 1, 1]].concat();
+    let over = [long_rules(78), vec![S, 6, 1, 1, 1, 1, 1, 1]].concat();
     let cases: [Checked; 17] = [
         (1, 1, LEFT_RECURSION.to_vec(), Ok(9)),
         (0, 1, vec![], refused(Cause::NoSentence, 0)),
-        (127, 127, vec![128, 0, 129, 2, 127, 254], Ok(8)),
-        (128, 1, vec![], refused(Cause::OutOfRange, 0)),
-        (0, usize::MAX, vec![128, 0], refused(Cause::OutOfRange, 0)),
-        (1, 1, vec![128], refused(Cause::Truncated, 0)),
-        (1, 1, vec![128, 0, 128, 2, 1], refused(Cause::Truncated, 2)),
-        (1, 1, vec![128, 1, 1, 129, 0], refused(Cause::LeftUndeclared, 3)),
+        (2000, 2000, vec![S, 0, 34767, 2, 2000, 34767], Ok(8)),
+        (2001, 1, vec![], refused(Cause::OutOfRange, 0)),
+        (0, usize::MAX, vec![S, 0], refused(Cause::OutOfRange, 0)),
+        (1, 1, vec![S], refused(Cause::Truncated, 0)),
+        (1, 1, vec![S, 0, S, 2, 1], refused(Cause::Truncated, 2)),
+        (1, 1, vec![S, 1, 1, A, 0], refused(Cause::LeftUndeclared, 3)),
         (1, 1, twelve, Ok(17)),
         (1, 1, thirteen, refused(Cause::RuleTooLong, 0)),
-        (1, 1, vec![128, 3, 1, 128, 2], refused(Cause::CodeUndeclared, 4)),
-        (1, 1, vec![128, 0, 128, 1, 1, 128, 0], refused(Cause::RuleRepeated, 5)),
-        (100, 1, unit_rules(100), Ok(204)),
-        (101, 1, unit_rules(101), refused(Cause::TooManyRules, 300)),
-        (1, 127, full, Ok(256)),
-        (1, 127, over, refused(Cause::TooManyStates, 266)),
-        (1, 127, long_rules(20), refused(Cause::TooManyStates, 266)),
+        (1, 1, vec![S, 3, 1, S, 2], refused(Cause::CodeUndeclared, 4)),
+        (1, 1, vec![S, 0, S, 1, 1, S, 0], refused(Cause::RuleRepeated, 5)),
+        (400, 1, unit_rules(400), Ok(804)),
+        (401, 1, unit_rules(401), refused(Cause::TooManyRules, 1200)),
+        (1, 2000, full, Ok(1024)),
+        (1, 2000, over, refused(Cause::TooManyStates, 1092)),
+        (1, 2000, long_rules(79), refused(Cause::TooManyStates, 1092)),
     ];
     for (terminals, nonterminals, rules, expected) in cases {
         let table = grammar(terminals, nonterminals, &rules);
         assert_eq!(ambiguity::check_table(table), expected, "{table:?}");
+    }
+}
+
+/// With all symbols declared, codes between the terminals and the nonterminals and past these are undeclared, as left codes too.
+#[test]
+fn codes_at_the_limits() {
+    let check = |left: Code, code: Code| ambiguity::check_table(grammar(2000, 2000, &[S, 0, left, 1, code]));
+    for code in [1, 127, 128, 255, 256, 2000, 32768, 32895, 33024, 34767] {
+        let left_expected = if code < S { refused(Cause::LeftUndeclared, 2) } else { Ok(7) };
+        assert_eq!((check(A, code), check(code, 1)), (Ok(7), left_expected), "{code}");
+    }
+    for code in [0, 2001, 2048, 30000, 32767, 34768, 40000, 65535] {
+        assert_eq!(check(A, code), refused(Cause::CodeUndeclared, 4), "{code}");
+        assert_eq!(check(code, 1), refused(Cause::LeftUndeclared, 2), "{code}");
     }
 }
 
@@ -200,14 +214,14 @@ fn certificates_of_nine_states() {
     let left: [u8; 21] = [0x95, 0x00, 0x54, 0x42, 0x51, 0x09, 0x05, 0x90, 0x4A, 0, 0x01, 0x80, 0, 0, 0, 0x80, 0, 0, 0, 0, 0];
     let nested: [u8; 21] =
         [0x15, 0x01, 0x54, 0x44, 0x50, 0x13, 0x26, 0x10, 0x40, 0x35, 0x01, 0x40, 0, 0, 0x41, 0x09, 0, 0x08, 0, 0, 0];
-    let tables = [grammar(1, 1, &LEFT_RECURSION), grammar(2, 1, &[128, 3, 1, 128, 2, 128, 0])];
+    let tables = [grammar(1, 1, &LEFT_RECURSION), grammar(2, 1, &[S, 3, 1, S, 2, S, 0])];
     for (table, certificate) in tables.into_iter().zip([left, nested]) {
         assert_eq!(ambiguity::check_certificate(table, &certificate), Ok(()));
         let mut spare = certificate;
         spare[20] |= 0x04;
         assert_eq!(ambiguity::check_certificate(table, &spare), refused(Cause::SpareBit, 162));
     }
-    assert_eq!(ambiguity::check_certificate(grammar(200, 1, &[]), &[]), refused(Cause::OutOfRange, 0));
+    assert_eq!(ambiguity::check_certificate(grammar(2001, 1, &[]), &[]), refused(Cause::OutOfRange, 0));
 }
 
 const CERTIFICATE_OF_82: &str = concat!(
@@ -229,10 +243,10 @@ fn search_in(table: Table, lengths: [usize; 4]) -> (Result<Verdict, Refusal>, Ve
 /// The certificates of S→, of S→a and of document 01's last row.
 #[test]
 fn certificates_that_are_found() {
-    let last = [128, 1, 129, 128, 1, 130, 129, 3, 129, 1, 1, 129, 1, 1, 130, 2, 1, 1];
+    let last = [S, 1, A, S, 1, B, A, 3, A, 1, 1, A, 1, 1, B, 2, 1, 1];
     let cases = [
-        (grammar(0, 1, &[128, 0]), [7, 50, 50, 50], 10, 13, "15545401000000"),
-        (grammar(1, 1, &[128, 1, 1]), [9, 72, 72, 72], 11, 14, "155021150800000000"),
+        (grammar(0, 1, &[S, 0]), [7, 50, 50, 50], 10, 13, "15545401000000"),
+        (grammar(1, 1, &[S, 1, 1]), [9, 72, 72, 72], 11, 14, "155021150800000000"),
         (grammar(1, 3, &last), [76, 582, 583, 584], 82, 145, CERTIFICATE_OF_82),
     ];
     for (table, lengths, size, looked, expected) in cases {
@@ -247,7 +261,7 @@ fn certificates_that_are_found() {
 /// A certificate that is acceptable if every rule has moves is accepted: that of corpus/useless-unreached.
 #[test]
 fn certificates_over_every_rule() {
-    let unreached = [128, 2, 1, 128, 128, 0, 129, 2, 129, 129, 129, 2, 128, 2];
+    let unreached = [S, 2, 1, S, S, 0, A, 2, A, A, A, 2, S, 2];
     assert_eq!(ambiguity::check_certificate(grammar(2, 2, &unreached), &bytes_of(UNREACHED_OF_31)), Ok(()));
 }
 
@@ -255,12 +269,12 @@ fn certificates_over_every_rule() {
 #[test]
 fn searches_that_are_refused() {
     let cases = [
-        (grammar(1, 1, &[128, 1, 1]), [8, 72, 72, 72], Cause::BufferTooShort, 0),
+        (grammar(1, 1, &[S, 1, 1]), [8, 72, 72, 72], Cause::BufferTooShort, 0),
         (grammar(1, 1, &LEFT_RECURSION), [21, 161, 162, 162], Cause::BufferTooShort, 0),
-        (grammar(1, 1, &[128, 1, 1]), [9, 72, 71, 72], Cause::BufferTooShort, 0),
+        (grammar(1, 1, &[S, 1, 1]), [9, 72, 71, 72], Cause::BufferTooShort, 0),
         (grammar(1, 1, &LEFT_RECURSION), [21, 162, 162, 161], Cause::BufferTooShort, 0),
-        (grammar(128, 1, &[]), [0, 0, 0, 0], Cause::OutOfRange, 0),
-        (grammar(1, 1, &[128, 1, 2]), [9, 72, 72, 72], Cause::CodeUndeclared, 2),
+        (grammar(2001, 1, &[]), [0, 0, 0, 0], Cause::OutOfRange, 0),
+        (grammar(1, 1, &[S, 1, 2]), [9, 72, 72, 72], Cause::CodeUndeclared, 2),
     ];
     for (table, lengths, cause, at) in cases {
         let (answer, certificate) = search_in(table, lengths);

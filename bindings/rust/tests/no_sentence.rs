@@ -3,9 +3,9 @@
 
 mod support;
 
-use ambiguity::{certificate_bytes, row_entries, Cause, Names, Part, PartRefusal, Refusal, Table, TripleRecord};
-use ambiguity::{MAX_NAMES, MAX_REPORT_BYTES, MAX_REPORT_TEXT_BYTES, MAX_STATES, MAX_TABLE_ENTRIES};
-use support::{bytes_of, grammar, refused, Lent};
+use ambiguity::{certificate_bytes, row_entries, Cause, Code, Names, Part, PartRefusal, Refusal, Table, TripleRecord};
+use ambiguity::{MAX_NAMES, MAX_NONTERMINALS, MAX_REPORT_BYTES, MAX_REPORT_TEXT_BYTES, MAX_STATES, MAX_TABLE_ENTRIES};
+use support::{bytes_of, grammar, refused, Lent, A, B, S};
 
 const NO_SENTENCE: Refusal = Refusal { cause: Cause::NoSentence, at: 0 };
 
@@ -19,21 +19,15 @@ struct Endless {
 /// No rule; none of S; rules that need S again, at once or by A; a tree for A and none for B.
 const ENDLESS: [Endless; 7] = [
     endless(0, 1, &[], "terminals=\nnonterminals=S\n", 4),
-    endless(1, 2, &[129, 1, 1, 129, 0], "terminals=a\nnonterminals=S,A\nrule=A: a\nrule=A:\n", 7),
-    endless(0, 1, &[128, 1, 128], "terminals=\nnonterminals=S\nrule=S: S\n", 6),
-    endless(1, 1, &[128, 2, 1, 128], "terminals=a\nnonterminals=S\nrule=S: a S\n", 7),
-    endless(0, 1, &[128, 2, 128, 128], "terminals=\nnonterminals=S\nrule=S: S S\n", 7),
-    endless(1, 2, &[128, 1, 129, 129, 2, 1, 128], "terminals=a\nnonterminals=S,A\nrule=S: A\nrule=A: a S\n", 9),
-    endless(
-        1,
-        3,
-        &[128, 2, 129, 130, 129, 0, 130, 2, 1, 130],
-        "terminals=a\nnonterminals=S,A,B\nrule=S: A B\nrule=A:\nrule=B: a B\n",
-        11,
-    ),
+    endless(1, 2, &[A, 1, 1, A, 0], "terminals=a\nnonterminals=S,A\nrule=A: a\nrule=A:\n", 7),
+    endless(0, 1, &[S, 1, S], "terminals=\nnonterminals=S\nrule=S: S\n", 6),
+    endless(1, 1, &[S, 2, 1, S], "terminals=a\nnonterminals=S\nrule=S: a S\n", 7),
+    endless(0, 1, &[S, 2, S, S], "terminals=\nnonterminals=S\nrule=S: S S\n", 7),
+    endless(1, 2, &[S, 1, A, A, 2, 1, S], "terminals=a\nnonterminals=S,A\nrule=S: A\nrule=A: a S\n", 9),
+    endless(1, 3, &[S, 2, A, B, A, 0, B, 2, 1, B], "terminals=a\nnonterminals=S,A,B\nrule=S: A B\nrule=A:\nrule=B: a B\n", 11),
 ];
 
-const fn endless(terminals: usize, nonterminals: usize, rules: &'static [u8], text: &'static str, states: usize) -> Endless {
+const fn endless(terminals: usize, nonterminals: usize, rules: &'static [Code], text: &'static str, states: usize) -> Endless {
     Endless { table: Table { terminals, nonterminals, rules }, text, states }
 }
 
@@ -70,13 +64,13 @@ fn certificates_and_witnesses() {
 fn acceptable_certificates() {
     for (table, certificates) in [
         (grammar(0, 1, &[]), ["01000000", "05850000"]),
-        (grammar(1, 2, &[129, 1, 1, 129, 0]), ["01000000000000000000000000", "05400101000000000000000000"]),
+        (grammar(1, 2, &[A, 1, 1, A, 0]), ["01000000000000000000000000", "05400101000000000000000000"]),
     ] {
         for certificate in certificates {
             assert_eq!(ambiguity::check_certificate(table, &bytes_of(certificate)), Err(NO_SENTENCE), "{certificate}");
         }
     }
-    assert_eq!(ambiguity::check_certificate(grammar(0, 1, &[128, 1, 128]), &bytes_of("010000000000000000")), Err(NO_SENTENCE));
+    assert_eq!(ambiguity::check_certificate(grammar(0, 1, &[S, 1, S]), &bytes_of("010000000000000000")), Err(NO_SENTENCE));
 }
 
 #[test]
@@ -97,7 +91,7 @@ fn searches() {
 fn texts() {
     for Endless { text, .. } in ENDLESS {
         for (entries, names) in [(0, 0), (MAX_TABLE_ENTRIES, MAX_NAMES)] {
-            let mut table = Lent::new(&vec![7; entries], 0xFF);
+            let mut table = Lent::new(&vec![7; entries], 0xFFFF);
             let [mut starts, mut lengths] = [0; 2].map(|_| Lent::new(&vec![7; names], u32::MAX));
             let answer = ambiguity::read_text(text.as_bytes(), table.row_mut(), starts.row_mut(), lengths.row_mut());
             assert_eq!(answer, Err(NO_SENTENCE), "{text}");
@@ -154,24 +148,24 @@ fn reports() {
 /// Tables without a sentence that have another fault too, at the end.
 #[test]
 fn other_faults_come_first() {
-    let with = |more: &[u8]| [&[128, 1, 128], more].concat();
-    let of_each = |count: u8, length: u8| -> Vec<u8> {
-        (128..128 + count).flat_map(|left| [vec![left, length], vec![128; length.into()]].concat()).collect()
+    let with = |more: &[Code]| [&[S, 1, S], more].concat();
+    let of_each = |count: Code, length: Code| -> Vec<Code> {
+        (S..S + count).flat_map(|left| [vec![left, length], vec![S; length.into()]].concat()).collect()
     };
     for (nonterminals, rules, expected) in [
-        (128, with(&[]), refused(Cause::OutOfRange, 0)),
-        (1, with(&[128]), refused(Cause::Truncated, 3)),
-        (1, with(&[128, 2, 128]), refused(Cause::Truncated, 3)),
-        (1, with(&[129, 0]), refused(Cause::LeftUndeclared, 3)),
-        (1, with(&[128, 13]), refused(Cause::RuleTooLong, 3)),
-        (1, with(&[128, 2, 128, 1]), refused(Cause::CodeUndeclared, 6)),
-        (1, with(&[128, 1, 128]), refused(Cause::RuleRepeated, 3)),
-        (127, of_each(101, 1), refused(Cause::TooManyRules, 300)),
-        (127, of_each(20, 12), refused(Cause::TooManyStates, 266)),
-        (127, of_each(100, 1), Err(NO_SENTENCE)),
-        (127, of_each(19, 12), Err(NO_SENTENCE)),
+        (MAX_NONTERMINALS + 1, with(&[]), refused(Cause::OutOfRange, 0)),
+        (1, with(&[S]), refused(Cause::Truncated, 3)),
+        (1, with(&[S, 2, S]), refused(Cause::Truncated, 3)),
+        (1, with(&[A, 0]), refused(Cause::LeftUndeclared, 3)),
+        (1, with(&[S, 13]), refused(Cause::RuleTooLong, 3)),
+        (1, with(&[S, 2, S, 1]), refused(Cause::CodeUndeclared, 6)),
+        (1, with(&[S, 1, S]), refused(Cause::RuleRepeated, 3)),
+        (MAX_NONTERMINALS, of_each(401, 1), refused(Cause::TooManyRules, 1200)),
+        (MAX_NONTERMINALS, of_each(79, 12), refused(Cause::TooManyStates, 1092)),
+        (MAX_NONTERMINALS, of_each(400, 1), Err(NO_SENTENCE)),
+        (MAX_NONTERMINALS, of_each(78, 12), Err(NO_SENTENCE)),
         // With a rule more there is a sentence.
-        (127, [of_each(19, 12), vec![128, 0]].concat(), Ok(MAX_STATES - 4)),
+        (MAX_NONTERMINALS, [of_each(78, 12), vec![S, 0]].concat(), Ok(MAX_STATES - 5)),
     ] {
         assert_eq!(ambiguity::check_table(grammar(0, nonterminals, &rules)), expected, "{rules:?}");
     }
@@ -190,13 +184,13 @@ fn other_faults_of_texts_come_first() {
         (text(1, rules(1, 1) + "rule=S: S "), Cause::Malformed, 4),
         (text(1, rules(1, 1) + "rule=S: z\n"), Cause::NameUnknown, 4),
         (text(1, rules(1, 1)).replace("=S\n", "=S,S\n"), Cause::NameRepeated, 2),
-        (text(128, rules(1, 1)), Cause::OutOfRange, 2),
+        (text(MAX_NONTERMINALS + 1, rules(1, 1)), Cause::OutOfRange, 2),
         (text(1, rules(1, 13)), Cause::RuleTooLong, 3),
         (text(1, rules(1, 1).repeat(2)), Cause::RuleRepeated, 3),
-        (text(101, rules(101, 1)), Cause::TooManyRules, 300),
-        (text(20, rules(20, 12)), Cause::TooManyStates, 266),
-        (text(100, rules(100, 1)), Cause::NoSentence, 0),
-        (text(19, rules(19, 12)), Cause::NoSentence, 0),
+        (text(401, rules(401, 1)), Cause::TooManyRules, 1200),
+        (text(79, rules(79, 12)), Cause::TooManyStates, 1092),
+        (text(400, rules(400, 1)), Cause::NoSentence, 0),
+        (text(78, rules(78, 12)), Cause::NoSentence, 0),
     ] {
         let answer = ambiguity::read_text(text.as_bytes(), &mut [], &mut [], &mut []);
         assert_eq!(answer, refused(cause, at), "{text}");

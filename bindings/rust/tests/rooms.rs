@@ -4,10 +4,10 @@
 mod support;
 
 use ambiguity::{certificate_bytes, check_table, row_entries, search_room, write_text, written_length};
-use ambiguity::{Cause, Grammar, Move, Names, Refusal, Room, Searched, Table, MAX_RULES, MAX_STATES, START};
+use ambiguity::{Cause, Code, Grammar, Move, Names, Refusal, Room, Searched, Table, MAX_RULES, MAX_STATES, MAX_TERMINALS};
 use std::fs;
 use std::path::Path;
-use support::{grammar, lent_less, lent_room, refused, Lent};
+use support::{grammar, lent_less, lent_room, refused, Lent, A, B, S};
 
 /// The room of Q states, with so many moves.
 fn room(states: usize, moves: usize) -> Room {
@@ -15,43 +15,43 @@ fn room(states: usize, moves: usize) -> Room {
 }
 
 /// t, n and a table, Q, openings and shifts: the moves are two for each opening, which some closing leads back from, and the shifts.
-type Counted = (usize, usize, Vec<u8>, usize, usize, usize);
+type Counted = (usize, usize, Vec<Code>, usize, usize, usize);
 
 /// Document 01's "Grammars on file" with a sentence, one with rules that no sentence uses, and document 02's command set.
 fn counted() -> [Counted; 10] {
-    let two = [128, 1, 129, 128, 1, 130, 129, 0, 130, 0];
-    let last = [128, 1, 129, 128, 1, 130, 129, 3, 129, 1, 1, 129, 1, 1, 130, 2, 1, 1];
+    let two = [S, 1, A, S, 1, B, A, 0, B, 0];
+    let last = [S, 1, A, S, 1, B, A, 3, A, 1, 1, A, 1, 1, B, 2, 1, 1];
     let channels = [
-        [128, 0, 128, 2, 128, 129].to_vec(),
-        [129, 3, 1, 130, 2, 129, 3, 3, 130, 2, 129, 4, 4, 5, 128, 6].to_vec(),
-        [130, 1, 7, 130, 3, 130, 8, 7].to_vec(),
+        [S, 0, S, 2, S, A].to_vec(),
+        [A, 3, 1, B, 2, A, 3, 3, B, 2, A, 4, 4, 5, S, 6].to_vec(),
+        [B, 1, 7, B, 3, B, 8, 7].to_vec(),
     ];
     [
-        (0, 1, vec![128, 0], 5, 2, 1),
-        (1, 1, vec![128, 1, 1], 6, 2, 2),
-        (1, 1, vec![128, 2, 128, 1, 128, 1, 1], 9, 5, 4),
-        (2, 1, vec![128, 3, 1, 128, 2, 128, 0], 9, 5, 4),
-        (1, 1, vec![128, 1, 128, 128, 1, 1], 8, 5, 3),
-        (1, 1, vec![128, 3, 1, 128, 1, 128, 1, 1], 10, 5, 5),
+        (0, 1, vec![S, 0], 5, 2, 1),
+        (1, 1, vec![S, 1, 1], 6, 2, 2),
+        (1, 1, vec![S, 2, S, 1, S, 1, 1], 9, 5, 4),
+        (2, 1, vec![S, 3, 1, S, 2, S, 0], 9, 5, 4),
+        (1, 1, vec![S, 1, S, S, 1, 1], 8, 5, 3),
+        (1, 1, vec![S, 3, 1, S, 1, S, 1, 1], 10, 5, 5),
         (0, 3, two.to_vec(), 10, 5, 3),
         (1, 3, last.to_vec(), 17, 8, 9),
-        (1, 2, vec![128, 1, 1, 128, 1, 129, 129, 1, 129], 10, 2, 2),
+        (1, 2, vec![S, 1, 1, S, 1, A, A, 1, A], 10, 2, 2),
         (8, 3, channels.concat(), 27, 16, 17),
     ]
 }
 
-/// The rules of S with the most moves that were found at 256 states: the empty one, those of 1 to 12 symbols S, and others that begin
-/// with a terminal of their own; 66 rules, with 133 symbols S among the 186 on right sides.
-fn most_moves() -> Vec<u8> {
-    let rule = |right: Vec<u8>| [vec![START, right.len() as u8], right].concat();
-    let alone = (0..=12).flat_map(|length| rule(vec![START; length]));
-    let led = (1..=53).flat_map(|first: u8| rule([vec![first], vec![START; usize::from(first <= 2) + 1]].concat()));
+/// Rules of S with many moves: the empty one, those of 1 to 12 symbols S, and so many that begin with a terminal of their own, where the
+/// first `twice` have two symbols S and the others one.
+fn many_moves(led: Code, twice: Code) -> Vec<Code> {
+    let rule = |right: Vec<Code>| [vec![S, right.len() as Code], right].concat();
+    let alone = (0..=12).flat_map(|length| rule(vec![S; length]));
+    let led = (1..=led).flat_map(|first| rule([vec![first], vec![S; usize::from(first <= twice) + 1]].concat()));
     alone.chain(led).collect()
 }
 
 #[test]
 fn figures() {
-    assert_eq!(search_room(grammar(1, 1, &[128, 1, 1])), Ok(Room { states: 6, certificate: 9, entries: 72, moves: 6 }));
+    assert_eq!(search_room(grammar(1, 1, &[S, 1, 1])), Ok(Room { states: 6, certificate: 9, entries: 72, moves: 6 }));
     for (terminals, nonterminals, rules, states, openings, shifts) in counted() {
         let table = grammar(terminals, nonterminals, &rules);
         assert_eq!(search_room(table), Ok(room(states, 2 * openings + shifts)), "{table:?}");
@@ -80,40 +80,44 @@ fn moves_are_those_of_step_records() {
     for (_, grammar) in corpus() {
         counts_its_moves(grammar.table());
     }
+    let many = many_moves(53, 2);
+    let table = grammar(53, 1, &many);
+    assert_eq!(search_room(table), Ok(room(256, 2 * (1 + 66 * (133 + 1)) + 187)));
+    counts_its_moves(table);
 }
 
 /// Q is at its limit, and so many moves are told in the same way.
 #[test]
 fn rooms_at_the_limits() {
-    let most = most_moves();
-    let table = grammar(53, 1, &most);
-    let openings = 1 + 66 * (133 + 1);
-    assert_eq!(search_room(table), Ok(room(MAX_STATES, 2 * openings + 187)));
-    counts_its_moves(table);
+    // The most moves that were found: 258 rules, with 517 symbols S among the 762 on right sides.
+    let most = many_moves(245, 194);
+    let table = grammar(245, 1, &most);
+    let openings = 1 + 258 * (517 + 1);
+    assert_eq!(search_room(table), Ok(room(MAX_STATES, 2 * openings + 763)));
     lent_room(table);
-    let units: Vec<u8> = (1..=MAX_RULES as u8).flat_map(|code| [START, 1, code]).collect();
+    let units: Vec<Code> = (1..=MAX_RULES as Code).flat_map(|code| [S, 1, code]).collect();
     let table = grammar(MAX_RULES, 1, &units);
-    assert_eq!(search_room(table), Ok(room(204, 2 * (1 + MAX_RULES) + MAX_RULES + 1)));
+    assert_eq!(search_room(table), Ok(room(804, 2 * (1 + MAX_RULES) + MAX_RULES + 1)));
     lent_room(table);
 }
 
 /// Every refusal is the table's.
 #[test]
 fn rooms_of_refused_tables() {
-    let long: Vec<u8> = (128..148).flat_map(|left| [vec![left, 12], vec![1; 12]].concat()).collect();
-    let many: Vec<u8> = (1..=101).flat_map(|code| [128, 1, code]).collect();
+    let long: Vec<Code> = (S..S + 79).flat_map(|left| [vec![left, 12], vec![1; 12]].concat()).collect();
+    let many: Vec<Code> = (1..=401).flat_map(|code| [S, 1, code]).collect();
     for (terminals, nonterminals, rules, cause, at) in [
-        (128, 1, vec![128, 0], Cause::OutOfRange, 0),
-        (0, usize::MAX, vec![128, 0], Cause::OutOfRange, 0),
-        (1, 1, vec![128, 1], Cause::Truncated, 0),
-        (1, 1, vec![128, 0, 129, 0], Cause::LeftUndeclared, 2),
-        (1, 1, [vec![128, 13], vec![1; 13]].concat(), Cause::RuleTooLong, 0),
-        (1, 1, vec![128, 2, 1, 2], Cause::CodeUndeclared, 3),
-        (1, 1, vec![128, 0, 128, 1, 1, 128, 0], Cause::RuleRepeated, 5),
-        (101, 1, many, Cause::TooManyRules, 300),
-        (1, 127, long, Cause::TooManyStates, 266),
+        (MAX_TERMINALS + 1, 1, vec![S, 0], Cause::OutOfRange, 0),
+        (0, usize::MAX, vec![S, 0], Cause::OutOfRange, 0),
+        (1, 1, vec![S, 1], Cause::Truncated, 0),
+        (1, 1, vec![S, 0, A, 0], Cause::LeftUndeclared, 2),
+        (1, 1, [vec![S, 13], vec![1; 13]].concat(), Cause::RuleTooLong, 0),
+        (1, 1, vec![S, 2, 1, 2], Cause::CodeUndeclared, 3),
+        (1, 1, vec![S, 0, S, 1, 1, S, 0], Cause::RuleRepeated, 5),
+        (401, 1, many, Cause::TooManyRules, 1200),
+        (1, 79, long, Cause::TooManyStates, 1092),
         (1, 1, vec![], Cause::NoSentence, 0),
-        (1, 1, vec![128, 1, 128], Cause::NoSentence, 0),
+        (1, 1, vec![S, 1, S], Cause::NoSentence, 0),
     ] {
         let table = grammar(terminals, nonterminals, &rules);
         assert_eq!(check_table(table), refused(cause, at));
@@ -139,7 +143,7 @@ fn searches_lent_their_room_and_less() {
 /// Of the room of S→a nothing is lent, or only a part, or one less of all.
 #[test]
 fn searches_lent_a_part_of_their_room() {
-    let table = grammar(1, 1, &[128, 1, 1]);
+    let table = grammar(1, 1, &[S, 1, 1]);
     for lent in [[0, 0, 0, 0], [9, 0, 0, 0], [0, 72, 72, 72], [9, 0, 72, 72], [9, 72, 0, 72], [9, 72, 72, 0], [8, 71, 71, 71]] {
         lent_less(table, lent);
     }
@@ -182,9 +186,9 @@ fn texts_lent_their_length_and_less() {
         assert_eq!(grammar.write(), text);
     }
     let names = Names { bytes: b"Sa", starts: &[1, 0], lengths: &[1, 1] };
-    written(grammar(1, 1, &[128, 1, 1]), names, "terminals=a\nnonterminals=S\nrule=S: a\n", 100);
+    written(grammar(1, 1, &[S, 1, 1]), names, "terminals=a\nnonterminals=S\nrule=S: a\n", 100);
     written(
-        grammar(0, 1, &[128, 0]),
+        grammar(0, 1, &[S, 0]),
         Names { starts: &[0], lengths: &[1], ..names },
         "terminals=\nnonterminals=S\nrule=S:\n",
         100,
@@ -194,7 +198,7 @@ fn texts_lent_their_length_and_less() {
 /// 16 and 18 come in the writer's order, at the symbol's number; no length of the output is looked at.
 #[test]
 fn lengths_that_are_refused() {
-    let rules = [128, 1, 1];
+    let rules = [S, 1, 1];
     let table = grammar(1, 1, &rules);
     for (bytes, starts, lengths, expected) in [
         (&b"aS"[..], &[0, 1][..], &[1, 1][..], Ok(37)),

@@ -4,8 +4,8 @@
 
 mod support;
 
-use ambiguity::{certificate_bytes, row_entries, Cause, Grammar, Letter, Names, Part, PartRefusal, Refusal, Strings, Table};
-use ambiguity::{TripleRecord, Verdict};
+use ambiguity::{certificate_bytes, row_entries, Cause, Code, Grammar, Letter, Names, Part, PartRefusal, Refusal, Strings};
+use ambiguity::{Table, TripleRecord, Verdict};
 use support::{all_steps, lent_room, refused, Cases, Comparison, Lent};
 
 /// The causes of a table that is refused.
@@ -32,6 +32,10 @@ fn hex(bytes: &[u8]) -> String {
     bytes.iter().map(|byte| format!("{byte:02x}")).collect()
 }
 
+fn half(guard: u8) -> Code {
+    Code::from_le_bytes([guard; 2])
+}
+
 fn word(guard: u8) -> u32 {
     u32::from_le_bytes([guard; 4])
 }
@@ -39,7 +43,7 @@ fn word(guard: u8) -> u32 {
 /// Asks about the next table of the file, which is only looked at.
 fn with_table<A>(cases: &mut Cases, guard: u8, ask: impl FnOnce(&mut Cases, Table) -> A) -> A {
     let (terminals, nonterminals, rules) = cases.table();
-    let rules = Lent::new(&rules, guard);
+    let rules = Lent::new(&rules, half(guard));
     let answer = ask(cases, Table { terminals, nonterminals, rules: rules.row() });
     assert!(rules.kept());
     answer
@@ -184,7 +188,7 @@ fn room_line(cases: &mut Cases, guard: u8) -> String {
 
 fn read_line(cases: &mut Cases, guard: u8) -> String {
     let text = Lent::new(&cases.bytes(), guard);
-    let mut table = Lent::new(&vec![guard ^ 0x5A; cases.number()], guard);
+    let mut table = Lent::new(&vec![half(guard ^ 0x5A); cases.number()], half(guard));
     let mut starts = Lent::new(&vec![word(guard ^ 0x5A); cases.number()], word(guard));
     let mut lengths = Lent::new(&vec![word(guard ^ 0xA5); cases.number()], word(guard));
     let answer = ambiguity::read_text(text.row(), table.row_mut(), starts.row_mut(), lengths.row_mut());

@@ -2,11 +2,12 @@
 
 mod support;
 
-use ambiguity::{Cause, Letter, Names, Part, PartRefusal, Read, ReadBack, Refusal, Table, MAX_REPORT_BYTES};
-use support::{grammar, refused};
+use ambiguity::{Cause, Code, Grammar, Letter, Names, Part, PartRefusal, Read, ReadBack, Refusal, Rule, Table};
+use ambiguity::{MAX_REPORT_BYTES, MAX_TEXT_BYTES};
+use support::{grammar, refused, A, S};
 
 const NESTED: &str = "terminals=x,y\nnonterminals=S,A\nrule=S: x A\nrule=S:\nrule=A: y S y\n";
-const NESTED_RULES: [u8; 11] = [128, 2, 1, 129, 128, 0, 129, 3, 2, 128, 2];
+const NESTED_RULES: [Code; 11] = [S, 2, 1, A, S, 0, A, 3, 2, S, 2];
 
 /// What a text says: t, n, the number of entries and Q.
 fn read(terminals: usize, nonterminals: usize, entries: usize, states: usize) -> Read {
@@ -14,7 +15,7 @@ fn read(terminals: usize, nonterminals: usize, entries: usize, states: usize) ->
 }
 
 /// A text; the entries that are lent for the table, the starts and the lengths; what is read, the table and the starts.
-type Reading<'a> = (&'a str, [usize; 3], Result<(Read, &'a [u8], &'a [u32]), Refusal>);
+type Reading<'a> = (&'a str, [usize; 3], Result<(Read, &'a [Code], &'a [u32]), Refusal>);
 
 /// A table; the name bytes, with starts and lengths; the room; the text.
 type Writing<'a> = (Table<'a>, &'a str, &'a [u32], &'a [u32], usize, Result<&'a str, Refusal>);
@@ -29,12 +30,12 @@ fn texts_read() {
         (NESTED, [11, 4, 4], Ok((read(2, 2, 11, 12), &NESTED_RULES, &[10, 12, 27, 29]))),
         (NESTED, [100, 10, 11], Ok((read(2, 2, 11, 12), &NESTED_RULES, &[10, 12, 27, 29]))),
         (NESTED, [10, 4, 4], refused(Cause::BufferTooShort, 0)),
-        ("terminals=\nnonterminals=S\nrule=S:\n", [20, 5, 5], Ok((read(0, 1, 2, 5), &[128, 0], &[24]))),
+        ("terminals=\nnonterminals=S\nrule=S:\n", [20, 5, 5], Ok((read(0, 1, 2, 5), &[S, 0], &[24]))),
         (NESTED.trim_end(), [100, 10, 10], refused(Cause::Malformed, 5)),
         (&NESTED.replace("y S y", "y S z"), [100, 10, 10], refused(Cause::NameUnknown, 5)),
         (&NESTED.replace("S,A", "S,x"), [100, 10, 10], refused(Cause::NameRepeated, 2)),
         (&long, [100, 10, 10], refused(Cause::RuleTooLong, 5)),
-        ("terminals=x\nnonterminals=S,A\nrule=S: x\n", [100, 10, 10], Ok((read(1, 2, 3, 6), &[128, 1, 1], &[10, 25, 27]))),
+        ("terminals=x\nnonterminals=S,A\nrule=S: x\n", [100, 10, 10], Ok((read(1, 2, 3, 6), &[S, 1, 1], &[10, 25, 27]))),
         ("", [0, 0, 0], refused(Cause::Malformed, 1)),
     ];
     for (text, lent, expected) in cases {
@@ -49,12 +50,46 @@ fn texts_read() {
     }
 }
 
+/// 2,000 names of either kind: the last ones have the highest codes. One more of either is refused.
+#[test]
+fn the_most_names() {
+    let names = |front: &str, count: usize| (1..=count).map(|i| format!("{front}{i}")).collect::<Vec<_>>().join(",");
+    let text = |terminals: usize, nonterminals: usize| {
+        let lists = format!("terminals={}\nnonterminals={}\n", names("reagent-", terminals), names("Mixture-", nonterminals));
+        lists + "rule=Mixture-1: reagent-2000 Mixture-2000\nrule=Mixture-2000: reagent-1999\n"
+    };
+    let most = text(2000, 2000);
+    let grammar = Grammar::read(most.as_bytes()).unwrap();
+    let rules = [Rule { left: S, right: vec![2000, 34_767] }, Rule { left: 34_767, right: vec![1999] }];
+    assert_eq!((grammar.rules(), grammar.states()), (&rules[..], 9));
+    assert_eq!((grammar.name(2000), grammar.name(34_767)), (Some("reagent-2000"), Some("Mixture-2000")));
+    assert_eq!((grammar.name(2001), grammar.name(34_768)), (None, None));
+    assert_eq!(grammar.write(), most);
+    let lines = b"left=(0 (1 reagent-2000 Mixture-2000 )1\nright=Mixture-1\n";
+    let strings = grammar.read_back(lines).unwrap();
+    assert_eq!(strings.left[2..4], [Letter::Symbol(2000), Letter::Symbol(34_767)]);
+    assert_eq!(grammar.lines(&strings).unwrap().as_bytes(), lines);
+    assert_eq!(Grammar::read(text(2001, 2000).as_bytes()).map(|_| ()), refused(Cause::OutOfRange, 1));
+    assert_eq!(Grammar::read(text(2000, 2001).as_bytes()).map(|_| ()), refused(Cause::OutOfRange, 2));
+}
+
+/// Of a text with as many bytes as may be all lines are looked at; one byte more is too long, whatever it says.
+#[test]
+fn the_most_bytes() {
+    let most = ["terminals=\nnonterminals=S\n", &"rule=S: S\n".repeat(3), &"rule=S:\n".repeat(32_761)].concat();
+    assert_eq!(most.len(), MAX_TEXT_BYTES);
+    let read = |text: &str| ambiguity::read_text(text.as_bytes(), &mut [], &mut [], &mut []);
+    assert_eq!(read(&most), refused(Cause::RuleRepeated, 3));
+    assert_eq!(read(&most[..MAX_TEXT_BYTES - 1]), refused(Cause::Malformed, 32_766));
+    assert_eq!(read(&(most + "\n")), refused(Cause::Malformed, 0));
+}
+
 #[test]
 fn texts_written() {
     let hyphens = NESTED.replace('A', "left").replace('x', "-").replace('y', "star").replace('S', "start");
-    let cut = [&NESTED_RULES[..], &[128]].concat();
+    let cut = [&NESTED_RULES[..], &[S]].concat();
     let nested = grammar(2, 2, &NESTED_RULES);
-    let empty = grammar(0, 1, &[128, 0]);
+    let empty = grammar(0, 1, &[S, 0]);
     let cases: [Writing; 10] = [
         (nested, "xyABS", &[0, 1, 4, 2], &[1; 4], 200, Ok(NESTED)),
         (nested, "--start.left.", &[0, 2, 2, 8], &[1, 5, 5, 4], 200, refused(Cause::NameRepeated, 2)),
@@ -153,14 +188,8 @@ fn lines_read_back() {
     let (mut left, mut right) = ([7; 7], [7; 1]);
     let answer = ambiguity::read_back(NESTED.as_bytes(), lines, &mut left, &mut right);
     assert_eq!(answer, Ok(ReadBack { left: 6, right: 0 }));
-    let letters = [
-        Letter::Opening(0),
-        Letter::Opening(3),
-        Letter::Symbol(1),
-        Letter::Symbol(128),
-        Letter::Closing(3),
-        Letter::Closing(0),
-    ];
+    let letters =
+        [Letter::Opening(0), Letter::Opening(3), Letter::Symbol(1), Letter::Symbol(S), Letter::Closing(3), Letter::Closing(0)];
     assert_eq!((left[..6].to_vec(), left[6], right), (letters.map(Letter::entry).to_vec(), 7, [7]));
 }
 
@@ -173,7 +202,7 @@ fn long_lines() {
     let (mut left, mut right) = (rows(), rows());
     let answer = ambiguity::read_back(NESTED.as_bytes(), lines.as_bytes(), &mut left, &mut right);
     assert_eq!(answer, Ok(ReadBack { left: 500_000, right: 500_000 }));
-    let four = [Letter::Opening(0), Letter::Symbol(1), Letter::Closing(3), Letter::Symbol(128)].map(Letter::entry);
+    let four = [Letter::Opening(0), Letter::Symbol(1), Letter::Closing(3), Letter::Symbol(S)].map(Letter::entry);
     for row in [left, right] {
         assert!(row[..500_000].chunks(4).all(|letters| letters == four));
         assert!(row[500_000..].iter().all(|entry| *entry == 0));

@@ -2,43 +2,43 @@
 
 mod support;
 
-use ambiguity::{Cause, Refusal, TripleRecord};
-use support::{all_steps, grammar, refused};
+use ambiguity::{Cause, Code, Refusal, TripleRecord};
+use support::{all_steps, grammar, refused, A, S};
 
 type Answer = Result<(), Refusal>;
 
 /// S→S a; S→a
-const LEFT_RECURSION: &[u8] = &[128, 2, 128, 1, 128, 1, 1];
+const LEFT_RECURSION: &[Code] = &[S, 2, S, 1, S, 1, 1];
 
 /// S→S; S→a
-const CYCLE: [u8; 6] = [128, 1, 128, 128, 1, 1];
+const CYCLE: [Code; 6] = [S, 1, S, S, 1, 1];
 
 #[test]
 fn steps() {
-    let cases: [(usize, &[u8], [usize; 3], &str); 9] = [
+    let cases: [(usize, &[Code], [usize; 3], &str); 9] = [
         (1, LEFT_RECURSION, [1, 3, 4], "records=3 1,3,4,-,o1 1,1,4,c0,- 1,3,7,-,o2"),
         (1, LEFT_RECURSION, [0, 4, 0], "records=3 0,4,0,o1,- 0,4,2,-,o0 0,7,0,o2,-"),
         (1, LEFT_RECURSION, [1, 4, 4], "records=4 1,4,4,o1,- 1,4,4,-,o1 1,4,7,-,o2 1,7,4,o2,-"),
-        (0, &[128, 0], [0, 2, 2], "records=3 0,2,4,-,o1 0,3,3,s128,s128 0,4,2,o1,-"),
-        (0, &[128, 0], [1, 0, 3], "records=2 1,0,1,-,c0 1,2,3,o0,-"),
-        (0, &[128, 0], [0, 3, 4], "records=1 1,1,3,c0,c1"),
-        (1, &[128, 1, 1], [0, 3, 4], "records=1 1,1,4,c0,-"),
-        (1, &[128, 1, 1], [1, 4, 4], "records=1 1,5,5,s1,s1"),
-        (1, &[128, 1, 1], [0, 65536, 0], "records=0"),
+        (0, &[S, 0], [0, 2, 2], "records=3 0,2,4,-,o1 0,3,3,s32768,s32768 0,4,2,o1,-"),
+        (0, &[S, 0], [1, 0, 3], "records=2 1,0,1,-,c0 1,2,3,o0,-"),
+        (0, &[S, 0], [0, 3, 4], "records=1 1,1,3,c0,c1"),
+        (1, &[S, 1, 1], [0, 3, 4], "records=1 1,1,4,c0,-"),
+        (1, &[S, 1, 1], [1, 4, 4], "records=1 1,5,5,s1,s1"),
+        (1, &[S, 1, 1], [0, 65536, 0], "records=0"),
     ];
     for (terminals, rules, [layer, left, right], expected) in cases {
         assert_eq!(all_steps(grammar(terminals, 1, rules), layer, left, right), Ok(expected.to_string()));
     }
-    assert_eq!(all_steps(grammar(1, 1, &[128, 1, 1, 128]), 0, 0, 0), refused(Cause::Truncated, 3));
+    assert_eq!(all_steps(grammar(1, 1, &[S, 1, 1, S]), 0, 0, 0), refused(Cause::Truncated, 3));
 }
 
 /// S→a; S→A; A→A: the items from 6 on are of rules that no sentence uses.
 #[test]
 fn steps_without_dead_rules() {
-    let rules = [128, 1, 1, 128, 1, 129, 129, 1, 129];
+    let rules = [S, 1, 1, S, 1, A, A, 1, A];
     for (triple, expected) in [
         ([0, 0, 0], "records=2 0,0,2,-,o0 0,2,0,o0,-"),
-        ([0, 2, 2], "records=3 0,2,4,-,o1 0,3,3,s128,s128 0,4,2,o1,-"),
+        ([0, 2, 2], "records=3 0,2,4,-,o1 0,3,3,s32768,s32768 0,4,2,o1,-"),
         ([1, 2, 2], "records=2 1,2,4,-,o1 1,4,2,o1,-"),
         ([1, 5, 5], "records=2 1,3,5,c1,- 1,5,3,-,c1"),
         ([0, 6, 6], "records=0"),

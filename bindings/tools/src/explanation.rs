@@ -1,9 +1,9 @@
 //! Why a verdict is potential: where two readings part, and two real trees if they were found.
 
-use ambiguity::{Code, Grammar, START};
+use ambiguity::{Code, Grammar, Step, START};
 
 use crate::layout::{self, WIDTH};
-use crate::pairs::{self, Extent, Limits, Outcome};
+use crate::pairs::{self, Extent, Field, Limits, Outcome};
 use crate::parting::{self, Parting};
 use crate::phrase::{self, Example, Phrase};
 use crate::{readings, words};
@@ -22,8 +22,8 @@ pub struct Explanation {
     pub parting: Parting,
     /// Where other rules part, each with its phrase.
     pub also: Vec<(Parting, Phrase)>,
-    /// The entries of the witness and the two strings.
-    pub steps: String,
+    /// The step records of the witness.
+    pub steps: Vec<Step>,
 }
 
 /// Partings that are shown beside the first one.
@@ -34,20 +34,48 @@ const MOST_TRIED: usize = 40;
 const SHARE: usize = 10;
 
 /// Looks for two trees, and says where they part; where none are found, where the strings of the witness part. Left of the trees is
-/// the one that is more like the left string.
+/// the one that is more like the left string. Where the limits are met, trees of the rules that the witness uses are looked for too:
+/// a grammar of many rules has more pairs than are tried, and few of them are needed.
 pub fn of(grammar: &Grammar, witness: &[u32]) -> Explanation {
-    let records = readings::steps(grammar, witness);
-    let strings = parting::of_witness(grammar, witness, &records);
-    let steps = readings::told(grammar, witness, &records);
-    match pairs::look(grammar, Limits::default()) {
-        Outcome::Two { root, left, right, rules, .. } => {
+    let steps = readings::steps(grammar, witness);
+    let strings = parting::of_witness(grammar, witness, &steps);
+    let used = used_rules(grammar, witness);
+    let (outcome, rules) = match pairs::look(grammar, Limits::default()) {
+        Outcome::NotFound(extent @ Extent::Limit { .. }) => {
+            let field = Field { grammar, root: START, rules: Some(&used) };
+            match pairs::look_from(field, Limits::default(), &[], &mut 0) {
+                Outcome::NotFound(_) => (Outcome::NotFound(extent), None),
+                two => (two, field.rules),
+            }
+        }
+        outcome => (outcome, None),
+    };
+    match outcome {
+        Outcome::Two { root, left, right, rules: parted, .. } => {
             let (parting, phrase) = placed(grammar, phrase::smallest(grammar, root, &left, &right), &strings);
-            let also = others(grammar, root, rules, &parting, &strings);
+            let also = others(Field { grammar, root, rules }, parted, &parting, &strings);
             let example = phrase.example(grammar);
             Explanation { found: Found::Two(phrase, example), parting, also, steps }
         }
         Outcome::NotFound(extent) => Explanation { found: Found::Not(extent), parting: strings, also: Vec::new(), steps },
     }
+}
+
+/// For each stored rule whether a state of a witness is one of its items.
+fn used_rules(grammar: &Grammar, witness: &[u32]) -> Vec<bool> {
+    let mut states = vec![false; grammar.states()];
+    for index in witness {
+        let (_, left, right) = words::triple(grammar, *index as usize);
+        states[left] = true;
+        states[right] = true;
+    }
+    let mut used = vec![false; grammar.rules().len()];
+    for (state, _) in states.iter().enumerate().filter(|(_, stood)| **stood) {
+        if let Some(place) = words::item_at(grammar, state).0.checked_sub(1) {
+            used[place] = true;
+        }
+    }
+    used
 }
 
 /// A phrase with its parting, left and right as in the two strings.
@@ -60,14 +88,15 @@ fn placed(grammar: &Grammar, mut phrase: Phrase, strings: &Parting) -> (Parting,
 
 /// Phrases that part between other pairs of rules, one for each pair. The walks that are found part at pairs that no earlier walks
 /// part at; as trees they may part between rules that are known, since what trees have in common is folded.
-fn others(grammar: &Grammar, root: Code, rules: (usize, usize), first: &Parting, strings: &Parting) -> Vec<(Parting, Phrase)> {
-    let limits = Limits::default();
-    let limits = Limits { pairs: limits.pairs / SHARE, moves: limits.moves / SHARE };
+fn others(field: Field, rules: (usize, usize), first: &Parting, strings: &Parting) -> Vec<(Parting, Phrase)> {
+    let Field { grammar, root, .. } = field;
+    let limits = Limits::default().share(SHARE);
+    let mut triples = limits.triples;
     let mut tried = vec![rules];
     let mut shown = vec![first.rules()];
     let mut found = Vec::new();
-    while found.len() < MOST_ALSO && tried.len() < MOST_TRIED {
-        let Outcome::Two { left, right, rules, .. } = pairs::look_from(grammar, root, limits, &tried) else { break };
+    while found.len() < MOST_ALSO && tried.len() < MOST_TRIED && triples > 0 {
+        let Outcome::Two { left, right, rules, .. } = pairs::look_from(field, limits, &tried, &mut triples) else { break };
         tried.push(rules);
         let (parting, phrase) = placed(grammar, phrase::smallest(grammar, root, &left, &right), strings);
         if !shown.contains(&parting.rules()) {

@@ -3,51 +3,69 @@
 
 use ambiguity::{Code, Grammar, START};
 
+use crate::codes::ByCode;
 use crate::words;
 
-const CODES: usize = Code::MAX as usize + 1;
-
-/// Marks for codes.
-pub type Marks = [bool; CODES];
+/// Marks for symbols.
+pub type Marks = ByCode<bool>;
 
 /// By code, whether a symbol has a sentence: terminals have, and nonterminals with a finite tree.
 fn productive(grammar: &Grammar) -> Marks {
-    let mut marks = [false; CODES];
-    marks[1..=grammar.terminals().len()].fill(true);
-    loop {
-        let found = grammar.rules().iter().find(|rule| !marks[rule.left as usize] && all(&marks, &rule.right));
-        match found {
-            Some(rule) => marks[rule.left as usize] = true,
-            None => return marks,
+    // By rule how many symbols of its right side are not marked; by code the rules that have it there, as often as they do.
+    let mut missing: Vec<usize> = grammar.rules().iter().map(|rule| rule.right.len()).collect();
+    let users = users(grammar);
+    let mut marks = Marks::new(grammar, false);
+    let mut rest: Vec<Code> = (1..=grammar.terminals().len() as Code).collect();
+    rest.extend(grammar.rules().iter().filter(|rule| rule.right.is_empty()).map(|rule| rule.left));
+    while let Some(code) = rest.pop() {
+        if !std::mem::replace(&mut marks[code], true) {
+            for user in &users[code] {
+                missing[*user] -= 1;
+                if missing[*user] == 0 {
+                    rest.push(grammar.rules()[*user].left);
+                }
+            }
         }
     }
+    marks
+}
+
+/// By code the rules on whose right sides it stands, by their places, each as often as it stands there.
+fn users(grammar: &Grammar) -> ByCode<Vec<usize>> {
+    let mut users = ByCode::new(grammar, Vec::new());
+    for (place, rule) in grammar.rules().iter().enumerate() {
+        for code in &rule.right {
+            users[*code].push(place);
+        }
+    }
+    users
 }
 
 /// By code, whether a symbol has a sentence that is not empty.
 pub fn visible(grammar: &Grammar) -> Marks {
     let productive = productive(grammar);
-    let mut marks = [false; CODES];
-    marks[1..=grammar.terminals().len()].fill(true);
-    loop {
-        let shows = |row: &[Code]| all(&productive, row) && row.iter().any(|code| marks[*code as usize]);
-        let found = grammar.rules().iter().find(|rule| !marks[rule.left as usize] && shows(&rule.right));
-        match found {
-            Some(rule) => marks[rule.left as usize] = true,
-            None => return marks,
+    let users = users(grammar);
+    let mut marks = Marks::new(grammar, false);
+    let mut rest: Vec<Code> = (1..=grammar.terminals().len() as Code).collect();
+    while let Some(code) = rest.pop() {
+        if !std::mem::replace(&mut marks[code], true) {
+            let rules = users[code].iter().map(|place| &grammar.rules()[*place]);
+            rest.extend(rules.filter(|rule| all(&productive, &rule.right)).map(|rule| rule.left));
         }
     }
+    marks
 }
 
 fn all(marks: &Marks, row: &[Code]) -> bool {
-    row.iter().all(|code| marks[*code as usize])
+    row.iter().all(|code| marks[*code])
 }
 
 /// By code, whether a symbol is reached from a root through rules whose symbols all have sentences.
 fn reached(grammar: &Grammar, productive: &Marks, root: Code) -> Marks {
-    let mut marks = [false; CODES];
+    let mut marks = Marks::new(grammar, false);
     let mut rest = vec![root];
     while let Some(code) = rest.pop() {
-        if !std::mem::replace(&mut marks[code as usize], true) {
+        if !std::mem::replace(&mut marks[code], true) {
             let rules = grammar.rules().iter().filter(|rule| rule.left == code && all(productive, &rule.right));
             rest.extend(rules.flat_map(|rule| &rule.right));
         }
@@ -64,7 +82,7 @@ pub fn live_rules(grammar: &Grammar) -> Vec<bool> {
 pub fn rules_under(grammar: &Grammar, root: Code) -> Vec<bool> {
     let productive = productive(grammar);
     let reached = reached(grammar, &productive, root);
-    grammar.rules().iter().map(|rule| reached[rule.left as usize] && all(&productive, &rule.right)).collect()
+    grammar.rules().iter().map(|rule| reached[rule.left] && all(&productive, &rule.right)).collect()
 }
 
 /// The nonterminals beside the start that stand in a tree of some sentence.
@@ -101,7 +119,7 @@ pub fn warnings(grammar: &Grammar) -> Vec<Warning> {
     let productive = productive(grammar);
     for (place, _) in live_rules(grammar).iter().enumerate().filter(|(_, live)| !**live) {
         let rule = &grammar.rules()[place];
-        let reason = match rule.right.iter().find(|code| !productive[**code as usize]) {
+        let reason = match rule.right.iter().find(|code| !productive[**code]) {
             Some(code) => format!("'{}' has no finite tree", words::symbol(grammar, *code)),
             None => format!("'{}' is not reached from '{}'", words::symbol(grammar, rule.left), grammar.nonterminals()[0]),
         };
@@ -135,10 +153,7 @@ mod tests {
         let grammar =
             read("terminals=a\nnonterminals=S,N,E,W\nrule=S: N\nrule=N:\nrule=N: E a\nrule=E:\nrule=E: N W\nrule=W: W a\n");
         let marks = visible(&grammar);
-        assert_eq!(
-            [1, START, START + 1, START + 2, START + 3].map(|code| marks[code as usize]),
-            [true, true, true, false, false]
-        );
+        assert_eq!([1, START, START + 1, START + 2, START + 3].map(|code| marks[code]), [true, true, true, false, false]);
     }
 
     #[test]

@@ -120,7 +120,7 @@ pub fn judged(
     members.push(("looked", searched.looked().to_string()));
     if let Searched::Unambiguous { certificate, size, .. } = searched {
         members.push(("size", size.to_string()));
-        members.push(("certificate", text(&lines::written(grammar, *size, certificate, Form::Checked))));
+        members.push(("certificate", text(&lines::written(grammar, *size, certificate, Form::usual(grammar.states())))));
     }
     for line in strings.lines() {
         if let Some((key, value)) = line.split_once('=') {

@@ -1,5 +1,6 @@
 //! What `ambig-certify` and `ambig-check` share. Verdicts are the library's; here they are put into words, lines and pages.
 
+pub mod codes;
 pub mod command;
 pub mod diagnosis;
 pub mod drawing;

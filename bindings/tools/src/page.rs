@@ -16,7 +16,7 @@ const HALF_PAGE: usize = 400;
 const PAGE_WIDTH: usize = 670;
 const PAGE_HEIGHT: usize = 860;
 
-/// A certificate of more lines stands in two columns.
+/// A certificate of more lines stands in two columns; the lines of form 3 are too long for that.
 const ONE_COLUMN: usize = 60;
 
 const STYLE: &str = "\
@@ -36,6 +36,7 @@ td.number { color: #555; text-align: right; user-select: none; overflow-wrap: no
 tr.parting td { background: #fbe3c8; }
 pre { font-size: 7pt; line-height: 1.3; column-width: 57ch; column-gap: 4mm; margin: 0; }
 pre.one { font-size: 9pt; column-width: auto; }
+pre.runs { column-width: auto; }
 pre.strings { font-size: 9.5pt; column-width: auto; white-space: pre-wrap; overflow-wrap: anywhere; }
 .trees { display: flex; flex-wrap: wrap; gap: 4mm; align-items: flex-start; }
 figure { margin: 0; flex: 1 1 40%; break-inside: avoid; }
@@ -89,8 +90,8 @@ pub fn of(subject: &Subject) -> String {
     let grammar = subject.grammar;
     let parts = match (subject.searched, subject.explanation) {
         (Searched::Unambiguous { certificate, size, looked }, _) => {
-            let lines = lines::written(grammar, *size, certificate, Form::Checked);
-            [unambiguous(grammar, *size, *looked), grammar_part(subject.text, &[]), certificate_part(&lines)]
+            let lines = lines::written(grammar, *size, certificate, Form::usual(grammar.states()));
+            [unambiguous(grammar, *size, *looked), grammar_part(subject.text, &[]), certificate_part(&lines, grammar.states())]
         }
         (Searched::Potential { witness, looked }, Some(explanation)) => {
             let strings = strings_part(&strings::printed(subject.text, grammar, witness));
@@ -169,8 +170,12 @@ fn grammar_part(text: &[u8], marked: &[usize]) -> String {
     format!("<h2>Text</h2>\n<table>\n{}</table>\n", rows.collect::<String>())
 }
 
-fn certificate_part(lines: &str) -> String {
-    let class = if lines.lines().count() <= ONE_COLUMN { " class=\"one\"" } else { "" };
+fn certificate_part(lines: &str, states: usize) -> String {
+    let class = match Form::usual(states) {
+        _ if lines.lines().count() <= ONE_COLUMN => " class=\"one\"",
+        Form::Runs => " class=\"runs\"",
+        _ => "",
+    };
     format!("<h2>Certificate</h2>\n<pre{class}>{}</pre>\n<p>{}</p>\n", escaped(lines), sentence(CHECKING))
 }
 

@@ -171,8 +171,8 @@ mod tests {
     fn trees() {
         let text = b"terminals=if,else,x\nnonterminals=S\nrule=S: if S\nrule=S: if S else S\nrule=S: x\nrule=S: S\n";
         let grammar = Grammar::read(text).unwrap();
-        let left = [Rule(1), Leaf(1), Rule(2), Leaf(1), Leaf(128), Leaf(2), Leaf(128)];
-        let right = [Rule(2), Leaf(1), Rule(1), Leaf(1), Leaf(128), Leaf(2), Leaf(128)];
+        let left = [Rule(1), Leaf(1), Rule(2), Leaf(1), Leaf(START), Leaf(2), Leaf(START)];
+        let right = [Rule(2), Leaf(1), Rule(1), Leaf(1), Leaf(START), Leaf(2), Leaf(START)];
         let said = of_trees(&grammar, START, &left, &right).sentence(&grammar);
         assert_eq!(said, "after `if if S`: left goes on with `else`, right ends `S: if S`, line 3");
         let said = of_trees(&grammar, START, &[Rule(3), Leaf(3)], &[Rule(4), Rule(3), Leaf(3)]).sentence(&grammar);

@@ -2,6 +2,7 @@
 
 use ambiguity::{Code, Grammar, START};
 
+use crate::holes;
 use crate::sentences::{self, Around};
 use crate::tree::{self, Node, Tree};
 
@@ -52,6 +53,7 @@ fn below<'a>(grammar: &Grammar, tree: &'a [Node]) -> Vec<&'a [Node]> {
 
 /// The smallest part of two trees with one row in which they differ: below equal rules it is a child that differs and has one row.
 pub fn smallest(grammar: &Grammar, root: Code, left: &[Node], right: &[Node]) -> Phrase {
+    let visible = holes::visible(grammar);
     let (mut root, mut left, mut right) = (root, left, right);
     while let (Some(Node::Rule(rule)), true) = (left.first(), left.first() == right.first()) {
         let symbols = &grammar.rules()[rule - 1].right;
@@ -59,7 +61,7 @@ pub fn smallest(grammar: &Grammar, root: Code, left: &[Node], right: &[Node]) ->
         let mut parts = symbols
             .iter()
             .zip(children)
-            .filter(|(code, (left, right))| left != right && tree::common_row(grammar, **code, left, right).is_ok());
+            .filter(|(code, (left, right))| left != right && tree::shared_row(grammar, &visible, **code, left, right).is_ok());
         match parts.next() {
             Some((code, part)) => (root, (left, right)) = (*code, part),
             None => break,
@@ -97,11 +99,12 @@ mod tests {
     fn what_differs() {
         let text = b"terminals=a,b\nnonterminals=S,E\nrule=S: b E b\nrule=E: E a E\nrule=E: b\n";
         let grammar = Grammar::read(text).unwrap();
-        let (a, b, e) = (Leaf(1), Leaf(2), Leaf(129));
+        let (a, b, e) = (Leaf(1), Leaf(2), Leaf(START + 1));
         let left = [Rule(1), b, Rule(2), Rule(2), e, a, e, a, e, b];
         let right = [Rule(1), b, Rule(2), e, a, Rule(2), e, a, e, b];
         let phrase = smallest(&grammar, START, &left, &right);
-        assert_eq!((phrase.root, &phrase.row[..], &phrase.left[..]), (129, &[129, 1, 129, 1, 129][..], &left[2..9]));
+        assert_eq!((phrase.root, &phrase.left[..]), (START + 1, &left[2..9]));
+        assert_eq!(phrase.row, [START + 1, 1, START + 1, 1, START + 1]);
         assert_eq!(phrase.right, right[2..9]);
         let Example::Sentence(sentence) = phrase.example(&grammar) else { panic!("it is short") };
         assert_eq!(sentence, [2, 2, 1, 2, 1, 2, 2]);
@@ -116,6 +119,6 @@ mod tests {
         let left = [&[Rule(1)][..], &one, &other].concat();
         let right = [&[Rule(1)][..], &other, &one].concat();
         let phrase = smallest(&grammar, START, &left, &right);
-        assert_eq!((phrase.root, phrase.row, phrase.left), (129, vec![1], vec![Rule(2), a]));
+        assert_eq!((phrase.root, phrase.row, phrase.left), (START + 1, vec![1], vec![Rule(2), a]));
     }
 }

@@ -14,19 +14,9 @@ fn moved(grammar: &Grammar, side: Move) -> String {
     }
 }
 
-/// The step record of a triple that leads to the next entry.
-fn step(grammar: &Grammar, from: u32, to: u32) -> Step {
-    let (layer, left, right) = words::triple(grammar, from as usize);
-    let next = words::triple(grammar, to as usize);
-    let record = |nth| ambiguity::nth_step(grammar.table(), layer, left, right, nth).expect("a grammar that was read");
-    let mut records = (0..).map_while(record);
-    let found = records.find(|step| (step.layer, step.left, step.right) == next);
-    found.expect("an entry of a witness is a successor of the one before")
-}
-
 /// The step records that lead through a witness.
 pub fn steps(grammar: &Grammar, witness: &[u32]) -> Vec<Step> {
-    witness.windows(2).map(|entries| step(grammar, entries[0], entries[1])).collect()
+    grammar.steps(witness).expect("an entry of a witness is a successor of the one before")
 }
 
 /// Rows of cells as lines, each column as wide as its widest cell.

@@ -2,10 +2,9 @@
 
 use ambiguity::{Code, Grammar, Rule, START};
 
+use crate::codes::ByCode;
 use crate::holes;
 use crate::tree::{Node, Tree};
-
-const CODES: usize = Code::MAX as usize + 1;
 
 /// Nodes of a tree that is filled in.
 const MOST_NODES: usize = 4_000;
@@ -20,16 +19,14 @@ struct Shortest {
 
 /// By code the shortest sentence, and the shortest one that is not empty.
 struct Table {
-    any: Vec<Option<Shortest>>,
-    shown: Vec<Option<Shortest>>,
+    any: ByCode<Option<Shortest>>,
+    shown: ByCode<Option<Shortest>>,
 }
 
 impl Table {
     fn new(grammar: &Grammar) -> Table {
-        let mut table = Table { any: vec![None; CODES], shown: vec![None; CODES] };
-        let terminal = Some(Shortest { length: 1, rule: 0, shown: None });
-        table.any[1..=grammar.terminals().len()].fill(terminal);
-        table.shown[1..=grammar.terminals().len()].fill(terminal);
+        let known = ByCode::with_terminals(grammar, Some(Shortest { length: 1, rule: 0, shown: None }), None);
+        let mut table = Table { any: known.clone(), shown: known };
         while grammar.rules().iter().enumerate().filter(|(place, rule)| table.improve(*place, rule)).count() > 0 {}
         table
     }
@@ -38,7 +35,7 @@ impl Table {
     fn length(&self, row: &[Code], shown: Option<usize>) -> Option<usize> {
         row.iter().enumerate().try_fold(0, |sum: usize, (place, code)| {
             let known = if shown == Some(place) { &self.shown } else { &self.any };
-            Some(sum.saturating_add(known[*code as usize]?.length))
+            Some(sum.saturating_add(known[*code]?.length))
         })
     }
 
@@ -49,8 +46,7 @@ impl Table {
         let shown =
             (0..rule.right.len()).filter_map(|at| self.length(&rule.right, Some(at)).map(|length| of(length, Some(at))));
         let shown = shown.min_by_key(|found| found.length);
-        let left = rule.left as usize;
-        replace(&mut self.any[left], any) | replace(&mut self.shown[left], shown)
+        replace(&mut self.any[rule.left], any) | replace(&mut self.shown[rule.left], shown)
     }
 
     /// A tree with a shortest sentence for each leaf, that of a nonterminal not empty where it is to be shown; none if it gets too
@@ -69,7 +65,7 @@ impl Table {
                     filled.push(Node::Leaf(code));
                     continue;
                 }
-                let found = if shown { &self.shown } else { &self.any }[code as usize]?;
+                let found = if shown { &self.shown } else { &self.any }[code]?;
                 filled.push(Node::Rule(found.rule + 1));
                 let right = grammar.rules()[found.rule].right.iter().enumerate();
                 rest.extend(right.map(|(place, code)| (*code, found.shown == Some(place))).rev());
@@ -126,13 +122,13 @@ pub enum Around {
 pub fn around(grammar: &Grammar, nonterminal: Code, most: usize) -> Option<Around> {
     let table = Table::new(grammar);
     let steps = ways(grammar, &table);
-    let (length, _) = steps[nonterminal as usize]?;
+    let (length, _) = steps[nonterminal]?;
     if length > most {
         return Some(Around::Long);
     }
     let (mut before, mut behind) = (Vec::new(), Vec::new());
     let mut code = nonterminal;
-    while let Some((_, Some((rule, place)))) = steps[code as usize] {
+    while let Some((_, Some((rule, place)))) = steps[code] {
         let right = &grammar.rules()[rule].right;
         let row = |part: &[Code]| {
             let tree: Tree = part.iter().map(|code| Node::Leaf(*code)).collect();
@@ -149,28 +145,26 @@ pub fn around(grammar: &Grammar, nonterminal: Code, most: usize) -> Option<Aroun
 /// How many terminals stand around a symbol, and the rule and the place in it that lead there; the start has none.
 type Way = (usize, Option<(usize, usize)>);
 
-/// By code the shortest way from the start.
-fn ways(grammar: &Grammar, table: &Table) -> Vec<Option<Way>> {
+/// By code the shortest way from the start. A round tries every rule; each round settles at least one nonterminal.
+fn ways(grammar: &Grammar, table: &Table) -> ByCode<Option<Way>> {
     let live = holes::live_rules(grammar);
-    let mut ways: Vec<Option<Way>> = vec![None; CODES];
-    ways[START as usize] = Some((0, None));
-    loop {
-        let mut better = None;
+    let mut ways: ByCode<Option<Way>> = ByCode::new(grammar, None);
+    ways[START] = Some((0, None));
+    let mut better = true;
+    while std::mem::replace(&mut better, false) {
         for (number, rule) in grammar.rules().iter().enumerate().filter(|(number, _)| live[*number]) {
-            let Some((before, _)) = ways[rule.left as usize] else { continue };
+            let Some((before, _)) = ways[rule.left] else { continue };
             for (place, code) in rule.right.iter().enumerate().filter(|(_, code)| **code >= START) {
                 let others = [&rule.right[..place], &rule.right[place + 1..]].concat();
                 let Some(length) = table.length(&others, None).map(|length| length.saturating_add(before)) else { continue };
-                if ways[*code as usize].map_or(true, |(known, _)| length < known) {
-                    better = Some((*code, (length, Some((number, place)))));
+                if ways[*code].map_or(true, |(known, _)| length < known) {
+                    ways[*code] = Some((length, Some((number, place))));
+                    better = true;
                 }
             }
         }
-        match better {
-            Some((code, way)) => ways[code as usize] = Some(way),
-            None => return ways,
-        }
     }
+    ways
 }
 
 #[cfg(test)]
@@ -183,10 +177,10 @@ mod tests {
         // Where S stands for nothing its two trees still differ in N; where N does, they do not.
         let text = b"terminals=a,b\nnonterminals=S,N\nrule=S: N S\nrule=S: S N\nrule=S:\nrule=N:\nrule=N: b\n";
         let grammar = Grammar::read(text).unwrap();
-        let (left, right) = ([Rule(1), Leaf(129), Rule(3)], [Rule(2), Rule(3), Leaf(129)]);
+        let (left, right) = ([Rule(1), Leaf(START + 1), Rule(3)], [Rule(2), Rule(3), Leaf(START + 1)]);
         assert_eq!(of_trees(&grammar, &left, &right, 9), Some(vec![]));
         let pairs = Grammar::read(b"terminals=b\nnonterminals=S,N\nrule=S: N N\nrule=N:\nrule=N: b\n").unwrap();
-        let (left, right) = ([Rule(1), Leaf(129), Rule(2)], [Rule(1), Rule(2), Leaf(129)]);
+        let (left, right) = ([Rule(1), Leaf(START + 1), Rule(2)], [Rule(1), Rule(2), Leaf(START + 1)]);
         assert_eq!(of_trees(&pairs, &left, &right, 9), Some(vec![1]));
         assert_eq!(of_trees(&pairs, &left, &right, 0), None);
     }

@@ -2,7 +2,7 @@
 
 use ambiguity::{Code, Grammar};
 
-use crate::holes;
+use crate::holes::{self, Marks};
 
 /// A node of a tree: a rule that is applied, by its number from 1, or a symbol that stands for itself.
 #[derive(Clone, Copy, Debug, PartialEq, Eq, Hash)]
@@ -62,6 +62,11 @@ pub fn row(grammar: &Grammar, root: Code, tree: &[Node]) -> Result<Vec<Code>, Fa
 /// subtree would be the node over the same part of the sentence with the same nodes below it; that part is not empty, so there is
 /// only one such node, and the leaves had been at the same place.
 pub fn common_row(grammar: &Grammar, root: Code, left: &[Node], right: &[Node]) -> Result<Vec<Code>, Fault> {
+    shared_row(grammar, &holes::visible(grammar), root, left, right)
+}
+
+/// The common row, by marks for the symbols that have a sentence which is not empty.
+pub fn shared_row(grammar: &Grammar, visible: &Marks, root: Code, left: &[Node], right: &[Node]) -> Result<Vec<Code>, Fault> {
     let common = row(grammar, root, left)?;
     if row(grammar, root, right)? != common {
         return Err(Fault::Rows);
@@ -72,8 +77,7 @@ pub fn common_row(grammar: &Grammar, root: Code, left: &[Node], right: &[Node]) 
     if [left, right].iter().any(|tree| !matches!(tree.first(), Some(Node::Rule(_)))) {
         return Err(Fault::Root);
     }
-    let visible = holes::visible(grammar);
-    if common.iter().any(|code| !visible[*code as usize]) {
+    if common.iter().any(|code| !visible[*code]) {
         return Err(Fault::Invisible);
     }
     Ok(common)

@@ -40,6 +40,7 @@ use Rattle.ambiguity.proofs.Readings.{reading-theorems, back-theorems}
 use Rattle.ambiguity.proofs.Reports.{report-theorems}
 use Rattle.ambiguity.proofs.Steps.{step-theorems}
 use Rattle.ambiguity.proofs.Texts.{text-theorems}
+use Rattle.ambiguity.proofs.Carried.{carried-theorems}
 use Rattle.ambiguity.specs.Entries.{Stores}
 use Rattle.ambiguity.specs.Automata.{AutomatonTheorems, IndexTheorems}
 use Rattle.ambiguity.specs.FrontPage.{TableTheorems, WitnessTheorems, RecordTheorems, CertificateTheorems, FrontPage}
@@ -183,6 +184,7 @@ front-page = record {
   reports = report-theorems;
   readings = reading-theorems;
   backs = back-theorems;
+  carried = carried-theorems;
   automata = automaton-theorems;
   indices = index-theorems;
 }

@@ -5,4 +5,5 @@ pub mod Steps
 pub mod Texts
 pub mod Readings
 pub mod Reports
+pub mod Carried
 pub mod FrontPage

@@ -244,8 +244,8 @@ module _ (t n : ℕ) (table : List ℕ) where
 
   module _ (before : Lent) (r : SearchVerdict) (after : Lent) (h : Searches t n table before r after) where
     -- the promise, by what the table check and the test of the rows give
-    answers-as : (o : Answer Grammar) → searchable limits t n table before ≡ o → Answers o before r after
-    answers-as o e = subst (λ (o : Answer Grammar). Answers o before r after) e h
+    answers-as : (o : Answer Grammar) → searchable limits t n table before ≡ o → Answers limits o before r after
+    answers-as o e = subst (λ (o : Answer Grammar). Answers limits o before r after) e h
 
     -- what follows the table check
     abbrev go-on : Grammar → Answer Grammar
@@ -271,12 +271,12 @@ module _ (t n : ℕ) (table : List ℕ) where
         let x = then-done (checkTable limits t n table) go-on G e in
         x .1 ∙ unless-done bufferTooShort 0 (isEnough (states (x .0)) before) (done (x .0)) G (x .2) .1
 
-    row-written : (G : Grammar) → searchable limits t n table before ≡ done G → Answers (done G) before r after
+    row-written : (G : Grammar) → searchable limits t n table before ≡ done G → Answers limits (done G) before r after
         → (k l : ℕ) → r ≡ search.Potential k l → Shortest G k
     row-written G e a k l q = written G (takes-only limits room t n table G (passed G e) .wellFormed) (isPotential (movesOf limits G)) refl a k l q
 
     -- the witness check accepts it
-    witness-accepted : (o : Answer Grammar) → searchable limits t n table before ≡ o → Answers o before r after
+    witness-accepted : (o : Answer Grammar) → searchable limits t n table before ≡ o → Answers limits o before r after
         → (k l : ℕ) → r ≡ search.Potential k l → (v : CheckVerdict) → WitnessAnswer t n table (take k (after .witness)) v → v ≡ check.Accepted
     unfolding checkWitness
     witness-accepted (refused cause at) e a k l q v w = no-refusal (sym (a .0) ∙ q)
@@ -285,7 +285,7 @@ module _ (t n : ℕ) (table : List ℕ) where
         w ∙ ap checkVerdict (then-goes (checkTable limits t n table) (λ G. checkRow (movesOf limits G) (take k (after .witness))) G (passed G e)
         ∙ witnesses-of (position limits G) (movesOf limits G) (regular G W) (lists G W) (take k (after .witness)) .1 (row-written G e a k l q .0 .witness))
 
-    shortest-written : (o : Answer Grammar) → searchable limits t n table before ≡ o → Answers o before r after
+    shortest-written : (o : Answer Grammar) → searchable limits t n table before ≡ o → Answers limits o before r after
         → (G : Grammar) → Stores t n table G → (k l : ℕ) → r ≡ search.Potential k l → Shortest G k
     shortest-written (refused cause at) e a G s k l q = no-refusal (sym (a .0) ∙ q)
     shortest-written (done H) e a G s k l q =

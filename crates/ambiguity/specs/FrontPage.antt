@@ -2,24 +2,24 @@
 -- the entry's `ensures`; it determines the answer and all that was lent. Each promise is one definition:
 -- specs/Entries.antt says where. specs/Searches.antt, specs/Rooms.antt, specs/Texts.antt, specs/Reports.antt
 -- and specs/Readings.antt have what follows for the search, for room told beforehand, for texts, for the
--- program and for the two lines of a witness, specs/Automata.antt whose moves the promises compute with,
--- proofs/FrontPage.antt the value of the record. Source: document 01 and document 02's requests; README.md
--- has the demands. Of demand 1, that a refusal is the first in the documents' order is in the definitions
--- that the promises equal.
+-- program and for the two lines of a witness, specs/Carried.antt what holds of byte tables carried over,
+-- specs/Automata.antt whose moves the promises compute with, proofs/FrontPage.antt the value of the record.
+-- Source: document 01 and document 02's requests; README.md has the demands. Of demand 1, that a refusal is the
+-- first in the documents' order is in the definitions that the promises equal.
 -- Assumes nothing.
 use Prim.Native.Nat.{ℕ, _+_, _≤_, _<_}
 use mathlib.Core.Path.{_≡_}
 use mathlib.Core.List.{List, map}
 use mathlib.Core.Logic.{_↔_}
 use Rattle.grammar.specs.Basics.{Mem}
-use Rattle.grammar.specs.Limits.{limits}
+use Rattle.grammar.specs.Limits.{byteLimits, limits}
 use Rattle.grammar.specs.Grammar.{Grammar, WellFormed}
 use Rattle.grammar.specs.Tree.{HasTwoTrees}
 use Rattle.grammar.specs.Live.{HasSentence, Live}
 use Rattle.grammar.specs.Record.{recordOf}
 use Rattle.grammar.specs.declared.TableChecked.{TableChecked}
 use Rattle.grammar.specs.declared.TableVerdict.the-variants.{Passed, Refused}
-use Rattle.grammar.specs.TableCheck.{TableAnswer}
+use Rattle.grammar.specs.TableCheck.{checkTable, TableAnswer}
 use Rattle.automaton.specs.Strings.{Potential, Unambiguous}
 use Rattle.automaton.specs.Items.{states}
 use Rattle.automaton.specs.Position.{positionOf, position, every}
@@ -55,6 +55,7 @@ use Rattle.ambiguity.specs.Readings.{ReadingTheorems, BackTheorems}
 use Rattle.ambiguity.specs.Reports.{ReportTheorems}
 use Rattle.ambiguity.specs.Automata.{AutomatonTheorems, IndexTheorems}
 use Rattle.ambiguity.specs.Rooms.{RoomTheorems, LengthTheorems}
+use Rattle.ambiguity.specs.Carried.{CarriedTheorems}
 
 module _ (t n : ℕ) (table : List ℕ) where
   pub record TableTheorems (r : TableChecked) : Type 0 where
@@ -133,5 +134,7 @@ pub record FrontPage : Type 1 where
   pub readings : (text : List ℕ) (s : Source) → checkText limits text ≡ done s → ReadingTheorems s
   pub backs : (text lines left right : List ℕ) (r : ReadBack) (left′ right′ : List ℕ) → ReadsBack text lines left right r left′ right′
       → BackTheorems text lines left right r left′ right′
+  -- document 02, [8]: a byte table that passed under document 01's limits, carried over
+  pub carried : (t n : ℕ) (table : List ℕ) (G : Grammar) → checkTable byteLimits t n table ≡ done G → CarriedTheorems t n table G
   pub automata : (G : Grammar) → WellFormed limits G → AutomatonTheorems G
   pub indices : (Q : ℕ) → IndexTheorems Q

@@ -5,4 +5,5 @@ pub mod Texts
 pub mod Readings
 pub mod Reports
 pub mod Automata
+pub mod Carried
 pub mod FrontPage

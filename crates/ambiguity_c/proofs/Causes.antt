@@ -75,7 +75,7 @@ told-tells true M before v after a =
 told-tells false M before v after a =
     subst (λ v. Tells (searchReply v .cause) (IsVerdict v)) (sym (a .verdict)) (tells-done (inl (refl, refl)))
 
-search-tells : (o : Answer Grammar) (before : Lent) (v : SearchVerdict) (after : Lent) → Caused o → Answers o before v after
+search-tells : (o : Answer Grammar) (before : Lent) (v : SearchVerdict) (after : Lent) → Caused o → Answers limits o before v after
     → Tells (searchReply v .cause) (IsVerdict v)
 search-tells (done G) before v after h a = told-tells (isPotential (movesOf limits G)) (movesOf limits G) before v after a
 search-tells (refused c p) before v after (cause h) a =

@@ -110,7 +110,7 @@ pub struct ReadBackReply {
 }
 
 #[no_mangle]
-pub extern "C" fn ambiguity_check_table(t: usize, n: usize, table: &[u8]) -> TableReply
+pub extern "C" fn ambiguity_check_table(t: usize, n: usize, table: &[u16]) -> TableReply
     ensures { λ r. ⌜ Replies (TableAnswer t n (now (table .entry))) tableReply r ⌝ }
 {
     let checked = ambiguity::check_table(t, n, table);
@@ -122,7 +122,7 @@ pub extern "C" fn ambiguity_check_table(t: usize, n: usize, table: &[u8]) -> Tab
 pub extern "C" fn ambiguity_nth_step(
     t: usize,
     n: usize,
-    table: &[u8],
+    table: &[u16],
     layer: usize,
     left: usize,
     right: usize,
@@ -138,7 +138,7 @@ pub extern "C" fn ambiguity_nth_step(
 pub extern "C" fn ambiguity_check_certificate(
     t: usize,
     n: usize,
-    table: &[u8],
+    table: &[u16],
     bytes: &[u8],
 ) -> CheckReply
     ensures { λ r. ⌜ Replies (CertificateAnswer t n (now (table .entry)) (now (bytes .entry))) checkReply r ⌝ }
@@ -151,7 +151,7 @@ pub extern "C" fn ambiguity_check_certificate(
 pub extern "C" fn ambiguity_check_witness(
     t: usize,
     n: usize,
-    table: &[u8],
+    table: &[u16],
     row: &[u32],
 ) -> CheckReply
     ensures { λ r. ⌜ Replies (WitnessAnswer t n (now (table .entry)) (now (row .entry))) checkReply r ⌝ }
@@ -164,7 +164,7 @@ pub extern "C" fn ambiguity_check_witness(
 pub extern "C" fn ambiguity_check_witness_records(
     t: usize,
     n: usize,
-    table: &[u8],
+    table: &[u16],
     entries: &[TripleRecord],
 ) -> CheckReply
     ensures { λ r. ⌜ Replies (RecordsAnswer t n (now (table .entry)) (now (entries .entry))) checkReply r ⌝ }
@@ -177,7 +177,7 @@ pub extern "C" fn ambiguity_check_witness_records(
 pub extern "C" fn ambiguity_search(
     t: usize,
     n: usize,
-    table: &[u8],
+    table: &[u16],
     certificate: &mut [u8],
     queue: &mut [u32],
     parents: &mut [u32],
@@ -193,7 +193,7 @@ pub extern "C" fn ambiguity_search(
 #[no_mangle]
 pub extern "C" fn ambiguity_read_text(
     text: &[u8],
-    table: &mut [u8],
+    table: &mut [u16],
     starts: &mut [u32],
     lengths: &mut [u32],
 ) -> ReadReply
@@ -207,7 +207,7 @@ pub extern "C" fn ambiguity_read_text(
 pub extern "C" fn ambiguity_write_text(
     t: usize,
     n: usize,
-    table: &[u8],
+    table: &[u16],
     bytes: &[u8],
     starts: &[u32],
     lengths: &[u32],
@@ -221,7 +221,7 @@ pub extern "C" fn ambiguity_write_text(
 }
 
 #[no_mangle]
-pub extern "C" fn ambiguity_search_room(t: usize, n: usize, table: &[u8]) -> RoomReply
+pub extern "C" fn ambiguity_search_room(t: usize, n: usize, table: &[u16]) -> RoomReply
     ensures { λ r. ⌜ Replies (RoomAnswer t n (now (table .entry))) roomReply r ⌝ }
 {
     let answer = ambiguity::search_room(t, n, table);
@@ -232,7 +232,7 @@ pub extern "C" fn ambiguity_search_room(t: usize, n: usize, table: &[u8]) -> Roo
 pub extern "C" fn ambiguity_written_length(
     t: usize,
     n: usize,
-    table: &[u8],
+    table: &[u16],
     bytes: &[u8],
     starts: &[u32],
     lengths: &[u32],

@@ -1,11 +1,11 @@
--- Small closed cases at document 01's limits: all moves of a grammar's position automaton written out, and their number.
+-- Small closed cases at the byte limits: all moves of a grammar's position automaton written out, and their number.
 -- An edit of these definitions in specs/ fails here.
 -- Assumes nothing.
 use mathlib.Core.Path.{_≡_, refl}
 use mathlib.Core.List.{List, [], _∷_}
 use Prim.Native.Nat.{ℕ}
 use Rattle.grammar.specs.Basics.{each}
-use Rattle.grammar.specs.Limits.{limits}
+use Rattle.grammar.specs.Limits.{byteLimits}
 use Rattle.grammar.specs.Grammar.{rule, stateCount}
 use Rattle.grammar.specs.Table.{decodeUpTo, decode}
 use Rattle.grammar.specs.Live.{has, hasAll, concluded, waiting, rounds, nonterminalsOf, productive, usable, reachable, hasSentence, isLive}
@@ -15,7 +15,7 @@ use Rattle.automaton.specs.Strings.{opening, closing, symbol}
 use Rattle.automaton.specs.AllMoves.{numbers, Moved, moved, leaving, allMoves, moveCount}
 
 abbrev pub moves : ℕ → ℕ → List ℕ → Moves
-moves t n table = movesOf limits (record { terminals = t; nonterminals = n; rules = decode table })
+moves t n table = movesOf byteLimits (record { terminals = t; nonterminals = n; rules = decode table })
 
 -- to unfold one of these is to unfold all that it uses
 unfoldable pub live : ℕ → ℕ → List ℕ → Moves

@@ -7,7 +7,7 @@ use mathlib.Core.List.{List}
 use mathlib.Core.Logic.{_↔_}
 use lib.ListN.{length}
 use Rattle.grammar.specs.Basics.{over}
-use Rattle.grammar.specs.Limits.{Limits, limits}
+use Rattle.grammar.specs.Limits.{Limits}
 use Rattle.grammar.specs.Grammar.{Grammar}
 use Rattle.grammar.specs.Refusal.{Answer, done, refused, refuseUnless, andThen, bufferTooShort}
 use Rattle.grammar.specs.TableCheck.{checkTable}
@@ -19,20 +19,10 @@ use Rattle.triples.specs.Smallest.{smallest}
 use Rattle.triples.specs.Certificate.{certificateOf}
 use Rattle.triples.specs.Shortest.{shortest}
 use Rattle.triples.specs.Looked.{lookedAt}
-use Rattle.search.specs.Promise.{isPotential, unambiguous, potential, searchVerdict, Lent, isEnough, searchable, cleared, Told, Searches}
+use Rattle.search.specs.Promise.{isPotential, unambiguous, potential, searchVerdict, Lent, isEnough, searchable, cleared, Told, Answers, SearchesAt}
 use Rattle.search.specs.declared.SearchVerdict.{SearchVerdict}
 use Rattle.carried.specs.Carried.{carriedTable, carriedGrammar, Wider, Same}
-use Rattle.carried.specs.Promises.{AnswersAt, SearchesAt}
 use Rattle.carried.proofs.Theorem.{carried}
-
--- at the limits in force this is what the search promises
-pub promised : (t n : ℕ) (table : List ℕ) (before : Lent) (r : SearchVerdict) (after : Lent)
-    → Searches t n table before r after ≡ SearchesAt limits t n table before r after
-promised t n table before r after = go (searchable limits t n table before)
-  where
-    go : (a : Answer Grammar) → _≡_ {A = Type 0} (Rattle.search.specs.Promise.Answers a before r after) (AnswersAt limits a before r after)
-    go (done G) = refl
-    go (refused cause at) = refl
 
 -- by as many states, the same smallest set, witness and figure
 module _ (M N : Moves) (q : N .states ≡ M .states) (set : smallest N ≡ smallest M) (way : shortest N ≡ shortest M)
@@ -74,17 +64,17 @@ module _ (L M : Limits) (t n : ℕ) (table other : List ℕ) (G H : Grammar) (e 
           let y : searchable M t n other before ≡ done H
           = searched M t n other before H f
           ∙ unless-holds bufferTooShort 0 (isEnough (states H) before) (done H) (ap (λ (k : ℕ). isEnough k before) q ∙ h) in
-          subst (λ (a : Answer Grammar). AnswersAt M a before r after) (sym y)
+          subst (λ (a : Answer Grammar). Answers M a before r after) (sym y)
           (subst (λ (c : Bool). Told c (movesOf M H) before r after) (sym verdict)
           (told (movesOf L G) (movesOf M H) q set way looked before r after (isPotential (movesOf L G))
-          (subst (λ (a : Answer Grammar). AnswersAt L a before r after) x p)))
+          (subst (λ (a : Answer Grammar). Answers L a before r after) x p)))
       go false h =
           let x : searchable L t n table before ≡ refused bufferTooShort 0
           = searched L t n table before G e ∙ unless-fails bufferTooShort 0 (isEnough (states G) before) (done G) h in
           let y : searchable M t n other before ≡ refused bufferTooShort 0
           = searched M t n other before H f
           ∙ unless-fails bufferTooShort 0 (isEnough (states H) before) (done H) (ap (λ (k : ℕ). isEnough k before) q ∙ h) in
-          subst (λ (a : Answer Grammar). AnswersAt M a before r after) (sym y) (subst (λ (a : Answer Grammar). AnswersAt L a before r after) x p)
+          subst (λ (a : Answer Grammar). Answers M a before r after) (sym y) (subst (λ (a : Answer Grammar). Answers L a before r after) x p)
 
 -- the search of a table that passed under L, and of the carried table under M
 pub searches-carried : (L M : Limits) → Wider L M → (t n : ℕ) (table : List ℕ) (G : Grammar) → checkTable L t n table ≡ done G

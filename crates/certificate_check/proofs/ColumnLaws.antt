@@ -25,7 +25,7 @@ use Rattle.plans.specs.Plan.{Rows, sideOf, aloneOf, layerAfter, shiftOf, pairsO
 use Rattle.plans.specs.Contracts.{mostSquare, Verified, Has}
 use Rattle.plans.proofs.PlanLaws.{plan-digits, alone-le, layer-le, pairs-le, product-le, next-left, next-right, next-shift, next-pair}
 use Rattle.plans.proofs.BlockLaws.{alone-later, layer-later}
-use Rattle.certificate_check.specs.Columns.{spanOf, targetOf, Placed, RowTo, RowHeld, PairsTo, PairsHeld, Noting, Noted, Met, LeftHeld, ClosedAt, ClosedFrom}
+use Rattle.certificate_check.specs.Columns.{spanOf, targetOf, Placed, RowTo, RowHeld, PairsTo, PairsHeld, Noting, Noted, Met, ColumnsMet, LeftHeld, ClosedAt, ClosedFrom}
 
 -- ---- targets and classes in a row
 
@@ -46,19 +46,34 @@ module _ (first targets : List ℕ) (Q : ℕ) (bytes : List ℕ) where
       ]
 
   pub pairs-none : (c d : ℕ) → PairsTo first targets Q bytes c d 0
-  pairs-none c d = record { each = λ h l. absurd (omega arith) }
+  pairs-none c d = record { each = λ g h l k. absurd (omega arith) }
 
-  pub pairs-more : (c d k u : ℕ) → PairsTo first targets Q bytes c d k → u ≡ targetOf first targets c k → RowHeld first targets Q bytes d (Q + u)
-      → PairsTo first targets Q bytes c d (k + 1)
-  pairs-more c d k u old q s = record { each = each }
+  -- the targets whose columns stand in a window of the rows of all targets of c
+  pub pairs-more : (c d k r begin base w : ℕ) → PairsTo first targets Q bytes c d k → Placed first targets Q c → Placed first targets Q d → tripleCount Q ≤ 8 * length bytes
+      → base ≡ index Q 1 0 begin → Met bytes targets Q (getD first c 0) (spanOf first c) base w → ColumnsMet targets w begin (getD first d 0) k r → r ≤ spanOf first d
+      → PairsTo first targets Q bytes c d r
+  pairs-more c d k r begin base w old pc pd long q s m few = record { each = each }
     where
-      each : (h : ℕ) → h < k + 1 → RowHeld first targets Q bytes d (Q + targetOf first targets c h)
-      each h l = elim (decLt h k) [
-        | yes y ↦ old .each h y
+      each : (g h : ℕ) → g < spanOf first c → h < r → isSet bytes ((Q + targetOf first targets c g) * Q + targetOf first targets d h) ≡ true
+      each g h l j = elim (decLt h k) [
+        | yes y ↦ old .each g h l y
         | no n ↦
-            let e : k ≡ h = omega arith in
-            subst (λ (n : ℕ). RowHeld first targets Q bytes d (Q + n)) (q ∙ ap (targetOf first targets c) e) s
+            let u = targetOf first targets c g in
+            let v = targetOf first targets d h in
+            let z = m .near h (omega arith) j in
+            let e : (Q + u) * Q + v ≡ base + u * Q + (v - begin) = omega (arith, q, z .0, add-mul Q u Q) in
+            let i = index-below Q 1 u v (omega arith) (pc .each g l) (pd .each h (omega arith)) in
+            ap (λ (n : ℕ). eqb n 1) (ap (bit bytes) e ∙ s .held (v - begin) g (z .1) (m .bits h (omega arith) j) l (omega (arith, i, e, long, add-mul Q u Q)))
       ]
+
+  -- what is asked for of the rows of all targets of c
+  pub rows-fit : (c v base : ℕ) → Q ≤ limits .maxStates → Placed first targets Q c → v < Q → base ≡ index Q 1 0 v
+      → (getD first c 0 + spanOf first c ≤ limits .maxStates) × (base ≤ 2 * mostSquare) × ((g : ℕ) → g < spanOf first c → base + targetOf first targets c g * Q < tripleCount Q)
+  rows-fit c v base few pc hv q = (
+    omega (arith, pc .order, pc .inside),
+    omega (arith, index-below Q 1 0 v (omega arith) (omega arith) hv, q, product-le Q Q few few),
+    λ g l. omega (arith, index-below Q 1 (targetOf first targets c g) v (omega arith) (pc .each g l) hv, q),
+  )
 
   -- a row without notes; a note more
   clear-at : (n d : ℕ) → _≡_ {A = ℕ} (getD (replicate n 0) d 0) 0
@@ -95,6 +110,31 @@ module _ (first targets : List ℕ) (Q : ℕ) (bytes : List ℕ) where
 
   pub note-pairs : (c d : ℕ) → PairsHeld first targets Q bytes c d → Noting first targets Q bytes d (2 * Q + c)
   note-pairs c d s = record { row = λ l. absurd (omega arith); pairs = λ k e. let q : c ≡ k = omega arith in subst (λ (c : ℕ). PairsHeld first targets Q bytes c d) q s }
+
+-- ---- columns of targets in a window
+
+module _ (targets : List ℕ) (w begin from k : ℕ) where
+  pub columns-none : ColumnsMet targets w begin from k k
+  columns-none = record { near = λ h l j. absurd (omega arith); bits = λ h l j. absurd (omega arith) }
+
+  pub columns-more : (r v : ℕ) → ColumnsMet targets w begin from k r → v ≡ getD targets (from + r) 0 → begin ≤ v → v - begin < wideBits → w / 2 ^ (v - begin) % 2 ≡ 1
+      → ColumnsMet targets w begin from k (r + 1)
+  columns-more r v old q lo hi o = record { near = near; bits = bits }
+    where
+      last : (h : ℕ) → h < r + 1 → ((h < r) → ⊥) → v ≡ getD targets (from + h) 0
+      last h j n = let e : r ≡ h = omega arith in q ∙ ap (λ (i : ℕ). getD targets (from + i) 0) e
+
+      near : (h : ℕ) → k ≤ h → h < r + 1 → (begin ≤ getD targets (from + h) 0) × (getD targets (from + h) 0 - begin < wideBits)
+      near h l j = elim (decLt h r) [
+        | yes y ↦ old .near h l y
+        | no n ↦ let e = last h j n in (subst (λ (v : ℕ). begin ≤ v) e lo, subst (λ (v : ℕ). v - begin < wideBits) e hi)
+      ]
+
+      bits : (h : ℕ) → k ≤ h → h < r + 1 → w / 2 ^ (getD targets (from + h) 0 - begin) % 2 ≡ 1
+      bits h l j = elim (decLt h r) [
+        | yes y ↦ old .bits h l y
+        | no n ↦ subst (λ (v : ℕ). w / 2 ^ (v - begin) % 2 ≡ 1) (last h j n) o
+      ]
 
 -- ---- columns that several rows have
 
@@ -235,7 +275,7 @@ module _ (R : Rows) (targets : List ℕ) (t m Q : ℕ) (bytes : List ℕ) (f a b
       let u = getD targets (x .from + h / y .span) 0 in
       let v = getD targets (y .from + h % y .span) 0 in
       let e : Q * Q + u * Q + v ≡ (Q + u) * Q + v = omega (arith, add-mul Q u Q) in
-      ap (isSet bytes) e ∙ p (omega arith) .each (h / y .span) (div-lt-iff-lt-mul {k = y .span} {x = h} {y = x .span} z .1 l) .each (h % y .span) (mod-lt h z)
+      ap (isSet bytes) e ∙ p (omega arith) .each (h / y .span) (h % y .span) (div-lt-iff-lt-mul {k = y .span} {x = h} {y = x .span} z .1 l) (mod-lt h z)
 
   -- the four blocks are held
   blocks-held : a < Q → b < Q

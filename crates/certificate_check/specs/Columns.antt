@@ -33,12 +33,12 @@ pub record RowTo (first targets : List ℕ) (Q : ℕ) (bytes : List ℕ) (c row 
 abbrev pub RowHeld : List ℕ → List ℕ → ℕ → List ℕ → ℕ → ℕ → Type 0
 RowHeld first targets Q bytes c row = RowTo first targets Q bytes c row (spanOf first c)
 
--- the targets of class d are held in layer 1 in the rows of the first k targets of class c
+-- the first k targets of class d are held in layer 1 in the rows of all targets of class c
 pub record PairsTo (first targets : List ℕ) (Q : ℕ) (bytes : List ℕ) (c d k : ℕ) : Type 0 where
-  pub each : (h : ℕ) → h < k → RowHeld first targets Q bytes d (Q + targetOf first targets c h)
+  pub each : (g h : ℕ) → g < spanOf first c → h < k → isSet bytes ((Q + targetOf first targets c g) * Q + targetOf first targets d h) ≡ true
 
 abbrev pub PairsHeld : List ℕ → List ℕ → ℕ → List ℕ → ℕ → ℕ → Type 0
-PairsHeld first targets Q bytes c d = PairsTo first targets Q bytes c d (spanOf first c)
+PairsHeld first targets Q bytes c d = PairsTo first targets Q bytes c d (spanOf first d)
 
 -- of each class, what was found held last: its targets in the row of this number, or past 2Q its pairs with a class
 pub record Noting (first targets : List ℕ) (Q : ℕ) (bytes : List ℕ) (d note : ℕ) : Type 0 where
@@ -53,6 +53,11 @@ pub record Noted (first targets : List ℕ) (Q : ℕ) (bytes seen : List ℕ) : 
 pub record Met (bytes targets : List ℕ) (Q from k base w : ℕ) : Type 0 where
   pub held : (c h : ℕ) → c < wideBits → w / 2 ^ c % 2 ≡ 1 → h < k → base + getD targets (from + h) 0 * Q + c < 8 * length bytes
       → bit bytes (base + getD targets (from + h) 0 * Q + c) ≡ 1
+
+-- the columns of the targets from number k to before r lie in the window that begins at column `begin`, and w has their bits
+pub record ColumnsMet (targets : List ℕ) (w begin from k r : ℕ) : Type 0 where
+  pub near : (h : ℕ) → k ≤ h → h < r → (begin ≤ getD targets (from + h) 0) × (getD targets (from + h) 0 - begin < wideBits)
+  pub bits : (h : ℕ) → k ≤ h → h < r → w / 2 ^ (getD targets (from + h) 0 - begin) % 2 ≡ 1
 
 -- column b is held in the rows of all targets of a, in the layer after a's move alone
 pub record LeftHeld (R : Rows) (targets : List ℕ) (m Q : ℕ) (bytes : List ℕ) (f a b : ℕ) : Type 0 where

@@ -10,11 +10,14 @@ ghost use Rattle.triples.specs.Certificate.{isSet};
 ghost use Rattle.bits.specs.Windows.{wideBits};
 ghost use Rattle.plans.specs.Plan.{rows, sideOf};
 ghost use Rattle.plans.specs.Contracts.{mostSquare, Verified};
-ghost use Rattle.certificate_check.specs.Columns.{Placed, RowHeld, PairsHeld, Noted, Met, LeftHeld, ClosedAt, ClosedFrom};
+ghost use Rattle.certificate_check.specs.Columns.{Placed, RowHeld, PairsHeld, Noted, Met, ColumnsMet, LeftHeld, ClosedAt, ClosedFrom};
 use grammar::MAX_STATES;
 use indices::index_of;
 use moves::CLASSES;
 use plans::Side;
+
+// The columns that are tried together: so many bits eight bytes have, wherever an index lies in the first of them.
+pub const COLUMNS: usize = 57;
 
 // Are the targets of a class held in a row?
 fn row_held<'a>(
@@ -45,35 +48,6 @@ fn row_held<'a>(
     true
 }
 
-// Are the pairs held of a target of one class and one of another?
-fn pairs_held<'a>(
-    first: &'a [u16; CLASSES],
-    targets: &'a [u16; MAX_STATES],
-    q: usize,
-    bytes: &'a [u8],
-    left: u16,
-    right: u16,
-) -> bool
-    requires { ⌜ (q ≤ limits .maxStates) × (tripleCount q ≤ 8 * length (now bytes)) ⌝ }
-    requires { ⌜ Placed (now first) (now targets) q left ⌝ }
-    requires { ⌜ Placed (now first) (now targets) q right ⌝ }
-    ensures { λ r. ⌜ (r ≡ true → PairsHeld (now (first .entry)) (now (targets .entry)) q (now (bytes .entry)) left right) ⌝ }
-{
-    let c = plans::wide(left);
-    let from = plans::wide(first[c]);
-    let end = plans::wide(first[c + 1]);
-    let span = end - from;
-    let mut k = 0;
-    while k < span {
-        let u = plans::wide(targets[from + k]);
-        if !row_held(first, targets, q, bytes, right, q + u) {
-            return false;
-        }
-        k += 1;
-    }
-    true
-}
-
 // The columns from base on that the rows of all targets of a class hold.
 fn meet<'a>(
     targets: &'a [u16; MAX_STATES],
@@ -95,6 +69,74 @@ fn meet<'a>(
         k += 1;
     }
     w
+}
+
+// How far the targets of a class, which are laid from `from` on, have their columns in a window that begins at column `begin`: those
+// from number k on, up to the first whose column lies outside or is not held, or up to `span`.
+fn columns_met(
+    targets: &[u16; MAX_STATES],
+    near: u64,
+    begin: usize,
+    from: usize,
+    k: usize,
+    span: usize,
+) -> usize
+    requires { ⌜ (from + span ≤ limits .maxStates) × (k ≤ span) ⌝ }
+    ensures { λ r. ⌜ (r ≤ span) × ColumnsMet (now (targets .entry)) near begin from k r ⌝ }
+{
+    let mut h = k;
+    while h < span {
+        let v = plans::wide(targets[from + h]);
+        if v < begin {
+            return h;
+        }
+        if COLUMNS <= v - begin {
+            return h;
+        }
+        if (near >> (v - begin)) % 2 == 0 {
+            return h;
+        }
+        h += 1;
+    }
+    h
+}
+
+// Are the pairs held of a target of one class and one of another? The rows of all targets of the left class are taken together, a
+// window of columns at a time.
+fn pairs_held<'a>(
+    first: &'a [u16; CLASSES],
+    targets: &'a [u16; MAX_STATES],
+    q: usize,
+    bytes: &'a [u8],
+    left: u16,
+    right: u16,
+) -> bool
+    requires { ⌜ (q ≤ limits .maxStates) × (tripleCount q ≤ 8 * length (now bytes)) ⌝ }
+    requires { ⌜ Placed (now first) (now targets) q left ⌝ }
+    requires { ⌜ Placed (now first) (now targets) q right ⌝ }
+    ensures { λ r. ⌜ (r ≡ true → PairsHeld (now (first .entry)) (now (targets .entry)) q (now (bytes .entry)) left right) ⌝ }
+{
+    if bytes.len() < 8 {
+        return false;
+    }
+    let c = plans::wide(left);
+    let rows = plans::wide(first[c]);
+    let height = plans::wide(first[c + 1]) - rows;
+    let d = plans::wide(right);
+    let from = plans::wide(first[d]);
+    let span = plans::wide(first[d + 1]) - from;
+    let mut k = 0;
+    while k < span {
+        let begin = plans::wide(targets[from + k]);
+        let base = index_of(q, 1, 0, begin);
+        let near = meet(targets, q, bytes, rows, height, base);
+        let next = columns_met(targets, near, begin, from, k, span);
+        if next <= k {
+            return false;
+        }
+        k = next;
+    }
+    true
 }
 
 // Are the left moves held, if there are any? `near` says whether the rows of the targets hold the column.

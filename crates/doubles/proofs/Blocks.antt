@@ -1,5 +1,5 @@
 -- Places of a line against its names from there on, rows that keep a block, and what is told of it. Assumes nothing.
-use Prim.Native.Nat.{ℕ, zero, suc, _+_, _-_, _*_, _≤_, _<_}
+use Prim.Native.Nat.{ℕ, zero, suc, _+_, _-_, _≤_, _<_}
 use mathlib.Core.Path.{_≡_, refl, ap, sym, subst, _∙_}
 use mathlib.Core.List.{List, [], _∷_, _++_, append-assoc, append-nil}
 use mathlib.Core.Bool.{Bool, true, false, _||_}
@@ -7,9 +7,8 @@ use native.Mathlib.Omega.{arith}
 use native.Mathlib.Numerals.{add-one}
 use borrow.Author.Tests.{ltb-true, ltb-false, le-leb, lt-leb}
 use lib.Dec.{ltb}
-use lib.ListN.{length, take, drop, getD, set, replicate, length-append, length-replicate}
+use lib.ListN.{length, take, drop, getD, set, length-append}
 use lib.Seq.{take-suc-set}
-use Rattle.lexicon.specs.Tree.{mostNames}
 use Rattle.text.specs.Pieces.{splitOn}
 use Rattle.text.specs.Names.{sameName, hasDouble, place}
 use Rattle.text.specs.Read.{namesOf}
@@ -17,7 +16,7 @@ use Rattle.text.specs.Spelled.{spelled}
 use Rattle.text.proofs.Spans.{length-spelled, spelled-append, inside-append}
 use Rattle.names.specs.Found.{index, part}
 use Rattle.names.proofs.Pieces.{piece-more, piece-last, piece-end, names-split}
-use Rattle.doubles.specs.Blocks.{meet, namesFrom, standTwice, Block, BlockTold, EmptyRows}
+use Rattle.doubles.specs.Blocks.{meet, namesFrom, standTwice, Block, BlockTold}
 use Rattle.doubles.specs.declared.Tried.{Tried}
 use Rattle.doubles.specs.declared.Tried.the-variants.{Twice, Next}
 use Rattle.doubles.proofs.Names.{meet-none, meet-hit, meet-miss, place-some, place-past, stand-append}
@@ -88,18 +87,6 @@ module _ (v : List ℕ) (a b e : ℕ) (h : b ≤ length v) (at : e ≡ b + index
   pub block-more : (starts lengths : List ℕ) (k : ℕ) → k < length starts → k < length lengths → Block v a (take k starts) (take k lengths) b
       → Block v a (take (k + 1) (set starts k b)) (take (k + 1) (set lengths k (e - b))) (e + 1)
   block-more starts lengths k l m r = rw (add-one, take-suc-set starts k b l, take-suc-set lengths k (e - b) m) (more (take k starts) (take k lengths) r)
-
--- no link is in use
-zeros : (n i : ℕ) → _≡_ {A = ℕ} (getD (replicate n 0) i 0) 0
-zeros zero i = refl
-zeros (suc n) zero = refl
-zeros (suc n) (suc i) = zeros n i
-
-pub rows-zero : (n : ℕ) → 0 < n → n ≤ mostNames → EmptyRows (replicate n 0) (replicate n 0) (replicate (2 * n) 0)
-rows-zero n h l =
-    let k = length-replicate {A = ℕ} n 0 in
-    let m = length-replicate {A = ℕ} (2 * n) 0 in
-    record { some = omega (arith, k); paired = refl; few = omega (arith, k); room = omega (arith, k, m); empty = zeros (2 * n) }
 
 -- ---- what is told
 

@@ -4,7 +4,7 @@ use mathlib.Core.Path.{_≡_}
 use mathlib.Core.List.{List, [], _++_}
 use mathlib.Core.Bool.{Bool, true, _||_}
 use lib.Dec.{leb}
-use lib.ListN.{length, drop, getD}
+use lib.ListN.{length, drop}
 use Rattle.grammar.specs.Basics.{choose}
 use Rattle.text.specs.Pieces.{comma, splitOn}
 use Rattle.text.specs.Names.{any, sameName, hasDouble}
@@ -30,13 +30,12 @@ pub record Block (v : List ℕ) (a : ℕ) (starts lengths : List ℕ) (next : �
   pub spans : Spans v starts lengths
   pub names : namesFrom v a ≡ spelled v starts lengths ++ namesFrom v next
 
--- rows for a block, with two links for each name, none of them in use
-pub record EmptyRows (starts lengths links : List ℕ) : Type 0 where
+-- rows for a block, with two links for each name
+pub record BlockRows (starts lengths links : List ℕ) : Type 0 where
   pub some : 0 < length starts
   pub paired : length starts ≡ length lengths
   pub few : length starts ≤ mostNames
   pub room : 2 * length starts ≤ length links
-  pub empty : (i : ℕ) → getD links i 0 ≡ 0
 
 -- a name of v from place a on stands twice, or that is so precisely where it is from place b on
 abbrev pub BlockTold : List (List ℕ) → List ℕ → ℕ → Tried → Type 0

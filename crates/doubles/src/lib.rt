@@ -1,5 +1,5 @@
 // Does a name stand twice? The names of a line are tried block by block: those of a block go into a lexicon, in which the later names
-// of the line and those of the earlier line are looked up. Only a block has rows, so lines of any length need the same room.
+// of the line and those of the earlier line are looked up. A block has as many names as the lent rows hold, so lines of any length do.
 ghost use mathlib.Core.Path.{_≡_};
 ghost use mathlib.Core.List.{_++_};
 ghost use mathlib.Core.Bool.{false};
@@ -10,11 +10,8 @@ ghost use Rattle.text.specs.Names.{hasDouble};
 ghost use Rattle.text.specs.Read.{namesOf};
 ghost use Rattle.text.specs.Spelled.{spelled};
 ghost use Rattle.lexicon.specs.Tree.{mostNames, Spans, Lexicon};
-ghost use Rattle.doubles.specs.Blocks.{meet, namesFrom, standTwice, Block, BlockTold, EmptyRows};
+ghost use Rattle.doubles.specs.Blocks.{meet, namesFrom, standTwice, Block, BlockTold, BlockRows};
 use names::COMMA;
-
-// The names that a block has at most.
-const BLOCK: usize = 4000;
 
 // How many names a block has, and where the next one starts: past the end of the line where none is left.
 pub struct Kept {
@@ -93,6 +90,17 @@ fn stand_twice(
     shared(earlier, 0, v, starts, lengths, links)
 }
 
+// Takes every link out of a row.
+fn clear(links: &mut [u16])
+    ensures { λ _. ⌜ ((i : ℕ) → getD (now (links .exit)) i 0 ≡ 0) ⌝ }
+{
+    let mut i = 0;
+    while i < links.len() {
+        links[i] = 0;
+        i += 1;
+    }
+}
+
 // Tries the block that starts at place a of v, in the lent rows.
 fn try_block(
     earlier: &[u8],
@@ -102,9 +110,10 @@ fn try_block(
     lengths: &mut [u32],
     links: &mut [u16],
 ) -> Tried
-    requires { ⌜ (length (now v) ≤ limits .maxText) × (a ≤ length (now v)) × EmptyRows (now starts) (now lengths) (now links) ⌝ }
+    requires { ⌜ (length (now v) ≤ limits .maxText) × (a ≤ length (now v)) × BlockRows (now starts) (now lengths) (now links) ⌝ }
     ensures { λ r. ⌜ BlockTold (namesOf (now (earlier .entry))) (now (v .entry)) a r ⌝ }
 {
+    clear(links);
     let kept = keep(v, a, starts, lengths);
     let count = kept.count;
     let next = kept.next;
@@ -114,20 +123,15 @@ fn try_block(
     Tried::Next(next)
 }
 
-// Tries it in rows of its own.
-fn try_next(earlier: &[u8], v: &[u8], a: usize) -> Tried
-    requires { ⌜ (length (now v) ≤ limits .maxText) × (a ≤ length (now v)) ⌝ }
-    ensures { λ r. ⌜ BlockTold (namesOf (now (earlier .entry))) (now (v .entry)) a r ⌝ }
-{
-    let mut starts = [0u32; BLOCK];
-    let mut lengths = [0u32; BLOCK];
-    let mut links = [0u16; 2 * BLOCK];
-    try_block(earlier, v, a, &mut starts, &mut lengths, &mut links)
-}
-
-// Does a name stand twice among those of earlier and of v, where none does in earlier?
-pub fn has_double(earlier: &[u8], v: &[u8]) -> bool
-    requires { ⌜ (length (now v) ≤ limits .maxText) × (hasDouble (namesOf (now earlier)) ≡ false) ⌝ }
+// Does a name stand twice among those of earlier and of v, where none does in earlier? The rows are lent and overwritten.
+pub fn has_double(
+    earlier: &[u8],
+    v: &[u8],
+    starts: &mut [u32],
+    lengths: &mut [u32],
+    links: &mut [u16],
+) -> bool
+    requires { ⌜ (length (now v) ≤ limits .maxText) × (hasDouble (namesOf (now earlier)) ≡ false) × BlockRows (now starts) (now lengths) (now links) ⌝ }
     ensures { λ r. ⌜ r ≡ hasDouble (namesOf (now (earlier .entry)) ++ namesOf (now (v .entry))) ⌝ }
 {
     let n = v.len();
@@ -136,7 +140,7 @@ pub fn has_double(earlier: &[u8], v: &[u8]) -> bool
     }
     let mut a = 0;
     while a <= n {
-        let Tried::Next(next) = try_next(earlier, v, a) else {
+        let Tried::Next(next) = try_block(earlier, v, a, starts, lengths, links) else {
             return true;
         };
         a = next;

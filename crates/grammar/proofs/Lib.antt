@@ -1,4 +1,5 @@
 pub mod Pins
+pub mod WidePins
 pub mod TreePins
 pub mod Answers
 pub mod Lists

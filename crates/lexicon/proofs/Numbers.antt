@@ -12,7 +12,7 @@ use Rattle.text.proofs.Names.{same-sym}
 use Rattle.text.specs.Spelled.{spelled}
 use Rattle.text.proofs.Spans.{length-spelled, spelled-at}
 use Rattle.lexicon.specs.Tree.{nameOf, Spans}
-use Rattle.lexicon.proofs.Tree.{same-key, self-key}
+use Rattle.lexicon.proofs.Tree.{same-folded, folded-same}
 
 -- some element passes, by its place; none does
 any-at : {A : Type 0} (p : A → Bool) (l : List A) (d : A) (i : ℕ) → i < length l → p (getD l i d) ≡ true → any p l ≡ true
@@ -122,7 +122,7 @@ module _ (text starts lengths : List ℕ) (spans : Spans text starts lengths) wh
   pub place-of : (x : List ℕ) (q : ℕ) → Apart (length starts) → q < length starts → sameName x (nameOf text starts lengths q) ≡ true → place (sameName x) names ≡ q
   place-of x q apart h e =
       place-at (sameName x) names [] q (omega (arith, as-many)) (ap (sameName x) (name-is q h) ∙ e)
-      (λ i l. ap (sameName x) (name-is i (omega arith)) ∙ self-key x (nameOf text starts lengths q) (nameOf text starts lengths i) (same-key x (nameOf text starts lengths q) e) ∙ apart i q l h)
+      (λ i l. ap (sameName x) (name-is i (omega arith)) ∙ folded-same x (nameOf text starts lengths q) (nameOf text starts lengths i) (same-folded x (nameOf text starts lengths q) e) ∙ apart i q l h)
 
   pub place-past : (x : List ℕ) → ((s : ℕ) → s < length starts → sameName x (nameOf text starts lengths s) ≡ false) → place (sameName x) names ≡ length starts
   place-past x f = place-none (sameName x) names [] (λ i l. ap (sameName x) (name-is i (omega (arith, l, as-many))) ∙ f i (omega (arith, l, as-many))) ∙ as-many

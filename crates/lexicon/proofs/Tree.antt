@@ -1,64 +1,92 @@
--- The tree: bits and keys, one turn of a search, and what a search that ends tells. Assumes nothing.
-use Prim.Native.Nat.{ℕ, zero, suc, _+_, _*_, _/_, _%_, _^_, _≤_, _<_}
+-- The tree: keys and turns, one turn of a search, and what a search that ends tells. Assumes nothing.
+use Prim.Native.Nat.{ℕ, zero, suc, _+_, _-_, _*_, _/_, _%_, _^_, _≤_, _<_}
 use mathlib.Core.Path.{_≡_, refl, ap, ap₂, sym, _∙_, subst}
 use mathlib.Core.List.{List, [], _∷_, map}
 use mathlib.Core.Bool.{Bool, true, false, _&&_}
 use native.Mathlib.Omega.{arith}
 use native.Mathlib.Nat.{zero-div}
-use borrow.Author.Tests.{eqb-true, eqb-false}
-use lib.Dec.{eqb}
-use lib.ListN.{length, getD, set, replicate}
-use lib.Seq.{getD-set-same, getD-set-other}
+use borrow.Author.Tests.{eqb-true, eqb-false, lt-ltb, le-ltb}
+use lib.Dec.{eqb, ltb}
+use lib.ListN.{length, drop, getD, set, replicate, drop-of-length-le}
+use lib.Seq.{getD-set-same, getD-set-other, drop-cons}
+use Rattle.grammar.specs.Basics.{choose}
 use Rattle.grammar.proofs.Answers.{no-bool}
 use Rattle.text.specs.Names.{folded, sameName}
 use Rattle.lexicon.specs.declared.Sought.{Sought}
 use Rattle.lexicon.specs.declared.Sought.the-variants.{Same, Free}
-use Rattle.lexicon.specs.Tree.{foldedName, turn, Below, here, down, Keeps, Grown, Hit, Gap, Told}
+use Rattle.lexicon.specs.Tree.{foldedName, keyBits, keySkip, keySpan, keyFactor, keyFrom, keyOf, byteBit, turn, Below, here, down, Keeps, Grown, Hit, Gap, Told}
 
--- the bits of a name's key
-pub bit-none : (x : List ℕ) (d : ℕ) → length x ≤ d / 8 → turn (foldedName x) d ≡ 0
-unfolding turn foldedName
-bit-none x d h = rw (past x (d / 8) h, zero-div)
+-- the key of a name, byte by byte
+pub key-start : (x : List ℕ) → keyFrom 0 (foldedName (drop 0 x)) ≡ keyOf (foldedName x)
+unfolding keyOf
+key-start x = refl
+
+pub key-more : (x : List ℕ) (i k b f : ℕ) → i < length x → f ≡ folded (getD x i 0) → b ≡ f
+    → keyFrom k (foldedName (drop i x)) ≡ keyFrom ((k % keySpan + b) * keyFactor) (foldedName (drop (i + 1) x))
+unfolding keyFrom foldedName
+key-more x i k b f h e q =
+    let z : suc i ≡ i + 1 = omega arith in
+    ap (λ (l : List ℕ). keyFrom k (map folded l)) (drop-cons x i 0 h)
+    ∙ ap (λ (c : ℕ). keyFrom ((k % keySpan + c) * keyFactor) (map folded (drop (suc i) x))) (sym (q ∙ e))
+    ∙ ap (λ (j : ℕ). keyFrom ((k % keySpan + b) * keyFactor) (map folded (drop j x))) z
+
+pub key-end : (x : List ℕ) (i k : ℕ) → length x ≤ i → keyFrom k (foldedName (drop i x)) ≡ k
+unfolding keyFrom foldedName
+key-end x i k h = rw (drop-of-length-le x {i = i} h)
+
+-- a turn by the key, past the end of the name, and by the name
+pub turn-key : (x : List ℕ) (key d : ℕ) → key ≡ keyOf (foldedName x) → d < keyBits → key / 2 ^ (keySkip + d) % 2 ≡ turn (foldedName x) d
+unfolding turn
+turn-key x key d e h = rw (lt-ltb d keyBits h) (ap (λ (k : ℕ). k / 2 ^ (keySkip + d) % 2) e)
+
+pub turn-past : (x : List ℕ) (d : ℕ) → keyBits ≤ d → length x ≤ (d - keyBits) / 8 → turn (foldedName x) d ≡ 0
+unfolding turn byteBit foldedName
+turn-past x d h l = rw (le-ltb d keyBits h, past x ((d - keyBits) / 8) l, zero-div)
   where
     past : (x : List ℕ) (i : ℕ) → length x ≤ i → getD (map folded x) i 0 ≡ 0
     past [] i h = refl
     past (b ∷ x) zero h = absurd (omega arith)
     past (b ∷ x) (suc i) h = past x i (omega arith)
 
-pub bit-some : (x : List ℕ) (d : ℕ) → d / 8 < length x → turn (foldedName x) d ≡ folded (getD x (d / 8) 0) / 2 ^ (d % 8) % 2
-unfolding turn foldedName
-bit-some x d h = rw (within x (d / 8) h)
+pub turn-byte : (x : List ℕ) (d : ℕ) → keyBits ≤ d → (d - keyBits) / 8 < length x
+    → turn (foldedName x) d ≡ folded (getD x ((d - keyBits) / 8) 0) / 2 ^ ((d - keyBits) % 8) % 2
+unfolding turn byteBit foldedName
+turn-byte x d h l = rw (le-ltb d keyBits h, within x ((d - keyBits) / 8) l)
   where
     within : (x : List ℕ) (i : ℕ) → i < length x → getD (map folded x) i 0 ≡ folded (getD x i 0)
     within [] i h = absurd (omega arith)
     within (b ∷ x) zero h = refl
     within (b ∷ x) (suc i) h = within x i (omega arith)
 
-pub bit-small : (k : List ℕ) (d : ℕ) → turn k d < 2
-unfolding turn
-bit-small k d = omega arith
+pub turn-small : (x : List ℕ) (d : ℕ) → turn x d < 2
+unfolding turn byteBit
+turn-small x d = go (ltb d keyBits)
+  where
+    go : (t : Bool) → choose t (keyOf x / 2 ^ (keySkip + d) % 2) (getD x ((d - keyBits) / 8) 0 / 2 ^ ((d - keyBits) % 8) % 2) < 2
+    go true = omega arith
+    go false = omega arith
 
--- names that are the same have the same key, and names with one key are the same
-pub same-key : (x y : List ℕ) → sameName x y ≡ true → foldedName x ≡ foldedName y
+-- names are the same just if the same of them counts
+pub same-folded : (x y : List ℕ) → sameName x y ≡ true → foldedName x ≡ foldedName y
 unfolding sameName foldedName
-same-key [] [] h = refl
-same-key [] (b ∷ y) h = no-bool (sym h)
-same-key (a ∷ x) [] h = no-bool (sym h)
-same-key (a ∷ x) (b ∷ y) h = go (eqb (folded a) (folded b)) refl (λ e. same-key x y e) h
+same-folded [] [] h = refl
+same-folded [] (b ∷ y) h = no-bool (sym h)
+same-folded (a ∷ x) [] h = no-bool (sym h)
+same-folded (a ∷ x) (b ∷ y) h = go (eqb (folded a) (folded b)) refl (λ e. same-folded x y e) h
   where
     go : (t : Bool) → eqb (folded a) (folded b) ≡ t → (sameName x y ≡ true → map folded x ≡ map folded y) → t && sameName x y ≡ true
         → folded a ∷ map folded x ≡ folded b ∷ map folded y
     go true e ih q = ap₂ (λ u w. u ∷ w) (eqb-true _ _ e) (ih q)
     go false e ih q = no-bool (sym q)
 
-pub self-key : (x y z : List ℕ) → foldedName x ≡ foldedName y → sameName x z ≡ sameName y z
+pub folded-same : (x y z : List ℕ) → foldedName x ≡ foldedName y → sameName x z ≡ sameName y z
 unfolding sameName foldedName
-self-key [] [] z h = refl
-self-key [] (b ∷ y) z h = absurd (omega (arith, let e : 0 ≡ suc (length (map folded y)) = ap length h in e))
-self-key (a ∷ x) [] z h = absurd (omega (arith, let e : suc (length (map folded x)) ≡ 0 = ap length h in e))
-self-key (a ∷ x) (b ∷ y) [] h = refl
-self-key (a ∷ x) (b ∷ y) (c ∷ z) h =
-    ap₂ (λ (u v : Bool). u && v) (ap (λ (w : ℕ). eqb w (folded c)) (ap (λ (l : List ℕ). getD l 0 0) h)) (self-key x y z (ap tail h))
+folded-same [] [] z h = refl
+folded-same [] (b ∷ y) z h = absurd (omega (arith, let e : 0 ≡ suc (length (map folded y)) = ap length h in e))
+folded-same (a ∷ x) [] z h = absurd (omega (arith, let e : suc (length (map folded x)) ≡ 0 = ap length h in e))
+folded-same (a ∷ x) (b ∷ y) [] h = refl
+folded-same (a ∷ x) (b ∷ y) (c ∷ z) h =
+    ap₂ (λ (u v : Bool). u && v) (ap (λ (w : ℕ). eqb w (folded c)) (ap (λ (l : List ℕ). getD l 0 0) h)) (folded-same x y z (ap tail h))
   where
     tail : List ℕ → List ℕ
     tail [] = []
@@ -89,7 +117,7 @@ module _ (name : ℕ → List ℕ) (C : List ℕ) (count : ℕ) (x : List ℕ) w
   -- the first turn
   pub seek-start : Grown name C count → Still name C count x 0 0 × Led name C count x 0 0
   seek-start g = (
-    λ s l e. subst (λ (k : List ℕ). Below C k s 0 0) (sym (same-key x (name s) e)) (g .held s l),
+    λ s l e. subst (λ (k : List ℕ). Below C k s 0 0) (sym (same-folded x (name s) e)) (g .held s l),
     λ D m s b. b,
   )
 
@@ -114,7 +142,7 @@ module _ (name : ℕ → List ℕ) (C : List ℕ) (count : ℕ) (x : List ℕ) (
   pub seek-gap : (i : ℕ) → i ≡ 2 * q + turn (foldedName x) d → q < count → getD C i 0 ≡ 0 → Gap name C count x i
   seek-gap i e l o =
       let e′ : 2 * q + turn (foldedName x) d ≡ i = sym e in
-      let t = bit-small (foldedName x) d in
+      let t = turn-small (foldedName x) d in
       record {
         near = omega arith;
         empty = o;

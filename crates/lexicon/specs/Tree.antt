@@ -1,10 +1,12 @@
 -- The tree of the first names of some, held in one row of links, and what a search in it tells. A name is known by its number; its
 -- two links stand in the row at twice the number and at the next place. Assumes nothing.
-use Prim.Native.Nat.{ℕ, _+_, _*_, _/_, _%_, _^_, _≤_, _<_}
+use Prim.Native.Nat.{ℕ, _+_, _-_, _*_, _/_, _%_, _^_, _≤_, _<_}
 use mathlib.Core.Path.{_≡_}
-use mathlib.Core.List.{List, map}
+use mathlib.Core.List.{List, [], _∷_, map}
 use mathlib.Core.Bool.{true, false}
+use lib.Dec.{ltb}
 use lib.ListN.{length, drop, getD, take}
+use Rattle.grammar.specs.Basics.{choose}
 use Rattle.text.specs.Names.{folded, sameName}
 use Rattle.text.specs.Spelled.{Inside}
 use Rattle.lexicon.specs.declared.Sought.{Sought}
@@ -14,9 +16,35 @@ use Rattle.lexicon.specs.declared.Sought.the-variants.{Same, Free}
 unfoldable pub foldedName : List ℕ → List ℕ
 foldedName x = map folded x
 
--- where a name turns at depth d: bit d of its key. The laws use only that this is 0 or 1
+-- how many turns go by the key, and the first bit of it that does
+abbrev pub keyBits : ℕ
+keyBits = 24
+
+abbrev pub keySkip : ℕ
+keySkip = 28
+
+-- what of the key is carried on to the next byte, and what it is then multiplied by
+abbrev pub keySpan : ℕ
+keySpan = 4294967296
+
+abbrev pub keyFactor : ℕ
+keyFactor = 2654435761
+
+-- the key of what counts, byte by byte: names that begin or end alike seldom have its bits from keySkip on in common
+unfoldable pub keyFrom : ℕ → List ℕ → ℕ
+keyFrom k [] = k
+keyFrom k (b ∷ x) = keyFrom ((k % keySpan + b) * keyFactor) x
+
+unfoldable pub keyOf : List ℕ → ℕ
+keyOf x = keyFrom 0 x
+
+-- bit j of some bytes, 0 past their end
+unfoldable pub byteBit : List ℕ → ℕ → ℕ
+byteBit x j = getD x (j / 8) 0 / 2 ^ (j % 8) % 2
+
+-- where a name turns at depth d: by a bit of its key, then by its own bits. The laws use only that this is 0 or 1
 unfoldable pub turn : List ℕ → ℕ → ℕ
-turn k d = getD k (d / 8) 0 / 2 ^ (d % 8) % 2
+turn x d = choose (ltb d keyBits) (keyOf x / 2 ^ (keySkip + d) % 2) (byteBit x (d - keyBits))
 
 -- name number i
 unfoldable pub nameOf : List ℕ → List ℕ → List ℕ → ℕ → List ℕ
@@ -27,7 +55,7 @@ pub record Spans (text starts lengths : List ℕ) : Type 0 where
   pub paired : length starts ≡ length lengths
   pub inside : Inside text starts lengths
 
--- whether s is met on the way that key k takes from name q, at depth d
+-- whether s is met on the way that k, what counts of a name, takes from name q, at depth d
 pub data Below (C k : List ℕ) (s : ℕ) : ℕ → ℕ → Type 0 where
   here : {d q : ℕ} → q ≡ s → Below C k s d q
   down : {d q : ℕ} → 0 < getD C (2 * q + turn k d) 0 → Below C k s (d + 1) (getD C (2 * q + turn k d) 0) → Below C k s d q

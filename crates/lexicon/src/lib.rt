@@ -1,6 +1,7 @@
 // Names looked up by their numbers: the names of some rows of starts and lengths go into a digital search tree, one row of links with
-// two for each name, where a search takes one bit of the name at each step and compares in full. A link is a name's number; 0 is none,
-// since name 0 is the root.
+// two for each name, where a search takes one bit at each step and compares in full. The first bits are those of a key made of the name,
+// so that names which begin alike part early; the later ones are the name's own, so that a way has at most KEY_BITS steps more than a
+// name has bits. A link is a name's number; 0 is none, since name 0 is the root.
 ghost use mathlib.Core.Path.{_≡_};
 ghost use mathlib.Core.List.{[]};
 ghost use Prim.Native.Nat.{ℕ, _+_, _*_, _≤_, _<_};
@@ -8,7 +9,17 @@ ghost use lib.ListN.{length, getD};
 ghost use Rattle.text.specs.Names.{sameName, place};
 ghost use Rattle.text.specs.Print.{firstDouble};
 ghost use Rattle.text.specs.Spelled.{spelled};
-ghost use Rattle.lexicon.specs.Tree.{foldedName, turn, nameOf, Spans, Grown, Told, mostNames, Lexicon, Planted};
+ghost use Rattle.lexicon.specs.Tree.{foldedName, keyOf, turn, nameOf, Spans, Grown, Told, mostNames, Lexicon, Planted};
+
+// How many turns go by the key, and the first bit of it that does.
+const KEY_BITS: usize = 24;
+
+const KEY_SKIP: usize = 28;
+
+// What of the key is carried on to the next byte, and what it is then multiplied by.
+const KEY_SPAN: usize = 4294967296;
+
+const KEY_FACTOR: usize = 2654435761;
 
 // What a search in the tree tells: the number of the name, or where its link belongs.
 pub enum Sought {
@@ -29,20 +40,38 @@ fn wide_link(x: u16) -> usize
 }
 
 fn wide_byte(x: u8) -> usize
-    ensures { λ r. ⌜ r ≡ x ⌝ }
+    ensures { λ r. ⌜ (r ≡ x) × (r < 256) ⌝ }
 {
     x as usize
 }
 
-// Bit d of a name, of which folded bytes count; 0 past its end.
-fn bit(x: &[u8], d: usize) -> usize
+// The key of a name, of which folded bytes count.
+fn key_of(x: &[u8]) -> usize
+    ensures { λ r. ⌜ r ≡ keyOf (foldedName (now (x .entry))) ⌝ }
+{
+    let mut key = 0;
+    let mut i = 0;
+    while i < x.len() {
+        key = (key % KEY_SPAN + wide_byte(names::fold(x[i]))) * KEY_FACTOR;
+        i += 1;
+    }
+    key
+}
+
+// Where a name with this key turns at depth d: by a bit of the key, later by one of its folded bytes; 0 past its end.
+fn bit(x: &[u8], key: usize, d: usize) -> usize
+    requires { ⌜ key ≡ keyOf (foldedName (now x)) ⌝ }
     ensures { λ r. ⌜ (r ≡ turn (foldedName (now (x .entry))) d) × (r < 2) ⌝ }
 {
-    let i = d / 8;
+    if d < KEY_BITS {
+        return (key >> (KEY_SKIP + d)) % 2;
+    }
+    let j = d - KEY_BITS;
+    let i = j / 8;
     if x.len() <= i {
         return 0;
     }
-    let b = (names::fold(x[i]) >> (d % 8)) % 2;
+    let b = (names::fold(x[i]) >> (j % 8)) % 2;
     wide_byte(b)
 }
 
@@ -59,6 +88,7 @@ fn seek(
     requires { ⌜ Grown (nameOf (now text) (now starts) (now lengths)) (now links) count ⌝ }
     ensures { λ r. ⌜ Told (nameOf (now (text .entry)) (now (starts .entry)) (now (lengths .entry))) (now (links .entry)) count (now (x .entry)) r ⌝ }
 {
+    let key = key_of(x);
     let mut q = 0;
     let mut d = 0;
     loop {
@@ -67,7 +97,7 @@ fn seek(
         if names::same_name(x, &text[a..e]) {
             return Sought::Same(q);
         }
-        let i = 2 * q + bit(x, d);
+        let i = 2 * q + bit(x, key, d);
         let next = wide_link(links[i]);
         if next == 0 {
             return Sought::Free(i);

@@ -102,7 +102,7 @@ pub fn fold(b: u8) -> u8
     b
 }
 
-// Are two names the same name?
+// Are two names the same name? The last bytes are compared first, since many names have their fronts in common.
 pub fn same_name(a: &[u8], b: &[u8]) -> bool
     ensures { λ r. ⌜ r ≡ sameName (now (a .entry)) (now (b .entry)) ⌝ }
 {
@@ -110,12 +110,12 @@ pub fn same_name(a: &[u8], b: &[u8]) -> bool
     if n != b.len() {
         return false;
     }
-    let mut i = 0;
-    while i < n {
+    let mut i = n;
+    while 0 < i {
+        i -= 1;
         if fold(a[i]) != fold(b[i]) {
             return false;
         }
-        i += 1;
     }
     true
 }

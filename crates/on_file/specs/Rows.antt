@@ -62,36 +62,36 @@ pub record Says (r : Row) : Type 0 where
   pub count : states grammar ≡ r .states
   pub claimed : Claimed grammar (r .claim)
 
--- the rows marked P, in their order, then document 02's; a is 1, b is 2, S is 128, A is 129, B is 130
+-- the rows marked P, in their order, then document 02's; a is 1, b is 2, S is 32768, A is 32769, B is 32770
 unfoldable pub rows : List Row
 rows =
     -- none
     record { terminals = 0; nonterminals = 1; table = []; states = 4; claim = withoutSentence }
     -- S → (empty)
-    ∷ record { terminals = 0; nonterminals = 1; table = 128 ∷ 0 ∷ []; states = 5; claim = unambiguous 10 }
+    ∷ record { terminals = 0; nonterminals = 1; table = 32768 ∷ 0 ∷ []; states = 5; claim = unambiguous 10 }
     -- S → a
     ∷ record {
       terminals = 1;
       nonterminals = 1;
-      table = 128 ∷ 1 ∷ 1 ∷ [];
+      table = 32768 ∷ 1 ∷ 1 ∷ [];
       states = 6;
       claim = certified 11 (0x15 ∷ 0x50 ∷ 0x21 ∷ 0x15 ∷ 0x08 ∷ 0x00 ∷ 0x00 ∷ 0x00 ∷ 0x00 ∷ []);
     }
     -- S → S a; S → a
-    ∷ record { terminals = 1; nonterminals = 1; table = 128 ∷ 2 ∷ 128 ∷ 1 ∷ 128 ∷ 1 ∷ 1 ∷ []; states = 9; claim = unambiguous 24 }
+    ∷ record { terminals = 1; nonterminals = 1; table = 32768 ∷ 2 ∷ 32768 ∷ 1 ∷ 32768 ∷ 1 ∷ 1 ∷ []; states = 9; claim = unambiguous 24 }
     -- S → a S b; S → (empty)
-    ∷ record { terminals = 2; nonterminals = 1; table = 128 ∷ 3 ∷ 1 ∷ 128 ∷ 2 ∷ 128 ∷ 0 ∷ []; states = 9; claim = unambiguous 30 }
+    ∷ record { terminals = 2; nonterminals = 1; table = 32768 ∷ 3 ∷ 1 ∷ 32768 ∷ 2 ∷ 32768 ∷ 0 ∷ []; states = 9; claim = unambiguous 30 }
     -- S → S
-    ∷ record { terminals = 0; nonterminals = 1; table = 128 ∷ 1 ∷ 128 ∷ []; states = 6; claim = withoutSentence }
+    ∷ record { terminals = 0; nonterminals = 1; table = 32768 ∷ 1 ∷ 32768 ∷ []; states = 6; claim = withoutSentence }
     -- S → S; S → a
-    ∷ record { terminals = 1; nonterminals = 1; table = 128 ∷ 1 ∷ 128 ∷ 128 ∷ 1 ∷ 1 ∷ []; states = 8; claim = potential }
+    ∷ record { terminals = 1; nonterminals = 1; table = 32768 ∷ 1 ∷ 32768 ∷ 32768 ∷ 1 ∷ 1 ∷ []; states = 8; claim = potential }
     -- S → a S a; S → a
-    ∷ record { terminals = 1; nonterminals = 1; table = 128 ∷ 3 ∷ 1 ∷ 128 ∷ 1 ∷ 128 ∷ 1 ∷ 1 ∷ []; states = 10; claim = potentialOnly }
+    ∷ record { terminals = 1; nonterminals = 1; table = 32768 ∷ 3 ∷ 1 ∷ 32768 ∷ 1 ∷ 32768 ∷ 1 ∷ 1 ∷ []; states = 10; claim = potentialOnly }
     -- S → A; S → B; A → ; B →
     ∷ record {
       terminals = 0;
       nonterminals = 3;
-      table = 128 ∷ 1 ∷ 129 ∷ 128 ∷ 1 ∷ 130 ∷ 129 ∷ 0 ∷ 130 ∷ 0 ∷ [];
+      table = 32768 ∷ 1 ∷ 32769 ∷ 32768 ∷ 1 ∷ 32770 ∷ 32769 ∷ 0 ∷ 32770 ∷ 0 ∷ [];
       states = 10;
       claim = potential;
     }
@@ -99,7 +99,7 @@ rows =
     ∷ record {
       terminals = 1;
       nonterminals = 2;
-      table = 128 ∷ 1 ∷ 1 ∷ 128 ∷ 1 ∷ 129 ∷ 129 ∷ 1 ∷ 129 ∷ [];
+      table = 32768 ∷ 1 ∷ 1 ∷ 32768 ∷ 1 ∷ 32769 ∷ 32769 ∷ 1 ∷ 32769 ∷ [];
       states = 10;
       claim = unambiguous 11;
     }

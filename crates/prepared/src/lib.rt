@@ -17,7 +17,7 @@ pub struct Prepared {
 pub fn prepare(
     t: usize,
     n: usize,
-    table: &[u8],
+    table: &[u16],
     ahead: &mut [u16; MAX_STATES],
     number: &mut [u16; MAX_STATES],
     member: &mut [u16; MAX_STATES],

@@ -5,7 +5,7 @@ use mathlib.Core.List.{List, [], _∷_}
 use Prim.Native.Nat.{ℕ}
 use Prim.Native.Char.{code}
 use Prim.Native.String.{String, [] as empty, _∷_ as _then_}
-use Rattle.grammar.specs.Limits.{limits}
+use Rattle.grammar.specs.Limits.{byteLimits}
 use Rattle.grammar.specs.Refusal.{Answer, done, refused, refuseUnless, andThen}
 use Rattle.automaton.specs.Strings.{Letter, opening, closing, symbol}
 use Rattle.text.specs.Pieces.{splitOn, join, ledBy, endedBy}
@@ -31,11 +31,11 @@ names = bytes "a" ∷ bytes "S" ∷ []
 read : String → Answer (List Letter × List Letter)
 unfolding bytes names readStrings readWords piecesOf wordsOf wordOf ruleNumber isDecimal numberFrom valueOf wholeLine refuseNone isKnown
     numberOf codeOf place sameName folded isName isNameByte all splitOn refuseUnless andThen
-read lines = readStrings limits 1 2 names (bytes lines)
+read lines = readStrings byteLimits 1 2 names (bytes lines)
 
 print : List Letter → List Letter → List ℕ
 unfolding names readingLines words join ledBy endedBy nameOf symbolOf decimalTo
-print u v = readingLines limits 1 names u v
+print u v = readingLines byteLimits 1 names u v
 
 -- the readings' example
 left : List Letter

@@ -13,16 +13,17 @@ use Rattle.grammar.proofs.WellFormed.{room}
 use Rattle.grammar.proofs.Sentence.{takes-only}
 use Rattle.text.specs.Names.{hasDouble}
 use Rattle.text.specs.Rules.{checkText}
-use Rattle.text.specs.Promise.{ReadsText}
 use Rattle.text.specs.declared.TextRead.{TextRead}
 use Rattle.text.specs.declared.TextRead.the-variants as reader
-use Rattle.text.proofs.Enough.{Enough, ReadRows, rows-refused, read-rows}
+use Rattle.text.proofs.Promises.{refuses-as}
+use Rattle.text.proofs.Enough.{ReadRows}
+use Rattle.text_read.proofs.Written.{checked-rows}
 use Rattle.text.specs.Spelled.{spelled}
 use Rattle.readings.specs.Promise.{stringsInto, readBackInto, readBack, rowAfter, ReadsBack}
 use Rattle.readings.specs.declared.ReadBack.{ReadBack}
 use Rattle.readings.specs.declared.ReadBack.the-variants.{GrammarRefused}
 use Rattle.readings_read.specs.Words.{Named}
-use Rattle.readings_read.specs.Lines.{linesInto, BackTold}
+use Rattle.readings_read.specs.Lines.{linesInto, BackTold, GrammarChecked}
 
 -- a text is read with t, m, e entries and q states, and two rows begin with the places of its names: what the lines say in this
 -- grammar is what is read back
@@ -37,14 +38,13 @@ pub record InGrammar (text : List ℕ) (t m e q : ℕ) (starts lengths : List �
       → BackTold t (e + 4 - q) (spelled text (take (t + m) starts) (take (t + m) lengths)) lines left right b left′ right′
       → ReadsBack text lines left right b left′ right′
 
-module _ (text table starts lengths : List ℕ) (n : Enough (length table) (length starts) (length lengths))
-    (r : TextRead) (table′ starts′ lengths′ : List ℕ) (h : ReadsText text table starts lengths r table′ starts′ lengths′) where
+module _ (text : List ℕ) (r : TextRead) (starts lengths : List ℕ) (h : GrammarChecked text r starts lengths) where
   -- the text is refused
   pub grammar-refused : (lines left right : List ℕ) (cause at : ℕ) → r ≡ reader.Refused cause at
       → ReadsBack text lines left right (GrammarRefused cause at) left right
   unfolding readBackInto
   grammar-refused lines left right cause at e =
-      let c = rows-refused text table starts lengths n r table′ starts′ lengths′ h cause at e in
+      let c = refuses-as (checkText limits text) cause at (sym e ∙ h .checks .answer) in
       let o = then-stops (checkText limits text) (λ s. done (stringsInto limits (length left) (length right) lines s)) cause at c in
       record {
         answer = sym (ap readBack o);
@@ -98,8 +98,8 @@ module _ (text : List ℕ) (t m e q : ℕ) (table starts lengths : List ℕ) (k 
         lines-back = back;
       }
 
-module _ (text table starts lengths : List ℕ) (n : Enough (length table) (length starts) (length lengths))
-    (r : TextRead) (table′ starts′ lengths′ : List ℕ) (h : ReadsText text table starts lengths r table′ starts′ lengths′) where
-  -- the text is read
-  pub grammar-read : (t m e q : ℕ) → r ≡ reader.Read t m e q → InGrammar text t m e q starts′ lengths′
-  grammar-read t m e q g = in-grammar text t m e q table′ starts′ lengths′ (read-rows text table starts lengths n r table′ starts′ lengths′ h t m e q g)
+-- the text is read
+pub grammar-read : (text : List ℕ) (r : TextRead) (starts lengths : List ℕ) → GrammarChecked text r starts lengths → (t m e q : ℕ) → r ≡ reader.Read t m e q
+    → InGrammar text t m e q starts lengths
+grammar-read text r starts lengths h t m e q g =
+    in-grammar text t m e q (h .row) starts lengths (checked-rows text (h .row) starts lengths r (h .checks) t m e q g)

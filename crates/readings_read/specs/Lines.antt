@@ -14,7 +14,9 @@ use Rattle.automaton.specs.Strings.{Letter}
 use Rattle.text.specs.Pieces.{lineEnd, splitOn}
 use Rattle.text.specs.Keys.{valueOf}
 use Rattle.text.specs.Read.{refuseNone, wholeLine}
+use Rattle.text.specs.declared.TextRead.{TextRead}
 use Rattle.names.specs.Found.{part}
+use Rattle.text_read.specs.Texts.{ChecksText}
 use Rattle.readings.specs.Readings.{rightKey, piecesOf, atEnd, readWords, readStrings}
 use Rattle.readings.specs.Letters.{letterNumber}
 use Rattle.readings.specs.Promise.{readBack, rowAfter}
@@ -26,6 +28,11 @@ use Rattle.readings_read.specs.declared.Line.the-variants.{Said as LineS
 use Rattle.readings_read.specs.declared.Lines.{Lines}
 use Rattle.readings_read.specs.declared.Lines.the-variants.{Said, Fault}
 use Rattle.readings_read.specs.Words.{entryAt}
+
+-- a grammar's text was checked, with this answer: where it passes, the rows begin with the places of its names
+pub record GrammarChecked (text : List ℕ) (r : TextRead) (starts lengths : List ℕ) : Type 0 where
+  pub row : List ℕ
+  pub checks : ChecksText text r row starts lengths
 
 -- the value of a line with this key starts there
 pub record StartsAt (key line : List ℕ) (start : ℕ) : Type 0 where

@@ -5,14 +5,18 @@ mod pieces;
 mod reading;
 mod values;
 
+ghost use Prim.Native.Nat.{_≤_};
+ghost use lib.ListN.{length};
 ghost use Rattle.text.specs.Spelled.{spelled};
+ghost use Rattle.text_read.specs.Texts.{smallText, Rows, ChecksText};
 ghost use Rattle.readings.specs.Promise.{ReadsBack};
 ghost use Rattle.readings_read.specs.Words.{Named};
-ghost use Rattle.readings_read.specs.Lines.{BackTold};
-use grammar::MAX_ENTRIES;
+ghost use Rattle.readings_read.specs.Lines.{BackTold, GrammarChecked};
 use grammar::MAX_NAMES;
 use readings::ReadBack;
 use text::TextRead;
+use text_read::KEPT_ENTRIES;
+use text_read::SMALL_TEXT;
 
 // The states of a grammar without rules. Each rule has two entries more than codes, and one state more, so the entries and
 // these, less the states, are the rules.
@@ -82,15 +86,29 @@ fn read_planted(
     reading::read_lines(text, starts, lengths, &links, t, count, lines, left, right)
 }
 
-// Reading back: a grammar's text and the two lines to the two strings, at the fronts of the lent rows; or the first refusal,
-// which changes nothing.
-pub fn read_back(text: &[u8], lines: &[u8], left: &mut [u32], right: &mut [u32]) -> ReadBack
+// All tests of a grammar's text. The rows get its table and the places of its names.
+fn check_grammar(text: &[u8], row: &mut [u16], starts: &mut [u32], lengths: &mut [u32]) -> TextRead
+    requires { ⌜ Rows (length (now text)) (now row) (now starts) (now lengths) ⌝ }
+    ensures { λ r. ⌜ ChecksText (now (text .entry)) r (now (row .exit)) (now (starts .exit)) (now (lengths .exit)) ⌝ }
+{
+    let kept = text_read::keep_text(text, row, starts, lengths);
+    text_read::check_kept(kept, row)
+}
+
+// The two lines, after the grammar's text.
+fn back_in(
+    read: TextRead,
+    text: &[u8],
+    starts: &[u32],
+    lengths: &[u32],
+    lines: &[u8],
+    left: &mut [u32],
+    right: &mut [u32],
+) -> ReadBack
+    requires { ⌜ GrammarChecked (now text) read (now starts) (now lengths) ⌝ }
     ensures { λ r. ⌜ ReadsBack (now (text .entry)) (now (lines .entry)) (now (left .entry)) (now (right .entry)) r (now (left .exit)) (now (right .exit)) ⌝ }
 {
-    let mut table = [0u8; MAX_ENTRIES];
-    let mut starts = [0u32; MAX_NAMES];
-    let mut lengths = [0u32; MAX_NAMES];
-    match text_read::read_text(text, &mut table, &mut starts, &mut lengths) {
+    match read {
         TextRead::Refused(cause, at) => ReadBack::GrammarRefused(cause, at),
         TextRead::Read {
             terminals,
@@ -112,4 +130,36 @@ pub fn read_back(text: &[u8], lines: &[u8], left: &mut [u32], right: &mut [u32])
             )
         }
     }
+}
+
+fn back_small(text: &[u8], lines: &[u8], left: &mut [u32], right: &mut [u32]) -> ReadBack
+    requires { ⌜ length (now text) ≤ smallText ⌝ }
+    ensures { λ r. ⌜ ReadsBack (now (text .entry)) (now (lines .entry)) (now (left .entry)) (now (right .entry)) r (now (left .exit)) (now (right .exit)) ⌝ }
+{
+    let mut row = [0u16; SMALL_TEXT];
+    let mut starts = [0u32; SMALL_TEXT];
+    let mut lengths = [0u32; SMALL_TEXT];
+    let read = check_grammar(text, &mut row, &mut starts, &mut lengths);
+    back_in(read, text, &starts, &lengths, lines, left, right)
+}
+
+fn back_large(text: &[u8], lines: &[u8], left: &mut [u32], right: &mut [u32]) -> ReadBack
+    ensures { λ r. ⌜ ReadsBack (now (text .entry)) (now (lines .entry)) (now (left .entry)) (now (right .entry)) r (now (left .exit)) (now (right .exit)) ⌝ }
+{
+    let mut row = [0u16; KEPT_ENTRIES];
+    let mut starts = [0u32; MAX_NAMES];
+    let mut lengths = [0u32; MAX_NAMES];
+    let read = check_grammar(text, &mut row, &mut starts, &mut lengths);
+    back_in(read, text, &starts, &lengths, lines, left, right)
+}
+
+// Reading back: a grammar's text and the two lines to the two strings, at the fronts of the lent rows; or the first refusal,
+// which changes nothing.
+pub fn read_back(text: &[u8], lines: &[u8], left: &mut [u32], right: &mut [u32]) -> ReadBack
+    ensures { λ r. ⌜ ReadsBack (now (text .entry)) (now (lines .entry)) (now (left .entry)) (now (right .entry)) r (now (left .exit)) (now (right .exit)) ⌝ }
+{
+    if text.len() <= SMALL_TEXT {
+        return back_small(text, lines, left, right);
+    }
+    back_large(text, lines, left, right)
 }

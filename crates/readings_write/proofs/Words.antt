@@ -46,10 +46,10 @@ module _ (t : ℕ) (names : List (List ℕ)) (x : ℕ) where
   unfolding nameOf
   symbol-word s h k e = ap (word limits t names) (is-symbol x h k) ∙ ap (λ (s : ℕ). getD names s []) (sym e)
 
--- a symbol is a byte, and has a name
+-- a symbol has 16 bits, and has a name
 pub record Spelt (t m code : ℕ) : Type 0 where
   pub some : 1 ≤ code
-  pub byte : code < 256
+  pub fits : code < 65536
   pub known : symbolOf limits t code < m
 
 spelt : (t n code : ℕ) → t ≤ limits .maxTerminals → n ≤ limits .maxNonterminals → Terminal t code ⊎ Nonterminal limits n code
@@ -57,8 +57,8 @@ spelt : (t n code : ℕ) → t ≤ limits .maxTerminals → n ≤ limits .maxNon
 spelt t n code few less h =
     let r = right-number limits t (omega arith) n code h in
     elim h [
-      | inl a ↦ record { some = a .0; byte = omega (arith, a .1); known = r .high }
-      | inr a ↦ record { some = omega (arith, a .0); byte = omega (arith, a .1); known = r .high }
+      | inl a ↦ record { some = a .0; fits = omega (arith, a .1); known = r .high }
+      | inr a ↦ record { some = omega (arith, a .0); fits = omega (arith, a .1); known = r .high }
     ]
 
 module _ {t : ℕ} {text starts lengths : List ℕ} where

@@ -65,7 +65,7 @@ fn put_word(
     if kind == CLOSING {
         return put_mark(out, at, CLOSES, number);
     }
-    let s = symbol(t, number as u8);
+    let s = symbol(t, number as u16);
     put_name(out, at, text, starts, lengths, s)
 }
 

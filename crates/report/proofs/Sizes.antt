@@ -114,9 +114,9 @@ module _ (b : ℕ) where
   unfolding readLines
   small-lines ps h i =
       small-whole 1 ps _ (omega arith) (λ first more e k.
-      small-then b (declaration 1 0 0 127 [] first) _ (small-declaration 1 0 0 127 [] first (omega arith)) (λ ts x.
+      small-then b (declaration 1 0 0 (limits .maxTerminals) [] first) _ (small-declaration 1 0 0 (limits .maxTerminals) [] first (omega arith)) (λ ts x.
       small-whole 2 more _ (omega arith) (λ second rest f l.
-      small-then b (declaration 2 1 1 127 ts second) _ (small-declaration 2 1 1 127 ts second (omega arith)) (λ ns y.
+      small-then b (declaration 2 1 1 (limits .maxNonterminals) ts second) _ (small-declaration 2 1 1 (limits .maxNonterminals) ts second (omega arith)) (λ ns y.
       small-then b (ruleLines limits 3 (length ts) (ts ++ ns) rest) _ (small-rules 3 (length ts) (ts ++ ns) rest (omega (arith, e, f)) l) (λ rs z. tt)))))
 
   small-admit : (m : ℕ) (earlier : List Rule) (at : ℕ) (rs : List Rule) → ((r : Rule) → Mem r rs → length (r .right) ≤ 12)
@@ -130,20 +130,24 @@ module _ (b : ℕ) where
       (small-unless b 8 at _ _ (omega arith) (omega arith)
       (small-admit m _ (at + 2 + length (r .right)) rs (λ s i. f s (there i)) (omega arith)))
 
+-- no refusal of such a text has a position past this: a line of the text, or an offset in a table of all rules
+abbrev pub farthest : ℕ
+farthest = 6000
+
 -- the reader's refusals of a text that the program takes
-small-text : (text : List ℕ) → length text ≤ programText → Small 5000 (checkText limits text)
+small-text : (text : List ℕ) → length text ≤ programText → Small farthest (checkText limits text)
 unfolding checkText readText
 small-text text h =
-    small-then 5000 (readText limits text) _
-    (small-unless 5000 16 0 _ _ (omega arith) (omega arith) (small-lines 5000 (splitOn 10 text) (omega (arith, pieces-most 10 text)) (omega arith)))
-    (λ s e. small-then 5000 (lastTests limits s) _ (small-tests s e) (λ G f. tt))
+    small-then farthest (readText limits text) _
+    (small-unless farthest 16 0 _ _ (omega arith) (omega arith) (small-lines farthest (splitOn 10 text) (omega (arith, pieces-most 10 text)) (omega arith)))
+    (λ s e. small-then farthest (lastTests limits s) _ (small-tests s e) (λ G f. tt))
   where
-    small-tests : (s : Source) → readText limits text ≡ done s → Small 5000 (lastTests limits s)
+    small-tests : (s : Source) → readText limits text ≡ done s → Small farthest (lastTests limits s)
     small-tests s e =
         unfold lastTests in
-        small-then 5000 (admit limits 100 [] 0 (s .rules)) _
-        (small-admit 5000 100 [] 0 (s .rules) (λ r i. read-well limits apart text s e .fit r i .few) (omega arith))
-        (λ rs f. small-unless 5000 noSentence 0 _ _ (omega arith) (omega arith) tt)
+        small-then farthest (admit limits (limits .maxRules) [] 0 (s .rules)) _
+        (small-admit farthest (limits .maxRules) [] 0 (s .rules) (λ r i. read-well limits apart text s e .fit r i .few) (omega arith))
+        (λ rs f. small-unless farthest noSentence 0 _ _ (omega arith) (omega arith) tt)
 
 -- ---- a text that is judged
 
@@ -153,12 +157,12 @@ unfolding refuseUnless
 small-when b cause at true o h k s = s refl
 small-when b cause at false o h k s = (h, k)
 
-small-judge : (text : List ℕ) → Small 5000 (judge text)
+small-judge : (text : List ℕ) → Small farthest (judge text)
 unfolding judge
 small-judge text =
-    small-when 5000 14 0 (leb (length text) 4096) _ (omega arith) (omega arith) (λ e.
-    small-then 5000 (checkText limits text) _ (small-text text (leb-true (length text) 4096 e)) (λ s f.
-    small-unless 5000 14 0 (leb (stateCount (s .rules)) 48) _ (omega arith) (omega arith) tt))
+    small-when farthest 14 0 (leb (length text) 4096) _ (omega arith) (omega arith) (λ e.
+    small-then farthest (checkText limits text) _ (small-text text (leb-true (length text) 4096 e)) (λ s f.
+    small-unless farthest 14 0 (leb (stateCount (s .rules)) 48) _ (omega arith) (omega arith) tt))
 
 -- what is known of a text that is judged
 pub record JudgedText (text : List ℕ) (s : Source) : Type 0 where
@@ -233,7 +237,7 @@ grammar-most G W few names named many = go (isPotential M) refl
         )
 
 -- a refusal
-pub refused-most : (cause at : ℕ) → cause ≤ noSentence → at ≤ 5000 → length (refusedLines cause at) ≤ reportSize
+pub refused-most : (cause at : ℕ) → cause ≤ noSentence → at ≤ farthest → length (refusedLines cause at) ≤ reportSize
 refused-most cause at h k =
     omega (
       arith,
@@ -249,7 +253,7 @@ pub never-short : (text : List ℕ) → length (reportOf text) ≤ reportSize
 unfolding reportOf
 never-short text = go (judge text) refl (small-judge text)
   where
-    go : (o : Answer Source) → judge text ≡ o → Small 5000 o → length (printed o) ≤ reportSize
+    go : (o : Answer Source) → judge text ≡ o → Small farthest o → length (printed o) ≤ reportSize
     go (done s) e k =
         let j = judged-text text s e in
         grammar-most (grammarOf s) (j .wellFormed) (j .few) (symbolNames s) (j .well .named) (length-append (s .terminals) (s .nonterminals))

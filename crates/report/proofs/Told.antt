@@ -64,7 +64,7 @@ module _ (t n : ℕ) (table : List ℕ) (q : ℕ) (text starts lengths : List �
         parents = omega (arith, m, l .parents);
         witness = omega (arith, m, l .witness);
       }) in
-      subst (λ (o : Answer Grammar). Answers o before v after) (search-enough t n table before G (s .passes) e) h
+      subst (λ (o : Answer Grammar). Answers limits o before v after) (search-enough t n table before G (s .passes) e) h
 
   -- unambiguous with the size
   pub is-unambiguous : (k looked : ℕ) → v ≡ search.Unambiguous k looked → (isPotential M ≡ false) × (k ≡ size M)

@@ -31,7 +31,7 @@ fn put_sides(
     at: usize,
     t: usize,
     n: usize,
-    table: &[u8],
+    table: &[u16],
     q: usize,
     row: &[u32],
     text: &[u8],
@@ -56,7 +56,7 @@ fn put_table(
     out: &mut [u8],
     t: usize,
     n: usize,
-    table: &[u8],
+    table: &[u16],
     q: usize,
     text: &[u8],
     starts: &[u32],
@@ -108,7 +108,7 @@ pub fn put_report(out: &mut [u8], text: &[u8]) -> usize
     if PROGRAM_TEXT < text.len() {
         return put_refused(out, BUFFER_TOO_SHORT, 0);
     }
-    let mut table = [0u8; MAX_ENTRIES];
+    let mut table = [0u16; MAX_ENTRIES];
     let mut starts = [0u32; MAX_NAMES];
     let mut lengths = [0u32; MAX_NAMES];
     let read = text_read::read_text(text, &mut table, &mut starts, &mut lengths);

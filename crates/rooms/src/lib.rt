@@ -58,7 +58,7 @@ fn count_moves<'a>(
 }
 
 // The room of a search.
-pub fn search_room(t: usize, n: usize, table: &[u8]) -> SearchRoom
+pub fn search_room(t: usize, n: usize, table: &[u16]) -> SearchRoom
     ensures { λ r. ⌜ RoomAnswer t n (now (table .entry)) r ⌝ }
 {
     let mut ahead = [0u16; MAX_STATES];

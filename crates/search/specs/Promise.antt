@@ -1,6 +1,6 @@
 -- What the search promises: its answer, and every lent row afterwards.
 -- Source: document 01, "Triples, certificate, witness", from "The search writes the smallest such set" on, and "Causes of refusal";
--- document 02, [1] (which witness) and [6] (how many successors it looked at, reported with either verdict).
+-- document 02, [1] (which witness), [6] (how many successors it looked at, reported with either verdict) and [8] (under any limits).
 -- Assumes nothing.
 use Prim.Native.Nat.{ℕ}
 use mathlib.Core.Path.{_≡_}
@@ -86,10 +86,13 @@ Told true = Witnessed
 Told false = Certified
 
 -- a refusal changes nothing
-abbrev pub Answers : Answer Grammar → Lent → SearchVerdict → Lent → Type 0
-Answers (done G) before r after = Told (isPotential (movesOf limits G)) (movesOf limits G) before r after
-Answers (refused cause at) before r after = (r ≡ searchVerdict (refused cause at)) × (after ≡ before)
+abbrev pub Answers : Limits → Answer Grammar → Lent → SearchVerdict → Lent → Type 0
+Answers L (done G) before r after = Told (isPotential (movesOf L G)) (movesOf L G) before r after
+Answers L (refused cause at) before r after = (r ≡ searchVerdict (refused cause at)) × (after ≡ before)
 
--- the promise
+-- the promise under any limits, and under those in force
+abbrev pub SearchesAt : Limits → ℕ → ℕ → List ℕ → Lent → SearchVerdict → Lent → Type 0
+SearchesAt L t n table before r after = Answers L (searchable L t n table before) before r after
+
 abbrev pub Searches : ℕ → ℕ → List ℕ → Lent → SearchVerdict → Lent → Type 0
-Searches t n table before r after = Answers (searchable limits t n table before) before r after
+Searches t n table before r after = SearchesAt limits t n table before r after

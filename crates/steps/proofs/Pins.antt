@@ -1,11 +1,11 @@
--- Small closed cases of `nthStep` at document 01's limits, on S → a and on S → S; S → : the records of a triple in their order, one
+-- Small closed cases of `nthStep` at the byte limits, on S → a and on S → S; S → : the records of a triple in their order, one
 -- past the last, triples out of range, and a fault of the table.
 -- Assumes nothing.
 use Prim.Native.Nat.{ℕ}
 use mathlib.Core.Path.{_≡_, refl}
 use mathlib.Core.List.{List, [], _∷_}
 use mathlib.Core.Option.{Option, none, some}
-use Rattle.grammar.specs.Limits.{limits}
+use Rattle.grammar.specs.Limits.{byteLimits}
 use Rattle.grammar.specs.Grammar.{stateCount, rule}
 use Rattle.grammar.specs.Table.{decodeUpTo}
 use Rattle.grammar.specs.Refusal.{Answer, done, refused, refuseUnless, andThen}
@@ -22,7 +22,7 @@ use Rattle.steps.specs.Steps.{nth, nthStep}
 -- to unfold one of these is to unfold all that it uses
 checked : ℕ → List ℕ → ℕ → ℕ → ℕ → ℕ → Answer (Option Step)
 unfolding decodeUpTo stateCount sameCodes isAmong declaredFront readRule nextRule checkFrom storedTable checkTable refuseUnless andThen nthStep
-checked t table f p q k = nthStep limits t 1 table f p q k
+checked t table f p q k = nthStep byteLimits t 1 table f p q k
 
 lived : ℕ → List ℕ → ℕ → ℕ → ℕ → ℕ → Answer (Option Step)
 unfolding checked rule each has hasAll concluded waiting rounds nonterminalsOf productive usable reachable hasSentence isLive

@@ -1,4 +1,4 @@
-// The table check: any t, n and bytes to the record of a checked grammar, or to the first refusal.
+// The table check: any t, n and table to the record of a checked grammar, or to the first refusal.
 mod earlier;
 mod reading;
 
@@ -48,7 +48,7 @@ fn in_range(t: usize, n: usize) -> bool
 
 // Causes 7, 2, 3, 4, 2, 5, 6, 8 for the rule at an offset; its length.
 fn next_rule<'a>(
-    table: &'a [u8],
+    table: &'a [u16],
     offsets: &'a [u16; MAX_RULES],
     lefts: &'a [u16; MAX_RULES],
     t: u16,
@@ -94,7 +94,7 @@ fn without_rules(t: u16, n: u16) -> CheckedGrammar
 }
 
 // The codes of a right side, copied from that part of the table to a place in the row.
-fn put_codes(codes: &mut [u16; MAX_STATES], used: usize, right: &[u8])
+fn put_codes(codes: &mut [u16; MAX_STATES], used: usize, right: &[u16])
     requires { ⌜ (length (now codes) ≡ limits .maxStates) × (used + length (now right) ≤ limits .maxStates) ⌝ }
     ensures { λ _. ⌜ now (codes .exit) ≡ paste (now (codes .entry)) used (now (right .entry)) (length (now (right .entry))) ⌝ }
 {
@@ -116,7 +116,7 @@ fn refuse(cause: u8, at: usize) -> TableChecked
 }
 
 // 1 to 8: the record of the grammar that the table stores, or the first refusal in document 01's order with an empty record.
-pub fn check_stored(t: usize, n: usize, table: &[u8]) -> TableChecked
+pub fn check_stored(t: usize, n: usize, table: &[u16]) -> TableChecked
     ensures { λ r. ⌜ r ≡ tableChecked (storedTable limits t n (now (table .entry))) ⌝ }
 {
     if !in_range(t, n) {
@@ -163,7 +163,7 @@ pub fn check_stored(t: usize, n: usize, table: &[u8]) -> TableChecked
 }
 
 // The table check: then 19 for a grammar without a sentence.
-pub fn check_table(t: usize, n: usize, table: &[u8]) -> TableChecked
+pub fn check_table(t: usize, n: usize, table: &[u16]) -> TableChecked
     ensures { λ r. ⌜ TableAnswer t n (now (table .entry)) r ⌝ }
 {
     let checked = check_stored(t, n, table);

@@ -80,6 +80,33 @@ pub record ReadRows (text : List ℕ) (t n e q : ℕ) (table starts lengths : Li
   pub inside : Inside text (take (t + n) starts) (take (t + n) lengths)
   pub as-many : length (symbolNames source) ≡ t + n
 
+-- rows that begin with what was read
+pub rows-read : (text : List ℕ) (t n e q : ℕ) (k : ReadAs (checkText limits text) t n e q) (table starts lengths : List ℕ)
+    → (e ≤ length table) × (take e table ≡ encode (k .source .rules)) → (t + n ≤ length starts) × (take (t + n) starts ≡ nameStarts (k .source))
+    → (t + n ≤ length lengths) × (take (t + n) lengths ≡ nameLengths (symbolNames (k .source))) → ReadRows text t n e q table starts lengths
+rows-read text t n e q k table starts lengths a b d =
+    let s = k .source in
+    let c = text-checked limits apart text s (k .whole) in
+    record {
+      source = s;
+      checked = k .whole;
+      well = c .well;
+      terminals = k .terminals;
+      nonterminals = k .nonterminals;
+      states = k .states;
+      rules = omega (arith, entries-states (s .rules), k .entries, k .states);
+      table-fits = a .0;
+      starts-fits = b .0;
+      lengths-fits = d .0;
+      passes = ap (checkTable limits t n) (a .1)
+          ∙ ap₂ (λ (t n : ℕ). checkTable limits t n (encode (s .rules))) (sym (k .terminals)) (sym (k .nonterminals)) ∙ c .table
+          ∙ ap₂ (λ (t n : ℕ). done (grammarOf t n (s .rules))) (k .terminals) (k .nonterminals);
+      spells = ap₂ (spelled text) (b .1) (d .1) ∙ read-spelled limits apart text s (c .read);
+      inside = subst (λ (z : List ℕ). Inside text z (take (t + n) lengths)) (sym (b .1))
+          (subst (Inside text (nameStarts s)) (sym (d .1)) (read-inside limits apart text s (c .read)));
+      as-many = omega (arith, length-append (s .terminals) (s .nonterminals), k .terminals, k .nonterminals);
+    }
+
 module _ (text table starts lengths : List ℕ) (enough : Enough (length table) (length starts) (length lengths))
     (r : TextRead) (table′ starts′ lengths′ : List ℕ) (h : ReadsText text table starts lengths r table′ starts′ lengths′) where
   into : readInto limits (length table) (length starts) (length lengths) text ≡ checkText limits text
@@ -92,7 +119,6 @@ module _ (text table starts lengths : List ℕ) (enough : Enough (length table) 
   read-rows t n e q g =
       let k = read-as (checkText limits text) t n e q (sym g ∙ h .answer ∙ ap textRead into) in
       let s = k .source in
-      let c = text-checked limits apart text s (k .whole) in
       let after : (front : Source → List ℕ) (old new : List ℕ)
       → new ≡ afterwards (readInto limits (length table) (length starts) (length lengths) text) front old → new ≡ over (front s) old
       = λ front old new w. w ∙ ap (λ (o : Answer Source). afterwards o front old) (into ∙ k .whole) in
@@ -101,22 +127,4 @@ module _ (text table starts lengths : List ℕ) (enough : Enough (length table) 
       let b = front-of (nameStarts s) starts starts′ (t + n) (length-name-starts s ∙ many) (after nameStarts starts starts′ (h .starts-after)) in
       let d = front-of (nameLengths (symbolNames s)) lengths lengths′ (t + n) (length-lengths (symbolNames s) ∙ many)
       (after (λ s. nameLengths (symbolNames s)) lengths lengths′ (h .lengths-after)) in
-      record {
-        source = s;
-        checked = k .whole;
-        well = c .well;
-        terminals = k .terminals;
-        nonterminals = k .nonterminals;
-        states = k .states;
-        rules = omega (arith, entries-states (s .rules), k .entries, k .states);
-        table-fits = a .0;
-        starts-fits = b .0;
-        lengths-fits = d .0;
-        passes = ap (checkTable limits t n) (a .1)
-            ∙ ap₂ (λ (t n : ℕ). checkTable limits t n (encode (s .rules))) (sym (k .terminals)) (sym (k .nonterminals)) ∙ c .table
-            ∙ ap₂ (λ (t n : ℕ). done (grammarOf t n (s .rules))) (k .terminals) (k .nonterminals);
-        spells = ap₂ (spelled text) (b .1) (d .1) ∙ read-spelled limits apart text s (c .read);
-        inside = subst (λ (z : List ℕ). Inside text z (take (t + n) lengths′)) (sym (b .1))
-            (subst (Inside text (nameStarts s)) (sym (d .1)) (read-inside limits apart text s (c .read)));
-        as-many = many;
-      }
+      rows-read text t n e q k table′ starts′ lengths′ a b d

@@ -1,5 +1,5 @@
--- Small closed cases of the definitions at document 01's limits, and at small ones where a number is large: texts with their
--- sources, each refusal of the reader and the writer with its position, the order of the refusals, and lengths told beforehand.
+-- Small closed cases of the definitions at the byte limits, at small ones where a number is large and, last, at the limits in force:
+-- texts with their sources, each refusal of the reader and the writer with its position, the order of the refusals, and lengths told beforehand.
 -- An edit of a definition in specs/ fails here.
 -- Assumes nothing.
 use mathlib.Core.Path.{_≡_, refl}
@@ -8,11 +8,15 @@ use mathlib.Core.List.{List, [], _∷_, map}
 use mathlib.Core.Option.{none, some}
 use Prim.Native.Nat.{ℕ}
 use Prim.Native.Char.{code}
-use lib.ListN.{replicate}
+use lib.ListN.{length, replicate}
+use lib.Dec.{leb}
+use borrow.Author.Tests.{le-leb, lt-leb}
+use native.Mathlib.Omega.{arith}
 use Prim.Native.String.{String, [] as empty, _∷_ as _then_}
-use Rattle.grammar.specs.Limits.{Limits, limits}
+use Rattle.grammar.specs.Limits.{Limits, byteLimits, limits}
 use Rattle.grammar.specs.Grammar.{Rule, stateCount}
 use Rattle.grammar.specs.Table.{encode}
+use Rattle.grammar.proofs.Answers.{unless-holds, unless-fails}
 use Rattle.grammar.specs.Refusal.{Answer, done, refused, refuseUnless, andThen}
 use Rattle.grammar.specs.TableCheck.{sameCodes, isAmong, declaredFront, readRule, nextRule, checkFrom, storedTable, checkTable}
 use Rattle.grammar.specs.Live.{has, hasAll, concluded, waiting, rounds, nonterminalsOf, productive, hasSentence}
@@ -67,7 +71,7 @@ read : String → Answer Source
 unfolding bytes readText readLines wholeLine ruleLines ruleLine ruleOf codeOf isKnown numberOf place sidesOf bodyOf
     declaration namesOf refuseNone valueOf key keyTable keyLengths hasDouble sameName folded isName any all isNameByte
     splitOn refuseUnless andThen
-read text = readText limits (bytes text)
+read text = readText byteLimits (bytes text)
 
 readSmall : String → Answer Source
 unfolding read
@@ -79,21 +83,21 @@ check L text = checkText L (bytes text)
 
 into : ℕ → ℕ → ℕ → String → Answer Source
 unfolding check readInto encode
-into entries starts lengths text = readInto limits entries starts lengths (bytes text)
+into entries starts lengths text = readInto byteLimits entries starts lengths (bytes text)
 
 print : Source → List ℕ
 unfolding bytes printed printRule nameOf symbolOf printLine endedBy join ledBy key keyTable keyLengths
-print s = printed limits s
+print s = printed byteLimits s
 
 toldLength : ℕ → ℕ → List ℕ → String → List ℕ → List ℕ → TextLength
 unfolding print textFrom gather nameAt firstDouble refuseNone isName isNameByte all any sameName folded refuseUnless
     andThen checkTable storedTable checkFrom nextRule readRule declaredFront isAmong sameCodes stateCount encode
     has hasAll concluded waiting rounds nonterminalsOf productive hasSentence
-toldLength t n table lent starts lengths = textLength (textFrom limits t n table (bytes lent) starts lengths)
+toldLength t n table lent starts lengths = textLength (textFrom byteLimits t n table (bytes lent) starts lengths)
 
 write : ℕ → ℕ → List ℕ → String → List ℕ → List ℕ → ℕ → Answer (List ℕ)
 unfolding toldLength writeInto
-write t n table lent starts lengths room = writeInto limits t n table (bytes lent) starts lengths room
+write t n table lent starts lengths room = writeInto byteLimits t n table (bytes lent) starts lengths room
 
 -- ---- names
 
@@ -252,17 +256,17 @@ rules-order : (check small "terminals=a\nnonterminals=S\nrule=S:\nrule=S:\n" ≡
     × (check roomy "terminals=a\nnonterminals=S\nrule=S: a\nrule=S: a\n" ≡ refused 6 3)
     × (check roomy "terminals=a\nnonterminals=S\nrule=S:\nrule=S: a\n" ≡ refused 8 2)
     × (check roomy "terminals=a\nnonterminals=S\nrule=S: a\n" ≡ done (source ("a" ∷ []) ("S" ∷ []) (rule 10 (1 ∷ []) ∷ [])))
-    × (check limits "terminals=a\nnonterminals=S\nrule=S: a\nrule=S:\nrule=S: a\n" ≡ refused 6 5)
-    × (check limits "terminals=a\nnonterminals=S\nrule=S: a\nrule=S: a\nrule=S: b\n" ≡ refused 17 5)
+    × (check byteLimits "terminals=a\nnonterminals=S\nrule=S: a\nrule=S:\nrule=S: a\n" ≡ refused 6 5)
+    × (check byteLimits "terminals=a\nnonterminals=S\nrule=S: a\nrule=S: a\nrule=S: b\n" ≡ refused 17 5)
 unfolding check
 rules-order = (refl, refl, refl, refl, refl, refl)
 
 -- 19 at 0 where S has no finite tree, after 8 and before 14; one whose only sentence is empty passes
-cause-19 : (check limits "terminals=a\nnonterminals=S\n" ≡ refused 19 0)
-    × (check limits "terminals=a\nnonterminals=S,A\nrule=S: a A\nrule=A: S\n" ≡ refused 19 0)
+cause-19 : (check byteLimits "terminals=a\nnonterminals=S\n" ≡ refused 19 0)
+    × (check byteLimits "terminals=a\nnonterminals=S,A\nrule=S: a A\nrule=A: S\n" ≡ refused 19 0)
     × (check roomy "terminals=a\nnonterminals=S\nrule=S: S\nrule=S: S\n" ≡ refused 6 3)
     × (into 0 0 0 "terminals=a\nnonterminals=S\nrule=S: S\n" ≡ refused 19 0)
-    × (check limits "terminals=\nnonterminals=S\nrule=S:\n" ≡ done (source [] ("S" ∷ []) (rule 128 [] ∷ [])))
+    × (check byteLimits "terminals=\nnonterminals=S\nrule=S:\n" ≡ done (source [] ("S" ∷ []) (rule 128 [] ∷ [])))
 unfolding check into
 cause-19 = (refl, refl, refl, refl, refl)
 
@@ -335,3 +339,23 @@ told-refusals : (toldLength 1 0 [] "" [] [] ≡ Refused 1 0)
     × (toldLength 1 1 (128 ∷ 0 ∷ []) "a" (0 ∷ 0 ∷ []) (1 ∷ 1 ∷ []) ≡ Refused 18 1)
 unfolding toldLength
 told-refusals = (refl, refl, refl, refl, refl, refl)
+
+-- ---- the limits in force
+
+-- the first and the last names of 2,000 terminals and of 2,000 nonterminals have these codes, and these codes those names
+wide-codes : (map (codeOf limits 2000) (0 ∷ 1999 ∷ 2000 ∷ 3999 ∷ []) ≡ 1 ∷ 2000 ∷ 32768 ∷ 34767 ∷ [])
+    × (map (symbolOf limits 2000) (1 ∷ 2000 ∷ 32768 ∷ 34767 ∷ []) ≡ 0 ∷ 1999 ∷ 2000 ∷ 3999 ∷ [])
+unfolding codeOf symbolOf
+wide-codes = (refl, refl)
+
+-- 16 at line 0 for a text of 262,145 bytes; one of 262,144 bytes is read by its lines
+wide-texts : (text : List ℕ)
+    → (length text ≡ 262145 → readText limits text ≡ refused 16 0)
+    × (length text ≡ 262144 → readText limits text ≡ readLines limits (splitOn 10 text))
+unfolding readText
+wide-texts text =
+    let m = limits .maxText in
+    let test = leb (length text) m in (
+      λ e. unless-fails 16 0 test (readLines limits (splitOn 10 text)) (lt-leb (length text) m (omega (arith, e))),
+      λ e. unless-holds 16 0 test (readLines limits (splitOn 10 text)) (le-leb (length text) m (omega (arith, e))),
+    )

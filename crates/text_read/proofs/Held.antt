@@ -1,13 +1,13 @@
 -- The names of a value put into the rows and the tree after those before it, and both declaring lines' names in them.
 -- Assumes nothing.
-use Prim.Native.Nat.{ℕ, zero, suc, _+_, _*_, _≤_}
+use Prim.Native.Nat.{ℕ, _+_, _≤_, _<_}
 use mathlib.Core.Path.{_≡_, refl, ap, ap₂, sym, subst, _∙_}
 use mathlib.Core.List.{List, [], _++_}
 use mathlib.Core.Bool.{Bool, true, false, not}
 use native.Mathlib.Omega.{arith}
 use borrow.Author.Tests.{eqb-true, eqb-false}
 use lib.Dec.{eqb}
-use lib.ListN.{length, take, getD, replicate, length-append}
+use lib.ListN.{length, take, getD, length-append}
 use lib.Seq.{length-take-le, take-take, take-append-le}
 use Rattle.grammar.specs.Limits.{limits}
 use Rattle.grammar.proofs.Answers.{no-bool}
@@ -21,8 +21,9 @@ use Rattle.text.proofs.Spans.{length-spelled, length-starts, length-lengths, sp
 use Rattle.names.specs.Found.{part}
 use Rattle.lexicon.specs.Tree.{Spans, Lexicon, Planted}
 use Rattle.lexicon.proofs.Growth.{planted-front}
-use Rattle.text_read.specs.Values.{NamesReady, NamesHeld}
-use Rattle.text_read.specs.Texts.{allNames, FirstHead, FirstHeld, HeadsAt, HeadsRead}
+use Rattle.text_read.specs.Values.{allNames, NameRows, NamesReady, NamesHeld, HeadReady}
+use Rattle.text_read.specs.Texts.{FirstHead, FirstHeld, HeadsAt, HeadsRead}
+use Rattle.text_read.proofs.Rooms.{smaller-in, part-names}
 use Rattle.text_read.proofs.Places.{value-stands}
 
 -- no name stands twice exactly where the first that does is past the last
@@ -35,17 +36,20 @@ new-told names g m e l = go (eqb g m) refl (hasDouble names) refl
     go false q true h = refl
     go false q false h = absurd (eqb-false g m q (e ∙ first-double names .1 h ∙ sym l))
 
--- room for some names is room for fewer
-pub fewer : {text : List ℕ} {from hi count : ℕ} {starts lengths links : List ℕ} → NamesReady text from hi starts lengths links → count ≤ hi
-    → NamesReady text from count starts lengths links
-fewer h l = record {
-  tree = h .tree;
-  few = omega (arith, h .few);
-  starts-room = omega (arith, h .starts-room);
-  lengths-room = omega (arith, h .lengths-room);
-  links-room = omega (arith, h .links-room);
-  short = h .short;
-}
+-- there is room for the names of a line's value, which starts after the line does
+pub value-room : (k lo hi : ℕ) (earlier text : List ℕ) (a e from : ℕ) (starts lengths links : List ℕ) → HeadReady k lo hi earlier text a e from starts lengths links
+    → (b count : ℕ) → a < b → b ≤ e → count ≡ length (namesOf (part b e text)) → count ≤ hi → NamesReady text from count starts lengths links
+value-room k lo hi earlier text a e from starts lengths links h b count after inside counts most =
+    let x = part-names text b e inside (h .high) in
+    let m = smaller-in (length text) allNames (from + count) (omega (arith, x, counts, h .high, h .behind)) (omega (arith, h .few)) in
+    record {
+      tree = h .tree;
+      few = omega (arith, h .few);
+      starts-room = omega (arith, m, h .rows .enough);
+      lengths-room = omega (arith, m, h .rows .enough, h .rows .lent .paired);
+      links-room = omega (arith, m, h .rows .enough, h .rows .lent .room);
+      short = h .short;
+    }
 
 -- ---- a value, from b to f of the text
 
@@ -121,12 +125,6 @@ module _ (text : List ℕ) (b f count from : ℕ) (starts lengths links starts�
 
 -- ---- both lines
 
--- a row of zeros has no link
-pub no-links : (n i : ℕ) → _≡_ {A = ℕ} (getD (replicate n 0) i 0) 0
-no-links zero i = refl
-no-links (suc n) zero = refl
-no-links (suc n) (suc i) = no-links n i
-
 -- an empty tree
 lexicon-none : (text links : List ℕ) → ((i : ℕ) → getD links i 0 ≡ 0) → Lexicon text [] [] links
 lexicon-none text links none = record {
@@ -138,48 +136,48 @@ lexicon-none text links none = record {
   apart = λ i j h l. absurd (omega arith);
 }
 
-pub ready-first : (text starts lengths links : List ℕ) → length text ≤ limits .maxText → length starts ≡ allNames → length lengths ≡ allNames
-    → length links ≡ 2 * allNames → ((i : ℕ) → getD links i 0 ≡ 0) → NamesReady text 0 (limits .maxTerminals) starts lengths links
-ready-first text starts lengths links short p q z none = record {
-  tree = lexicon-none text links none;
+pub ready-first : (text starts lengths links : List ℕ) (e : ℕ) → e ≤ length text → length text ≤ limits .maxText → NameRows (length text) starts lengths links
+    → ((i : ℕ) → getD links i 0 ≡ 0) → HeadReady 0 0 (limits .maxTerminals) [] text 0 e 0 starts lengths links
+unfolding spelled namesOf
+ready-first text starts lengths links e high short rows none = record {
+  known = omega arith;
+  least = omega arith;
+  low = omega arith;
+  high = high;
+  behind = omega arith;
   few = omega arith;
-  starts-room = omega arith;
-  lengths-room = omega arith;
-  links-room = omega arith;
+  tree = lexicon-none text links none;
+  spelt = refl;
+  rows = rows;
   short = short;
 }
 
-pub spelt-first : (text starts lengths : List ℕ) → spelled text (take 0 starts) (take 0 lengths) ≡ namesOf []
-unfolding spelled namesOf
-spelt-first text starts lengths = refl
-
 pub first-held : (text : List ℕ) (a e t : ℕ) (starts lengths starts′ lengths′ links′ : List ℕ)
-    → NamesHeld text a e 0 starts lengths starts′ lengths′ links′ t → length starts′ ≡ allNames → length lengths′ ≡ allNames → length links′ ≡ 2 * allNames
-    → FirstHeld text a e t starts′ lengths′ links′
-first-held text a e t starts lengths starts′ lengths′ links′ h p q z =
+    → NamesHeld text a e 0 starts lengths starts′ lengths′ links′ t → NameRows (length text) starts′ lengths′ links′ → FirstHeld text a e t starts′ lengths′ links′
+first-held text a e t starts lengths starts′ lengths′ links′ h rows =
     let k : 0 + t ≡ t = omega arith in
     record {
       starts-front = ap (λ m. take m starts′) (sym k) ∙ h .starts-front;
       lengths-front = ap (λ m. take m lengths′) (sym k) ∙ h .lengths-front;
       tree = subst (λ (m : ℕ). Lexicon text (take m starts′) (take m lengths′) links′) k (h .tree);
-      starts-size = p;
-      lengths-size = q;
-      links-size = z;
+      rows = rows;
     }
 
 module _ (text : List ℕ) (a e t : ℕ) (starts lengths links : List ℕ) (h : FirstHead text a e t) (held : FirstHeld text a e t starts lengths links) where
-  pub ready-second : NamesReady text t (limits .maxNonterminals) starts lengths links
-  ready-second = record {
-    tree = held .tree;
+  pub ready-second : (f : ℕ) → e + 1 ≤ f → f ≤ length text
+      → HeadReady 1 1 (limits .maxNonterminals) (part a e text) text (e + 1) f t starts lengths links
+  ready-second f low high = record {
+    known = omega arith;
+    least = omega arith;
+    low = low;
+    high = high;
+    behind = omega (arith, h .counts, h .starts, part-names text a e (h .inside) (omega (arith, h .ends)));
     few = omega (arith, h .most);
-    starts-room = omega (arith, h .most, held .starts-size);
-    lengths-room = omega (arith, h .most, held .lengths-size);
-    links-room = omega (arith, h .most, held .links-size);
+    tree = held .tree;
+    spelt = ap₂ (spelled text) (held .starts-front) (held .lengths-front) ∙ spans-spell text a (namesOf (part a e text)) _ (value-stands text a e);
+    rows = held .rows;
     short = h .short;
   }
-
-  pub spelt-second : spelled text (take t starts) (take t lengths) ≡ namesOf (part a e text)
-  spelt-second = ap₂ (spelled text) (held .starts-front) (held .lengths-front) ∙ spans-spell text a (namesOf (part a e text)) _ (value-stands text a e)
 
   pub heads-read : (b f n : ℕ) (starts′ lengths′ links′ : List ℕ) → HeadsAt text a e b f t n → NamesHeld text b f t starts lengths starts′ lengths′ links′ n
       → HeadsRead text starts′ lengths′ links′ f t n

@@ -5,6 +5,7 @@ pub mod Lookups
 pub mod Shapes
 pub mod Codes
 pub mod RuleLines
+pub mod Rooms
 pub mod Places
 pub mod Held
 pub mod Whole

@@ -25,7 +25,7 @@ use Rattle.names.specs.Found.{part}
 use Rattle.text_read.specs.declared.Kept.{Kept}
 use Rattle.text_read.specs.declared.Kept.the-variants.{Entries, Fault}
 use Rattle.text_read.specs.Values.{HasValue}
-use Rattle.text_read.specs.Lines.{shaped, knownRule, ruleValue, ShapeAt, codesOf, kept, RuleKept, KeptTold, RulesKept, keptRules}
+use Rattle.text_read.specs.Lines.{shaped, knownRule, ruleValue, ShapeAt, codesOf, kept, LineReady, RuleKept, KeptTold, RulesKept, keptRules}
 use Rattle.text_read.proofs.Values.{tail-part}
 
 -- ---- one rule of known shape
@@ -90,9 +90,9 @@ kept-none k r h = rw (le-ltb k keptRules h)
 
 -- a rule that is not kept
 pub rule-passed : (o : Answer Rule) (r : Rule) (k end : ℕ) (row row′ : List ℕ) → o ≡ done r → keptRules ≤ k → take end row′ ≡ take end row → end ≤ length row′
-    → RuleKept o k end row row′ end
+    → (bytes : ℕ) → RuleKept o k end bytes row row′ end
 unfolding encode
-rule-passed o r k end row row′ e h f l =
+rule-passed o r k end row row′ e h f l bytes =
     let q : encode (kept k r) ≡ [] = ap encode (kept-none k r h) in
     record {
       rule = r;
@@ -100,6 +100,7 @@ rule-passed o r k end row row′ e h f l =
       used = rw (q, add-zero);
       front = rw (q, append-nil) f;
       most = omega arith;
+      behind = omega arith;
       inside = l;
     }
 
@@ -108,8 +109,8 @@ pub rule-kept : (o : Answer Rule) (t : ℕ) (names : List (List ℕ)) (s : Sides
     → splitOn 32 body ≡ [] ∷ s .body → o ≡ done (ruleOf limits t names s) → left ≡ place (sameName (s .head)) names → count ≡ length (s .body) → count ≤ 12 → k < keptRules
     → end + 2 + count ≤ length row′
     → take (end + 2 + count) row′ ≡ take end row ++ (codeOf limits t left ∷ count ∷ codesOf t names (drop 1 (splitOn 32 body)))
-    → RuleKept o k end row row′ (end + 2 + count)
-rule-kept o t names s left count k end body row row′ b e l n m h room f =
+    → (bytes : ℕ) → count + 2 ≤ bytes → RuleKept o k end bytes row row′ (end + 2 + count)
+rule-kept o t names s left count k end body row row′ b e l n m h room f bytes z =
     let r = ruleOf limits t names s in
     let q : encode (kept k r) ≡ encode (r ∷ []) = ap encode (kept-some k r h) in
     record {
@@ -119,6 +120,7 @@ rule-kept o t names s left count k end body row row′ b e l n m h room f =
       front = f ∙ ap (λ ps. take end row ++ (codeOf limits t left ∷ count ∷ codesOf t names (drop 1 ps))) b
           ∙ ap (λ xs. take end row ++ xs) (sym (q ∙ rule-entries t names s left count l n));
       most = omega arith;
+      behind = omega arith;
       inside = room;
     }
 
@@ -138,13 +140,39 @@ module _ (at t : ℕ) (names : List (List ℕ)) where
   unfolding ruleValue
   value-shapeless v h = h at (knownRule at t names)
 
--- what the answer of a rule's line tells
-pub told-kept : (o : Answer Rule) (k end : ℕ) (row row′ : List ℕ) (r : Kept) (next : ℕ) → r ≡ Entries next → KeptTold o k end row row′ r
-    → RuleKept o k end row row′ next
-told-kept o k end row row′ r next e t = subst (λ (r : Kept). KeptTold o k end row row′ r) e t
+-- what holds before a line holds before a part of it
+pub line-rest : {text starts lengths links : List ℕ} {t : ℕ} {row : List ℕ} {k end bytes less : ℕ} → LineReady text starts lengths links t row k end bytes → less ≤ bytes
+    → LineReady text starts lengths links t row k end less
+line-rest h l = record {
+  lexicon = h .lexicon;
+  few = h .few;
+  most = h .most;
+  enough = h .enough;
+  near = h .near;
+  fits = omega (arith, h .fits);
+  inside = h .inside;
+}
 
-pub told-fault : (o : Answer Rule) (k end : ℕ) (row row′ : List ℕ) (r : Kept) (c p : ℕ) → r ≡ Fault c p → KeptTold o k end row row′ r → o ≡ refused c p
-told-fault o k end row row′ r c p e t = subst (λ (r : Kept). KeptTold o k end row row′ r) e t
+-- what the answer of a rule's line tells
+module _ (o : Answer Rule) (k end bytes : ℕ) (row row′ : List ℕ) where
+  pub told-kept : (r : Kept) (next : ℕ) → r ≡ Entries next → KeptTold o k end bytes row row′ r → RuleKept o k end bytes row row′ next
+  told-kept r next e t = subst (λ (r : Kept). KeptTold o k end bytes row row′ r) e t
+
+  pub told-fault : (r : Kept) (c p : ℕ) → r ≡ Fault c p → KeptTold o k end bytes row row′ r → o ≡ refused c p
+  told-fault r c p e t = subst (λ (r : Kept). KeptTold o k end bytes row row′ r) e t
+
+  -- told of a part of a line, it is told of the line
+  pub told-wider : (r : Kept) (more : ℕ) → bytes ≤ more → KeptTold o k end bytes row row′ r → KeptTold o k end more row row′ r
+  told-wider (Fault c p) more l t = t
+  told-wider (Entries next) more l t = record {
+    rule = t .rule;
+    read = t .read;
+    used = t .used;
+    front = t .front;
+    most = t .most;
+    behind = omega (arith, t .behind);
+    inside = t .inside;
+  }
 
 -- ---- all lines
 
@@ -189,6 +217,7 @@ pub record Passed (o : Answer (List Rule)) (text : List ℕ) (t : ℕ) (names : 
   pub used : end ≡ length (encode (take keptRules rules))
   pub front : take end row ≡ encode (take keptRules rules)
   pub near : end ≤ 14 * k
+  pub behind : end ≤ a
   pub inside : end ≤ length row
 
 module _ (o : Answer (List Rule)) (text : List ℕ) (t : ℕ) (names : List (List ℕ)) where
@@ -202,6 +231,7 @@ module _ (o : Answer (List Rule)) (text : List ℕ) (t : ℕ) (names : List (Lis
     used = refl;
     front = refl;
     near = omega arith;
+    behind = omega arith;
     inside = omega arith;
   }
 
@@ -243,9 +273,9 @@ module _ (o : Answer (List Rule)) (text : List ℕ) (t : ℕ) (names : List (Lis
           lines-on (p ∷ qs) q ∙ ap (after (h .rules)) (lines-first ∙ then-stops _ _ c i z)
 
       -- a line with a rule
-      pub passed-more : (row′ : List ℕ) (next : ℕ) → RuleKept (ruleLine limits (k + 3) t names p) k end row row′ next
-          → splitOn 10 (drop (e + 1) text) ≡ qs → Passed o text t names (e + 1) (k + 1) next row′
-      passed-more row′ next r w =
+      pub passed-more : (row′ : List ℕ) (next : ℕ) → RuleKept (ruleLine limits (k + 3) t names p) k end (length p) row row′ next
+          → splitOn 10 (drop (e + 1) text) ≡ qs → a + length p ≤ e + 1 → Passed o text t names (e + 1) (k + 1) next row′
+      passed-more row′ next r w l =
           let rule = r .rule in
           let z : suc (k + 3) ≡ k + 1 + 3 = omega arith in
           let m : take keptRules (h .rules ++ (rule ∷ [])) ≡ take keptRules (h .rules) ++ kept k rule
@@ -262,5 +292,6 @@ module _ (o : Answer (List Rule)) (text : List ℕ) (t : ℕ) (names : List (Lis
                 ∙ sym (ap length x ∙ length-append (encode (take keptRules (h .rules))) (encode (kept k rule)));
             front = r .front ∙ ap (λ w. w ++ encode (kept k rule)) (h .front) ∙ sym x;
             near = omega (arith, r .most, h .near);
+            behind = omega (arith, r .behind, h .behind);
             inside = r .inside;
           }

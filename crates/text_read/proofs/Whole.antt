@@ -24,7 +24,7 @@ use Rattle.text.specs.Pieces.{splitOn, join, endedBy}
 use Rattle.text.specs.Keys.{key}
 use Rattle.text.specs.Read.{Source, symbolNames, grammarOf, namesOf, ruleLines, readLines, readText}
 use Rattle.text.specs.Rules.{admit, lastTests, checkText}
-use Rattle.text.specs.Print.{printLine, printRule, printed, firstDouble}
+use Rattle.text.specs.Print.{printLine, printRule, printed}
 use Rattle.text.specs.Promise.{startsFrom, nameStarts, nameLengths, textRead}
 use Rattle.text.specs.declared.TextRead.{TextRead}
 use Rattle.text.specs.declared.TextRead.the-variants.{Read, Refused}
@@ -35,14 +35,17 @@ use Rattle.text.proofs.RoundTrip.{apart}
 use Rattle.text.specs.Spelled.{spelled}
 use Rattle.text.proofs.Spans.{lengths-append}
 use Rattle.names.specs.Found.{part}
-use Rattle.lexicon.specs.Tree.{Spans, Lexicon}
 use Rattle.text_read.specs.declared.Kept.{Kept}
 use Rattle.text_read.specs.declared.Kept.the-variants.{Entries, Fault}
 use Rattle.text_read.specs.declared.Heads.{Heads}
 use Rattle.text_read.specs.declared.Heads.the-variants as H
 use Rattle.text_read.specs.Lines.{RulesReady, RulesKept, RulesTold, keptRules, keptEntries}
-use Rattle.text_read.specs.Texts.{HeadsAt, HeadsRead, HeadsTold, tableRead, Ready, TableTold, ChecksText, allNames}
-use Rattle.text_read.proofs.Places.{heads-spelled, heads-spans}
+use Rattle.text_read.specs.Values.{allNames, smaller}
+use Rattle.text_read.specs.declared.TextKept.{TextKept}
+use Rattle.text_read.specs.declared.TextKept.the-variants as K
+use Rattle.text_read.specs.Texts.{HeadsAt, HeadsRead, HeadsTold, tableRead, Ready, TextRules, LinesTold, NamesTold, KeptWithin, keptRead, ChecksText}
+use Rattle.text_read.proofs.Rooms.{smaller-in, heads-most}
+use Rattle.text_read.proofs.Places.{heads-spelled}
 
 -- ---- the first rules
 
@@ -152,21 +155,22 @@ module _ (text : List ℕ) (s : Source) (read : readText limits text ≡ done s)
 
   module _ (t n end : ℕ) (row : List ℕ) (r : TextRead) (p : t ≡ length (s .terminals)) (q : n ≡ length (s .nonterminals))
       (used : end ≡ length (encode (take keptRules (s .rules)))) (front : take end row ≡ encode (take keptRules (s .rules)))
-      (told : r ≡ tableRead t n end (checkTable limits t n (take end row))) where
+      (told : r ≡ tableRead t n end (checkTable limits t n (take end row))) (starts lengths : List ℕ) (names : NamesTold text starts lengths) where
     table-is : checkTable limits t n (take end row) ≡ lastTests limits s
     table-is =
         (λ d. checkTable limits (p d) (q d) (front d))
         ∙ table-tests limits (firstRules keptRules s) (first-well keptRules s (read-well limits apart text s read)) ∙ first-tests s
 
-    pub last-told : TableTold text r row
+    last-told : ChecksText text r row starts lengths
     last-told = go (lastTests limits s) refl
       where
-        go : (o : Answer Grammar) → lastTests limits s ≡ o → TableTold text r row
+        go : (o : Answer Grammar) → lastTests limits s ≡ o → ChecksText text r row starts lengths
         go (refused c i) e =
             let x : checkText limits text ≡ refused c i = check-on ∙ then-stops _ _ c i e in
             record {
               answer = told ∙ ap (tableRead t n end) (table-is ∙ e) ∙ sym (ap textRead x);
               table = λ z w. no-answer (sym x ∙ w);
+              names = names;
             }
         go (done G) e =
             let same : G ≡ grammarOf s = passed-said limits s G e in
@@ -178,22 +182,14 @@ module _ (text : List ℕ) (s : Source) (read : readText limits text ≡ done s)
                   ∙ (λ d. Read (p d) (q d) (size d) (stateCount (same d .rules))) ∙ sym (ap textRead x);
               table = λ z w. subst (λ (z : Source). take (length (encode (z .rules))) row ≡ encode (z .rules)) (done-inj (sym x ∙ w))
                   (ap (λ m. take m row) (sym size) ∙ front ∙ ap encode all);
+              names = names;
             }
 
 -- ---- refusals before the last tests
 
--- a refusal, as the rows' contract has it
-pub refused-told : (text : List ℕ) (c i : ℕ) (row : List ℕ) → checkText limits text ≡ refused c i → TableTold text (Refused c i) row
-refused-told text c i row e = record { answer = sym (ap textRead e); table = λ s w. no-answer (sym e ∙ w) }
-
-pub refused-checks : (text : List ℕ) (c i : ℕ) (row starts lengths : List ℕ) → checkText limits text ≡ refused c i
-    → ChecksText text (Refused c i) row starts lengths
-refused-checks text c i row starts lengths e = record {
-  answer = sym (ap textRead e);
-  table = λ s w. no-answer (sym e ∙ w);
-  starts-front = λ s w. no-answer (sym e ∙ w);
-  lengths-front = λ s w. no-answer (sym e ∙ w);
-}
+-- the rows of a text that does not pass need not have names
+pub refused-names : (text : List ℕ) (c i : ℕ) (starts lengths : List ℕ) → checkText limits text ≡ refused c i → NamesTold text starts lengths
+refused-names text c i starts lengths e = record { starts-front = λ s w. no-answer (sym e ∙ w); lengths-front = λ s w. no-answer (sym e ∙ w) }
 
 pub text-long : (text : List ℕ) → (limits .maxText) < length text → checkText limits text ≡ refused 16 0
 unfolding checkText readText
@@ -296,7 +292,7 @@ module _ (text : List ℕ) (from t n : ℕ) (starts lengths links row : List ℕ
     lexicon = p .lexicon;
     few = p .heads .terminals-most;
     most = omega (arith, length-take-le (t + n) starts (p .starts-room), p .heads .nonterminals-most);
-    size = p .size;
+    enough = p .enough;
     short = p .short;
   }
 
@@ -309,20 +305,25 @@ module _ (text : List ℕ) (from t n : ℕ) (starts lengths links row : List ℕ
       let z = p .begins in
       λ d. ruleLines limits 3 (x d) (y d) (splitOn 10 (drop (z d) text))
 
-  pub ready-refused : (c i : ℕ) (row′ : List ℕ)
+  pub ready-refused : (c i : ℕ)
       → ruleLines limits 3 t (spelled text (take (t + n) starts) (take (t + n) lengths)) (splitOn 10 (drop from text)) ≡ refused c i
-      → TableTold text (Refused c i) row′
-  ready-refused c i row′ q =
-      refused-told text c i row′
-      (rules-refused text (p .short) (p .a) (p .e) (p .b) (p .f) t n (p .heads) c i (sym ready-lines ∙ q))
+      → checkText limits text ≡ refused c i
+  ready-refused c i q = rules-refused text (p .short) (p .a) (p .e) (p .b) (p .f) t n (p .heads) c i (sym ready-lines ∙ q)
 
-  pub ready-told : (row′ : List ℕ) (end : ℕ) (r : TextRead)
+  pub ready-told : (row′ : List ℕ) (end : ℕ)
       → RulesKept (ruleLines limits 3 t (spelled text (take (t + n) starts) (take (t + n) lengths)) (splitOn 10 (drop from text))) row′ end
-      → r ≡ tableRead t n end (checkTable limits t n (take end row′)) → TableTold text r row′
-  ready-told row′ end r k q =
+      → TextRules text t n end row′
+  ready-told row′ end k =
       let h = p .heads in
-      last-told text _ (rules-read text (p .short) (p .a) (p .e) (p .b) (p .f) t n h (k .rules) (sym ready-lines ∙ k .read)) t n end row′ r
-      (h .terminals) (h .nonterminals) (k .used) (k .front) q
+      record {
+        source = _;
+        read = rules-read text (p .short) (p .a) (p .e) (p .b) (p .f) t n h (k .rules) (sym ready-lines ∙ k .read);
+        terminals = h .terminals;
+        nonterminals = h .nonterminals;
+        used = k .used;
+        front = k .front;
+        inside = k .inside;
+      }
 
 -- what the answer of all rule lines tells
 pub told-rules : (o : Answer (List Rule)) (row : List ℕ) (r : Kept) (end : ℕ) → r ≡ Entries end → RulesTold o row r → RulesKept o row end
@@ -342,7 +343,11 @@ told-headless text starts lengths links r c i q h = subst (λ (r : Heads). Heads
 
 -- the rows that the names' places were put into
 module _ (text starts lengths links : List ℕ) (f t n : ℕ) (short : length text ≤ limits .maxText) (h : HeadsRead text starts lengths links f t n) where
-  pub ready : (row : List ℕ) → allNames ≤ length starts → allNames ≤ length lengths → length row ≡ keptEntries → Ready text (f + 1) t n starts lengths links row
+  most : t + n ≤ smaller (length text) allNames
+  most = smaller-in (length text) allNames (t + n) (heads-most text (h .a) (h .e) (h .b) f t n (h .heads)) (omega (arith, h .heads .terminals-most, h .heads .nonterminals-most))
+
+  pub ready : (row : List ℕ) → smaller (length text) allNames ≤ length starts → smaller (length text) allNames ≤ length lengths
+      → smaller (length text) keptEntries ≤ length row → Ready text (f + 1) t n starts lengths links row
   ready row p q z = record {
     a = h .a;
     e = h .e;
@@ -353,18 +358,28 @@ module _ (text starts lengths links : List ℕ) (f t n : ℕ) (short : length te
     short = short;
     starts-front = h .starts-front;
     lengths-front = h .lengths-front;
-    starts-room = omega (arith, h .heads .terminals-most, h .heads .nonterminals-most);
-    lengths-room = omega (arith, h .heads .terminals-most, h .heads .nonterminals-most);
+    starts-room = omega (arith, most);
+    lengths-room = omega (arith, most);
     lexicon = h .tree;
-    size = z;
+    enough = z;
   }
 
-  pub checks : (r : TextRead) (row : List ℕ) → TableTold text r row → ChecksText text r row starts lengths
-  checks r row told = record {
-    answer = told .answer;
-    table = told .table;
+  pub names-told : NamesTold text starts lengths
+  names-told = record {
     starts-front = λ s w. starts-told text short (h .a) (h .e) (h .b) f t n (h .heads) starts lengths s w
         (ap (λ m. take (t + m) starts) (sym (h .heads .nonterminals)) ∙ h .starts-front);
     lengths-front = λ s w. lengths-told text short (h .a) (h .e) (h .b) f t n (h .heads) starts lengths s w
         (ap (λ m. take (t + m) lengths) (sym (h .heads .nonterminals)) ∙ h .lengths-front);
   }
+
+-- ---- the answer of the lines, and of the table check
+
+pub kept-within : (text row : List ℕ) (k : TextKept) → LinesTold text row k → KeptWithin k row
+kept-within text row (K.Fault c i) h = tt
+kept-within text row (K.Rules t n end) h = h .inside
+
+pub checks : (text row starts lengths : List ℕ) (k : TextKept) (r : TextRead) → LinesTold text row k → NamesTold text starts lengths → r ≡ keptRead k row
+    → ChecksText text r row starts lengths
+checks text row starts lengths (K.Fault c i) r h names e = record { answer = e ∙ sym (ap textRead h); table = λ s w. no-answer (sym h ∙ w); names = names }
+checks text row starts lengths (K.Rules t n end) r h names e =
+    last-told text (h .source) (h .read) t n end row r (h .terminals) (h .nonterminals) (h .used) (h .front) e starts lengths names

@@ -17,6 +17,7 @@ use Rattle.text.specs.Pieces.{splitOn}
 use Rattle.text.specs.Names.{all, isName}
 use Rattle.text.specs.Read.{refuseNone, Sides, sidesOf, numberOf, isKnown, codeOf, ruleOf}
 use Rattle.lexicon.specs.Tree.{Lexicon}
+use Rattle.text_read.specs.Values.{smaller}
 use Rattle.text_read.specs.declared.Shape.{Shape}
 use Rattle.text_read.specs.declared.Shape.the-variants.{Found, Malformed}
 use Rattle.text_read.specs.declared.Kept.{Kept}
@@ -89,35 +90,37 @@ keptEntries = keptRules * (limits .maxLength + 2)
 unfoldable pub kept : ℕ → Rule → List Rule
 kept k r = choose (ltb k keptRules) (r ∷ []) []
 
--- the row for the table has `end` entries in use after k rules
-pub record LineReady (text starts lengths links : List ℕ) (t : ℕ) (row : List ℕ) (k end : ℕ) : Type 0 where
+-- the row for the table has `end` entries in use after k rules; a line of so many bytes follows
+pub record LineReady (text starts lengths links : List ℕ) (t : ℕ) (row : List ℕ) (k end bytes : ℕ) : Type 0 where
   pub lexicon : Lexicon text starts lengths links
   pub few : t ≤ limits .maxTerminals
   pub most : length starts ≤ t + limits .maxNonterminals
-  pub size : length row ≡ keptEntries
+  pub enough : smaller (length text) keptEntries ≤ length row
   pub near : end ≤ 14 * k
+  pub fits : end + bytes ≤ length text
   pub inside : end ≤ length row
 
--- the rule is read, and what is kept of it stands in the row, which has `next` entries in use
-pub record RuleKept (o : Answer Rule) (k end : ℕ) (row row′ : List ℕ) (next : ℕ) : Type 0 where
+-- the rule is read, and what is kept of it, at most an entry for each byte, stands in the row, which has `next` entries in use
+pub record RuleKept (o : Answer Rule) (k end bytes : ℕ) (row row′ : List ℕ) (next : ℕ) : Type 0 where
   pub rule : Rule
   pub read : o ≡ done rule
   pub used : next ≡ end + length (encode (kept k rule))
   pub front : take next row′ ≡ take end row ++ encode (kept k rule)
   pub most : next ≤ end + 14
+  pub behind : next ≤ end + bytes
   pub inside : next ≤ length row′
 
 -- a rule's line
-abbrev pub KeptTold : Answer Rule → ℕ → ℕ → List ℕ → List ℕ → Kept → Type 0
-KeptTold o k end row row′ (Fault cause place) = o ≡ refused cause place
-KeptTold o k end row row′ (Entries next) = RuleKept o k end row row′ next
+abbrev pub KeptTold : Answer Rule → ℕ → ℕ → ℕ → List ℕ → List ℕ → Kept → Type 0
+KeptTold o k end bytes row row′ (Fault cause place) = o ≡ refused cause place
+KeptTold o k end bytes row row′ (Entries next) = RuleKept o k end bytes row row′ next
 
 -- before the first rule line
 pub record RulesReady (text starts lengths links : List ℕ) (t : ℕ) (row : List ℕ) : Type 0 where
   pub lexicon : Lexicon text starts lengths links
   pub few : t ≤ limits .maxTerminals
   pub most : length starts ≤ t + limits .maxNonterminals
-  pub size : length row ≡ keptEntries
+  pub enough : smaller (length text) keptEntries ≤ length row
   pub short : length text ≤ limits .maxText
 
 -- the rules are read, and what is kept of them stands in the row

@@ -1,6 +1,6 @@
 -- What the reader's functions tell of a whole text.
 -- Assumes nothing.
-use Prim.Native.Nat.{ℕ, _+_, _*_, _≤_, _<_}
+use Prim.Native.Nat.{ℕ, _+_, _≤_, _<_}
 use mathlib.Core.Path.{_≡_}
 use mathlib.Core.List.{List, _++_}
 use lib.ListN.{length, take, drop}
@@ -8,22 +8,22 @@ use Rattle.grammar.specs.Limits.{limits}
 use Rattle.grammar.specs.Grammar.{Grammar, stateCount}
 use Rattle.grammar.specs.Table.{encode}
 use Rattle.grammar.specs.Refusal.{Answer, done, refused, andThen}
+use Rattle.grammar.specs.TableCheck.{checkTable}
 use Rattle.text.specs.Pieces.{splitOn}
 use Rattle.text.specs.Keys.{key}
-use Rattle.text.specs.Read.{Source, symbolNames, namesOf, declaration, ruleLines, wholeLine, readLines}
+use Rattle.text.specs.Read.{Source, symbolNames, namesOf, declaration, ruleLines, wholeLine, readLines, readText}
 use Rattle.text.specs.Rules.{checkText}
 use Rattle.text.specs.Promise.{startsFrom, nameStarts, nameLengths, textRead}
 use Rattle.text.specs.declared.TextRead.{TextRead}
 use Rattle.text.specs.declared.TextRead.the-variants.{Read, Refused}
 use Rattle.names.specs.Found.{part}
 use Rattle.lexicon.specs.Tree.{Lexicon}
-use Rattle.text_read.specs.Lines.{keptEntries}
+use Rattle.text_read.specs.Values.{allNames, smaller, NameRows}
+use Rattle.text_read.specs.Lines.{keptRules, keptEntries}
 use Rattle.text_read.specs.declared.Heads.{Heads}
-use Rattle.text_read.specs.declared.Heads.the-variants.{Names, Fault}
-
--- how many names there are at most
-abbrev pub allNames : ℕ
-allNames = limits .maxTerminals + limits .maxNonterminals
+use Rattle.text_read.specs.declared.Heads.the-variants as heads
+use Rattle.text_read.specs.declared.TextKept.{TextKept}
+use Rattle.text_read.specs.declared.TextKept.the-variants.{Rules, Fault}
 
 -- what the rule lines make of a text with these names
 abbrev pub readRest : List (List ℕ) → List (List ℕ) → List (List ℕ) → Answer Source
@@ -50,9 +50,7 @@ pub record FirstHeld (text : List ℕ) (a e t : ℕ) (starts lengths links : Lis
   pub starts-front : take t starts ≡ startsFrom a (namesOf (part a e text))
   pub lengths-front : take t lengths ≡ nameLengths (namesOf (part a e text))
   pub tree : Lexicon text (take t starts) (take t lengths) links
-  pub starts-size : length starts ≡ allNames
-  pub lengths-size : length lengths ≡ allNames
-  pub links-size : length links ≡ 2 * allNames
+  pub rows : NameRows (length text) starts lengths links
 
 -- both lines are read: their values stand from a to e and from b to f, and have t and n names
 pub record HeadsAt (text : List ℕ) (a e b f t n : ℕ) : Type 0 where
@@ -79,8 +77,8 @@ pub record HeadsRead (text starts lengths links : List ℕ) (f t n : ℕ) : Type
 
 -- the two declaring lines
 abbrev pub HeadsTold : List ℕ → List ℕ → List ℕ → List ℕ → Heads → Type 0
-HeadsTold text starts lengths links (Fault cause place) = readLines limits (splitOn 10 text) ≡ refused cause place
-HeadsTold text starts lengths links (Names f t n) = HeadsRead text starts lengths links f t n
+HeadsTold text starts lengths links (heads.Fault cause place) = readLines limits (splitOn 10 text) ≡ refused cause place
+HeadsTold text starts lengths links (heads.Names f t n) = HeadsRead text starts lengths links f t n
 
 -- the last tests' answer: that of the table check of the first `end` entries
 abbrev pub tableRead : ℕ → ℕ → ℕ → Answer Grammar → TextRead
@@ -101,17 +99,55 @@ pub record Ready (text : List ℕ) (from t n : ℕ) (starts lengths links row : 
   pub starts-room : t + n ≤ length starts
   pub lengths-room : t + n ≤ length lengths
   pub lexicon : Lexicon text (take (t + n) starts) (take (t + n) lengths) links
-  pub size : length row ≡ keptEntries
+  pub enough : smaller (length text) keptEntries ≤ length row
 
--- all tests but 14: the answer, and for a text that passes the row begins with the table
-pub record TableTold (text : List ℕ) (r : TextRead) (row : List ℕ) : Type 0 where
-  pub answer : r ≡ textRead (checkText limits text)
-  pub table : (s : Source) → checkText limits text ≡ done s → take (length (encode (s .rules))) row ≡ encode (s .rules)
+-- ---- the rows that are filled
 
--- and the other rows begin with the names' starts and lengths
-pub record ChecksText (text : List ℕ) (r : TextRead) (row starts lengths : List ℕ) : Type 0 where
-  pub answer : r ≡ textRead (checkText limits text)
-  pub table : (s : Source) → checkText limits text ≡ done s → take (length (encode (s .rules))) row ≡ encode (s .rules)
+-- a text of at most so many bytes has rows of so many entries
+abbrev pub smallText : ℕ
+smallText = 512
+
+-- rows for a text of so many bytes: as many entries as bytes, or as are kept and as there are names at most
+pub record Rows (bytes : ℕ) (row starts lengths : List ℕ) : Type 0 where
+  pub entries : smaller bytes keptEntries ≤ length row
+  pub names : smaller bytes allNames ≤ length starts
+  pub some : 0 < length starts
+  pub paired : length starts ≡ length lengths
+  pub most : length starts ≤ allNames
+
+-- the text is read, with t and n names, and its first rules stand in the row, which has `end` entries in use
+pub record TextRules (text : List ℕ) (t n end : ℕ) (row : List ℕ) : Type 0 where
+  pub source : Source
+  pub read : readText limits text ≡ done source
+  pub terminals : t ≡ length (source .terminals)
+  pub nonterminals : n ≡ length (source .nonterminals)
+  pub used : end ≡ length (encode (take keptRules (source .rules)))
+  pub front : take end row ≡ encode (take keptRules (source .rules))
+  pub inside : end ≤ length row
+
+-- the lines of a text
+abbrev pub LinesTold : List ℕ → List ℕ → TextKept → Type 0
+LinesTold text row (Fault cause place) = checkText limits text ≡ refused cause place
+LinesTold text row (Rules t n end) = TextRules text t n end row
+
+-- the rows of a text that passes begin with the names' starts and lengths
+pub record NamesTold (text starts lengths : List ℕ) : Type 0 where
   pub starts-front : (s : Source) → checkText limits text ≡ done s → take (length (symbolNames s)) starts ≡ nameStarts s
   pub lengths-front : (s : Source) → checkText limits text ≡ done s
       → take (length (symbolNames s)) lengths ≡ nameLengths (symbolNames s)
+
+-- the entries in use are in the row
+abbrev pub KeptWithin : TextKept → List ℕ → Type 0
+KeptWithin (Fault cause place) row = Unit {0}
+KeptWithin (Rules t n end) row = end ≤ length row
+
+-- the answer: a fault of the lines, or that of the table check
+abbrev pub keptRead : TextKept → List ℕ → TextRead
+keptRead (Fault cause place) row = Refused cause place
+keptRead (Rules t n end) row = tableRead t n end (checkTable limits t n (take end row))
+
+-- all tests but 14: the answer, and the rows of a text that passes begin with the table and the names' places
+pub record ChecksText (text : List ℕ) (r : TextRead) (row starts lengths : List ℕ) : Type 0 where
+  pub answer : r ≡ textRead (checkText limits text)
+  pub table : (s : Source) → checkText limits text ≡ done s → take (length (encode (s .rules))) row ≡ encode (s .rules)
+  pub names : NamesTold text starts lengths

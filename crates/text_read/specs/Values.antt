@@ -5,6 +5,7 @@ use Prim.Native.Nat.{ℕ, _+_, _*_, _≤_, _<_}
 use mathlib.Core.Path.{_≡_}
 use mathlib.Core.List.{List, [], _∷_, _++_}
 use mathlib.Core.Option.{none, some}
+use lib.Dec.{leb}
 use lib.ListN.{length, take}
 use Rattle.grammar.specs.Basics.{choose}
 use Rattle.grammar.specs.Limits.{limits}
@@ -16,12 +17,26 @@ use Rattle.text.specs.Promise.{startsFrom, nameLengths}
 use Rattle.text.specs.Spelled.{spelled}
 use Rattle.names.specs.Found.{part}
 use Rattle.lexicon.specs.Tree.{Lexicon}
+use Rattle.doubles.specs.Blocks.{BlockRows}
 use Rattle.text_read.specs.declared.Split.{Split}
 use Rattle.text_read.specs.declared.Split.the-variants.{Value, Malformed}
 use Rattle.text_read.specs.declared.Count.{Count}
 use Rattle.text_read.specs.declared.Count.the-variants.{Names as CountNames, Malformed as CountMalformed}
 use Rattle.text_read.specs.declared.Declared.{Declared}
 use Rattle.text_read.specs.declared.Declared.the-variants.{Names, Fault}
+
+-- how many names there are at most
+abbrev pub allNames : ℕ
+allNames = limits .maxTerminals + limits .maxNonterminals
+
+-- the smaller of two numbers
+unfoldable pub smaller : ℕ → ℕ → ℕ
+smaller a b = choose (leb a b) a b
+
+-- rows for the names of a text of so many bytes, as many entries as bytes or as names at most, and two links for each entry
+pub record NameRows (bytes : ℕ) (starts lengths links : List ℕ) : Type 0 where
+  pub enough : smaller bytes allNames ≤ length starts
+  pub lent : BlockRows starts lengths links
 
 -- the value of a line of key k stands from start to end
 pub record HasValue (k : ℕ) (line : List ℕ) (start end : ℕ) : Type 0 where
@@ -48,7 +63,7 @@ bodyCounted ((b ∷ p) ∷ names) = CountMalformed
 -- the rows and the tree have the text's names before number `from`, and room for so many more
 pub record NamesReady (text : List ℕ) (from more : ℕ) (starts lengths links : List ℕ) : Type 0 where
   pub tree : Lexicon text (take from starts) (take from lengths) links
-  pub few : from + more ≤ limits .maxTerminals + limits .maxNonterminals
+  pub few : from + more ≤ allNames
   pub starts-room : from + more ≤ length starts
   pub lengths-room : from + more ≤ length lengths
   pub links-room : 2 * (from + more) ≤ length links
@@ -60,14 +75,18 @@ pub record NamesHeld (text : List ℕ) (b f from : ℕ) (starts lengths starts�
   pub lengths-front : take (from + count) lengths′ ≡ take from lengths ++ nameLengths (namesOf (part b f text))
   pub tree : Lexicon text (take (from + count) starts′) (take (from + count) lengths′) links′
 
--- before a line of key k, from a to e of the text: the rows and the tree have the names of the earlier value, and room for hi more
+-- before a line of key k, from a to e of the text: the rows and the tree have the names of the earlier value, which stands before it
 pub record HeadReady (k lo hi : ℕ) (earlier text : List ℕ) (a e from : ℕ) (starts lengths links : List ℕ) : Type 0 where
   pub known : k < 3
   pub least : lo ≤ 1
   pub low : a ≤ e
   pub high : e ≤ length text
-  pub ready : NamesReady text from hi starts lengths links
+  pub behind : from ≤ a
+  pub few : from + hi ≤ allNames
+  pub tree : Lexicon text (take from starts) (take from lengths) links
   pub spelt : spelled text (take from starts) (take from lengths) ≡ namesOf earlier
+  pub rows : NameRows (length text) starts lengths links
+  pub short : length text ≤ limits .maxText
 
 -- a declaring line from a to e of the text is read: its value starts at b and has so many names
 pub record NamesAt (at k lo hi : ℕ) (earlier : List (List ℕ)) (text : List ℕ) (a e b count : ℕ) : Type 0 where

@@ -1,6 +1,6 @@
 // Rule lines: each is tested, and its entries are put into a row.
 ghost use mathlib.Core.Path.{_≡_};
-ghost use Prim.Native.Nat.{_≤_};
+ghost use Prim.Native.Nat.{_+_, _≤_};
 ghost use lib.ListN.{length, drop, set};
 ghost use Rattle.grammar.specs.Limits.{limits};
 ghost use Rattle.text.specs.Pieces.{splitOn};
@@ -26,7 +26,7 @@ use names::SPACE;
 const KEPT_RULES: usize = MAX_RULES + 1;
 
 // Puts an entry into a row at place j, if the row goes so far.
-fn put_entry(row: &mut [u8], j: usize, x: u8)
+fn put_entry(row: &mut [u16], j: usize, x: u16)
     ensures { λ _. ⌜ now (row .exit) ≡ set (now (row .entry)) j x ⌝ }
 {
     if row.len() <= j {
@@ -44,7 +44,7 @@ fn take_codes(
     lengths: &[u32],
     links: &[u16],
     t: usize,
-    row: &mut [u8],
+    row: &mut [u16],
     at: usize,
 ) -> bool
     requires { ⌜ CodesFit (now r) (now text) (now starts) (now lengths) (now links) t (now row) at ⌝ }
@@ -84,11 +84,11 @@ fn take_rule(
     lengths: &[u32],
     links: &[u16],
     t: usize,
-    row: &mut [u8],
+    row: &mut [u16],
     end: usize,
 ) -> Kept
-    requires { ⌜ (ShapeAt (now v) colon count) × (LineReady (now text) (now starts) (now lengths) (now links) t (now row) k end) ⌝ }
-    ensures { λ r. ⌜ KeptTold (ruleValue at t (spelled (now (text .entry)) (now (starts .entry)) (now (lengths .entry))) (now (v .entry))) k end (now (row .entry)) (now (row .exit)) r ⌝ }
+    requires { ⌜ (ShapeAt (now v) colon count) × (LineReady (now text) (now starts) (now lengths) (now links) t (now row) k end (length (now v) + 1)) ⌝ }
+    ensures { λ r. ⌜ KeptTold (ruleValue at t (spelled (now (text .entry)) (now (starts .entry)) (now (lengths .entry))) (now (v .entry))) k end (length (now (v .entry)) + 1) (now (row .entry)) (now (row .exit)) r ⌝ }
 {
     let left = lexicon::find(text, starts, lengths, links, &v[0..colon]);
     if left < t {
@@ -109,7 +109,7 @@ fn take_rule(
         return Kept::Entries(end);
     }
     row[end] = code_of(t, left);
-    row[end + 1] = count as u8;
+    row[end + 1] = count as u16;
     Kept::Entries(end + 2 + count)
 }
 
@@ -123,11 +123,11 @@ fn rule_line(
     lengths: &[u32],
     links: &[u16],
     t: usize,
-    row: &mut [u8],
+    row: &mut [u16],
     end: usize,
 ) -> Kept
-    requires { ⌜ LineReady (now text) (now starts) (now lengths) (now links) t (now row) k end ⌝ }
-    ensures { λ r. ⌜ KeptTold (ruleLine limits at t (spelled (now (text .entry)) (now (starts .entry)) (now (lengths .entry))) (now (line .entry))) k end (now (row .entry)) (now (row .exit)) r ⌝ }
+    requires { ⌜ LineReady (now text) (now starts) (now lengths) (now links) t (now row) k end (length (now line)) ⌝ }
+    ensures { λ r. ⌜ KeptTold (ruleLine limits at t (spelled (now (text .entry)) (now (starts .entry)) (now (lengths .entry))) (now (line .entry))) k end (length (now (line .entry))) (now (row .entry)) (now (row .exit)) r ⌝ }
 {
     let Split::Value { start, end: stop } = key_split(line, RULE) else {
         return Kept::Fault(MALFORMED, at);
@@ -160,7 +160,7 @@ pub fn read_rules(
     lengths: &[u32],
     links: &[u16],
     t: usize,
-    row: &mut [u8],
+    row: &mut [u16],
 ) -> Kept
     requires { ⌜ (RulesReady (now text) (now starts) (now lengths) (now links) t (now row)) × (from ≤ length (now text)) ⌝ }
     ensures { λ r. ⌜ RulesTold (ruleLines limits 3 t (spelled (now (text .entry)) (now (starts .entry)) (now (lengths .entry))) (splitOn 10 (drop from (now (text .entry))))) (now (row .exit)) r ⌝ }

@@ -21,7 +21,13 @@ use text::TextLength;
 use text::TextWritten;
 
 // 18, then the length of the text, for a checked table and well-formed names.
-fn named_length(t: usize, table: &[u8], bytes: &[u8], starts: &[u32], lengths: &[u32]) -> TextLength
+fn named_length(
+    t: usize,
+    table: &[u16],
+    bytes: &[u8],
+    starts: &[u32],
+    lengths: &[u32],
+) -> TextLength
     requires { ⌜ Ready t (now table) (now bytes) (now starts) (now lengths) ⌝ }
     ensures { λ r. ⌜ NamedAnswer t (spelled (now (bytes .entry)) (now (starts .entry)) (now (lengths .entry)))
         (decode (now (table .entry))) r ⌝ }
@@ -38,7 +44,7 @@ fn named_length(t: usize, table: &[u8], bytes: &[u8], starts: &[u32], lengths: &
 fn checked_length(
     t: usize,
     n: usize,
-    table: &[u8],
+    table: &[u16],
     bytes: &[u8],
     starts: &[u32],
     lengths: &[u32],
@@ -58,7 +64,7 @@ fn checked_length(
 pub fn written_length(
     t: usize,
     n: usize,
-    table: &[u8],
+    table: &[u16],
     bytes: &[u8],
     starts: &[u32],
     lengths: &[u32],
@@ -78,7 +84,7 @@ pub fn written_length(
 pub fn write_text(
     t: usize,
     n: usize,
-    table: &[u8],
+    table: &[u16],
     bytes: &[u8],
     starts: &[u32],
     lengths: &[u32],

@@ -12,7 +12,7 @@ use super::put::put_key;
 use super::put::put_name;
 use super::put::put_names;
 use super::size::symbol;
-use super::size::wide_byte;
+use super::size::wide_entry;
 use names::COLON;
 use names::LINE_END;
 use names::NONTERMINALS;
@@ -47,7 +47,7 @@ fn put_line(
 fn put_codes(
     out: &mut [u8],
     at: usize,
-    codes: &[u8],
+    codes: &[u16],
     t: usize,
     bytes: &[u8],
     starts: &[u32],
@@ -74,8 +74,8 @@ fn put_codes(
 fn put_rule(
     out: &mut [u8],
     at: usize,
-    left: u8,
-    codes: &[u8],
+    left: u16,
+    codes: &[u16],
     t: usize,
     bytes: &[u8],
     starts: &[u32],
@@ -101,7 +101,7 @@ fn put_rule(
 fn put_rules(
     out: &mut [u8],
     at: usize,
-    table: &[u8],
+    table: &[u16],
     t: usize,
     bytes: &[u8],
     starts: &[u32],
@@ -117,7 +117,7 @@ fn put_rules(
     let mut o = 0;
     while o < table.len() {
         let left = table[o];
-        let k = wide_byte(table[o + 1]);
+        let k = wide_entry(table[o + 1]);
         let a = o + 2;
         let e = a + k;
         j = put_rule(out, j, left, &table[a..e], t, bytes, starts, lengths);
@@ -129,7 +129,7 @@ fn put_rules(
 // The whole text.
 pub fn put_text(
     out: &mut [u8],
-    table: &[u8],
+    table: &[u16],
     t: usize,
     bytes: &[u8],
     starts: &[u32],

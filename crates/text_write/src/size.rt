@@ -13,22 +13,21 @@ use super::lent::wide;
 use grammar::NONTERMINAL_BASE;
 
 // An entry of the table as a length.
-pub fn wide_byte(x: u8) -> usize
+pub fn wide_entry(x: u16) -> usize
     ensures { λ r. ⌜ r ≡ x ⌝ }
 {
     x as usize
 }
 
 // The symbol number of a code, where there are t terminals.
-pub fn symbol(t: usize, code: u8) -> usize
+pub fn symbol(t: usize, code: u16) -> usize
     requires { ⌜ (1 ≤ code) × (t ≤ limits .maxTerminals) ⌝ }
     ensures { λ r. ⌜ r ≡ symbolOf limits t code ⌝ }
 {
-    let x = code as u16;
-    if x < NONTERMINAL_BASE {
-        return (x - 1) as usize;
+    if code < NONTERMINAL_BASE {
+        return (code - 1) as usize;
     }
-    t + (x - NONTERMINAL_BASE) as usize
+    t + (code - NONTERMINAL_BASE) as usize
 }
 
 // Names from one symbol up to another, with a byte before each.
@@ -57,7 +56,7 @@ fn join_length(lengths: &[u32], from: usize, to: usize) -> usize
 }
 
 // The names of codes, with a byte before each.
-fn codes_length(codes: &[u8], t: usize, lengths: &[u32]) -> usize
+fn codes_length(codes: &[u16], t: usize, lengths: &[u32]) -> usize
     requires { ⌜ Known t (length (now lengths)) (now codes)
         × (ledLength (map (codeLength limits t (now lengths)) (now codes)) ≤ limits .maxText) ⌝ }
     ensures { λ r. ⌜ r ≡ ledLength (map (codeLength limits t (now (lengths .entry))) (now (codes .entry))) ⌝ }
@@ -73,7 +72,7 @@ fn codes_length(codes: &[u8], t: usize, lengths: &[u32]) -> usize
 }
 
 // The lines of all rules.
-fn rules_length(table: &[u8], t: usize, lengths: &[u32]) -> usize
+fn rules_length(table: &[u16], t: usize, lengths: &[u32]) -> usize
     requires { ⌜ Coded t (length (now lengths)) (now table)
         × (rulesLength limits t (now lengths) (decode (now table)) ≤ limits .maxText) ⌝ }
     ensures { λ r. ⌜ r ≡ rulesLength limits t (now (lengths .entry)) (decode (now (table .entry))) ⌝ }
@@ -82,7 +81,7 @@ fn rules_length(table: &[u8], t: usize, lengths: &[u32]) -> usize
     let mut o = 0;
     while o < table.len() {
         let s = symbol(t, table[o]);
-        let k = wide_byte(table[o + 1]);
+        let k = wide_entry(table[o + 1]);
         let a = o + 2;
         let e = a + k;
         total = total + 7 + wide(lengths[s]) + codes_length(&table[a..e], t, lengths);
@@ -92,7 +91,7 @@ fn rules_length(table: &[u8], t: usize, lengths: &[u32]) -> usize
 }
 
 // The whole text.
-pub fn text_length(table: &[u8], t: usize, lengths: &[u32]) -> usize
+pub fn text_length(table: &[u16], t: usize, lengths: &[u32]) -> usize
     requires { ⌜ Coded t (length (now lengths)) (now table) × (t ≤ length (now lengths))
         × (textLength limits t (now lengths) (decode (now table)) ≤ limits .maxText) ⌝ }
     ensures { λ r. ⌜ r ≡ textLength limits t (now (lengths .entry)) (decode (now (table .entry))) ⌝ }

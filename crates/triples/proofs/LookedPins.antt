@@ -1,4 +1,4 @@
--- Small closed cases at document 01's limits: how many successors the search looks at.
+-- Small closed cases at the byte limits: how many successors the search looks at.
 -- An edit of these definitions in specs/ fails here.
 -- Assumes nothing.
 use mathlib.Core.Path.{_≡_, refl}

@@ -1,4 +1,4 @@
--- Small closed cases of the definitions at document 01's limits: the grammars on file and others with their sizes, step
+-- Small closed cases of the definitions at the byte limits: the grammars on file and others with their sizes, step
 -- records written out, bits, certificates and witnesses with each refusal.
 -- An edit of a move, of the order of the records, of a bit or of a check in specs/ fails here.
 -- Assumes nothing.
@@ -7,7 +7,7 @@ use mathlib.Core.Bool.{Bool, true, false}
 use mathlib.Core.List.{List, [], _∷_, _++_}
 use Prim.Native.Nat.{ℕ}
 use lib.ListN.{length, replicate}
-use Rattle.grammar.specs.Limits.{limits}
+use Rattle.grammar.specs.Limits.{byteLimits}
 use Rattle.grammar.specs.Grammar.{Grammar, rule, stateCount}
 use Rattle.grammar.specs.Table.{decodeUpTo, decode}
 use Rattle.grammar.specs.Refusal.{Answer, done, refused, refuseUnless, andThen}
@@ -41,23 +41,23 @@ grammar s = record { terminals = s .terminals; nonterminals = s .nonterminals; r
 -- to unfold one of these is to unfold all that it uses
 lived : Tables → ℕ → Bool
 unfolding decodeUpTo rule each has hasAll concluded waiting rounds nonterminalsOf productive usable reachable hasSentence isLive
-lived s i = isLive limits (grammar s) i
+lived s i = isLive byteLimits (grammar s) i
 
 opened : Tables → ℕ → List (ℕ × ℕ)
 unfolding lived shown aheads rulesOf aheadRow openings
-opened s p = openings limits (grammar s) (isLive limits (grammar s)) p
+opened s p = openings byteLimits (grammar s) (isLive byteLimits (grammar s)) p
 
 closed : Tables → ℕ → List (ℕ × ℕ)
 unfolding lived shown aheads completed past aheadRow closings
-closed s p = closings limits (grammar s) (isLive limits (grammar s)) p
+closed s p = closings byteLimits (grammar s) (isLive byteLimits (grammar s)) p
 
 steps : Tables → ℕ → ℕ → ℕ → List Step
 unfolding opened closed stateCount leftAlone rightAlone bothShift bothClose choices insert ordered records
-steps s f p q = records (movesOf limits (grammar s)) f p q
+steps s f p q = records (movesOf byteLimits (grammar s)) f p q
 
 reached : Tables → List ℕ
 unfolding steps isElement push pushAll explore successors smallest
-reached s = smallest (movesOf limits (grammar s))
+reached s = smallest (movesOf byteLimits (grammar s))
 
 -- Q, the size, and whether (1,1,1) is reached
 figures : Tables → ℕ × ℕ × Bool
@@ -75,19 +75,19 @@ certificate s = certificateOf (states (grammar s)) (reached s)
 checkRules : Tables → Answer Grammar
 unfolding decodeUpTo stateCount sameCodes isAmong declaredFront readRule nextRule checkFrom storedTable checkTable refuseUnless andThen
     has hasAll concluded waiting rounds nonterminalsOf productive hasSentence
-checkRules s = checkTable limits (s .terminals) (s .nonterminals) (s .table)
+checkRules s = checkTable byteLimits (s .terminals) (s .nonterminals) (s .table)
 
 checkBits : Tables → List ℕ → Answer Unit
 unfolding checkRules certificate lowest areSet checkBytes checkCertificate
-checkBits s bytes = checkCertificate limits (s .terminals) (s .nonterminals) (s .table) bytes
+checkBits s bytes = checkCertificate byteLimits (s .terminals) (s .nonterminals) (s .table) bytes
 
 checkPath : Tables → List ℕ → Answer Unit
 unfolding checkBits checkOn checkRow checkWitness
-checkPath s row = checkWitness limits (s .terminals) (s .nonterminals) (s .table) row
+checkPath s row = checkWitness byteLimits (s .terminals) (s .nonterminals) (s .table) row
 
 checkEntries : Tables → List (ℕ × ℕ × ℕ) → Answer Unit
 unfolding checkPath checkWitnessRecords
-checkEntries s entries = checkWitnessRecords limits (s .terminals) (s .nonterminals) (s .table) entries
+checkEntries s entries = checkWitnessRecords byteLimits (s .terminals) (s .nonterminals) (s .table) entries
 
 -- no rule
 abbrev bare : Tables

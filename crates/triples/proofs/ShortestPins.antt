@@ -1,4 +1,4 @@
--- Small closed cases at document 01's limits: which of two rows comes before the other, and shortest witnesses.
+-- Small closed cases at the byte limits: which of two rows comes before the other, and shortest witnesses.
 -- An edit of these definitions in specs/ fails here.
 -- Assumes nothing.
 use mathlib.Core.Path.{_≡_, refl}

@@ -67,7 +67,7 @@ fn walk<'a>(
 pub fn two_sides(
     t: usize,
     n: usize,
-    table: &[u8],
+    table: &[u16],
     row: &[u32],
     left: &mut [u32],
     right: &mut [u32],

@@ -2,7 +2,7 @@
 //! less, and the second program's cases with its answers.
 #![allow(dead_code)]
 
-use ambiguity::{Cause, Move, Refusal, Room, Step, Table, TripleRecord, Verdict};
+use ambiguity::{Cause, Code, Move, Refusal, Room, Step, Table, TripleRecord, Verdict, START};
 use std::collections::BTreeMap;
 use std::fmt::Debug;
 use std::fs;
@@ -12,7 +12,12 @@ use std::process::Command;
 
 const GUARD: usize = 64;
 
-pub fn grammar(terminals: usize, nonterminals: usize, rules: &[u8]) -> Table<'_> {
+/// The codes of the first three nonterminals.
+pub const S: Code = START;
+pub const A: Code = START + 1;
+pub const B: Code = START + 2;
+
+pub fn grammar(terminals: usize, nonterminals: usize, rules: &[Code]) -> Table<'_> {
     Table { terminals, nonterminals, rules }
 }
 
@@ -155,8 +160,14 @@ impl Cases {
         TripleRecord { layer, left, right }
     }
 
-    pub fn table(&mut self) -> (usize, usize, Vec<u8>) {
-        (self.long(), self.long(), self.bytes())
+    fn entries(&mut self) -> Vec<Code> {
+        let length = self.number();
+        self.take(2 * length).chunks(2).map(|entry| Code::from_le_bytes([entry[0], entry[1]])).collect()
+    }
+
+    /// t, n and the rules: how many entries there are, then each in two bytes.
+    pub fn table(&mut self) -> (usize, usize, Vec<Code>) {
+        (self.long(), self.long(), self.entries())
     }
 }
 

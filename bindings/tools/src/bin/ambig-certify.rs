@@ -5,9 +5,9 @@ use std::process::ExitCode;
 
 use ambig_tools::command::{self, Answer, Request, Status, Tool};
 use ambig_tools::explanation::{self, Explanation, Found};
-use ambig_tools::lines::{self, Form};
+use ambig_tools::lines::{self, Form, MOST_STATES};
 use ambig_tools::warnings::{self, Told};
-use ambig_tools::{diagnosis, fix, json, page, refusals, strings, words};
+use ambig_tools::{diagnosis, fix, json, page, readings, refusals, strings, words};
 use ambiguity::{Grammar, Refusal, Searched, MAX_TEXT_BYTES};
 
 const TOOL: Tool = Tool {
@@ -29,7 +29,8 @@ rules and names that no sentence uses, go to standard error.
                  changed; takes slips of editors, BNF, EBNF and bison (one FILE)
   --html         write one page in HTML, with the trees as drawings (one FILE)
   --form=1       print the certificate without check digits
-  --form=2       print it with check digits (this is the default)
+  --form=2       print it with check digits (this is the default up to 512
+                 states; above, there is form 3 alone)
   --form=3       print it with check digits, and runs of zeros by their length
   -Werror        let warnings count as a refusal in the exit status
   -q, --quiet    print only the lines that the program ambig prints, and look
@@ -55,7 +56,7 @@ file that cannot be read or written, 3 potential (no trees were found, or
 };
 
 /// Bytes of a text that is to be fixed: one for people may have comments and code.
-const MAX_FIXED_BYTES: usize = 262_144;
+const MAX_FIXED_BYTES: usize = 4 * MAX_TEXT_BYTES;
 
 /// A grammar with its verdict.
 struct Judged<'a> {
@@ -114,18 +115,14 @@ impl Judged<'_> {
             _ if request.has("--json") => self.json(),
             _ if request.has("--html") => self.page(),
             (Searched::Unambiguous { certificate, size, .. }, _) => {
-                let form = match () {
-                    _ if request.has("--form=1") => Form::Plain,
-                    _ if request.has("--form=3") => Form::Runs,
-                    _ => Form::Checked,
-                };
-                lines::written(self.grammar, *size, certificate, form)
+                lines::written(self.grammar, *size, certificate, form_asked(request, self.grammar.states()))
             }
-            (Searched::Potential { .. }, explanation) => {
-                let told = explanation.as_ref().map_or(String::new(), |explanation| {
-                    let steps = if request.has("--steps") { format!("\n{}", explanation.steps) } else { String::new() };
-                    explanation.told(self.grammar) + &steps
-                });
+            (Searched::Potential { witness, .. }, explanation) => {
+                let steps = |explanation: &Explanation| match request.has("--steps") {
+                    true => format!("\n{}", readings::told(self.grammar, witness, &explanation.steps)),
+                    false => String::new(),
+                };
+                let told = explanation.as_ref().map_or(String::new(), |told| told.told(self.grammar) + &steps(told));
                 self.long_lines() + &told
             }
         }
@@ -146,6 +143,12 @@ impl Judged<'_> {
             _ => Status::Potential,
         }
     }
+}
+
+/// The form of a certificate that is asked for, or the usual one.
+fn form_asked(request: &Request, states: usize) -> Form {
+    let forms = [("--form=1", Form::Plain), ("--form=2", Form::Checked), ("--form=3", Form::Runs)];
+    forms.into_iter().find(|(option, _)| request.has(option)).map_or(Form::usual(states), |(_, form)| form)
 }
 
 /// Few lines are asked for, and no messages.
@@ -171,6 +174,13 @@ fn judged(request: &Request, file: &str, text: &[u8]) -> Answer {
         Err(refusal) => return refused(request, file, text, refusal),
     };
     let searched = grammar.search();
+    let form = form_asked(request, grammar.states());
+    if matches!(searched, Searched::Unambiguous { .. }) && !form.has(grammar.states()) {
+        let (form, states) = (form as usize, grammar.states());
+        return Answer::misuse(&format!(
+            "{file}: error: form {form} has at most {MOST_STATES} states; the grammar has {states}"
+        ));
+    }
     let warnings = warnings::of(&grammar);
     let explanation = match &searched {
         Searched::Potential { witness, .. } if !is_quiet(request) => Some(explanation::of(&grammar, witness)),

@@ -1,17 +1,24 @@
 //! Which nonterminals have no finite tree, where the start has none.
 
-use super::{declared, is_among, rule_words, Found, Word};
+use std::collections::HashSet;
+
+use super::{declared, rule_words, Found, Word};
 use crate::words::{self, key, LISTS};
+
+/// Of more nonterminals than this few are named.
+const MOST_NAMED: usize = 127;
+const FEW_NAMED: usize = 20;
 
 /// The fault of a text without a sentence. It is told at the start's name, which is the first of those that are named.
 pub fn found(lines: &[&[u8]]) -> Found {
     let names: Vec<String> = without_tree(lines).iter().map(Word::quoted).collect();
     let message = match &names[..] {
         [name] => format!("{name} has no finite tree; give it a rule without it on the right side"),
-        names => format!(
-            "{} have no finite tree; give one of them a rule without any of them on the right side",
-            words::all_of(names)
-        ),
+        names => {
+            let others = |shown: &[String]| format!("{} and {} others", shown.join(", "), names.len() - shown.len());
+            let shown = if names.len() > MOST_NAMED { others(&names[..FEW_NAMED]) } else { words::all_of(names) };
+            format!("{shown} have no finite tree; give one of them a rule without any of them on the right side")
+        }
     };
     (key(LISTS).len(), format!("there is no sentence: {message}"))
 }
@@ -19,17 +26,18 @@ pub fn found(lines: &[&[u8]]) -> Found {
 /// The nonterminals without a finite tree, in the order of their list, where every name is declared.
 fn without_tree<'a>(lines: &[&'a [u8]]) -> Vec<Word<'a>> {
     let rules: Vec<Vec<Word>> = lines.iter().skip(LISTS).map(|line| rule_words(line)).collect();
-    let mut without = declared(lines, LISTS);
+    let names = declared(lines, LISTS);
+    let mut without: HashSet<&[u8]> = names.iter().map(|name| name.bytes).collect();
     while let Some(left) = rules.iter().find_map(|rule| left_with_tree(&without, rule)) {
-        without.retain(|name| name.bytes != left);
+        without.remove(left);
     }
-    without
+    names.into_iter().filter(|name| without.contains(name.bytes)).collect()
 }
 
 /// The left name of a rule, if it is among these and its right side does without them.
-fn left_with_tree<'a>(without: &[Word], rule: &[Word<'a>]) -> Option<&'a [u8]> {
+fn left_with_tree<'a>(without: &HashSet<&[u8]>, rule: &[Word<'a>]) -> Option<&'a [u8]> {
     let (left, right) = rule.split_first()?;
-    (is_among(without, left) && !right.iter().any(|word| is_among(without, word))).then_some(left.bytes)
+    (without.contains(left.bytes) && !right.iter().any(|word| without.contains(word.bytes))).then_some(left.bytes)
 }
 
 #[cfg(test)]

@@ -7,6 +7,8 @@ mod malformed;
 pub mod nearest;
 mod strings;
 
+use std::collections::{HashMap, HashSet};
+
 use ambiguity::{Cause, Refusal, MAX_NONTERMINALS, MAX_RULES, MAX_STATES, MAX_TERMINALS, MAX_TEXT_BYTES};
 
 use crate::words::{key, LISTS};
@@ -64,7 +66,11 @@ pub fn of(text: &[u8], refusal: Refusal) -> Finding {
     let (line, (place, message)) = match refusal.cause {
         Cause::Malformed if at == 0 => return too_long(text),
         Cause::Malformed => (at, malformed::found(text, at)),
-        Cause::NameUnknown => (at, unknown_name(&lines, at).unwrap_or_else(|| (0, "a name is not declared".to_string()))),
+        Cause::NameUnknown => {
+            let lists = Lists::new(&lines);
+            let unknown = lists.unknown(lines[at - 1]).map(|unknown| lists.told(&unknown));
+            (at, unknown.unwrap_or_else(|| (0, "a name is not declared".to_string())))
+        }
         Cause::NameRepeated => (at, repeated_name(&lines, at)),
         Cause::OutOfRange => (at, too_many_names(&lines, at)),
         Cause::RuleTooLong => (at, too_many_symbols(lines[at - 1])),
@@ -90,14 +96,24 @@ pub fn beside(text: &[u8], refusal: Refusal) -> Vec<Finding> {
     let bare: Vec<&[u8]> = text.split(|byte| *byte == b'\n').collect();
     let fault = |number: usize| malformed::of_line(whole[number - 1], number, number == whole.len());
     let lists_hold = whole.len() >= LISTS && (1..=LISTS).all(|number| fault(number).is_none());
+    let lists = lists_hold.then(|| Lists::new(&bare));
     let mut messages = vec![first.message];
+    // What was found unknown: a text may say the same of thousands of lines.
+    let mut unknown = HashSet::new();
     let mut findings = Vec::new();
     for number in refusal.at + 1..=whole.len() {
-        let unknown = || (lists_hold && number > LISTS).then(|| unknown_name(&bare, number)).flatten();
-        let Some((place, message)) = fault(number).or_else(unknown) else { continue };
-        if !messages.contains(&message) && findings.len() < MOST_BESIDE {
+        let mut told = || {
+            let lists = lists.as_ref().filter(|_| number > LISTS)?;
+            let found = lists.unknown(bare[number - 1])?;
+            unknown.insert((found.kind, found.word.bytes)).then(|| lists.told(&found))
+        };
+        let Some((place, message)) = fault(number).or_else(&mut told) else { continue };
+        if !messages.contains(&message) {
             messages.push(message.clone());
             findings.push(Finding { line: number, column: place + 1, message });
+        }
+        if findings.len() == MOST_BESIDE {
+            break;
         }
     }
     findings
@@ -129,47 +145,94 @@ fn rule_words(line: &[u8]) -> Vec<Word<'_>> {
     words.into_iter().filter(|word| !word.bytes.is_empty()).collect()
 }
 
-fn is_among(names: &[Word], word: &Word) -> bool {
-    names.iter().any(|name| name.bytes == word.bytes)
-}
-
 /// Words for nothing in other notations that are names here.
 const EMPTY_WORDS: [&str; 6] = ["epsilon", "eps", "empty", "lambda", "nothing", "none"];
 
-/// The first name of a rule's line that is not declared, or a left name that is a terminal's.
-fn unknown_name(lines: &[&[u8]], number: usize) -> Option<Found> {
-    let (terminals, nonterminals) = (declared(lines, 1), declared(lines, 2));
-    let words = rule_words(lines[number - 1]);
-    let left = words.first()?;
-    if is_among(&terminals, left) {
-        let message = format!("{} is a terminal, declared on line 1; only a nonterminal has rules", left.quoted());
-        return Some((left.at, message));
+/// The names of the two lists.
+struct Lists<'a> {
+    terminals: Vec<Word<'a>>,
+    nonterminals: Vec<Word<'a>>,
+    /// The same, to be looked up.
+    known: [HashSet<&'a [u8]>; 2],
+}
+
+/// How a name of a rule's line is unknown.
+#[derive(Clone, Copy, PartialEq, Eq, Hash)]
+enum Kind<'a> {
+    /// A left name that is a terminal's.
+    Terminal,
+    Left,
+    Right,
+    /// The only symbol of a right side, and a word for nothing; with the left name.
+    Nothing(&'a [u8]),
+}
+
+struct Unknown<'a> {
+    kind: Kind<'a>,
+    word: Word<'a>,
+}
+
+impl<'a> Lists<'a> {
+    fn new(lines: &[&'a [u8]]) -> Lists<'a> {
+        let [terminals, nonterminals] = [1, 2].map(|number| declared(lines, number));
+        let known = [&terminals, &nonterminals].map(|names| names.iter().map(|name| name.bytes).collect());
+        Lists { terminals, nonterminals, known }
     }
-    let unknown = words.iter().find(|word| !is_among(&terminals, word) && !is_among(&nonterminals, word))?;
-    let is_empty = |word: &&str| unknown.bytes.eq_ignore_ascii_case(word.as_bytes());
-    if words.len() == 2 && unknown.at != left.at && EMPTY_WORDS.iter().any(is_empty) {
-        let remedy = format!("for an empty right side write 'rule={}:'", left.bytes.escape_ascii());
-        return Some((unknown.at, format!("{} is not declared; {remedy}", unknown.quoted())));
+
+    /// The first name of a rule's line that is not declared, or a left name that is a terminal's.
+    fn unknown(&self, line: &'a [u8]) -> Option<Unknown<'a>> {
+        let words = rule_words(line);
+        let left = *words.first()?;
+        if self.known[0].contains(left.bytes) {
+            return Some(Unknown { kind: Kind::Terminal, word: left });
+        }
+        let word = *words.iter().find(|word| self.known.iter().all(|names| !names.contains(word.bytes)))?;
+        let is_nothing = |nothing: &&str| word.bytes.eq_ignore_ascii_case(nothing.as_bytes());
+        let kind = match word.at == left.at {
+            true => Kind::Left,
+            false if words.len() == 2 && EMPTY_WORDS.iter().any(is_nothing) => Kind::Nothing(left.bytes),
+            false => Kind::Right,
+        };
+        Some(Unknown { kind, word })
     }
-    let names = if unknown.at == left.at { nonterminals } else { [terminals, nonterminals].concat() };
-    let remedy = match nearest::nearest(unknown.bytes, names.iter().map(|name| name.bytes)) {
-        Some(place) => format!("is {} meant?", names[place].quoted()),
-        None if unknown.at == left.at => "add it to the nonterminals on line 2".to_string(),
-        None => "add it to the terminals on line 1 or to the nonterminals on line 2".to_string(),
-    };
-    Some((unknown.at, format!("{} is not declared; {remedy}", unknown.quoted())))
+
+    fn told(&self, Unknown { kind, word }: &Unknown) -> Found {
+        let (nearest, none) = match kind {
+            Kind::Terminal => {
+                let message = format!("{} is a terminal, declared on line 1; only a nonterminal has rules", word.quoted());
+                return (word.at, message);
+            }
+            Kind::Nothing(left) => {
+                let remedy = format!("for an empty right side write 'rule={}:'", left.escape_ascii());
+                return (word.at, format!("{} is not declared; {remedy}", word.quoted()));
+            }
+            Kind::Left => (self.nonterminals.clone(), "add it to the nonterminals on line 2"),
+            Kind::Right => {
+                let names = [&self.terminals[..], &self.nonterminals].concat();
+                (names, "add it to the terminals on line 1 or to the nonterminals on line 2")
+            }
+        };
+        let remedy = match nearest::nearest(word.bytes, nearest.iter().map(|name| name.bytes)) {
+            Some(place) => format!("is {} meant?", nearest[place].quoted()),
+            None => none.to_string(),
+        };
+        (word.at, format!("{} is not declared; {remedy}", word.quoted()))
+    }
 }
 
 fn repeated_name(lines: &[&[u8]], number: usize) -> Found {
-    let mut earlier: Vec<(usize, Word)> = Vec::new();
+    let mut earlier: HashMap<&[u8], (usize, Word)> = HashMap::new();
     for line in 1..=number {
         for name in declared(lines, line) {
-            match earlier.iter().find(|(_, first)| line == number && first.bytes == name.bytes) {
-                Some((first_line, first)) => {
+            match earlier.get(name.bytes) {
+                Some((first_line, first)) if line == number => {
                     let place = format!("line {first_line}, column {}", first.at + 1);
                     return (name.at, format!("{} is declared twice, first on {place}; take one of them out", name.quoted()));
                 }
-                None => earlier.push((line, name)),
+                Some(_) => (),
+                None => {
+                    earlier.insert(name.bytes, (line, name));
+                }
             }
         }
     }

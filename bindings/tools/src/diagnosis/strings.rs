@@ -1,6 +1,8 @@
 //! What is wrong with the two lines of a pair of strings. The library's refusal decides; the line that it names is looked at to find
 //! the place and the words.
 
+use std::collections::HashSet;
+
 use ambiguity::{Cause, Grammar, Refusal};
 
 use super::malformed::{of_encoding, shown, MAX_NAME};
@@ -32,8 +34,9 @@ fn letters(line: &[u8], key: usize) -> impl Iterator<Item = Word<'_>> {
 fn unknown_name(grammar: &Grammar, lines: &[u8], number: usize) -> Found {
     let line = lines.split(|byte| *byte == b'\n').nth(number - 1).unwrap_or_default();
     let names: Vec<&[u8]> = grammar.terminals().iter().chain(grammar.nonterminals()).map(|name| name.as_bytes()).collect();
+    let known: HashSet<&[u8]> = names.iter().copied().collect();
     let is_unknown =
-        |word: &Word| !word.bytes.starts_with(b"(") && !word.bytes.starts_with(b")") && !names.contains(&word.bytes);
+        |word: &Word| !word.bytes.starts_with(b"(") && !word.bytes.starts_with(b")") && !known.contains(word.bytes);
     let Some(unknown) = letters(line, KEYS[number - 1].len()).find(is_unknown) else {
         return (0, "a name is none of the grammar's".to_string());
     };

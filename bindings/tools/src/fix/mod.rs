@@ -15,8 +15,8 @@ pub struct Note {
     pub message: String,
 }
 
-/// Names and rules of a text; far more than the library takes.
-const MOST: usize = 2_000;
+/// Names and rules of a text; more than the library takes.
+const MOST: usize = 8_000;
 
 /// A grammar with the names that people wrote.
 #[derive(Debug, Default)]

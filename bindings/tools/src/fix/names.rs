@@ -89,6 +89,8 @@ fn plain(word: &str) -> String {
 struct Names {
     given: HashMap<String, String>,
     taken: HashSet<String>,
+    /// The last number that was tried for names that are cut alike.
+    numbers: HashMap<String, usize>,
 }
 
 impl Names {
@@ -97,13 +99,14 @@ impl Names {
             return name.clone();
         }
         let plain = plain(word);
-        let numbered = (2..).map(|number| {
-            let ending = format!("-{number}");
-            format!("{}{ending}", &plain[..plain.len().min(MOST - ending.len())])
-        });
-        let mut names = std::iter::once(plain[..plain.len().min(MOST)].to_string()).chain(numbered);
-        let name =
-            names.find(|name| !self.taken.contains(&name.to_ascii_lowercase())).expect("there is always one more number");
+        let cut = &plain[..plain.len().min(MOST)];
+        let last = self.numbers.entry(cut.to_ascii_lowercase()).or_insert(1);
+        let mut name = cut.to_string();
+        while self.taken.contains(&name.to_ascii_lowercase()) {
+            *last += 1;
+            let ending = format!("-{last}");
+            name = format!("{}{ending}", &plain[..plain.len().min(MOST - ending.len())]);
+        }
         self.taken.insert(name.to_ascii_lowercase());
         self.given.insert(word.to_string(), name.clone());
         name

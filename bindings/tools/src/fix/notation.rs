@@ -1,6 +1,6 @@
 //! BNF, EBNF, rules with arrows, and grammars for bison.
 
-use std::collections::HashMap;
+use std::collections::{HashMap, HashSet};
 
 use super::names::{PART, QUOTED};
 use super::tokens::{self, Placed, Token};
@@ -81,6 +81,9 @@ impl Parser {
         let (mut start, mut directive, mut declared) = (None, String::new(), None);
         loop {
             let line = self.line();
+            if self.draft.is_too_large() {
+                return self.fault(&format!("there are more than {MOST} names or rules"));
+            }
             let Some(token) = self.token().cloned() else {
                 return self.fault("'%%' is not found, behind which the rules stand");
             };
@@ -273,9 +276,12 @@ impl Parser {
             self.draft.nonterminals.insert(0, name);
         }
         let draft = &mut self.draft;
-        draft.terminals.retain(|name| !draft.nonterminals.contains(name));
+        let mut known: HashSet<&String> = draft.nonterminals.iter().collect();
+        draft.terminals.retain(|name| !known.contains(name));
+        let declared = draft.terminals.clone();
+        known.extend(&declared);
         for name in draft.rules.iter().flat_map(|(_, right)| right) {
-            if !draft.nonterminals.contains(name) && !draft.terminals.contains(name) && draft.terminals.len() <= MOST {
+            if draft.terminals.len() <= MOST && known.insert(name) {
                 draft.terminals.push(name.clone());
             }
         }

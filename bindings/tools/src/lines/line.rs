@@ -1,6 +1,6 @@
 //! A line of a certificate, read from the left.
 
-use super::{digits, remainder, Certificate, Form, Malformed, Part};
+use super::{digits, remainder, Certificate, Form, Malformed, Part, MOST_STATES};
 
 /// What is still to be read of a line.
 pub struct Line<'a> {
@@ -76,16 +76,21 @@ impl Line<'_> {
         Ok(())
     }
 
-    pub fn form(&mut self) -> Result<Form, Malformed> {
+    /// The form, which certificates of so many states must have.
+    pub fn form(&mut self, states: usize) -> Result<Form, Malformed> {
         if self.rest.starts_with(b"terminals=") {
             return self.fault("'certificate-form=' is expected; this is a grammar's text, and no certificate");
         }
-        match self.number("certificate-form=")? {
-            1 => Ok(Form::Plain),
-            2 => Ok(Form::Checked),
-            3 => Ok(Form::Runs),
-            _ => self.fault("this program reads the forms 1, 2 and 3"),
+        let form = match self.number("certificate-form=")? {
+            1 => Form::Plain,
+            2 => Form::Checked,
+            3 => Form::Runs,
+            _ => return self.fault("this program reads the forms 1, 2 and 3"),
+        };
+        if !form.has(states) {
+            return self.fault(format!("form {} has at most {MOST_STATES} states; the grammar has {states}", form as usize));
         }
+        Ok(form)
     }
 
     /// A line of bytes, or of bytes and runs, put to its place.

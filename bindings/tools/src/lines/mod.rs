@@ -17,6 +17,21 @@ pub enum Form {
 }
 
 impl Form {
+    /// Whether certificates of so many states have this form. Offsets of forms 1 and 2 have four digits, so that the bytes are at
+    /// most 65,536; those of form 3 have five.
+    pub fn has(self, states: usize) -> bool {
+        self == Form::Runs || states <= MOST_STATES
+    }
+
+    /// The form that a certificate of so many states has if none is asked for.
+    pub fn usual(states: usize) -> Form {
+        if Form::Checked.has(states) {
+            Form::Checked
+        } else {
+            Form::Runs
+        }
+    }
+
     /// Bytes of the certificate on a line; in form 3 bytes and runs.
     fn on_a_line(self) -> usize {
         match self {
@@ -26,12 +41,15 @@ impl Form {
     }
 }
 
+/// States of a grammar whose certificate has form 1 or 2.
+pub const MOST_STATES: usize = 512;
+
 /// The prime that the check digits are a remainder of: below 256, so that two hexadecimal digits hold it. No wrong digit and no
 /// two swapped ones keep the remainder.
 const CHECK: usize = 251;
 
 /// More than any certificate has as lines, with line ends of two bytes.
-pub const MOST_BYTES: usize = 65_536;
+pub const MOST_BYTES: usize = 1 << 20;
 
 /// The remainder of a row of digits, read as one number to a base.
 fn remainder(digits: impl Iterator<Item = u8>, base: usize) -> usize {
@@ -177,7 +195,7 @@ fn line<'a>(lines: &[&'a [u8]], number: usize) -> Line<'a> {
 
 /// The certificate without bytes, and its size.
 fn head(grammar: &Grammar, lines: &[&[u8]]) -> Result<(Certificate, usize), Malformed> {
-    let form = line(lines, 1).form()?;
+    let form = line(lines, 1).form(grammar.states())?;
     line(lines, 2).known("states=", grammar.states())?;
     line(lines, 3).known("rules=", grammar.rules().len())?;
     let size = line(lines, HEAD).number("size=")?;

@@ -3,6 +3,7 @@
 use ambiguity::{Code, Grammar, START};
 
 use super::folding;
+use crate::codes::ByCode;
 use crate::holes;
 use crate::tree::{Node, Tree};
 
@@ -29,8 +30,8 @@ fn grounded(grammar: &Grammar, tree: &[Node]) -> Option<Tree> {
     let mut rest: Vec<Node> = tree.iter().rev().copied().collect();
     while let Some(node) = rest.pop() {
         match node {
-            Node::Leaf(code) if !visible[code as usize] => {
-                let rule = empty[code as usize]?;
+            Node::Leaf(code) if !visible[code] => {
+                let rule = empty[code]?;
                 grounded.push(Node::Rule(rule));
                 rest.extend(grammar.rules()[rule - 1].right.iter().rev().map(|code| Node::Leaf(*code)));
             }
@@ -44,13 +45,13 @@ fn grounded(grammar: &Grammar, tree: &[Node]) -> Option<Tree> {
 }
 
 /// By code a rule that begins a least deep empty tree.
-fn empty_rules(grammar: &Grammar) -> Vec<Option<usize>> {
-    let mut found = vec![None; Code::MAX as usize + 1];
+fn empty_rules(grammar: &Grammar) -> ByCode<Option<usize>> {
+    let mut found = ByCode::new(grammar, None);
     loop {
         let known = found.clone();
         for (place, rule) in grammar.rules().iter().enumerate() {
-            let left = &mut found[rule.left as usize];
-            if left.is_none() && rule.right.iter().all(|code| known[*code as usize].is_some()) {
+            let left = &mut found[rule.left];
+            if left.is_none() && rule.right.iter().all(|code| known[*code].is_some()) {
                 *left = Some(place + 1);
             }
         }

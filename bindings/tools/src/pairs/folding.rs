@@ -68,17 +68,19 @@ pub fn folded(grammar: &Grammar, left: &[Node], right: &[Node]) -> (Tree, Tree) 
 mod tests {
     use super::Node::{Leaf, Rule};
     use super::*;
+    use ambiguity::START;
 
     #[test]
     fn common_subtrees() {
         let text = b"terminals=a\nnonterminals=S,A\nrule=S: S S\nrule=S: A\nrule=A: a\nrule=S:\n";
         let grammar = Grammar::read(text).unwrap();
-        let (s, a) = (Leaf(128), Leaf(1));
+        let (s, a) = (Leaf(START), Leaf(1));
         let left = [Rule(1), Rule(1), s, s, Rule(2), Rule(3), a];
         let right = [Rule(1), s, Rule(1), s, Rule(2), Rule(3), a];
         assert_eq!(folded(&grammar, &left, &right), (vec![Rule(1), Rule(1), s, s, s], vec![Rule(1), s, Rule(1), s, s]));
+        let other = Leaf(START + 1);
         // The root is kept, and so is what has no part of the row.
         let (left, right) = ([Rule(2), Rule(3), a], [Rule(1), Rule(2), Rule(3), a, Rule(4)]);
-        assert_eq!(folded(&grammar, &left, &right), (vec![Rule(2), Leaf(129)], vec![Rule(1), Rule(2), Leaf(129), Rule(4)]));
+        assert_eq!(folded(&grammar, &left, &right), (vec![Rule(2), other], vec![Rule(1), Rule(2), other, Rule(4)]));
     }
 }

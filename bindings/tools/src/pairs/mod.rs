@@ -16,7 +16,7 @@
 mod distances;
 mod finishing;
 mod folding;
-mod items;
+pub(crate) mod items;
 mod search;
 mod stacks;
 
@@ -48,23 +48,43 @@ pub enum Extent {
     Limit { pairs: usize, moves: usize },
 }
 
+/// Where two trees are looked for.
+#[derive(Clone, Copy)]
+pub struct Field<'a> {
+    pub grammar: &'a Grammar,
+    /// The root of both trees.
+    pub root: Code,
+    /// For each stored rule whether the trees may use it; none if they may use all.
+    pub rules: Option<&'a [bool]>,
+}
+
 /// Looks for two trees of the start; where the limits are met, also for two trees of each other nonterminal that some sentence uses,
-/// which share the limits once more.
+/// which share the limits once more, one after the other until the triples are used up.
 pub fn look(grammar: &Grammar, limits: Limits) -> Outcome {
-    let found = look_from(grammar, START, limits, &[]);
+    let found = look_from(Field { grammar, root: START, rules: None }, limits, &[], &mut 0);
     if matches!(found, Outcome::Two { .. } | Outcome::NotFound(Extent::All { .. })) {
         return found;
     }
     let others = holes::other_live(grammar);
-    let share = Limits { pairs: limits.pairs / others.len().max(1), moves: limits.moves / others.len().max(1) };
-    let mut elsewhere = others.iter().map(|root| look_from(grammar, *root, share, &[]));
-    elsewhere.find(|outcome| matches!(outcome, Outcome::Two { .. })).unwrap_or(found)
+    let share = limits.share(others.len().max(1));
+    let mut triples = limits.triples;
+    for root in others {
+        if triples == 0 {
+            break;
+        }
+        let elsewhere = look_from(Field { grammar, root, rules: None }, share, &[], &mut triples);
+        if matches!(elsewhere, Outcome::Two { .. }) {
+            return elsewhere;
+        }
+    }
+    found
 }
 
 /// Looks for two trees of one root that do not part between two known rules. Those that are found are shown only if the check
-/// confirms them.
-pub fn look_from(grammar: &Grammar, root: Code, limits: Limits, known: &[(usize, usize)]) -> Outcome {
-    let found = match search::search(&Items::new(grammar, root), limits, known) {
+/// confirms them. The triples whose distances are found are taken off `triples`.
+pub fn look_from(field: Field, limits: Limits, known: &[(usize, usize)], triples: &mut usize) -> Outcome {
+    let Field { grammar, root, rules } = field;
+    let found = match search::search(&Items::new(grammar, root, rules), limits, known, triples) {
         Ok((left, right, rules)) => finishing::finished(grammar, root, left, right).map(|trees| (trees, rules)),
         Err(extent) => return Outcome::NotFound(extent),
     };

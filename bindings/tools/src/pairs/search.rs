@@ -18,12 +18,21 @@ pub struct Limits {
     pub pairs: usize,
     /// Moves that are tried.
     pub moves: usize,
+    /// Triples whose distances are found, in all searches behind the first one together.
+    pub triples: usize,
 }
 
 impl Default for Limits {
-    /// Some tenths of a second, and some tens of megabytes.
+    /// Some tenths of a second, and some tens of megabytes; at a thousand states some seconds.
     fn default() -> Limits {
-        Limits { pairs: 400_000, moves: 4_000_000 }
+        Limits { pairs: 400_000, moves: 4_000_000, triples: 20_000_000 }
+    }
+}
+
+impl Limits {
+    /// A share of pairs and moves.
+    pub fn share(self, parts: usize) -> Limits {
+        Limits { pairs: self.pairs / parts, moves: self.moves / parts, ..self }
     }
 }
 
@@ -77,14 +86,17 @@ struct Search<'a> {
 /// Two trees, and the two rules at which their walks part, the smaller number first.
 pub type Parted = (Tree, Tree, (usize, usize));
 
-/// The two trees of a cheapest pair of walks that do not part between known rules, or how far the search looked.
-pub fn search(items: &Items, limits: Limits, known: &[(usize, usize)]) -> Result<Parted, Extent> {
+/// The two trees of a cheapest pair of walks that do not part between known rules, or how far the search looked. `triples` are those
+/// that may still be found; those that were are taken off.
+pub fn search(items: &Items, limits: Limits, known: &[(usize, usize)], triples: &mut usize) -> Result<Parted, Extent> {
+    let distances = Distances::new(items, known);
+    *triples = triples.saturating_sub(distances.found());
     let mut search = Search {
         items,
         limits,
         known,
         full: false,
-        distances: Distances::new(items, known),
+        distances,
         stacks: Stacks::new(items),
         kept: Vec::new(),
         numbers: HashMap::new(),

@@ -5,15 +5,16 @@ mod row;
 mod sets;
 mod turn;
 
-use ambiguity::{Grammar, Refusal, Strings, MAX_REPORT_BYTES, MAX_REPORT_STATES, MAX_REPORT_TEXT_BYTES};
+use ambiguity::{row_entries, Grammar, Refusal, Strings};
+use ambiguity::{MAX_REPORT_BYTES, MAX_REPORT_STATES, MAX_REPORT_TEXT_BYTES, MAX_STATES};
 
 pub use not_parting::NotParting;
 
 /// What the lines begin with.
 pub const KEYS: [&str; 2] = ["left=", "right="];
 
-/// About twice what the two lines of a witness can have: 16 bytes for each of 2Q² letters a line.
-pub const MOST_BYTES: usize = 1 << 23;
+/// More than the two lines of a witness have: 16 bytes for each of 2Q² letters a line.
+pub const MOST_BYTES: usize = 2 * 16 * row_entries(MAX_STATES);
 
 /// The lines of a witness as the program prints them: those of its report where it takes the text.
 pub fn printed(text: &[u8], grammar: &Grammar, witness: &[u32]) -> String {
@@ -28,7 +29,7 @@ pub fn printed(text: &[u8], grammar: &Grammar, witness: &[u32]) -> String {
     report.split_inclusive('\n').skip(2).collect()
 }
 
-/// The lines of a witness, by the step records that lead through it.
+/// The lines of a witness, by its two strings.
 pub fn of_witness(grammar: &Grammar, witness: &[u32]) -> String {
     let strings = grammar.strings(witness).expect("an entry of a witness is a successor of the one before");
     grammar.lines(&strings).expect("the letters are the grammar's")

@@ -39,7 +39,7 @@ impl Side<'_> {
 /// Two strings that are walked through together.
 pub struct Walk<'a> {
     pub grammar: &'a Grammar,
-    pub sets: Sets<'a>,
+    pub sets: Sets,
     pub layer: usize,
     pub sides: [Side<'a>; 2],
 }

@@ -1,10 +1,11 @@
-//! The sets of states that a string can lead to. What a state does is taken from the library's step records; a closing may lead to
-//! several states. Each set, and what a letter makes of it, is found once: a string is walked through in a time that its length
-//! gives, whatever it holds.
+//! The sets of states that a string can lead to. A closing may lead to several states. Each set, and what a letter makes of it, is
+//! found once: a string is walked through in a time that its length gives, whatever it holds.
 
 use std::collections::HashMap;
 
-use ambiguity::{Grammar, Letter, Step};
+use ambiguity::{Grammar, Letter};
+
+use crate::pairs::items::{Items, FIRST};
 
 /// The states at which every string begins and ends.
 pub const START: usize = 0;
@@ -14,8 +15,8 @@ pub const END: usize = 1;
 #[derive(Clone, Copy, Debug, PartialEq, Eq, Hash)]
 pub struct Set(u32);
 
-pub struct Sets<'a> {
-    grammar: &'a Grammar,
+pub struct Sets {
+    items: Items,
     /// By state its moves, once they were asked for.
     moves: Vec<Option<Vec<(Letter, usize)>>>,
     /// By set its states, ascending.
@@ -25,25 +26,23 @@ pub struct Sets<'a> {
     before: HashMap<(Set, Letter, usize), usize>,
 }
 
-/// The step records of a triple.
-fn records(grammar: &Grammar, layer: usize, left: usize, right: usize) -> impl Iterator<Item = Step> + '_ {
-    let record = move |nth| ambiguity::nth_step(grammar.table(), layer, left, right, nth).expect("a grammar that was read");
-    (0..).map_while(record)
+/// The moves of a state: each letter with the state that it leads to. What a sentence does not use has none.
+fn moves(items: &Items, state: usize) -> Vec<(Letter, usize)> {
+    if state == START {
+        return vec![(Letter::Opening(0), FIRST)];
+    }
+    let opened = items.opened(state).iter().map(|to| (Letter::Opening(items.rule(*to) as u16), *to));
+    let closed = items.returns(state).into_iter().map(|to| (Letter::Closing(items.rule(state) as u16), to));
+    let passed = items.next(state).map(|code| (Letter::Symbol(code), state + 1));
+    opened.chain(closed).chain(passed).collect()
 }
 
-/// The moves of a state: each letter with the state that it leads to. In layer 1, beside the end, it opens and closes alone; in layer
-/// 0, beside itself, both pass its symbol.
-fn moves(grammar: &Grammar, state: usize) -> Vec<(Letter, usize)> {
-    let alone = records(grammar, 1, state, END);
-    let passing = records(grammar, 0, state, state).filter(|step| step.on_left == step.on_right);
-    alone.chain(passing).filter_map(|step| Some((step.on_left.letter()?, step.left))).collect()
-}
-
-impl<'a> Sets<'a> {
-    pub fn new(grammar: &'a Grammar) -> Self {
+impl Sets {
+    pub fn new(grammar: &Grammar) -> Self {
+        let items = Items::new(grammar, ambiguity::START, None);
         let moves = vec![None; grammar.states()];
         let (states, numbers) = (Vec::new(), HashMap::new());
-        Sets { grammar, moves, states, numbers, after: HashMap::new(), before: HashMap::new() }
+        Sets { items, moves, states, numbers, after: HashMap::new(), before: HashMap::new() }
     }
 
     /// The set of these states, which ascend.
@@ -70,7 +69,7 @@ impl<'a> Sets<'a> {
     fn moves(&mut self, set: Set) -> impl Iterator<Item = (usize, Letter, usize)> + '_ {
         let states = &self.states[set.0 as usize];
         for state in states {
-            self.moves[*state].get_or_insert_with(|| moves(self.grammar, *state));
+            self.moves[*state].get_or_insert_with(|| moves(&self.items, *state));
         }
         let of = |state: usize| self.moves[state].iter().flatten().map(move |(letter, to)| (state, *letter, *to));
         states.iter().flat_map(move |state| of(*state))

@@ -182,10 +182,10 @@ fn certificates_of_grammars_without_a_sentence() {
     }
 }
 
-/// A grammar of the corpus with its certificate in the second form.
+/// The grammars of the corpus that have a certificate in the second form, with it.
 fn certified() -> Vec<(Grammar, String)> {
     let of = |text: &str| {
-        let grammar = Grammar::read(text.as_bytes()).unwrap();
+        let grammar = Grammar::read(text.as_bytes()).ok().filter(|grammar| Form::Checked.has(grammar.states()))?;
         let Searched::Unambiguous { certificate, size, .. } = grammar.search() else { return None };
         let lines = lines::written(&grammar, size, &certificate, Form::Checked);
         Some((grammar, lines))
@@ -202,7 +202,8 @@ fn both_forms_give_the_same_bytes() {
         let plain = lines::written(&grammar, size, &certificate, Form::Plain);
         let runs = lines::written(&grammar, size, &certificate, Form::Runs);
         assert!(runs.len() <= checked.len() + 20, "{runs}");
-        let spread = checked.replacen("0000:", "\n\n0000:", 1);
+        let (head, bytes) = checked.split_at(checked.match_indices('\n').nth(3).unwrap().0 + 1);
+        let spread = format!("{head}\n\n{bytes}");
         for lines in [plain, checked, spread, runs.to_uppercase().replace("CERTIFICATE-FORM", "certificate-form"), runs] {
             let lines = lines.replace("STATES", "states").replace("RULES", "rules").replace("SIZE", "size");
             assert_eq!(lines::read(&grammar, lines.as_bytes()).unwrap().bytes, certificate);
@@ -330,16 +331,52 @@ fn every_bit_of_a_certificate_is_needed() {
     }
 }
 
+/// Grammar text with one nonterminal, so many rules of two terminals, and these rules more.
+fn pairs_of_terminals(rules: usize, more: &[&str]) -> String {
+    let names: Vec<String> = (0..20).map(|i| format!("a{i}")).collect();
+    let rules: Vec<String> = (0..rules).map(|i| format!("S: a{} a{}", i / 20, i % 20)).collect();
+    text(&names.join(","), "S", &rules.iter().map(String::as_str).chain(more.iter().copied()).collect::<Vec<_>>())
+}
+
 #[test]
 fn the_largest_grammar() {
-    let rules: Vec<String> = (0..84).map(|i| format!("S: a{} a{}", i / 10, i % 10)).collect();
-    let text = text("a0,a1,a2,a3,a4,a5,a6,a7,a8,a9", "S", &rules.iter().map(String::as_str).collect::<Vec<_>>());
+    let text = pairs_of_terminals(340, &[]);
     let grammar = file("largest", &text);
-    let Ran { status, out: lines, .. } = run(CERTIFY, &["--form=1", &grammar], b"");
-    assert_eq!((status, lines.lines().count()), (0, 4 + 16_384 / 32));
-    assert!(lines.starts_with("certificate-form=1\nstates=256\nrules=84\nsize="));
+    let lines = certify(&text).out;
+    assert!(lines.starts_with("certificate-form=3\nstates=1024\nrules=340\nsize="), "{lines}");
+    assert_eq!(run(CERTIFY, &["--form=3", &grammar], b""), said(0, &lines));
     assert_eq!(check(&grammar, &lines), said(0, "accepted\n"));
-    assert_eq!(check(&grammar, &certify(&text).out), said(0, "accepted\n"));
+    // Bytes alone, with line ends of two bytes: there are no longer lines.
+    let grammar = Grammar::read(text.as_bytes()).unwrap();
+    let lines = lines::written(&grammar, 8 * 262_144, &[0xff; 262_144], Form::Runs).replace('\n', "\r\n");
+    assert!(lines.len() < lines::MOST_BYTES && lines.contains("\n3fff0: "), "{}", lines.len());
+    assert_eq!(lines::read(&grammar, lines.as_bytes()).unwrap().bytes, [0xff; 262_144]);
+}
+
+/// Offsets of four digits serve up to 512 states: forms 1 and 2 end there.
+#[test]
+fn forms_by_states() {
+    // 4 states, 3 for each pair, 4 for the last rule.
+    let text = pairs_of_terminals(168, &["S: a0 a0 a0"]);
+    let grammar = file("states-512", &text);
+    for (form, last) in [("--form=1", "\nffe0: "), ("--form=2", "*"), ("--form=3", "*")] {
+        let lines = run(CERTIFY, &[form, &grammar], b"").out;
+        assert!(lines.contains("\nstates=512\n") && lines.contains(last), "{lines}");
+        assert_eq!(check(&grammar, &lines), said(0, "accepted\n"));
+    }
+    assert_eq!(certify(&text), run(CERTIFY, &["--form=2", &grammar], b""));
+    let more = pairs_of_terminals(168, &["S: a0 a0 a0 a0"]);
+    let grammar = file("states-513", &more);
+    let lines = certify(&more).out;
+    assert!(lines.starts_with("certificate-form=3\nstates=513\n"), "{lines}");
+    assert_eq!(check(&grammar, &lines), said(0, "accepted\n"));
+    for form in [1, 2] {
+        let message = format!("form {form} has at most 512 states; the grammar has 513\n");
+        let ran = run(CERTIFY, &[&format!("--form={form}"), &grammar], b"");
+        assert_eq!((ran.status, ran.out.as_str(), ran.err), (2, "", format!("{grammar}: error: {message}")));
+        let ran = check(&grammar, &lines.replacen("form=3", &format!("form={form}"), 1));
+        assert_eq!((ran.status, ran.err), (1, format!("<stdin>:1:18: error: {message}")));
+    }
 }
 
 /// Several wrong lines are told at once, each by its line.

@@ -52,7 +52,7 @@ fn what_is_still_wrong() {
         ("%token A\nS: A;\n", "error: '%%' is not found, behind which the rules stand\n"),
         ("%%\ns: A { x ;\n", "error: an action in braces does not end\n"),
         (&format!("S = {}", "(".repeat(9000)), "error: brackets are nested too deeply\n"),
-        (&(0..3000).map(|i| format!("a{i} -> b ;")).collect::<String>(), "error: there are more than 2000 names or rules\n"),
+        (&(0..9000).map(|i| format!("a{i} -> b ;")).collect::<String>(), "error: there are more than 8000 names or rules\n"),
     ] {
         let (status, out, err) = fixed(text);
         assert_eq!((status, out.as_str()), (4, ""), "{text}");

@@ -48,9 +48,9 @@ fn messages_differ() {
 
 #[test]
 fn a_text_over_the_limit() {
-    let text = "terminals=\n".repeat(6000);
+    let text = "terminals=\n".repeat(24_000);
     let ran = certify(&text);
-    let message = "<stdin>:5958:10: error: the text has more than 65536 bytes; that is the limit (refused=16 at=0)\n";
+    let message = "<stdin>:23832:4: error: the text has more than 262144 bytes; that is the limit (refused=16 at=0)\n";
     assert_eq!((ran.status, ran.err.as_str()), (4, message));
 }
 
@@ -102,6 +102,27 @@ fn many_nonterminals_without_a_tree() {
     assert!(certify(&text).err.starts_with(&named(&|_| false)));
     let mended = certify(&(text + "rule=N126: a\n"));
     assert!(mended.err.starts_with(&named(&|i| i == 126 || (1..100).contains(&i) && i % 2 == 0)), "{}", mended.err);
+    // Of many the first ones are named.
+    let names: Vec<String> = (0..2_000).map(|i| format!("N{i}")).collect();
+    let said = certify(&format!("terminals=\nnonterminals={}\n", names.join(","))).err;
+    assert!(said.contains("'N18', 'N19' and 1980 others have no finite tree; give one of them "), "{said}");
+}
+
+/// As many lines as a text can have, each with the same mistake or with one of its own: they are told in no time.
+#[test]
+fn many_mistakes() {
+    let list = |letter: &str| (0..2_000).map(|i| format!("{letter}{i}")).collect::<Vec<_>>().join(",");
+    let lists = format!("terminals={}\nnonterminals={}\n", list("reagent-"), list("N"));
+    let same = format!("{lists}{}", "rule=N0: reagent-x\n".repeat(11_000));
+    let ran = certify(&same);
+    assert_eq!((ran.status, ran.err.lines().count()), (4, 1));
+    assert!(ran.err.starts_with("<stdin>:3:10: error: 'reagent-x' is not declared; is 'reagent-0' meant?"), "{}", ran.err);
+    let each: String = (0..10_000).map(|i| format!("rule=N0: reagnet-{i}\n")).collect();
+    let ran = certify(&format!("{lists}{each}"));
+    assert_eq!((ran.status, ran.err.lines().count()), (4, 20));
+    assert!(ran.err.contains("<stdin>:22:10: error: 'reagnet-19' is not declared; is 'reagent-19' meant?\n"), "{}", ran.err);
+    let twice = format!("terminals={},a7\n", (0..35_000).map(|i| format!("a{i}")).collect::<Vec<_>>().join(","));
+    assert!(certify(&twice).err.contains("'a7' is declared twice, first on line 1, column 32; take one of them out"));
 }
 
 /// What the search says of a text: the verdict, with the size or the number of the witness's entries, and how much it looked at.

@@ -272,11 +272,11 @@ fn lines_over_the_limit() {
     let ran = run(CHECK, &["--lines", &file("over-the-limit", &odd()), "-"], lines.as_bytes());
     assert_eq!(
         (ran.status, ran.out.as_str(), ran.err.as_str()),
-        (2, "", "<stdin>: error: more than 8388608 bytes; that is the limit\n")
+        (2, "", "<stdin>: error: more than 67108864 bytes; that is the limit\n")
     );
 }
 
-/// Two ways to make a row of one terminal, which agree only in rows of some thousands: as large as a grammar can be.
+/// Two ways to make a row of one terminal, which agree only in rows of many thousands: as large as a grammar can be.
 #[test]
 fn long_witnesses() {
     let ring = |name: &str, count: usize| {
@@ -285,16 +285,16 @@ fn long_witnesses() {
         let rule = |step: usize| format!("{}:{} {}", of(step), " a".repeat((count - 11 * step).min(11)), of(step + 1));
         ((1..steps).map(of).collect::<Vec<_>>(), (0..steps).map(rule).collect::<Vec<_>>())
     };
-    let ((names, rules), (other_names, other_rules)) = (ring("A", 97), ring("B", 101));
+    let ((names, rules), (other_names, other_rules)) = (ring("A", 421), ring("B", 431));
     let nonterminals = [vec!["S".to_string(), "A".to_string(), "B".to_string()], names, other_names].concat().join(",");
     let first = ["S: A", "S: B", "A:", "B: a"].map(String::from).to_vec();
     let rules = [first, rules, other_rules].concat();
     let text = text("a", &nonterminals, &rules.iter().map(String::as_str).collect::<Vec<_>>());
     let path = file("long-witnesses", &text);
     let quiet = run(CERTIFY, &["--quiet", &path], b"").out;
-    assert!(quiet.starts_with("states=247\nverdict=potential\nleft=(0 "), "{quiet}");
+    assert!(quiet.starts_with("states=1021\nverdict=potential\nleft=(0 "), "{quiet}");
     let lines: String = quiet.split_inclusive('\n').skip(2).collect();
-    assert!(lines.len() > 5_000, "{}", lines.len());
+    assert!(lines.len() > 50_000, "{}", lines.len());
     assert_eq!(run(CHECK, &["--lines", &path, "-"], lines.as_bytes()), said(0, "accepted\n"));
 }
 

@@ -21,7 +21,7 @@ use sound.WpLaws.{fmOf, WpFn-mono}
 use denote.RattleType.{owns}
 use denote.Laws.{Is, shows}
 use denote.Plain.{uint-makes, uint-vals, uint-tells}
-use denote.Builtin.{u8, usize}
+use denote.Builtin.{u16, usize}
 use denote.Ref.{RefT, now}
 use denote.Slice.{sliceVal, ShrSlice, Room, slice-vals, shr-slice-tells, shr-slice-lawful, shr-slice-copy}
 use denote.Signature.{plain}
@@ -61,7 +61,7 @@ use Rattle.ambiguity_c.proofs.ambiguity_check_witness_records.Statement
 use Rattle.ambiguity_c.proofs.ambiguity_check_witness_records.Code as code
 
 abbrev stayed : Stays (f.ended .signature .params) (f.ended .kept)
-stayed = (stay-none (λ _. usize) yes, (stay-none (λ _. usize) yes, (stay-none-slice (0 ∷ []) tt (plain (λ _. u8)) yes, (stay-none-slice (1 ∷ []) tt (plain (λ _. T.the-row)) yes, tt))))
+stayed = (stay-none (λ _. usize) yes, (stay-none (λ _. usize) yes, (stay-none-slice (0 ∷ []) tt (plain (λ _. u16)) yes, (stay-none-slice (1 ∷ []) tt (plain (λ _. T.the-row)) yes, tt))))
 
 module _ {M : Type 1} (𝓤 : URA M) (H : Heap 𝓤) (A : Atoms 𝓤) (W : Given 𝓤 H A) (mem : Memory → SProp 𝓤) (run : Routine → Fun 𝓤) where
   -- the contracts that the proof cites
@@ -102,7 +102,7 @@ module _ {M : Type 1} (𝓤 : URA M) (H : Heap 𝓤) (A : Atoms 𝓤) (W : Given
   Post = walkOf 𝓤 H A f.ended stayed (f.clauses 𝓤 H A mem run) .post (((κ, (κ′, tt)), (q, (q′, tt)), tt, x, at), tt)
 
   abbrev OwnT : Fml
-  OwnT = ShrSlice (named 0) κ u8 .own s (sv ∷ [])
+  OwnT = ShrSlice (named 0) κ u16 .own s (sv ∷ [])
 
   abbrev OwnE : Fml
   OwnE = ShrSlice (named 1) κ′ T.the-row .own es (sliceVal (b, o) n ∷ [])
@@ -113,14 +113,14 @@ module _ {M : Type 1} (𝓤 : URA M) (H : Heap 𝓤) (A : Atoms 𝓤) (W : Given
 
   goes-check : ent 𝓤 (onEntry 𝓤 H A f.signature (κ, (κ′, tt)) (q, (q′, tt)) x at) (sep 𝓤 (Check 𝓤 H A W mem run .pre to-check) (sep 𝓤 (sem 𝓤 H A OwnT) (sem 𝓤 H A OwnE)))
   goes-check =
-      qed W ((‵ (flft κ q) ⊛ (‵ (flft κ′ q′) ⊛ ‵ ftrue)) ∷ ‵ (owns (usize ∷ usize ∷ ShrSlice (named 0) κ u8 ∷ ShrSlice (named 1) κ′ T.the-row ∷ []) x at) ∷ []) ∵
+      qed W ((‵ (flft κ q) ⊛ (‵ (flft κ′ q′) ⊛ ‵ ftrue)) ∷ ‵ (owns (usize ∷ usize ∷ ShrSlice (named 0) κ u16 ∷ ShrSlice (named 1) κ′ T.the-row ∷ []) x at) ∷ []) ∵
       move ! (1 ∷ []) $ fsplit ! $ move ! (1 ∷ []) $ fsplit ! $ move ! (1 ∷ []) $ fsplit ! $
-      use1 W (‵ OwnT ⊛ ‵ OwnT) (shr-slice-copy 𝓤 H A W (named 0) κ u8 .twice s (sv ∷ [])) $ split ! $ move ! (2 ∷ []) $ fsplit ! $
+      use1 W (‵ OwnT ⊛ ‵ OwnT) (shr-slice-copy 𝓤 H A W (named 0) κ u16 .twice s (sv ∷ [])) $ split ! $ move ! (2 ∷ []) $ fsplit ! $
       use1 W (‵ OwnE ⊛ ‵ OwnE) (shr-slice-copy 𝓤 H A W (named 1) κ′ T.the-row .twice es (sliceVal (b, o) n ∷ [])) $ split ! $
       -- [the records; the records; nothing; the table; the table; n; t; the tokens]
       move ! (0 ∷ 2 ∷ []) $ fjoin ! $ move ! (2 ∷ 0 ∷ []) $ fjoin ! $ move ! (3 ∷ 0 ∷ []) $ fjoin ! $ move ! (3 ∷ 0 ∷ []) $ fjoin ! $ move ! (3 ∷ 0 ∷ []) $
       use2 W (raw (Check 𝓤 H A W mem run .pre to-check))
-      (qed W ((‵ (flft κ q) ⊛ (‵ (flft κ′ q′) ⊛ ‵ ftrue)) ∷ ‵ (owns (usize ∷ usize ∷ ShrSlice (named 0) κ u8 ∷ ShrSlice (named 1) κ′ T.the-row ∷ []) x at) ∷ []) ∵ join ! $ frame ! $ done !) $
+      (qed W ((‵ (flft κ q) ⊛ (‵ (flft κ′ q′) ⊛ ‵ ftrue)) ∷ ‵ (owns (usize ∷ usize ∷ ShrSlice (named 0) κ u16 ∷ ShrSlice (named 1) κ′ T.the-row ∷ []) x at) ∷ []) ∵ join ! $ frame ! $ done !) $
       frame ! $ move ! (1 ∷ 0 ∷ []) $ frame ! $ done !
 
   checked-of : (r : CheckVerdict) → ent 𝓤 (ensured 𝓤 H A check.ended (check.clauses 𝓤 H A mem run) (κ, (κ′, tt)) x tt r) (fact 𝓤 (RecordsAnswer tv nv (now s) ys r))
@@ -137,12 +137,12 @@ module _ {M : Type 1} (𝓤 : URA M) (H : Heap 𝓤) (A : Atoms 𝓤) (W : Given
       owned ! usize (Is usize) (uint-makes 𝓤 H A W w64) tv (vint w64 tv ∷ []) (refl, ht) $ fjoin ! $ frame ! $ done !
 
   walk : (𝓣 : Tables 𝓤 H) → Triple 𝓤 (𝓣 .C #check) (Check 𝓤 H A W mem run) → Triple 𝓤 (𝓣 .C #tell) (Tell 𝓤 H A W mem run)
-      → Is (ShrSlice (named 0) κ u8) s (sv ∷ []) → Room T.the-row n
+      → Is (ShrSlice (named 0) κ u16) s (sv ∷ []) → Room T.the-row n
       → ent 𝓤 (onEntry 𝓤 H A f.signature (κ, (κ′, tt)) (q, (q′, tt)) x at) (WpFn 𝓤 H (𝓣 .C) (𝓣 .Λ) code.function (vint w64 tv ∷ vint w64 nv ∷ sv ∷ sliceVal (b, o) n ∷ []) Post)
   walk 𝓣 known-check known-tell gs gn =
       qed W (raw (onEntry 𝓤 H A f.signature (κ, (κ′, tt)) (q, (q′, tt)) x at) ∷ []) ∵ enter ! (𝓣 .C) (𝓣 .Λ) code.function (vint w64 tv ∷ vint w64 nv ∷ sv ∷ sliceVal (b, o) n ∷ []) _ $
       alloc1 ! (λ l₀. alloc1 ! (λ l₁. alloc1 ! (λ l₂. alloc1 ! (λ l₃. alloc1 ! (λ l₄. alloc1 ! (λ l₅. alloc0 ! $ params1 ! $
-      pass1 ! (init ! 8 refl (tt, record { fits = ht })) $ pass1 ! (init ! 6 refl (tt, record { fits = hn })) $ pass1 ! (init ! 4 refl (shr-slice-lawful 𝓤 H A W (named 0) κ u8 .typed s (sv ∷ []) gs .0)) $
+      pass1 ! (init ! 8 refl (tt, record { fits = ht })) $ pass1 ! (init ! 6 refl (tt, record { fits = hn })) $ pass1 ! (init ! 4 refl (shr-slice-lawful 𝓤 H A W (named 0) κ u16 .typed s (sv ∷ []) gs .0)) $
       pass1 ! (init ! 2 refl (tt, (tt, (record { fits = gn .0 }, tt)))) $ pass0 ! $
       -- [room for _5; …; _4; …; _3; …; _2; …; _1; …; room for _0; …; what came in]
       move ! (12 ∷ []) $ use1 W (raw (Check 𝓤 H A W mem run .pre to-check) ⊛ (‵ OwnT ⊛ ‵ OwnE)) goes-check $ split ! $
@@ -173,7 +173,7 @@ module _ {M : Type 1} (𝓤 : URA M) (H : Heap 𝓤) (A : Atoms 𝓤) (W : Given
     goes-none 𝓤 H A W 2 (λ _. usize) yes (λ κs x f. refl),
     (
       goes-none 𝓤 H A W 2 (λ _. usize) yes (λ κs x f. refl),
-      (goes-none-slice 𝓤 H A W 2 (0 ∷ []) tt (plain (λ _. u8)) yes, (goes-none-slice 𝓤 H A W 2 (1 ∷ []) tt (plain (λ _. T.the-row)) yes, tt)),
+      (goes-none-slice 𝓤 H A W 2 (0 ∷ []) tt (plain (λ _. u16)) yes, (goes-none-slice 𝓤 H A W 2 (1 ∷ []) tt (plain (λ _. T.the-row)) yes, tt)),
     ),
   )
 
@@ -181,7 +181,7 @@ module _ {M : Type 1} (𝓤 : URA M) (H : Heap 𝓤) (A : Atoms 𝓤) (W : Given
     walks : Walks 𝓤 H A f.ended stayed (WpFn 𝓤 H (𝓣 .C) (𝓣 .Λ) code.function) (f.clauses 𝓤 H A mem run)
     walks = walked 𝓤 H A f.ended stayed (f.clauses 𝓤 H A mem run) (WpFn 𝓤 H (𝓣 .C) (𝓣 .Λ) code.function)
         (λ κs. (uint-vals w64, (uint-vals w64, (slice-vals, (slice-vals, tt)))))
-        (λ κs. (uint-tells w64, (uint-tells w64, (shr-slice-tells (named 0) (κs .0) u8, (shr-slice-tells (named 1) (κs .1 .0) T.the-row, tt)))))
+        (λ κs. (uint-tells w64, (uint-tells w64, (shr-slice-tells (named 0) (κs .0) u16, (shr-slice-tells (named 1) (κs .1 .0) T.the-row, tt)))))
         (λ κs qs bounds a g are. via 𝓤 _ (fst∗ 𝓤 _ (emp 𝓤))
         (walk 𝓤 H A W mem run (κs .0) (κs .1 .0) (qs .0) (qs .1 .0) (a .0) (a .1 .0) (are .0 .1) (are .1 .0 .1) (a .1 .1 .0) (a .1 .1 .1 .0 .ptr .0) (a .1 .1 .1 .0 .ptr .1) (a .1 .1 .1 .0 .name) (a .1 .1 .1 .0 .now)
         𝓣 known-check known-tell (are .1 .1 .0) (are .1 .1 .1 .0 .0 .1)))

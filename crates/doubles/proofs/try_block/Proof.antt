@@ -11,11 +11,14 @@ use Rattle.doubles.proofs.Blocks.{told-stand, told-on}
 use Rattle.doubles.proofs.try_block.Statement.{statement}
 use Rattle.doubles.proofs.try_block.Tie as tie
 
-abbrev lent : tie.After-keep-arg2 → tie.Start
-lent c = c .before .before .before .before .before .before .before
+abbrev entry : tie.After-clear → tie.Start
+entry c = c .before .before .before .before .before .before .before
+
+abbrev cleared : tie.After-keep-arg2 → tie.After-clear
+cleared c = c .before .before .before .before
 
 abbrev start : tie.After-keep → tie.Start
-start c = lent (c .before)
+start c = entry (cleared (c .before))
 
 -- the block, as it was kept
 abbrev kept : tie.After-stand-twice-arg → tie.After-keep
@@ -37,8 +40,11 @@ starts-room c = omega (arith, c .keep .ensures .0)
 lengths-room : (c : tie.After-keep) → c .keep .result .count ≤ length (lengths c)
 lengths-room c = omega (arith, c .keep .ensures .0)
 
+clear-requires : tie.Need-clear-requires
+clear-requires c κs = search needs
+
 keep-requires : tie.Need-keep-requires
-keep-requires c κs = let p = lent c .pre in (p .0, p .1, p .2 .some, p .2 .paired)
+keep-requires c κs = let p = entry (cleared c) .pre in (p .0, p .1, p .2 .some, p .2 .paired)
 
 slice-reshare-prefix-stand-twice : tie.Need-slice-reshare-prefix-stand-twice
 slice-reshare-prefix-stand-twice c = starts-room (c .before .before .before .before)
@@ -54,9 +60,9 @@ slice-aggregate-stand-twice-2 c = sym (length-take-le _ _ (lengths-room (kept (c
 
 stand-twice-requires : tie.Need-stand-twice-requires
 stand-twice-requires c κs =
-    let k = kept (c .before .before) in let r = start k .pre .2 in
+    let k = kept (c .before .before) in let r = start k .pre .2 in let w = cleared (k .before) in
     let n = length-take-le (k .keep .result .count) (starts k) (starts-room k) in
-    ((k .keep .ensures .1 .1 .spans, omega (arith, n, k .keep .ensures .0, r .few), omega (arith, n, k .keep .ensures .0, r .room)), r .empty)
+    ((k .keep .ensures .1 .1 .spans, omega (arith, n, k .keep .ensures .0, r .few), omega (arith, n, k .keep .ensures .0, r .room, w .clear .kept .0)), w .clear .ensures)
 
 same-length : tie.Need-same-length
 same-length c = search needs
@@ -92,6 +98,7 @@ pub try-block-spec : {M : Type 1} → statement M
 try-block-spec =
     tie.close
     (tie.spec
+    clear-requires
     keep-requires
     slice-reshare-prefix-stand-twice
     slice-aggregate-stand-twice

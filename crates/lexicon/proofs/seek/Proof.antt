@@ -14,15 +14,15 @@ use Rattle.lexicon.proofs.seek.Statement.{statement}
 use Rattle.lexicon.proofs.seek.Tie as tie
 
 abbrev Inv-loop : tie.InvT-loop
-Inv-loop text starts lengths links count x q₀ d₀ q d =
+Inv-loop text starts lengths links count x key q₀ d₀ q d =
     (q < count) × (d ≤ q) × Still (nameOf text starts lengths) links count x q d × Led (nameOf text starts lengths) links count x q d
 
 abbrev μ-loop : tie.MeasureT-loop
-μ-loop text starts lengths links count x q₀ d₀ q d = count - q
+μ-loop text starts lengths links count x key q₀ d₀ q d = count - q
 
 -- from a place back to an earlier one
 abbrev start : tie.At-loop Inv-loop μ-loop → tie.Start Inv-loop μ-loop
-start c = c .before .before .before .before .before .before
+start c = c .before .before .before .before .before .before .before
 
 abbrev turn : tie.After-wide2 Inv-loop μ-loop → tie.At-loop Inv-loop μ-loop
 turn c = c .before .before .before .before
@@ -49,9 +49,12 @@ same c t h =
     compared (a .text .now) (a .starts .now) (a .lengths .now) (a .x .now) (l .loop .q) (w .before .before .wide .result) (w .wide2 .result) (c .same-name .result) t
     (w .before .before .wide .ensures) (w .wide2 .ensures) (c .same-name .ensures) h
 
+key-of-requires : tie.Need-key-of-requires Inv-loop μ-loop
+key-of-requires c κs = search needs
+
 loop-holds : tie.Need-loop-holds Inv-loop μ-loop
 loop-holds c =
-    let e = c .before .before .before .before .before in
+    let e = c .before .before .before .before .before .before in
     let s = seek-start (name e) (e .args .links .now) (e .args .count) (e .args .x .now) (e .pre .1) in
     (e .pre .1 .root, omega arith, s .0, s .1)
 
@@ -147,6 +150,7 @@ seek-spec =
     (tie.spec
     Inv-loop
     μ-loop
+    key-of-requires
     loop-holds
     mul-wide
     shared-slice-read-wide

@@ -63,7 +63,7 @@ returns-2 : tie.Need-returns-2
 returns-2 c = wrote-as (sym (is-closing (c .before .before .before .before))) (c .before .before .put-mark2 .ensures)
 
 cast-symbol : tie.Need-cast-symbol
-cast-symbol c = omega (arith, spelt c .byte)
+cast-symbol c = omega (arith, spelt c .fits)
 
 symbol-requires : tie.Need-symbol-requires
 symbol-requires c κs = (spelt c .some, start (c .before .before) .pre .0 .names .few-terminals)

@@ -188,6 +188,12 @@ returns-3 : tie.Need-returns-3 Inv-loop μ-loop
 returns-3 c =
     ap (λ (g : CheckedGrammar). record { verdict = Passed; grammar = g }) (c .before .loop .inv .shows) ∙ walk-end (c .before .loop .inv) (c .loop-test .left)
 
+mul-put-codes : tie.Need-mul-put-codes Inv-loop μ-loop
+mul-put-codes c = search needs
+
+mul-code : tie.Need-mul-code Inv-loop μ-loop
+mul-code c = search needs
+
 pub check-stored-spec : {M : Type 1} → statement M
 check-stored-spec =
     tie.close
@@ -209,6 +215,7 @@ check-stored-spec =
     add-put-codes
     add-put-codes-2
     add-put-codes-3
+    mul-put-codes
     sub-put-codes
     part-put-codes-start
     part-put-codes-end
@@ -216,6 +223,7 @@ check-stored-spec =
     cast-g
     mul-g
     element-write-g
+    mul-code
     shared-slice-read-code
     code-requires
     mul-g-2

@@ -1,13 +1,14 @@
 -- `text_read::declaring::check_heads` meets its contract: the first line read; the rest is that of `second_head`. Assumes nothing.
 use borrow.Author.Needs.{needs}
 use native.Mathlib.Omega.{arith}
-use mathlib.Core.Path.{refl, subst, _∙_}
+use mathlib.Core.Path.{refl, subst}
 use mathlib.Core.List.{[]}
 use Rattle.grammar.specs.Limits.{limits}
 use Rattle.names.proofs.Pieces.{names-none}
 use Rattle.text_read.specs.Values.{DeclaredTold}
 use Rattle.text_read.proofs.Declarations.{told-names, told-fault, told-held, first-missing, first-fault, first-names}
-use Rattle.text_read.proofs.Held.{ready-first, spelt-first, first-held}
+use Rattle.text_read.proofs.Held.{ready-first, first-held}
+use Rattle.text_read.proofs.Rooms.{rows-kept}
 use Rattle.text_read.proofs.declaring.check_heads.Statement.{statement}
 use Rattle.text_read.proofs.declaring.check_heads.Tie as tie
 
@@ -48,14 +49,7 @@ part-declare-end c = search needs
 declare-requires : tie.Need-declare-requires
 declare-requires c κs =
     let f = c .before .before .before .before .before in let e = entry f in let a = e .args in
-    record {
-      known = omega arith;
-      least = omega arith;
-      low = f .find .ensures .low;
-      high = f .find .ensures .high;
-      ready = ready-first (a .text .now) (a .starts .now) (a .lengths .now) (a .links .now) (e .pre .0) (e .pre .1) (e .pre .2) (e .pre .3) (e .pre .4);
-      spelt = spelt-first (a .text .now) (a .starts .now) (a .lengths .now);
-    }
+    ready-first (a .text .now) (a .starts .now) (a .lengths .now) (a .links .now) (f .find .result) (f .find .ensures .high) (e .pre .0) (e .pre .1) (e .pre .2)
 
 enum-known-cause : tie.Need-enum-known-cause
 enum-known-cause c = search needs
@@ -74,7 +68,7 @@ second-head-requires c κs =
       first-held (a .text .now) (g .0 .0) (f .find .result) (g .0 .1 .0) (a .starts .now) (a .lengths .now) (x .0) (x .1 .0) (x .1 .1 .0)
           (told-held (a .text .now) (f .find .result) 0 (a .starts .now) (a .lengths .now) (x .0) (x .1 .0) (x .1 .1 .0) (d .declare .result)
           (g .0 .0) (g .0 .1 .0) (g .1) (d .declare .ensures .1))
-          (y .0 ∙ e .pre .1) (y .1 .0 ∙ e .pre .2) (y .1 .1 .0 ∙ e .pre .3),
+          (rows-kept (e .pre .1) (y .0) (y .1 .0) (y .1 .1 .0)),
     )
 
 same-length : tie.Need-same-length

@@ -19,7 +19,7 @@ use Rattle.names.specs.Found.{part}
 use Rattle.lexicon.proofs.Growth.{lexicon-once}
 use Rattle.text_read.proofs.Values.{told-value, told-none, count-bad, count-all, decl-none, decl-bad, decl-double, decl-few, decl-many, decl-done}
 use Rattle.text_read.proofs.Declarations.{line-value}
-use Rattle.text_read.proofs.Held.{fewer}
+use Rattle.text_read.proofs.Held.{value-room}
 use Rattle.text_read.proofs.declaring.declare.Statement.{statement}
 use Rattle.text_read.proofs.declaring.declare.Tie as tie
 
@@ -35,6 +35,12 @@ shown c = c .before .before
 
 abbrev counted-at : tie.After-known-told2 → tie.After-count-names
 counted-at c = c .before .before .before
+
+abbrev many-at : tie.After-slice-known6 → tie.After-many
+many-at c = c .before .before .before .before .before .before
+
+abbrev long : tie.After-many → tie.Then1
+long c = c .before .before .before .before
 
 abbrev passed : tie.After-keep → tie.Else2
 passed c = c .before .before .before .before
@@ -63,7 +69,7 @@ all-names d = let m = d .before .count .given in count-all (m .0 .0) _ (sym (cou
 
 -- no name stands twice in the earlier value
 once : (e : tie.Start) → hasDouble (namesOf (e .args .earlier .now)) ≡ false
-once e = sym (ap hasDouble (e .pre .spelt)) ∙ lexicon-once _ _ _ _ (e .pre .ready .tree)
+once e = sym (ap hasDouble (e .pre .spelt)) ∙ lexicon-once _ _ _ _ (e .pre .tree)
 
 -- the names of the rows are those of the earlier value
 doubled : (w : tie.After-keep) (t : Bool) → let k = shown (counted-at (tried w)) in let a = entry (split k) .args in
@@ -127,17 +133,26 @@ returns-2 c =
 
 many-requires : tie.Need-many-requires
 many-requires c κs =
-    let d = c .before in let k = shown (counted-at d) in let e = entry (split k) in let a = e .args in
+    let d = c .before .before .before .before in let k = shown (counted-at d) in let e = entry (split k) in let a = e .args in
     let b = a .a + k .before .start .given .0 .0 in
     let l = length-take-le (a .e - b) (drop b (a .text .now)) (omega (arith, e .pre .high, length-drop b (a .text .now))) in
     let h = told-value (a .k) _ (split k .key-split .result) (k .before .start .given .0 .0) _ (k .before .start .given .1) (split k .key-split .ensures) in
-    (omega (arith, l, h .starts, value k .0, e .pre .high, e .pre .ready .short), once e)
+    (omega (arith, l, h .starts, value k .0, e .pre .high, e .pre .short), once e, e .pre .rows .lent)
+
+same-length : tie.Need-same-length
+same-length c = search needs
+
+same-length-2 : tie.Need-same-length-2
+same-length-2 c = search needs
+
+same-length-3 : tie.Need-same-length-3
+same-length-3 c = search needs
 
 returns-3 : tie.Need-returns-3
 returns-3 c =
-    let d = c .before .before in let k = shown (counted-at d) in let e = entry (split k) in let a = e .args in (
+    let y = many-at c in let d = long y .before in let k = shown (counted-at d) in let e = entry (split k) in let a = e .args in (
       decl-many (a .at) (a .k) (a .lo) (a .hi) (namesOf (a .earlier .now)) (part (a .a) (a .e) (a .text .now)) _ (value k .1) (all-names d .0)
-          (omega (arith, c .before .if1 .taken, all-names d .1)) ∙ ap (λ x. refused x (a .at)) (sym (c .many .ensures)),
+          (omega (arith, long y .if1 .taken, all-names d .1)) ∙ ap (λ x. refused x (a .at)) (sym (y .many .ensures)),
       tt,
     )
 
@@ -151,17 +166,24 @@ returns-4 c =
 
 keep-requires : tie.Need-keep-requires
 keep-requires c κs =
-    let d = c .before .before .before .before .before in let k = shown (counted-at d) in let e = entry (split k) in
-    (value k .0, e .pre .high, all-names d .1, fewer (e .pre .ready) (omega (arith, c .before .before .before .before .if1 .left)))
+    let d = c .before .before .before .before .before in let k = shown (counted-at d) in let e = entry (split k) in let a = e .args in
+    let g = k .before .start .given in
+    let h = told-value (a .k) _ (split k .key-split .result) (g .0 .0) (g .0 .1 .0) (g .1) (split k .key-split .ensures) in (
+      value k .0,
+      e .pre .high,
+      all-names d .1,
+      value-room (a .k) (a .lo) (a .hi) (a .earlier .now) (a .text .now) (a .a) (a .e) (a .from) (a .starts .now) (a .lengths .now) (a .links .now) (e .pre)
+          (a .a + g .0 .0) _ (omega (arith, h .starts)) (value k .0) (all-names d .1) (omega (arith, c .before .before .before .before .if1 .left)),
+    )
 
-same-length : tie.Need-same-length
-same-length c = search needs
+same-length-4 : tie.Need-same-length-4
+same-length-4 c = search needs
 
-same-length-2 : tie.Need-same-length-2
-same-length-2 c = search needs
+same-length-5 : tie.Need-same-length-5
+same-length-5 c = search needs
 
-same-length-3 : tie.Need-same-length-3
-same-length-3 c = search needs
+same-length-6 : tie.Need-same-length-6
+same-length-6 c = search needs
 
 returns-5 : tie.Need-returns-5
 returns-5 c =
@@ -180,14 +202,14 @@ returns-5 c =
       w .keep .ensures .1 (c .if3 .taken),
     )
 
-same-length-4 : tie.Need-same-length-4
-same-length-4 c = search needs
+same-length-7 : tie.Need-same-length-7
+same-length-7 c = search needs
 
-same-length-5 : tie.Need-same-length-5
-same-length-5 c = search needs
+same-length-8 : tie.Need-same-length-8
+same-length-8 c = search needs
 
-same-length-6 : tie.Need-same-length-6
-same-length-6 c = search needs
+same-length-9 : tie.Need-same-length-9
+same-length-9 c = search needs
 
 returns-6 : tie.Need-returns-6
 returns-6 c =
@@ -217,14 +239,17 @@ declare-spec =
     enum-told-2
     returns-2
     many-requires
-    returns-3
-    returns-4
-    keep-requires
     same-length
     same-length-2
     same-length-3
-    returns-5
+    returns-3
+    returns-4
+    keep-requires
     same-length-4
     same-length-5
     same-length-6
+    returns-5
+    same-length-7
+    same-length-8
+    same-length-9
     returns-6)

@@ -6,7 +6,7 @@ use Rattle.grammar.specs.Limits.{limits}
 use Rattle.text.specs.Read.{namesOf}
 use Rattle.names.specs.Found.{part}
 use Rattle.text_read.proofs.Declarations.{told-names, told-fault, told-held, second-missing, second-fault, second-names}
-use Rattle.text_read.proofs.Held.{ready-second, spelt-second, heads-read}
+use Rattle.text_read.proofs.Held.{ready-second, heads-read}
 use Rattle.text_read.proofs.declaring.second_head.Statement.{statement}
 use Rattle.text_read.proofs.declaring.second_head.Tie as tie
 
@@ -45,15 +45,9 @@ part-declare-end c = search needs
 
 declare-requires : tie.Need-declare-requires
 declare-requires c κs =
-    let l = c .before .before .before .before in let e = entry (l .before) in let a = e .args in
-    record {
-      known = omega arith;
-      least = omega arith;
-      low = l .before .find .ensures .low;
-      high = l .before .find .ensures .high;
-      ready = ready-second (a .text .now) (a .first) (a .end) (a .terminals) (a .starts .now) (a .lengths .now) (a .links .now) (e .pre .0) (e .pre .1);
-      spelt = spelt-second (a .text .now) (a .first) (a .end) (a .terminals) (a .starts .now) (a .lengths .now) (a .links .now) (e .pre .0) (e .pre .1);
-    }
+    let f = c .before .before .before .before .before in let e = entry f in let a = e .args in
+    ready-second (a .text .now) (a .first) (a .end) (a .terminals) (a .starts .now) (a .lengths .now) (a .links .now) (e .pre .0) (e .pre .1)
+    (f .find .result) (f .find .ensures .low) (f .find .ensures .high)
 
 enum-known-cause : tie.Need-enum-known-cause
 enum-known-cause c = search needs

@@ -8,6 +8,9 @@ use Rattle.text_read.proofs.rules.put_entry.Tie as tie
 returns : tie.Need-returns
 returns c = let a = c .before .args in sym (set-out (a .row .now) (a .j) (a .x) (c .if1 .taken))
 
+mul-row : tie.Need-mul-row
+mul-row c = search needs
+
 slice-write-row : tie.Need-slice-write-row
 slice-write-row c = search needs
 
@@ -18,4 +21,4 @@ returns-2 : tie.Need-returns-2
 returns-2 c = search needs
 
 pub put-entry-spec : {M : Type 1} → statement M
-put-entry-spec = tie.close (tie.spec returns slice-write-row same-length returns-2)
+put-entry-spec = tie.close (tie.spec returns mul-row slice-write-row same-length returns-2)

@@ -1,7 +1,7 @@
 -- `text_read::rules::read_rules` meets its contract: the rules so far, and those of the lines from the cursor on, are all; what is kept of them stands in the row. Assumes nothing.
 use borrow.Author.Needs.{needs}
 use native.Mathlib.Omega.{arith}
-use mathlib.Core.Path.{_≡_, refl, sym, subst, _∙_}
+use mathlib.Core.Path.{_≡_, refl, sym, subst}
 use Prim.Native.Nat.{ℕ, _≤_, _+_, _-_}
 use mathlib.Core.List.{List, [], _∷_}
 use lib.ListN.{length, drop}
@@ -57,6 +57,9 @@ more c =
     let f = ended c in let l = f .before .loop in
     piece-more 10 (start (f .before) .args .text .now) (l .a) (f .find .result) (l .inv .0) (f .find .ensures .at) (c .if1 .left)
 
+line : (c : tie.Else1 Inv-loop μ-loop) → let f = ended c in let l = f .before .loop in length (part (l .a) (f .find .result) (start (f .before) .args .text .now)) ≡ f .find .result - l .a
+line c = let f = ended c in let l = f .before .loop in length-piece 10 (start (f .before) .args .text .now) (l .a) (f .find .result) (l .inv .0) (f .find .ensures .at)
+
 -- the last one is not
 last : (c : tie.Then1 Inv-loop μ-loop) → let f = c .before in let l = f .before .loop in let x = start (f .before) .args .text .now in
     splitOn 10 (drop (l .a) x) ≡ part (l .a) (f .find .result) x ∷ []
@@ -110,7 +113,15 @@ rule-line-requires c κs =
     let f = ended (c .before .before) in let l = f .before .loop in
     let p = start (f .before) .pre .0 in
     let h = l .inv .2 in
-    record { lexicon = p .lexicon; few = p .few; most = p .most; size = l .inv .3 ∙ p .size; near = h .near; inside = h .inside }
+    record {
+      lexicon = p .lexicon;
+      few = p .few;
+      most = p .most;
+      enough = omega (arith, l .inv .3, p .enough);
+      near = h .near;
+      fits = omega (arith, h .behind, f .find .ensures .high, line (c .before .before));
+      inside = h .inside;
+    }
 
 enum-known-kept : tie.Need-enum-known-kept Inv-loop μ-loop
 enum-known-kept c = search needs
@@ -128,7 +139,7 @@ returns-3 c =
     let x = a .text .now in
     subst (λ (k : Kept). RulesTold (answer e) (row r) k) (sym (g .1))
     (passed-fault (answer e) x (a .t) (names e) (l .a) (l .k) (l .end) (l .row) (l .inv .2) (f .find .result) (part (l .a) (f .find .result) x) (splitOn 10 (drop (f .find .result + 1) x)) (more w) (split-pos 10 _) (g .0 .0) (g .0 .1 .0)
-    (told-fault _ (l .k) (l .end) (l .row) (row r) (r .rule-line .result) (g .0 .0) (g .0 .1 .0) (g .1) (r .rule-line .ensures)))
+    (told-fault _ (l .k) (l .end) _ (l .row) (row r) (r .rule-line .result) (g .0 .0) (g .0 .1 .0) (g .1) (r .rule-line .ensures)))
 
 add-k : tie.Need-add-k Inv-loop μ-loop
 add-k c = let f = ended (read (c .before .before .before .before .before)) in omega (arith, start (f .before) .pre .0 .short)
@@ -147,7 +158,7 @@ loop-again c =
       omega arith,
       omega arith,
       passed-more (answer e) x (a .t) (names e) (l .a) (l .k) (l .end) (l .row) (l .inv .2) (f .find .result) (part (l .a) (f .find .result) x) (splitOn 10 (drop (f .find .result + 1) x)) (more w) (split-pos 10 _) (row r) (g .0 .0)
-          (told-kept _ (l .k) (l .end) (l .row) (row r) (r .rule-line .result) (g .0 .0) (g .1) (r .rule-line .ensures)) refl,
+          (told-kept _ (l .k) (l .end) _ (l .row) (row r) (r .rule-line .result) (g .0 .0) (g .1) (r .rule-line .ensures)) refl (omega (arith, line w, f .find .ensures .low)),
       omega (arith, long r, l .inv .3),
     )
 

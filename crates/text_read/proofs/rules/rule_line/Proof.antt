@@ -2,7 +2,9 @@
 use borrow.Author.Needs.{needs}
 use native.Mathlib.Omega.{arith}
 use mathlib.Core.Path.{sym, subst, _∙_}
-use Prim.Native.Nat.{ℕ}
+use Prim.Native.Nat.{ℕ, _+_, _-_, _≤_}
+use lib.ListN.{length, drop, length-drop}
+use lib.Seq.{length-take-le}
 use mathlib.Core.List.{List}
 use Rattle.grammar.specs.Grammar.{Rule}
 use Rattle.grammar.specs.Refusal.{Answer}
@@ -12,7 +14,7 @@ use Rattle.text_read.specs.Lines.{KeptTold}
 use Rattle.text_read.specs.Values.{HasValue}
 use Rattle.text_read.proofs.Values.{told-value, told-none}
 use Rattle.text_read.proofs.Shapes.{told-shape, told-shapeless}
-use Rattle.text_read.proofs.RuleLines.{line-none, line-value, value-shapeless}
+use Rattle.text_read.proofs.RuleLines.{line-none, line-value, value-shapeless, line-rest, told-wider}
 use Rattle.text_read.proofs.rules.rule_line.Statement.{statement}
 use Rattle.text_read.proofs.rules.rule_line.Tie as tie
 
@@ -41,6 +43,12 @@ to c = c .before .start .given .0 .1 .0
 
 value : (c : tie.After-known-told) → HasValue 2 (start (split c) .args .line .now) (from c) (to c)
 value c = told-value 2 (start (split c) .args .line .now) (split c .key-split .result) (from c) (to c) (c .before .start .given .1) (split c .key-split .ensures)
+
+-- it is shorter than the line
+value-bytes : (c : tie.After-known-told) → let l = start (split c) .args .line .now in length (part (from c) (to c) l) + 1 ≤ length l
+value-bytes c =
+    let l = start (split c) .args .line .now in let h = value c in
+    omega (arith, h .starts, h .ends, h .inside, length-take-le (to c - from c) (drop (from c) l) (omega (arith, h .ends, length-drop (from c) l)))
 
 key-split-requires : tie.Need-key-split-requires
 key-split-requires c κs = search needs
@@ -85,7 +93,7 @@ take-rule-requires : tie.Need-take-rule-requires
 take-rule-requires c κs =
     let k = c .before in let s = shape k in let w = valued s in let e = start (split w) in
     let g = k .before .colon .given in
-    (told-shape (part (from w) (to w) (e .args .line .now)) (s .rule-shape .result) (g .0 .0) (g .0 .1 .0) (g .1) (s .rule-shape .ensures), e .pre)
+    (told-shape (part (from w) (to w) (e .args .line .now)) (s .rule-shape .result) (g .0 .0) (g .0 .1 .0) (g .1) (s .rule-shape .ensures), line-rest (e .pre) (value-bytes w))
 
 same-length : tie.Need-same-length
 same-length c = search needs
@@ -93,8 +101,10 @@ same-length c = search needs
 returns-3 : tie.Need-returns-3
 returns-3 c =
     let r = c .before .before in let w = valued (shape (r .before .before)) in let e = start (split w) in let a = e .args in
-    subst (λ (o : Answer Rule). KeptTold o (a .k) (a .end) (a .row .now) (r .take-rule .last .1 .1 .1 .1 .1 .1 .1 .1 .1 .1 .0) (r .take-rule .result))
-    (sym (line-value (a .at) (a .t) (names e) (a .line .now) (from w) (to w) (value w))) (r .take-rule .ensures)
+    let row = r .take-rule .last .1 .1 .1 .1 .1 .1 .1 .1 .1 .1 .0 in
+    subst (λ (o : Answer Rule). KeptTold o (a .k) (a .end) (length (a .line .now)) (a .row .now) row (r .take-rule .result))
+    (sym (line-value (a .at) (a .t) (names e) (a .line .now) (from w) (to w) (value w)))
+    (told-wider _ (a .k) (a .end) _ (a .row .now) row (r .take-rule .result) (length (a .line .now)) (value-bytes w) (r .take-rule .ensures))
 
 pub rule-line-spec : {M : Type 1} → statement M
 rule-line-spec =

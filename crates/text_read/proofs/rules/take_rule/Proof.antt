@@ -4,7 +4,7 @@ use native.Mathlib.Omega.{arith}
 use mathlib.Core.Path.{_≡_, sym, ap, _∙_}
 use mathlib.Core.Bool.{Bool, true}
 use mathlib.Core.List.{List}
-use Prim.Native.Nat.{ℕ, _+_, _≤_}
+use Prim.Native.Nat.{ℕ, _+_, _≤_, _<_}
 use lib.ListN.{length, drop, set, length-set}
 use borrow.Author.Tests.{not-true, not-false}
 use Rattle.grammar.specs.Limits.{limits}
@@ -15,7 +15,8 @@ use Rattle.text.specs.Read.{isKnown, ruleOf}
 use Rattle.text.specs.Spelled.{spelled}
 use Rattle.text.proofs.Spans.{length-spelled}
 use Rattle.names.specs.Found.{part}
-use Rattle.text_read.specs.Lines.{ruleValue}
+use Rattle.text_read.specs.Lines.{ruleValue, keptRules}
+use Rattle.text_read.proofs.Rooms.{rule-bytes, rule-room}
 use Rattle.text_read.proofs.Lookups.{known-low, known-out, known-in}
 use Rattle.text_read.proofs.Shapes.{led-first}
 use Rattle.text_read.proofs.Codes.{taken-front, taken-entries}
@@ -71,6 +72,12 @@ value : (c : tie.After-take-codes) → c .take-codes .result ≡ true → let e 
 value c q m =
     let e = start (found (led c)) in let a = e .args in
     value-done (a .at) (a .t) (names e) (a .v .now) (a .colon) (a .count) (e .pre .0) (left-known (led c)) (right-known c true q) m
+
+-- the row has room for the rule
+room : (c : tie.After-take-codes) → let a = start (found (led c)) .args in a .k < keptRules → a .count ≤ 12 → a .end + 2 + a .count ≤ length (a .row .now)
+room c l m =
+    let e = start (found (led c)) in let a = e .args in
+    rule-room (a .text .now) (a .starts .now) (a .lengths .now) (a .links .now) (a .t) (a .row .now) (a .k) (a .end) (a .v .now) (a .colon) (a .count) (e .pre .0) (e .pre .1) l m
 
 long : (c : tie.After-take-codes) → length (row c) ≡ length (start (found (led c)) .args .row .now)
 long c = search needs
@@ -147,13 +154,13 @@ returns-5 : tie.Need-returns-5
 returns-5 c =
     let w = c .before .before .before .before .before in let e = start (found (led w)) in let a = e .args in
     rule-passed _ _ (a .k) (a .end) (a .row .now) (row w) (value w (not-false _ (c .before .before .if3 .left)) (omega (arith, c .before .if4 .left))) (c .if5 .taken)
-    (taken-front (a .t) (names e) (drop 1 (splitOn 32 (body e))) (a .end) (a .row .now) (row w) (w .take-codes .result) (w .take-codes .ensures)) (omega (arith, long w, e .pre .1 .inside))
+    (taken-front (a .t) (names e) (drop 1 (splitOn 32 (body e))) (a .end) (a .row .now) (row w) (w .take-codes .result) (w .take-codes .ensures)) (omega (arith, long w, e .pre .1 .inside)) _
 
 code-of-requires : tie.Need-code-of-requires
 code-of-requires c κs = search needs
 
 slice-write-row : tie.Need-slice-write-row
-slice-write-row c = search needs
+slice-write-row c = let w = coded c in omega (arith, long w, room w (c .before .if5 .left) (omega (arith, c .before .before .if4 .left)))
 
 cast-row : tie.Need-cast-row
 cast-row c = search needs
@@ -164,7 +171,7 @@ add-row c = search needs
 slice-write-row-2 : tie.Need-slice-write-row-2
 slice-write-row-2 c =
     let w = coded c in let e = start (found (led w)) in
-    omega (arith, length-set (row w) (e .args .end) (c .code-of .result), long w, e .pre .1 .size, e .pre .1 .near, c .before .if5 .left)
+    omega (arith, length-set (row w) (e .args .end) (c .code-of .result), long w, room w (c .before .if5 .left) (omega (arith, c .before .before .if4 .left)))
 
 add-t26 : tie.Need-add-t26
 add-t26 c = search needs
@@ -180,12 +187,19 @@ returns-6 c =
     let w = coded c in let e = start (found (led w)) in let a = e .args in let h = e .pre .0 in
     let k = c .before .before .before .if3 .left in let m = c .before .before .if4 .left in
     let x = c .code-of .result in
-    let room : a .end + 2 + a .count ≤ length (a .row .now) = omega (arith, e .pre .1 .size, e .pre .1 .near, c .before .if5 .left, m) in
+    let space = room w (c .before .if5 .left) m in
     rule-kept _ (a .t) (names e) (h .sides) (found (led w) .find .result) (a .count) (a .k) (a .end) (body e) (a .row .now) (set (set (row w) (a .end) x) (a .end + 1) (a .count))
     (body-part (a .at) (a .t) (names e) (a .v .now) (a .colon) (a .count) h) (value w (not-false _ k) m) (number (found (led w))) (h .counts) m (c .before .if5 .left)
-    (omega (arith, room, long w, length-set (set (row w) (a .end) x) (a .end + 1) (a .count), length-set (row w) (a .end) x))
+    (omega (arith, space, long w, length-set (set (row w) (a .end) x) (a .end + 1) (a .count), length-set (row w) (a .end) x))
     (taken-entries (a .t) (names e) (drop 1 (splitOn 32 (body e))) (a .end) (a .row .now) (row w) (w .take-codes .result) (w .take-codes .ensures)
-    (found (led w) .find .result) (a .count) x (not-false _ k) (c .code-of .ensures) (body-count (a .at) (a .t) (names e) (a .v .now) (a .colon) (a .count) h) (long w) room)
+    (found (led w) .find .result) (a .count) x (not-false _ k) (c .code-of .ensures) (body-count (a .at) (a .t) (names e) (a .v .now) (a .colon) (a .count) h) (long w) space)
+    _ (rule-bytes (a .v .now) (a .colon) (a .count) h)
+
+mul-row : tie.Need-mul-row
+mul-row c = search needs
+
+mul-row-2 : tie.Need-mul-row-2
+mul-row-2 c = search needs
 
 pub take-rule-spec : {M : Type 1} → statement M
 take-rule-spec =
@@ -210,9 +224,11 @@ take-rule-spec =
     same-length-3
     returns-5
     code-of-requires
+    mul-row
     slice-write-row
     cast-row
     add-row
+    mul-row-2
     slice-write-row-2
     add-t26
     add-t17

@@ -25,4 +25,4 @@ returns-2 c = sym (code-high (c .before .args .t) (c .before .args .i) (c .if1 .
 
 pub code-of-spec : {M : Type 1} → statement M
 code-of-spec =
-    tie.close (tie.spec add-result cast-result returns add-result-2 cast-result-2 returns-2)
+    tie.close (tie.spec add-result cast-result returns cast-result-2 add-result-2 returns-2)

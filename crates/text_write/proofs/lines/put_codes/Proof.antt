@@ -103,6 +103,9 @@ returns c =
     let l = c .before .loop in
     filling-done (codes-end (a .t) (names s) (a .codes .now) (l .i) (c .loop-test .left)) (l .inv .1)
 
+mul-symbol : tie.Need-mul-symbol Inv-loop μ-loop
+mul-symbol c = search needs
+
 pub put-codes-spec : {M : Type 1} → statement M
 put-codes-spec =
     tie.close
@@ -110,6 +113,7 @@ put-codes-spec =
     Inv-loop
     μ-loop
     loop-holds
+    mul-symbol
     shared-slice-read-symbol
     symbol-requires
     put-byte-requires

@@ -32,24 +32,24 @@ first : (c : tie.In-loop Inv-loop μ-loop) →
     Turn (a .t) (length (a .starts .now)) (a .table .now) (l .o) (getD (a .table .now) (l .o + 1) 0)
 first c = turn _ (c .before .loop .inv .1) (c .loop-test .taken) refl
 
-here : (c : tie.After-wide-byte Inv-loop μ-loop) →
+here : (c : tie.After-wide-entry Inv-loop μ-loop) →
     let s = c .before .before .before .before .before .before .before .before .before .before in
     let a = s .args in
     Turn (a .t) (length (a .starts .now)) (a .table .now) (c .before .before .before .before .loop .o)
-    (c .wide-byte .result)
+    (c .wide-entry .result)
 here c =
-    turn (c .wide-byte .result) (c .before .before .before .before .loop .inv .1)
-    (c .before .before .before .loop-test .taken) (c .wide-byte .ensures)
+    turn (c .wide-entry .result) (c .before .before .before .before .loop .inv .1)
+    (c .before .before .before .loop-test .taken) (c .wide-entry .ensures)
 
 -- its line
-abbrev line : (c : tie.After-wide-byte Inv-loop μ-loop) → List ℕ
+abbrev line : (c : tie.After-wide-entry Inv-loop μ-loop) → List ℕ
 line c =
     let s = c .before .before .before .before .before .before .before .before .before .before in
     let a = s .args in
     let l = c .before .before .before .before .loop in
     ruleText (a .t) (names s) (record {
       left = getD (a .table .now) (l .o) 0;
-      right = take (l .o + 2 + c .wide-byte .result - (l .o + 2)) (drop (l .o + 2) (a .table .now));
+      right = take (l .o + 2 + c .wide-entry .result - (l .o + 2)) (drop (l .o + 2) (a .table .now));
     })
 
 loop-holds : tie.Need-loop-holds Inv-loop μ-loop
@@ -60,14 +60,14 @@ loop-holds c =
 shared-slice-read-left : tie.Need-shared-slice-read-left Inv-loop μ-loop
 shared-slice-read-left c = search needs
 
-add-wide-byte : tie.Need-add-wide-byte Inv-loop μ-loop
-add-wide-byte c = omega (arith, first (c .before) .whole)
+add-wide-entry : tie.Need-add-wide-entry Inv-loop μ-loop
+add-wide-entry c = omega (arith, first (c .before) .whole)
 
-shared-slice-read-wide-byte : tie.Need-shared-slice-read-wide-byte Inv-loop μ-loop
-shared-slice-read-wide-byte c = omega (arith, first (c .before .before) .whole)
+shared-slice-read-wide-entry : tie.Need-shared-slice-read-wide-entry Inv-loop μ-loop
+shared-slice-read-wide-entry c = omega (arith, first (c .before .before) .whole)
 
-wide-byte-requires : tie.Need-wide-byte-requires Inv-loop μ-loop
-wide-byte-requires c κs = search needs
+wide-entry-requires : tie.Need-wide-entry-requires Inv-loop μ-loop
+wide-entry-requires c κs = search needs
 
 add-a : tie.Need-add-a Inv-loop μ-loop
 add-a c = omega (arith, here c .whole)
@@ -120,6 +120,15 @@ returns c =
     let l = c .before .loop in
     filling-done (rules-end (a .t) (names s) _ (no-rules (a .table .now) (l .o) (c .loop-test .left))) (l .inv .2)
 
+mul-left : tie.Need-mul-left Inv-loop μ-loop
+mul-left c = search needs
+
+mul-wide-entry : tie.Need-mul-wide-entry Inv-loop μ-loop
+mul-wide-entry c = search needs
+
+mul-put-rule : tie.Need-mul-put-rule Inv-loop μ-loop
+mul-put-rule c = search needs
+
 pub put-rules-spec : {M : Type 1} → statement M
 put-rules-spec =
     tie.close
@@ -127,12 +136,15 @@ put-rules-spec =
     Inv-loop
     μ-loop
     loop-holds
+    mul-left
     shared-slice-read-left
-    add-wide-byte
-    shared-slice-read-wide-byte
-    wide-byte-requires
+    add-wide-entry
+    mul-wide-entry
+    shared-slice-read-wide-entry
+    wide-entry-requires
     add-a
     add-e
+    mul-put-rule
     sub-put-rule
     part-put-rule-start
     part-put-rule-end

@@ -113,6 +113,9 @@ returns c =
     let l = c .before .loop in
     omega (arith, codes-none (a .t) (a .lengths .now) (a .codes .now) (l .i) (c .loop-test .left), l .inv .1)
 
+mul-symbol : tie.Need-mul-symbol Inv-loop μ-loop
+mul-symbol c = search needs
+
 pub codes-length-spec : {M : Type 1} → statement M
 codes-length-spec =
     tie.close
@@ -120,6 +123,7 @@ codes-length-spec =
     Inv-loop
     μ-loop
     loop-holds
+    mul-symbol
     shared-slice-read-symbol
     symbol-requires
     mul-wide

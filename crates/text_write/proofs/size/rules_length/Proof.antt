@@ -30,14 +30,14 @@ first : (c : tie.In-loop Inv-loop μ-loop) →
 first c = turn _ (c .before .loop .inv .1) (c .loop-test .taken) refl
 
 -- the same where its length is read
-here : (c : tie.After-wide-byte Inv-loop μ-loop) →
+here : (c : tie.After-wide-entry Inv-loop μ-loop) →
     let s = c .before .before .before .before .before .before .before .before in
     let a = s .args in
     Turn (a .t) (length (a .lengths .now)) (a .table .now) (c .before .before .before .before .before .loop .o)
-    (c .wide-byte .result)
+    (c .wide-entry .result)
 here c =
-    turn (c .wide-byte .result) (c .before .before .before .before .before .loop .inv .1)
-    (c .before .before .before .before .loop-test .taken) (c .wide-byte .ensures)
+    turn (c .wide-entry .result) (c .before .before .before .before .before .loop .inv .1)
+    (c .before .before .before .before .loop-test .taken) (c .wide-entry .ensures)
 
 loop-holds : tie.Need-loop-holds Inv-loop μ-loop
 loop-holds c =
@@ -51,14 +51,14 @@ shared-slice-read-symbol c = search needs
 symbol-requires : tie.Need-symbol-requires Inv-loop μ-loop
 symbol-requires c κs = (first (c .before) .known .each 0 (omega arith) .0, first (c .before) .known .few)
 
-add-wide-byte : tie.Need-add-wide-byte Inv-loop μ-loop
-add-wide-byte c = omega (arith, first (c .before .before) .whole)
+add-wide-entry : tie.Need-add-wide-entry Inv-loop μ-loop
+add-wide-entry c = omega (arith, first (c .before .before) .whole)
 
-shared-slice-read-wide-byte : tie.Need-shared-slice-read-wide-byte Inv-loop μ-loop
-shared-slice-read-wide-byte c = omega (arith, first (c .before .before .before) .whole)
+shared-slice-read-wide-entry : tie.Need-shared-slice-read-wide-entry Inv-loop μ-loop
+shared-slice-read-wide-entry c = omega (arith, first (c .before .before .before) .whole)
 
-wide-byte-requires : tie.Need-wide-byte-requires Inv-loop μ-loop
-wide-byte-requires c κs = search needs
+wide-entry-requires : tie.Need-wide-entry-requires Inv-loop μ-loop
+wide-entry-requires c κs = search needs
 
 add-a : tie.Need-add-a Inv-loop μ-loop
 add-a c = omega (arith, here c .whole)
@@ -165,6 +165,15 @@ returns c =
     let l = c .before .loop in
     omega (arith, rules-none (a .t) (a .lengths .now) _ (no-rules (a .table .now) (l .o) (c .loop-test .left)), l .inv .2)
 
+mul-symbol : tie.Need-mul-symbol Inv-loop μ-loop
+mul-symbol c = search needs
+
+mul-wide-entry : tie.Need-mul-wide-entry Inv-loop μ-loop
+mul-wide-entry c = search needs
+
+mul-codes-length : tie.Need-mul-codes-length Inv-loop μ-loop
+mul-codes-length c = search needs
+
 pub rules-length-spec : {M : Type 1} → statement M
 rules-length-spec =
     tie.close
@@ -172,11 +181,13 @@ rules-length-spec =
     Inv-loop
     μ-loop
     loop-holds
+    mul-symbol
     shared-slice-read-symbol
     symbol-requires
-    add-wide-byte
-    shared-slice-read-wide-byte
-    wide-byte-requires
+    add-wide-entry
+    mul-wide-entry
+    shared-slice-read-wide-entry
+    wide-entry-requires
     add-a
     add-e
     add-total
@@ -184,6 +195,7 @@ rules-length-spec =
     shared-slice-read-wide
     wide-requires
     add-total-2
+    mul-codes-length
     sub-codes-length
     part-codes-length-start
     part-codes-length-end

@@ -1,4 +1,4 @@
--- `text_read::copy_bytes` meets its contract: up to the cursor the row has what is copied. Assumes nothing.
+-- `text_read::copy_codes` meets its contract: up to the cursor the row has what is copied. Assumes nothing.
 use borrow.Author.Needs.{needs}
 use native.Mathlib.Omega.{arith}
 use mathlib.Core.Path.{_≡_, ap, _∙_}
@@ -6,8 +6,8 @@ use Prim.Native.Nat.{_≤_, _+_, _-_}
 use mathlib.Core.List.{_++_}
 use lib.ListN.{length, take, drop, getD, set, length-set}
 use Rattle.text_read.proofs.Rows.{copy-more, copy-all}
-use Rattle.text_read.proofs.copy_bytes.Statement.{statement}
-use Rattle.text_read.proofs.copy_bytes.Tie as tie
+use Rattle.text_read.proofs.copy_codes.Statement.{statement}
+use Rattle.text_read.proofs.copy_codes.Tie as tie
 
 abbrev Inv-loop : tie.InvT-loop
 Inv-loop front out₀ i₀ out i = (i ≤ length front) × (length out ≡ length out₀) × (out ≡ take i front ++ drop i out₀)
@@ -47,14 +47,22 @@ returns c = let e = c .before .before in
     let l = c .before .loop in
     l .inv .2 ∙ copy-all (e .args .front .now) (e .args .out .now) (l .i) (e .pre) (omega arith) (omega arith)
 
-pub copy-bytes-spec : {M : Type 1} → statement M
-copy-bytes-spec =
+mul-out : tie.Need-mul-out Inv-loop μ-loop
+mul-out c = search needs
+
+mul-out-2 : tie.Need-mul-out-2 Inv-loop μ-loop
+mul-out-2 c = search needs
+
+pub copy-codes-spec : {M : Type 1} → statement M
+copy-codes-spec =
     tie.close
     (tie.spec
     Inv-loop
     μ-loop
     loop-holds
+    mul-out
     shared-slice-read-out
+    mul-out-2
     slice-write-out
     add-i
     loop-less

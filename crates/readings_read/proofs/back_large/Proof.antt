@@ -1,0 +1,59 @@
+-- `readings_read::back_large` meets its contract: its rows suffice. Assumes nothing.
+use borrow.Author.Needs.{needs}
+use native.Mathlib.Omega.{arith}
+use lib.ListN.{length}
+use Rattle.text_read.proofs.Rooms.{rows-large}
+use Rattle.readings_read.proofs.back_large.Statement.{statement}
+use Rattle.readings_read.proofs.back_large.Tie as tie
+
+-- from a place back to an earlier one
+abbrev start : tie.After-lengths → tie.Start
+start c = c .before .before .before .before .before .before .before
+
+abbrev checked : tie.After-back-in-arg2 → tie.After-check-grammar
+checked c = c .before .before .before .before .before .before .before
+
+slice-aggregate-check-grammar : tie.Need-slice-aggregate-check-grammar
+slice-aggregate-check-grammar c = search needs
+
+slice-aggregate-check-grammar-2 : tie.Need-slice-aggregate-check-grammar-2
+slice-aggregate-check-grammar-2 c = search needs
+
+slice-aggregate-check-grammar-3 : tie.Need-slice-aggregate-check-grammar-3
+slice-aggregate-check-grammar-3 c = search needs
+
+check-grammar-requires : tie.Need-check-grammar-requires
+check-grammar-requires c κs = rows-large (length (start c .args .text .now))
+
+slice-aggregate-back-in : tie.Need-slice-aggregate-back-in
+slice-aggregate-back-in c = search needs
+
+slice-aggregate-back-in-2 : tie.Need-slice-aggregate-back-in-2
+slice-aggregate-back-in-2 c = search needs
+
+back-in-requires : tie.Need-back-in-requires
+back-in-requires c κs = let r = checked c .check-grammar in record { row = r .last .1 .0; checks = r .ensures }
+
+same-length : tie.Need-same-length
+same-length c = search needs
+
+same-length-2 : tie.Need-same-length-2
+same-length-2 c = search needs
+
+returns : tie.Need-returns
+returns c = c .before .before .before .before .back-in .ensures
+
+pub back-large-spec : {M : Type 1} → statement M
+back-large-spec =
+    tie.close
+    (tie.spec
+    slice-aggregate-check-grammar
+    slice-aggregate-check-grammar-2
+    slice-aggregate-check-grammar-3
+    check-grammar-requires
+    slice-aggregate-back-in
+    slice-aggregate-back-in-2
+    back-in-requires
+    same-length
+    same-length-2
+    returns)

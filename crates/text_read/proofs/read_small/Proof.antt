@@ -1,0 +1,51 @@
+-- `text_read::read_small` meets its contract: its rows suffice. Assumes nothing.
+use borrow.Author.Needs.{needs}
+use native.Mathlib.Omega.{arith}
+use lib.ListN.{length}
+use Rattle.text_read.proofs.Rooms.{rows-small}
+use Rattle.text_read.proofs.read_small.Statement.{statement}
+use Rattle.text_read.proofs.read_small.Tie as tie
+
+-- from a place back to an earlier one
+abbrev start : tie.After-read-in-arg3 → tie.Start
+start c = c .before .before .before .before .before .before .before .before .before .before
+
+abbrev read : tie.After-slice-known6 → tie.After-read-in
+read c = c .before .before .before .before .before .before .before .before .before
+
+slice-aggregate-read-in : tie.Need-slice-aggregate-read-in
+slice-aggregate-read-in c = search needs
+
+slice-aggregate-read-in-2 : tie.Need-slice-aggregate-read-in-2
+slice-aggregate-read-in-2 c = search needs
+
+slice-aggregate-read-in-3 : tie.Need-slice-aggregate-read-in-3
+slice-aggregate-read-in-3 c = search needs
+
+read-in-requires : tie.Need-read-in-requires
+read-in-requires c κs = rows-small (length (start c .args .text .now)) (start c .pre)
+
+same-length : tie.Need-same-length
+same-length c = search needs
+
+same-length-2 : tie.Need-same-length-2
+same-length-2 c = search needs
+
+same-length-3 : tie.Need-same-length-3
+same-length-3 c = search needs
+
+returns : tie.Need-returns
+returns c = read c .read-in .ensures
+
+pub read-small-spec : {M : Type 1} → statement M
+read-small-spec =
+    tie.close
+    (tie.spec
+    slice-aggregate-read-in
+    slice-aggregate-read-in-2
+    slice-aggregate-read-in-3
+    read-in-requires
+    same-length
+    same-length-2
+    same-length-3
+    returns)
