@@ -136,6 +136,11 @@ pub record NamesTold (text starts lengths : List ℕ) : Type 0 where
   pub lengths-front : (s : Source) → checkText limits text ≡ done s
       → take (length (symbolNames s)) lengths ≡ nameLengths (symbolNames s)
 
+-- what the lines of a text gave, and the rows
+pub record TextIn (text : List ℕ) (k : TextKept) (row starts lengths : List ℕ) : Type 0 where
+  pub lines : LinesTold text row k
+  pub names : NamesTold text starts lengths
+
 -- the entries in use are in the row
 abbrev pub KeptWithin : TextKept → List ℕ → Type 0
 KeptWithin (Fault cause place) row = Unit {0}

@@ -1,11 +1,11 @@
--- `text_read::check_kept` meets its contract: a fault stays as it is. Assumes nothing.
+-- `text_read::keeping::check_kept` meets its contract: a fault stays as it is. Assumes nothing.
 use borrow.Author.Needs.{needs}
 use native.Mathlib.Omega.{arith}
 use mathlib.Core.Path.{sym, ap, subst, _∙_}
 use Rattle.text_read.specs.declared.TextKept.{TextKept}
 use Rattle.text_read.specs.Texts.{KeptWithin, keptRead}
-use Rattle.text_read.proofs.check_kept.Statement.{statement}
-use Rattle.text_read.proofs.check_kept.Tie as tie
+use Rattle.text_read.proofs.keeping.check_kept.Statement.{statement}
+use Rattle.text_read.proofs.keeping.check_kept.Tie as tie
 
 enum-known-kept : tie.Need-enum-known-kept
 enum-known-kept c = search needs

@@ -1,4 +1,4 @@
--- `text_read::last_tests` meets its contract: the answer of the table check. Assumes nothing.
+-- `text_read::keeping::last_tests` meets its contract: the answer of the table check. Assumes nothing.
 use borrow.Author.Needs.{needs}
 use native.Mathlib.Omega.{arith}
 use mathlib.Core.Path.{sym}
@@ -7,8 +7,8 @@ use Rattle.grammar.specs.Limits.{limits}
 use Rattle.grammar.specs.TableCheck.{checkTable}
 use lib.Seq.{length-take-le}
 use Rattle.text_read.proofs.Whole.{checked-refused, checked-passed}
-use Rattle.text_read.proofs.last_tests.Statement.{statement}
-use Rattle.text_read.proofs.last_tests.Tie as tie
+use Rattle.text_read.proofs.keeping.last_tests.Statement.{statement}
+use Rattle.text_read.proofs.keeping.last_tests.Tie as tie
 
 slice-aggregate-check-table : tie.Need-slice-aggregate-check-table
 slice-aggregate-check-table c = sym (length-take-le _ _ (omega arith))

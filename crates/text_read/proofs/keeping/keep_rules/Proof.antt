@@ -1,4 +1,4 @@
--- `text_read::keep_rules` meets its contract: the rules that are kept are the first of those that are read. Assumes nothing.
+-- `text_read::keeping::keep_rules` meets its contract: the rules that are kept are the first of those that are read. Assumes nothing.
 use borrow.Author.Needs.{needs}
 use native.Mathlib.Omega.{arith}
 use mathlib.Core.Path.{sym}
@@ -6,8 +6,8 @@ use Prim.Native.Nat.{ℕ}
 use mathlib.Core.List.{List}
 use lib.Seq.{length-take-le}
 use Rattle.text_read.proofs.Whole.{ready-rules, ready-refused, ready-told, told-rules, told-fault}
-use Rattle.text_read.proofs.keep_rules.Statement.{statement}
-use Rattle.text_read.proofs.keep_rules.Tie as tie
+use Rattle.text_read.proofs.keeping.keep_rules.Statement.{statement}
+use Rattle.text_read.proofs.keeping.keep_rules.Tie as tie
 
 -- from a place back to an earlier one
 abbrev lent : tie.After-slice-known → tie.Start

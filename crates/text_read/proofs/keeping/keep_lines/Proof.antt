@@ -1,11 +1,11 @@
--- `text_read::keep_lines` meets its contract: the declaring lines, then the rule lines. Assumes nothing.
+-- `text_read::keeping::keep_lines` meets its contract: the declaring lines, then the rule lines. Assumes nothing.
 use borrow.Author.Needs.{needs}
 use native.Mathlib.Omega.{arith}
 use Rattle.text_read.specs.Texts.{HeadsRead}
 use Rattle.text_read.proofs.Rooms.{name-rows}
 use Rattle.text_read.proofs.Whole.{lines-refused, refused-names, told-heads, told-headless, ready, names-told}
-use Rattle.text_read.proofs.keep_lines.Statement.{statement}
-use Rattle.text_read.proofs.keep_lines.Tie as tie
+use Rattle.text_read.proofs.keeping.keep_lines.Statement.{statement}
+use Rattle.text_read.proofs.keeping.keep_lines.Tie as tie
 
 -- from a place back to an earlier one
 abbrev start : tie.After-check-heads-arg3 → tie.Start

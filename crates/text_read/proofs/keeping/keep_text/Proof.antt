@@ -1,4 +1,4 @@
--- `text_read::keep_text` meets its contract: the length; then a row of zeros has no link. Assumes nothing.
+-- `text_read::keeping::keep_text` meets its contract: the length; then a row of zeros has no link. Assumes nothing.
 use borrow.Author.Needs.{needs}
 use native.Mathlib.Omega.{arith}
 use Prim.Native.Nat.{ℕ, _*_}
@@ -6,8 +6,8 @@ use lib.ListN.{length-replicate}
 use Rattle.lexicon.proofs.Tree.{no-links}
 use Rattle.text_read.specs.Values.{allNames}
 use Rattle.text_read.proofs.Whole.{text-long, refused-names}
-use Rattle.text_read.proofs.keep_text.Statement.{statement}
-use Rattle.text_read.proofs.keep_text.Tie as tie
+use Rattle.text_read.proofs.keeping.keep_text.Statement.{statement}
+use Rattle.text_read.proofs.keeping.keep_text.Tie as tie
 
 -- from a place back to an earlier one
 abbrev start : tie.Else1 → tie.Start
