@@ -33,6 +33,7 @@ SMALL = 60                # states up to which the second program is quick
 SLIPS = 450
 LETTER_SLIPS = 1500       # of which most do not part
 RANDOM = 400              # grammars
+SHORT_TEXT = 2000         # bytes of a text that is tried in another case
 SHORT = 4                 # terminals of a short sentence
 
 
@@ -172,6 +173,57 @@ def tree_row(text, root, tree):
     return row
 
 
+def in_case(rng, part):
+    """Bytes with some letters in the other case."""
+    return bytes(rng.choice([byte, byte ^ 32]) if chr(byte).isalpha() else byte for byte in part)
+
+
+def rules_in_case(rng, text):
+    """A text whose rules spell names otherwise than the lists do."""
+    return b"".join(b"rule=" + in_case(rng, line[5:]) if line.startswith(b"rule=") else line
+                    for line in text.splitlines(keepends=True))
+
+
+def lines_in_case(rng, lines):
+    """Two lines with names in any case; the keys stay."""
+    return b"".join(key + b"=" + in_case(rng, letters)
+                    for key, letters in (line.split(b"=", 1) for line in lines.splitlines(keepends=True)))
+
+
+def doubled_in_case(rng, text):
+    """The text with a name declared once more, in the other case, on its line or, if it is a terminal, on the second."""
+    lines = text.split(b"\n")
+    lists = [line.split(b"=")[1].split(b",") for line in lines[:2]]
+    from_line, to_line = rng.choice([(0, 0), (0, 1), (1, 1)]) if lists[0] != [b""] else (1, 1)
+    lines[to_line] += b"," + rng.choice(lists[from_line]).swapcase()
+    return b"\n".join(lines), to_line + 1
+
+
+def spelling(tools):
+    """With names in another case all answer as with the declared spelling; a name declared in two cases is refused by all."""
+    rng = random.Random(1)
+    count = 0
+    for entry in entries():
+        text = text_in(entry.name)
+        if entry.states > SMALL or len(text) > SHORT_TEXT:
+            continue
+        other = rules_in_case(rng, text)
+        quiet = ran([tools.certify, "--looked", "-"], text)
+        assert quiet == ran([tools.certify, "--looked", "-"], other) and verdict(text).printed == verdict(other).printed, other
+        assert entry.states > MAX_STATES or ran([tools.ambig], text)[0] == ran([tools.ambig], other)[0], other
+        if entry.verdict == POTENTIAL:
+            lines = quiet[0].encode().split(b"\n")[2:4]
+            lines = lines_in_case(rng, b"\n".join(lines + [b""]))
+            path = os.path.join(ROOT, "corpus", entry.name + ".grammar")
+            assert ran([tools.check, "--lines", path, "-"], lines)[0] == said_of_strings(other, lines) == "accepted\n", lines
+        double, line = doubled_in_case(rng, text)
+        answer = verdict(double)
+        assert answer.printed == "refused=18\nat=%d\n" % line == ran([tools.certify, "--quiet", "-"], double)[0], double
+        assert line_of(ran([tools.certify, "-"], double)[1]) == line, double
+        count += other != text
+    return "%d texts" % count
+
+
 def slip(rng, lines):
     """Two lines with a letter dropped, doubled or put elsewhere, or with another byte."""
     place = rng.randrange(len(lines))
@@ -255,7 +307,7 @@ def sentences(tools):
 
 def random_text(rng):
     """A small grammar, often with empty rules and rules that no sentence uses."""
-    terminals, nonterminals = ["a", "b"][:rng.randrange(1, 3)], ["S", "A", "B", "C"][:rng.randrange(1, 5)]
+    terminals, nonterminals = ["a", "b"][:rng.randrange(1, 3)], ["S", "P", "Q", "R"][:rng.randrange(1, 5)]
     lengths = rng.choice([(0, 0, 1, 2, 3), (0, 1, 1, 2, 2, 3, 3)])
     rules = {(rng.choice(nonterminals), tuple(rng.choice(terminals + nonterminals) for _ in range(rng.choice(lengths))))
              for _ in range(rng.randrange(2, 8))}
@@ -285,7 +337,7 @@ def random_grammars(tools):
 def main(folder, ambig):
     tools = Tools(folder, ambig)
     failed = 0
-    for test in (as_ambig, messages, certificates, same_certificates, json_lines, strings, sentences,
+    for test in (as_ambig, messages, certificates, same_certificates, json_lines, strings, spelling, sentences,
                  random_grammars):
         try:
             print("%s: %s" % (test(tools), test.__doc__.strip()))

@@ -1,4 +1,4 @@
-/* The reader of grammar text in plain C: one pass over the lines, names in a hash table. A list with more names than a grammar may
+/* The reader of grammar text in plain C: one pass over the lines, names in a hash table, compared in small letters. A list with more names than a grammar may
  * have goes through a hash table of its own, since a double in it comes before its length. */
 #include "read.h"
 #include "searches.h"
@@ -12,10 +12,11 @@ struct names {
     size_t count, last_slot;
 };
 
+/* Bytes of names, letters as small ones; 0 for all others. */
+#define LETTERS \
+    'a', 'b', 'c', 'd', 'e', 'f', 'g', 'h', 'i', 'j', 'k', 'l', 'm', 'n', 'o', 'p', 'q', 'r', 's', 't', 'u', 'v', 'w', 'x', 'y', 'z'
 static const uint8_t NAME_BYTES[256] = {
-    ['-'] = 1, ['0'] = 1, 1, 1, 1, 1, 1, 1, 1, 1, 1,
-    ['A'] = 1, 1, 1, 1, 1, 1, 1, 1, 1, 1, 1, 1, 1, 1, 1, 1, 1, 1, 1, 1, 1, 1, 1, 1, 1, 1,
-    ['a'] = 1, 1, 1, 1, 1, 1, 1, 1, 1, 1, 1, 1, 1, 1, 1, 1, 1, 1, 1, 1, 1, 1, 1, 1, 1, 1};
+    ['-'] = '-', ['0'] = '0', '1', '2', '3', '4', '5', '6', '7', '8', '9', ['A'] = LETTERS, ['a'] = LETTERS};
 
 static size_t slots_for(size_t names, size_t most)
 {
@@ -29,8 +30,15 @@ static inline uint32_t hash_of(const uint8_t *name, size_t length)
 {
     uint32_t hash = (uint32_t)length;
     for (size_t i = 0; i < length; i++)
-        hash = (hash ^ name[i]) * 16777619u;
+        hash = (hash ^ NAME_BYTES[name[i]]) * 16777619u;
     return hash ^ hash >> 15;
+}
+
+static inline int same(const uint8_t *one, const uint8_t *other, size_t length)
+{
+    while (length != 0 && NAME_BYTES[one[length - 1]] == NAME_BYTES[other[length - 1]])
+        length--;
+    return length == 0;
 }
 
 /* The number of a name, or -1; then it is put in if it is to be. */
@@ -39,7 +47,7 @@ static int find(struct names *names, const uint8_t *text, const uint8_t *name, s
     size_t k = hash_of(name, length) & names->last_slot;
     for (; names->slot[k] != 0; k = (k + 1) & names->last_slot) {
         size_t i = names->slot[k] - 1u;
-        if (names->length[i] == length && memcmp(text + names->start[i], name, length) == 0)
+        if (names->length[i] == length && same(text + names->start[i], name, length))
             return (int)i;
     }
     if (puts) {
@@ -93,7 +101,7 @@ static int has_double(struct names *names, const uint8_t *text, const uint8_t *a
             return 1;
         for (; slots[k] != 0; k = (k + 1) & last_slot) {
             const uint8_t *other = text + slots[k] - 1;
-            if (memcmp(other, at, length) == 0 && !NAME_BYTES[other[length]])
+            if (same(other, at, length) && !NAME_BYTES[other[length]])
                 return 1;
         }
         slots[k] = (uint32_t)(at - text) + 1;

@@ -53,11 +53,21 @@ static int is_name(const uint8_t *name, size_t length)
     return 1;
 }
 
+/* A byte of a name as it is compared: letters are small ones. */
+static inline uint8_t small(uint8_t c) { return c >= 'A' && c <= 'Z' ? (uint8_t)(c | 32) : c; }
+
+static int same(const uint8_t *one, const uint8_t *other, size_t length)
+{
+    while (length != 0 && small(one[length - 1]) == small(other[length - 1]))
+        length--;
+    return length == 0;
+}
+
 static uint32_t hash_of(const uint8_t *name, size_t length)
 {
     uint32_t hash = (uint32_t)length;
     for (size_t i = 0; i < length; i++)
-        hash = (hash ^ name[i]) * 16777619u;
+        hash = (hash ^ small(name[i])) * 16777619u;
     return hash ^ hash >> 15;
 }
 
@@ -75,7 +85,7 @@ static size_t first_double(size_t symbols)
         size_t k = hash_of(name, lengths[i]) & last;
         for (; slots[k] != 0; k = (k + 1) & last) {
             size_t other = slots[k] - 1u;
-            if (lengths[other] == lengths[i] && memcmp(names + starts[other], name, lengths[i]) == 0)
+            if (lengths[other] == lengths[i] && same(names + starts[other], name, lengths[i]))
                 return i;
         }
         slots[k] = (uint16_t)(i + 1);

@@ -15,7 +15,8 @@ from grammars import MAX_LENGTH, MAX_SYMBOLS
 from search import BENCH, FLAGS, ROOT, WORK, archive, ratio, run
 
 LONGEST, LONGEST_LINES = 262144, 1 << 20
-LETTERS = "abcdefghijklmnopqrstuvwxyzABCDEFGHIJKLMNOPQRSTUVWXYZ0123456789"
+# Case does not count in names.
+LETTERS = "abcdefghijklmnopqrstuvwxyz0123456789-"
 # Letters that differ in one bit, the second highest.
 ALIKE = "0p"
 # The key of a name, by whose bits from KEY_SKIP on the library's tree goes first (crates/lexicon/specs/Tree.antt).
@@ -38,10 +39,11 @@ def turns(name):
 
 def equal_keys(size, head, tail, wanted=0):
     """Distinct names of a size with the same beginning and end whose keys agree in all bits that the tree goes by. Of a key before its
-    last product each byte is a summand, times a power of the factor: three bytes are looked up by what the others leave of it."""
-    cut = size - len(tail) - 3
+    last product each byte is a summand, times a power of the factor: four bytes are looked up by what the others leave of it."""
+    cut = size - len(tail) - 4
     powers = [pow(KEY_FACTOR, size - 1 - place, KEY_SPAN) for place in range(size)]
-    last = {sum(ord(c) * p for c, p in zip(three + tail, powers[cut:])) % KEY_SPAN: three + tail for three in names(3)}
+    ends = (three + one + tail for three in names(3) for one in LETTERS[:5])
+    last = {sum(ord(c) * p for c, p in zip(end, powers[cut:])) % KEY_SPAN: end for end in ends}
     lows = ((high << KEY_BITS | wanted) << KEY_SKIP for high in range(1 << 64 - KEY_BITS - KEY_SKIP))
     sums = [-(-low // KEY_FACTOR) for low in lows if -low % KEY_FACTOR < 1 << KEY_SKIP]
     for front in names(cut, head):
@@ -77,12 +79,13 @@ def too_many():
     end = "\nnonterminals=S\n"
     alike = "x" * 12
     yield "names of 1 byte, doubled", filled("terminals=", itertools.cycle(LETTERS), ",", end)
-    yield "names of 2 and 3 bytes, distinct", filled("terminals=", itertools.chain(names(2), names(3)), ",", end)
-    yield "names of 3 bytes, distinct", filled("terminals=", names(3), ",", end)
+    yield "names of 2, 3 and 4 bytes, distinct", filled("terminals=", itertools.chain(names(2), names(3), names(4)), ",", end)
+    yield "names of 4 bytes, distinct", filled("terminals=", names(4), ",", end)
     for size in (6, 10, 15):
         label = f"names of {size} bytes that differ in the last 3"
         yield label, filled("terminals=", names(size, alike[:size - 3]), ",", end)
     yield "the same, the last a double of the first", filled("terminals=", names(15, alike), ",", f",{alike}aaa{end}")
+    yield "the same, the double in capitals", filled("terminals=", names(15, alike), ",", f",{alike.upper()}AAA{end}")
     yield "names of 15 bytes, of two letters", filled("terminals=", names(15, letters=ALIKE), ",", end)
     yield f"the second line, against {MAX_SYMBOLS} names of the first", filled(
         "terminals=" + ",".join(declared(MAX_SYMBOLS, 15, alike)) + "\nnonterminals=", names(15, "x" * 11 + "y"), ",", "\n")
@@ -90,14 +93,15 @@ def too_many():
 
 def many_uses():
     """Rules with thousands of uses of names that are far down in a tree of names, or the last of a list."""
-    few = lists(declared(MAX_SYMBOLS, 2), declared(62, 2, "Z"))
-    last = declared(MAX_SYMBOLS, 2)[-1]
-    yield "one rule line of thousands of names", filled(few + "rule=Za: ", itertools.repeat(last), " ", "\n")
-    yield "thousands of rule lines", filled(few, itertools.repeat("rule=Za: " + " ".join([last] * MAX_LENGTH)), "\n", "\n")
-    yield "thousands of short rule lines", filled(few, itertools.repeat("rule=Za:"), "\n", "\n")
+    few = lists(declared(MAX_SYMBOLS, 3), declared(62, 4, "zz"))
+    last = declared(MAX_SYMBOLS, 3)[-1]
+    yield "one rule line of thousands of names", filled(few + "rule=zzaa: ", itertools.repeat(last), " ", "\n")
+    yield "thousands of rule lines", filled(few, itertools.repeat("rule=zzaa: " + " ".join([last] * MAX_LENGTH)), "\n", "\n")
+    yield "thousands of short rule lines", filled(few, itertools.repeat("rule=zzaa:"), "\n", "\n")
     alike = declared(127, 15, "x" * 12)
     far = lists(alike, ["S"])
     yield "one rule line of names of 15 bytes", filled(far + "rule=S: ", itertools.repeat(alike[-1]), " ", "\n")
+    yield "the same in capitals", filled(far + "rule=s: ", itertools.repeat(alike[-1].upper()), " ", "\n")
     yield "rule lines of names of 15 bytes", filled(far, itertools.repeat("rule=S: " + " ".join([alike[-1]] * MAX_LENGTH)), "\n", "\n")
     most = lists(declared(MAX_SYMBOLS, 15, "x" * 12), ["S"] + declared(MAX_SYMBOLS - 1, 15, "x" * 11 + "y"))
     yield "the most names, and rule lines of them", filled(
@@ -108,7 +112,7 @@ def lines():
     """A text and lines of 1 MB that are read back in its grammar."""
     alike = declared(127, 15, "x" * 12)
     every = declared(MAX_SYMBOLS, 15, "x" * 12)
-    equal = list(itertools.islice(equal_keys(15, "x" * 4, "x" * 5), 250))
+    equal = list(itertools.islice(equal_keys(15, "x" * 4, "x" * 4), 250))
     for label, terminals, words in (
             ("names of 15 bytes", alike, alike[-1:]), ("names of 1 byte", alike, ["S"]), ("openings", alike, ["(1"]),
             (f"{MAX_SYMBOLS} names of 15 bytes", every, every),

@@ -20,6 +20,10 @@ from robot_grammars import grown, states_of
 from sentence_grammars import (
     large_sentenceless, named_table, nearly_sentenceless, sentenceless,
 )
+from spelling import (
+    NEXT_TO_LETTERS, apart, in_another_case, lettered, lettered_names, letters_in, places_apart,
+    respelled,
+)
 from tables import MAX_NONTERMINALS, MAX_RULES, MAX_TERMINALS
 from text import MAX_NAME, MAX_TEXT
 from text_read_inputs import damage, named_with_rules, spoiled
@@ -33,8 +37,8 @@ GROWN = 64                 # states of a grown grammar
 KEYS = b"left", b"right"
 # Names that look like something else, or like each other.
 ODD_NAMES = [b"0", b"1", b"00", b"01", b"10", b"100", b"-", b"--", b"-1", b"left", b"right",
-             b"left-", b"rule", b"terminals", b"a", b"A", b"aa", b"aA", b"S", b"s", b"1a",
-             b"0123456789abcde", b"0123456789abcdE"]
+             b"left-", b"rule", b"terminals", b"a", b"P", b"aa", b"aP", b"S", b"M", b"1a",
+             b"0123456789abcde", b"0123456789abcdF"]
 NAME_MARKS = b"!\"#$%&'*+,./:;<=>?@[\\]^_`{|}~\x7f\x01\x0b\x0c"     # no tab, 0, 13, brackets
 
 Words = List[bytes]
@@ -539,13 +543,14 @@ def more_lines(rng: Rng) -> Iterator[Case]:
 # Unknown names.
 
 def unknown_names(rng: Rng, base: Base) -> List[bytes]:
-    """Names that the grammar does not declare, most of them like one that it does."""
+    """Names that the grammar does not declare in any case, most of them like one that it does."""
     name = rng.choice(base.names)
-    found = [name.swapcase(), name[:-1], name[1:], (name + random_name(rng, 3))[:MAX_NAME],
+    found = [name[:-1], name[1:], (name + random_name(rng, 3))[:MAX_NAME],
              random_name(rng, MAX_NAME), random_name(rng, 1 + rng.randrange(MAX_NAME)),
              number(rng, base), b"%d" % (base.rules + 1 + rng.randrange(200)),
              b"0%d" % base.rules, b"left", b"right"]
-    return [some for some in found if some and some not in base.names]
+    declared = {name.lower() for name in base.names}
+    return [some for some in found if some and some.lower() not in declared]
 
 
 def with_unknown(rng: Rng, good: Good, line: int) -> Good:
@@ -703,11 +708,114 @@ def all_bytes(rng: Rng) -> Iterator[Case]:
         yield Case(good.base.text, good_lines(bad), any_lent(rng, bad))
 
 
+# Case.
+
+def respelled_base(rng: Rng, grammar: Named) -> Base:
+    """A grammar whose text uses its names in another case."""
+    text = join_lines(respelled(rng, lines_of(grammar), in_another_case))
+    return Base(text, len(grammar.rules), grammar.names)
+
+
+def lettered_base(rng: Rng) -> Base:
+    """A small grammar whose names have a letter each; every other text uses them in another case."""
+    grammar = lettered(rng)
+    return respelled_base(rng, grammar) if rng.randrange(2) else base_of(grammar)
+
+
+def words_in_another_case(rng: Rng, words: Words) -> Words:
+    """Names in another case, all of them or some; rules as they are."""
+    every = rng.randrange(3) > 0
+    return [word if word[:1] in (b"(", b")") or not (every or rng.randrange(2))
+            else in_another_case(rng, word) for word in words]
+
+
+def names_in_another_case(rng: Rng) -> Iterator[Case]:
+    """Names in another case than declared, on one line or both."""
+    for place in range(3 * EACH):
+        base = lettered_base(rng)
+        good = Good(base, *(random_words(rng, base, 1 + some_length(rng)) for _ in range(2)))
+        for line in [[1], [2], [1, 2]][place % 3]:
+            good = with_words(good, line, words_in_another_case(rng, words_of(good, line)))
+        yield Case(base.text, good_lines(good), any_lent(rng, good))
+
+
+def own_lines_in_another_case(rng: Rng) -> Iterator[Case]:
+    """What the program adds, its names in another case; a text that uses them so."""
+    found = 0
+    while found < 2 * EACH:
+        grammar = lettered(rng) if rng.randrange(3) else grown(rng, 4, GROWN)
+        base = respelled_base(rng, grammar)
+        lines = reading_lines(named_text(base.text))
+        values = [line.partition(b"=")[2].split(b" ") for line in lines.split(b"\n")[:2]] if lines else []
+        if any(letters_in(word) for words in values for word in words):
+            found += 1
+            good = Good(base, *(words_in_another_case(rng, words) for words in values))
+            yield Case(base.text, good_lines(good), any_lent(rng, good))
+            yield Case(base.text, lines, exact(good))
+
+
+def nearly_declared(rng: Rng) -> Iterator[Case]:
+    """A name that differs from a declared one by 32 in a digit or hyphen, known or not."""
+    for place in range(2 * EACH):
+        base = lettered_base(rng)
+        if not any(map(places_apart, base.names)):
+            continue
+        name = rng.choice([name for name in base.names if places_apart(name)])
+        good, line = Good(base, *(random_words(rng, base, some_length(rng)) for _ in range(2))), 1 + place % 2
+        near = with_words(good, line, put(rng, words_of(good, line), apart(rng, name)))
+        yield Case(base.text, good_lines(near), beside_a_fault(rng, near))
+    for _ in range(2 * EACH):
+        grammar = lettered(rng)
+        names = lettered_names(rng, len(grammar.names))
+        names[0] = (b"%c-7" % rng.choice(b"QAx") + names[0])[:MAX_NAME]
+        names[-1] = apart(rng, names[0])
+        base = base_of(grammar._replace(names=names))
+        good = Good(base, [names[0], in_another_case(rng, names[-1])], [names[-1], names[0]])
+        yield Case(base.text, good_lines(good), any_lent(rng, good))
+
+
+def next_to_the_letters(rng: Rng) -> Iterator[Case]:
+    """Bytes 64, 91, 96 and 123 in a word, on either line."""
+    for place in range(EACH):
+        base = lettered_base(rng)
+        good, line = Good(base, *(random_words(rng, base, some_length(rng)) for _ in range(2))), 1 + place % 2
+        word = with_byte(rng, rng.choice(base.names), rng.choice(NEXT_TO_LETTERS))[:MAX_NAME]
+        if not set(word) & set(NEXT_TO_LETTERS):
+            word = b"@"
+        bad = with_words(good, line, put(rng, words_of(good, line), word))
+        yield Case(base.text, good_lines(bad), beside_a_fault(rng, bad))
+
+
+def keys_in_another_case(rng: Rng) -> Iterator[Case]:
+    """A key in another case, its names as they are or in another case too."""
+    for place in range(EACH):
+        base, line = lettered_base(rng), 1 + place % 2
+        good = Good(base, *(random_words(rng, base, some_length(rng)) for _ in range(2)))
+        words = words_of(good, line)
+        if rng.randrange(2):
+            words = words_in_another_case(rng, words)
+        bad = in_another_case(rng, KEYS[line - 1]) + b"=" + b" ".join(words)
+        yield Case(base.text, with_line(good, line, bad), beside_a_fault(rng, good))
+
+
+def grammars_with_a_name_in_two_cases(rng: Rng) -> Iterator[Case]:
+    """A grammar that declares a name in two cases, on one line or across both."""
+    for place in range(EACH):
+        grammar = lettered(rng)
+        base, lines = base_of(grammar), lines_of(grammar)
+        good = Good(base, *(random_words(rng, base, some_length(rng)) for _ in range(2)))
+        lines[place % 2] += b"," + in_another_case(rng, rng.choice(base.names[:grammar.t]))
+        yield Case(join_lines(lines), rng.choice([good_lines(good), bad_lines(rng, good)]),
+                   beside_a_fault(rng, good))
+
+
 GROUPS: List[Group] = [
     own_lines, random_strings, empty_strings, long_strings, long_lines, at_the_limits, lent_rows,
     malformed_words, spaces, keys, exchanged, missing, more_lines, unknown, both_in_a_line,
     both_lines, unknown_and_lines, faulty_grammars, long_texts, damaged, noise, all_bytes,
     without_a_sentence, nearly_without,
+    names_in_another_case, own_lines_in_another_case, nearly_declared, next_to_the_letters,
+    keys_in_another_case, grammars_with_a_name_in_two_cases,
 ]
 
 

@@ -6,7 +6,7 @@ the order hides are found too. The first of them must be the refusal.
 
 import re
 from functools import lru_cache
-from typing import FrozenSet, List, NamedTuple, Optional, Sequence, Tuple, Union
+from typing import FrozenSet, List, NamedTuple, Optional, Sequence, Set, Tuple, Union
 
 from case_files import FEWEST
 from dead_rules import rule_kinds
@@ -15,8 +15,14 @@ from readings import (
 )
 from sentence_misreadings import AFTER_14, TOLD
 from sentence_reasons import RULES_REASONS, has_tree, loose_rules, of_rules
+from spelling_reasons import (
+    NEXT_TO_LETTERS, as_declared, declared_in, differ_by_32, differ_in_case, first_differs,
+    rest_differs, uses_in,
+)
 from tables import MAX_NONTERMINALS, MAX_RULES, MAX_TERMINALS, NO_SENTENCE, START, Refusal
-from text import MALFORMED, MAX_NAME, ROW_TOO_SHORT, UNKNOWN_NAME, Text, read_lines
+from text import (
+    DECLARED_TWICE, MALFORMED, MAX_NAME, ROW_TOO_SHORT, UNKNOWN_NAME, Text, read_lines,
+)
 from triples import CLOSING, OPENING, SYMBOL
 
 NAME = re.compile(rb"[-0-9A-Za-z]{1,15}")
@@ -54,6 +60,15 @@ READ_REASONS = [
     "read-rows-exactly-enough",
     "read-left-row-longer",
     "read-right-row-longer",
+    "read-a-terminal-in-another-case",
+    "read-a-nonterminal-in-another-case",
+    "read-every-name-in-another-case",
+    "read-a-name-that-differs-in-its-first-letter-alone",
+    "read-a-name-that-differs-behind-its-first-letter",
+    "read-a-name-spelled-as-a-rule-uses-it",
+    "read-as-declared-though-rules-use-another-case",
+    "read-what-the-program-adds-in-another-case",
+    "read-names-that-differ-by-32",
 ]
 SHORT_REASONS = [
     "14-only-left-by-one",
@@ -82,6 +97,7 @@ LINE_REASONS = [
     "16-right-twice",
     "16-lines-exchanged",
     "16-key-in-wrong-case-or-with-spaces",
+    "16-key-in-wrong-case",
     "16-key-unknown",
     "16-space-first",
     "16-space-last",
@@ -110,9 +126,10 @@ WORD_REASONS = [
     "16-byte-0",
     "16-byte-above-127",
     "16-other-byte",
+    "16-byte-next-to-the-letters",
 ]
 NAME_REASONS = [
-    "17-other-case",
+    "17-differs-by-32-from-a-name",
     "17-front-of-a-name",
     "17-a-name-and-more",
     "17-digits",
@@ -124,6 +141,7 @@ REASONS = READ_REASONS + SHORT_REASONS + [
 ] + LINE_REASONS + WORD_REASONS + NAME_REASONS + [
     "grammar-%d" % cause for cause in GRAMMAR_CAUSES
 ] + [
+    "grammar-18-by-case",
     "grammar-16-at-0",
     "grammar-16-at-1",
     "grammar-16-at-2",
@@ -160,8 +178,18 @@ class Known(NamedTuple):
     rules: Optional[int]
     names: Optional[List[bytes]]
 
+    @property
+    def small(self) -> FrozenSet[bytes]:
+        """The names in small letters."""
+        return small_letters(tuple(self.names or []))
+
 
 ANY = Known(None, None)
+
+
+@lru_cache(maxsize=4096)
+def small_letters(names: Tuple[bytes, ...]) -> FrozenSet[bytes]:
+    return frozenset(name.lower() for name in names)
 
 
 def reasons_of(text: bytes, lines: bytes, lent: LentStrings) -> List[str]:
@@ -169,11 +197,20 @@ def reasons_of(text: bytes, lines: bytes, lent: LentStrings) -> List[str]:
     result = read_back(text, lines, lent)
     if isinstance(result, Refused) and result.part == GRAMMAR:
         found = grammar_reasons(result.refusal, lines, lent)
+        if result.refusal.cause == DECLARED_TWICE and is_by_case(text, result.refusal.position):
+            found.append("grammar-18-by-case")
         if result.refusal.cause != NO_SENTENCE:
             return found
         told = [TOLD[AFTER_14]] if "order-grammar-19-before-14" in found else []
         return found + told + list(sentence_reasons(text, False))
     return line_reasons(text, lines, lent, result) + list(sentence_reasons(text, True))
+
+
+def is_by_case(text: bytes, line: int) -> bool:
+    """Whether the names that a text declares up to line 1 or 2 have different bytes each."""
+    names = [name for first in text.split(b"\n")[:line]
+             for name in first.partition(b"=")[2].split(b",")]
+    return len(set(names)) == len(names)
 
 
 @lru_cache(maxsize=4096)
@@ -214,9 +251,7 @@ def line_reasons(
 @lru_cache(maxsize=4096)
 def known_in(text: bytes) -> Known:
     """The rules and names that a good text has, found by its lines' marks."""
-    first, second, *rules = text.split(b"\n")[:-1]
-    lists = [line.partition(b"=")[2] for line in (first, second)]
-    return Known(len(rules), [name for names in lists if names for name in names.split(b",")])
+    return Known(text.count(b"\n") - 2, declared_in(text))
 
 
 @lru_cache(maxsize=4096)
@@ -259,7 +294,7 @@ def is_above(digits: bytes, rules: int) -> bool:
 def is_unknown(word: bytes, known: Known) -> bool:
     """Whether a word is a good name that the grammar does not have."""
     return (NAME.fullmatch(word) is not None
-            and known.names is not None and word not in known.names)
+            and known.names is not None and word.lower() not in known.small)
 
 
 def causes_of(line: Line, known: Known) -> List[int]:
@@ -299,6 +334,13 @@ def is_added(text: bytes, lines: bytes) -> bool:
             and lines == added(text))
 
 
+def is_added_but_for_case(text: bytes, lines: bytes) -> bool:
+    """Whether the program adds these lines with a name in another case."""
+    values = [line.partition(b"=")[2] for line in lines.split(b"\n")[:2]]
+    return (all(value.startswith(b"(0 ") and value.endswith(b" )0") for value in values)
+            and lines != added(text) and lines.lower() == added(text).lower())
+
+
 def read_reasons(text: bytes, lines: bytes, pair: Pair, lent: LentStrings) -> List[str]:
     """What the strings have in them, and how long the rows are."""
     known = known_in(text)
@@ -331,6 +373,34 @@ def read_reasons(text: bytes, lines: bytes, pair: Pair, lent: LentStrings) -> Li
         ("read-rows-exactly-enough", lent == (left, right)),
         ("read-left-row-longer", lent.left > left),
         ("read-right-row-longer", lent.right > right),
+    ]
+    return [name for name, holds in met if holds] + spelled_reasons(text, lines, words)
+
+
+def spelled_reasons(text: bytes, lines: bytes, words: Set[bytes]) -> List[str]:
+    """How the names of two lines that are read are spelled."""
+    declared = declared_in(text)
+    spelled = {name.lower(): name for name in declared}
+    terminals = set(declared_in(text.partition(b"\n")[0] + b"\n"))
+    pairs = [(word, spelled[word.lower()]) for word in words if word[:1] not in (b"(", b")")]
+    others = [pair for pair in pairs if pair[0] != pair[1]]
+    assert all(differ_in_case(*pair) for pair in others), "otherwise it is 17"
+    with_letters = [word for word, _ in pairs if word.lower() != word.upper()]
+    uses = {use for line in text.split(b"\n")[2:-1] for use in uses_in(line)}
+    met = [
+        ("read-a-terminal-in-another-case", any(name in terminals for _, name in others)),
+        ("read-a-nonterminal-in-another-case", any(name not in terminals for _, name in others)),
+        ("read-every-name-in-another-case", 0 < len(others) == len(with_letters)),
+        ("read-a-name-that-differs-in-its-first-letter-alone",
+         any(not rest_differs(*pair) for pair in others)),
+        ("read-a-name-that-differs-behind-its-first-letter",
+         any(not first_differs(*pair) for pair in others)),
+        ("read-a-name-spelled-as-a-rule-uses-it", any(word in uses for word, _ in others)),
+        ("read-as-declared-though-rules-use-another-case",
+         bool(with_letters) and not others and text != as_declared(text)),
+        ("read-what-the-program-adds-in-another-case", is_added_but_for_case(text, lines)),
+        ("read-names-that-differ-by-32",
+         len(pairs) < 9 and any(differ_by_32(one, other) for _, one in pairs for _, other in pairs)),
     ]
     return [name for name, holds in met if holds]
 
@@ -365,7 +435,8 @@ def malformed_kinds(lines: bytes, line: Line, known: Known) -> List[str]:
     if not equals:
         return kinds + ["16-no-equals-sign"]
     if key != KEYS[line.number - 1]:
-        return kinds + key_kinds(lines, key)
+        by_case = differ_in_case(key, KEYS[line.number - 1])
+        return kinds + key_kinds(lines, key) + ["16-key-in-wrong-case"] * by_case
     kinds += ["16-two-equals-signs"] if b"=" in value else []
     words = [kind for word in value.split(b" ") if word and is_malformed(word, known)
              for kind in word_kinds(word, known)]
@@ -437,6 +508,8 @@ def byte_kinds(word: bytes) -> List[str]:
         ("16-byte-0", b"\0" in word),
         ("16-byte-above-127", max(word) > 127),
         ("16-other-byte", re.search(rb"[^-0-9A-Za-z]", others) is not None),
+        ("16-byte-next-to-the-letters", NAME.fullmatch(word) is None and NAME.fullmatch(
+            word.translate(bytes.maketrans(NEXT_TO_LETTERS, b"abcd"))) is not None),
     ]
     return [name for name, holds in met if holds]
 
@@ -483,9 +556,11 @@ def unknown_kinds(line: Line, known: Known) -> List[str]:
     for word in pieces_of(line):
         if is_unknown(word, known):
             met = [
-                ("17-other-case", any(word.lower() == name.lower() for name in names)),
-                ("17-front-of-a-name", any(name.startswith(word) for name in names)),
-                ("17-a-name-and-more", any(word.startswith(name) for name in names)),
+                ("17-differs-by-32-from-a-name", any(differ_by_32(word, name) for name in names)),
+                ("17-front-of-a-name",
+                 any(name.lower().startswith(word.lower()) for name in names)),
+                ("17-a-name-and-more",
+                 any(word.lower().startswith(name.lower()) for name in names)),
                 ("17-digits", word.isdigit()),
                 ("17-of-15-bytes", len(word) == MAX_NAME),
                 ("17-a-key", word in KEYS),

@@ -11,7 +11,7 @@ from typing import Iterator, List, NamedTuple, Optional, Tuple
 from readings import named_of
 from searches import Potential, needed, search
 from tables import NO_SENTENCE, Codes, Grammar, Refusal
-from text import AMPLE, Text, read_lines, read_text, write_text
+from text import AMPLE, Text, read_lines, read_text, without_case, write_text
 from trees import MOST, some_sentences, tree_count
 
 FOLDER = os.path.join(os.path.dirname(os.path.dirname(os.path.abspath(__file__))), "corpus")
@@ -115,9 +115,10 @@ def verdict_of(found: Found) -> Tuple[str, Optional[int]]:
 
 
 def coded(found: Found, sentence: str) -> Optional[Codes]:
-    """The codes of a sentence's names; None if one is no terminal's."""
+    """The codes of a sentence's names, in any case; None if one is no terminal's."""
     words = [] if sentence == EMPTY else sentence.split(" ")
-    terminals = found.names[:found.grammar.terminals]
+    words, terminals = ([without_case(name.encode("ascii")) for name in names]
+                        for names in (words, found.names[:found.grammar.terminals]))
     if not all(word in terminals for word in words):
         return None
     return tuple(1 + terminals.index(word) for word in words)

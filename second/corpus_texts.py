@@ -2,7 +2,8 @@
 
 The corpus, grown grammars, both damaged in one byte or cut, texts with one fault
 of each cause, texts of too many bytes or states, texts with long readings, texts
-with rules that no sentence uses, and texts without a sentence, or nearly so.
+with rules that no sentence uses, texts without a sentence, or nearly so, and texts
+with names in another case than declared, or declared in two.
 """
 
 from functools import lru_cache
@@ -26,12 +27,14 @@ from sentence_grammars import (
     large_sentenceless, named_table, nearly_sentenceless, sentenceless,
 )
 from sentence_misreadings import AFTER_14, TOLD
+from spelling import in_another_case, lettered, respelled
+from spelling_reasons import declared_in, uses_in
 from sentence_reasons import has_tree, loose_rules, of_rules
 from tables import (
     FIXED_STATES, MAX_LENGTH, MAX_RULES, MAX_TERMINALS, NO_SENTENCE, Refusal,
 )
 from tables import MAX_STATES as MOST_STATES
-from text import MAX_NAME, MAX_TEXT, NAME_BYTES, Text, read_lines
+from text import CAPITALS, MAX_NAME, MAX_TEXT, Text, read_lines
 from triples import is_potential, triples_of
 
 SEED = 5
@@ -105,7 +108,7 @@ def cut(rng: Rng) -> Iterator[bytes]:
         yield text[:rng.choice([end, text.rfind(b"\n", 0, end) + 1])]
 
 
-LETTERS = [NAME_BYTES[place:place + 1] for place in range(62)]    # names of one byte
+LETTERS = [b"%c" % byte for byte in CAPITALS + b"0123456789"]     # names of one byte
 
 
 def counted(count: int) -> List[bytes]:
@@ -353,6 +356,27 @@ def nearly_without(rng: Rng) -> Iterator[bytes]:
         yield text_of(named_table(rng, table))
 
 
+# Case.
+
+def used_in_another_case(rng: Rng) -> Iterator[bytes]:
+    """Every use in another case than declared: grown grammars, small ones, those of the corpus."""
+    texts = [text for text in corpus_texts() if len(text) <= MAX_BYTES]
+    lines = [lines_of(grown(rng, 4, MAX_STATES)) for _ in range(40)]
+    lines += [lines_of(lettered(rng)) for _ in range(40)]
+    lines += [text.split(b"\n")[:-1] for text in texts[::2]]
+    for some in lines:
+        yield join_lines(respelled(rng, some, in_another_case))
+
+
+def declared_in_two_cases(rng: Rng) -> Iterator[bytes]:
+    """Cause 18: a name again in another case, on its line or the other one."""
+    for place in range(24):
+        lines = lines_of(lettered(rng) if place % 4 < 2 else grown(rng, 4, MAX_STATES))
+        names = [name for name in declared_in(join_lines(lines)) if name.lower() != name.upper()]
+        lines[place % 2] += b"," + in_another_case(rng, rng.choice(names))
+        yield join_lines(lines)
+
+
 GROUPS: Dict[str, Callable[[Rng], Iterator[bytes]]] = {
     "corpus": of_the_corpus,
     "grown": grown_small,
@@ -370,6 +394,8 @@ GROUPS: Dict[str, Callable[[Rng], Iterator[bytes]]] = {
     "no-sentence": without_a_sentence,
     "no-sentence-padded": padded_without,
     "nearly-no-sentence": nearly_without,
+    "another-case": used_in_another_case,
+    "two-cases": declared_in_two_cases,
 }
 
 
@@ -400,6 +426,11 @@ REASONS = ["unambiguous", "potential"] + ["refused-%d" % cause for cause in CAUS
     "of-4097-bytes",
     "of-48-states",
     "of-49-states",
+    "refused-18-by-case",
+    "unambiguous-with-a-use-in-another-case",
+    "potential-with-a-use-in-another-case",
+    "readings-with-a-name-that-no-rule-spells-so",
+    "readings-with-capitals",
 ] + dead_rules.REASONS + [
     "unambiguous-formerly-potential",
     "unambiguous-formerly-of-another-size",
@@ -427,8 +458,28 @@ def reading_reasons(text: bytes, printed: bytes) -> List[str]:
          any(word[:1] in b"()" and len(word) == 3 for word in words)),
         ("readings-of-unequal-length", len(left) != len(right)),
         ("readings-of-1000-bytes", len(printed) >= LONG),
+        ("readings-with-a-name-that-no-rule-spells-so", not words.isdisjoint(
+            set(declared_in(text)) - {use for use, _ in uses_of(text)})),
+        ("readings-with-capitals", any(word != word.lower() for word in words)),
     ]
     return [name for name, holds in met if holds]
+
+
+def uses_of(text: bytes) -> List[Tuple[bytes, bytes]]:
+    """The uses in a good text, each with its declaration."""
+    declared = {name.lower(): name for name in declared_in(text)}
+    return [(use, declared[use.lower()]) for line in text.split(b"\n")[2:-1] for use in uses_in(line)]
+
+
+def case_reasons(text: bytes, verdict: str) -> List[str]:
+    """Whether a text with this verdict, or a refusal with 18, is about case."""
+    if verdict != "refused-18":
+        other = any(use != name for use, name in uses_of(text))
+        return [verdict + "-with-a-use-in-another-case"] if other else []
+    first, *others = [declared_in(line + b"\n") for line in text.split(b"\n")[:2]]
+    if len({name.lower() for name in first}) == len(first):
+        first = first + others[0]
+    return ["refused-18-by-case"] if len(set(first)) == len(first) else []
 
 
 def dead_reasons(result: Text) -> List[str]:
@@ -481,6 +532,8 @@ def reasons_of(text: bytes, printed: bytes) -> List[str]:
     if not refused:
         assert isinstance(result, Text)
         found += dead_reasons(result)
+    for verdict in ("unambiguous", "potential", "refused-18"):
+        found += case_reasons(text, verdict) if verdict in found else []
     if rules is not None and cause != 14:
         found += of_rules(rules)
     return found + (reading_reasons(text, printed) if "potential" in found else [])

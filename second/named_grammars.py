@@ -48,19 +48,21 @@ def random_length(rng: Rng) -> int:
 
 
 def random_names(rng: Rng, count: int) -> List[bytes]:
-    """Different names of many lengths."""
-    names: Dict[bytes, None] = {}
+    """Different names of many lengths, in any case; no two differ in case alone."""
+    names: Dict[bytes, bytes] = {}
     while len(names) < count:
-        names[random_name(rng, random_length(rng))] = None
-    return list(names)
+        name = random_name(rng, random_length(rng))
+        names.setdefault(name.lower(), name)
+    return list(names.values())
 
 
 def long_names(rng: Rng, count: int) -> List[bytes]:
-    """Different names of 15 bytes."""
-    names: Dict[bytes, None] = {}
+    """The same, of 15 bytes each."""
+    names: Dict[bytes, bytes] = {}
     while len(names) < count:
-        names[random_name(rng, MAX_NAME)] = None
-    return list(names)
+        name = random_name(rng, MAX_NAME)
+        names.setdefault(name.lower(), name)
+    return list(names.values())
 
 
 def counted_names(count: int) -> List[bytes]:
@@ -137,8 +139,11 @@ def longest_named(rng: Rng) -> Named:
 
 
 def figures_named() -> List[Named]:
-    """Document 01's "Grammars on file", its names being a, b, S, A, B."""
-    return [Named(t, n, rules, [b"a", b"b"][:t] + [b"S", b"A", b"B"][:n])
+    """Document 01's "Grammars on file", W and X in the place of A and B.
+
+    With A and a one name would be declared twice.
+    """
+    return [Named(t, n, rules, [b"a", b"b"][:t] + [b"S", b"W", b"X"][:n])
             for t, n, rules in FIGURES]
 
 

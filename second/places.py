@@ -4,13 +4,13 @@ The refusal decides; the text is looked at only to find the place.
 """
 
 import re
-from typing import List, NamedTuple, Tuple
+from typing import Dict, List, NamedTuple, Tuple
 
 from tables import (
     EQUAL_RULE, MAX_LENGTH, MAX_RULES, MAX_STATES, NO_SENTENCE, OUT_OF_RANGE, TOO_LONG,
     TOO_MANY_RULES, Refusal,
 )
-from text import DECLARED_TWICE, KEYS, MALFORMED, MAX_TEXT, UNKNOWN_NAME, split_lines
+from text import DECLARED_TWICE, KEYS, MALFORMED, MAX_TEXT, UNKNOWN_NAME, split_lines, without_case
 
 NAME = rb"[A-Za-z0-9-]{1,15}"
 LIST = rb"(?:%s(?:,%s)*,?)?" % (NAME, NAME)
@@ -91,24 +91,28 @@ def words_on(content: bytes) -> List[Tuple[int, bytes]]:
 def unknown(text: bytes, number: int) -> Place:
     """Cause 17: the left name if it is no nonterminal, else the first that is not declared."""
     lines = split_lines(text)
-    terminals, nonterminals = ([name for _, name in words_on(line.content)] for line in lines[:LISTS])
+    terminals, nonterminals = ({without_case(name): name for _, name in words_on(line.content)} for line in lines[:LISTS])
     left, *right = words_on(lines[number - 1].content)
-    if left[1] in terminals:
-        return Place(number, left[0], "'%s' is a terminal; only a nonterminal has rules" % left[1].decode())
+    declared = {**terminals, **nonterminals}
+    if without_case(left[1]) in terminals:
+        name = declared[without_case(left[1])]
+        return Place(number, left[0], "'%s' is a terminal; only a nonterminal has rules" % name.decode())
     for column, name in [left] + right:
-        if name not in terminals + nonterminals:
+        if without_case(name) not in declared:
             return Place(number, column, "'%s' is not declared" % name.decode())
     raise AssertionError("the reader refused a name")
 
 
 def repeated(text: bytes, number: int) -> Place:
-    """Cause 18: the first name that was declared before."""
-    seen = set()
+    """Cause 18: the first name that was declared before, maybe in another case."""
+    seen: Dict[bytes, bytes] = {}
     for line in split_lines(text)[:number]:
         for column, name in words_on(line.content):
-            if name in seen:
-                return Place(number, column, "'%s' is declared twice" % name.decode())
-            seen.add(name)
+            earlier = seen.get(without_case(name))
+            if earlier is not None:
+                other = "" if earlier == name else ", before as '%s'" % earlier.decode()
+                return Place(number, column, "'%s' is declared twice%s" % (name.decode(), other))
+            seen[without_case(name)] = name
     raise AssertionError("the reader refused a name")
 
 

@@ -7,7 +7,8 @@ the program adds for it, `read_back` the strings of two lines.
 One table of words, `words_of`, serves both ways. A line is its words with one
 space between, no word has a space in it and no two letters have the same word;
 so different strings have different lines. A rule number that is not written as
-in the table, or that the grammar lacks, is 16 because no word equals it.
+in the table, or that the grammar lacks, is 16 because no word equals it. Names are
+written as they were declared, and read back in any case: document 02, [9].
 """
 
 from typing import Dict, List, NamedTuple, Optional, Sequence, Tuple, Union
@@ -17,6 +18,7 @@ from shortest import shortest_witness
 from tables import START, Grammar, Refusal, check_table
 from text import (
     AMPLE, END, EQUALS, MALFORMED, ROW_TOO_SHORT, SPACE, UNKNOWN_NAME, Text, is_name, read_text,
+    without_case,
 )
 from triples import (
     CLOSING, OPENING, STILL, SYMBOL, Move, Step, Triples, steps, triple_at, triples_of,
@@ -163,9 +165,15 @@ def line_words(line: Optional[bytes], key: bytes) -> Optional[List[bytes]]:
 def read_line(
     line: Optional[bytes], key: bytes, number: int, letters: Dict[bytes, Move]
 ) -> Union[String, Refusal]:
-    """The string of a line: "within a line 16 comes before 17"."""
+    """The string of a line: "within a line 16 comes before 17".
+
+    `letters` has the words without case.
+    """
     words = line_words(line, key)
-    if words is None or not all(word in letters or is_name(word) for word in words):
+    if words is None:
+        return Refusal(MALFORMED, number)
+    words = [without_case(word) for word in words]
+    if not all(word in letters or is_name(word) for word in words):
         return Refusal(MALFORMED, number)
     if not all(word in letters for word in words):
         return Refusal(UNKNOWN_NAME, number)
@@ -181,7 +189,7 @@ def read_back(text: bytes, lines: bytes, lent: LentStrings) -> Union[Pair, Refus
     named = named_in(text)
     if isinstance(named, Refusal):
         return Refused(GRAMMAR, named)
-    letters = {word: letter for letter, word in words_of(named).items()}
+    letters = {without_case(word): letter for letter, word in words_of(named).items()}
     strings: List[String] = []
     for number, (line, key) in enumerate(zip(split_two(lines), KEYS), 1):
         string = read_line(line, key, number, letters)

@@ -8,6 +8,7 @@ from back_reasons import REASONS, known_in, reasons_of
 from case_files import decode_all
 from file_tests import FileTests, without_sentences
 from readings import LentStrings, Pair, named_in, pair_lines, read_back
+from spelling_reasons import declared_in
 from text import MAX_TEXT
 
 FRONT = b"terminals=a,b\nnonterminals=S,Ab\n"
@@ -23,9 +24,17 @@ def two(left, right=b""):
     return b"left=" + left + b"\nright=" + right + b"\n"
 
 
+def spelled(text, lines):
+    """Good lines with each name as the text declares it."""
+    names = {name.lower(): name for name in declared_in(text)}
+    rows = [line.partition(b"=") for line in lines.split(b"\n")[:2]]
+    return b"".join(key + b"=" + b" ".join(names.get(word.lower(), word) for word in value.split(b" "))
+                    + b"\n" for key, _, value in rows)
+
+
 class FileTest(FileTests, unittest.TestCase):
     KIND = KIND
-    DIGEST = "7d57bcfe77c8c56f09ad124a56579846ab643d2dc14a264abcb13f0defaae55b"
+    DIGEST = "1f8c55d8cad4d8d6cf1dabe42f1812af9cef7e92b922291401cbc7ad5b5514dc"
     CASE = Case(b"ab", b"left=\n", LentStrings(258, 3))
     BYTES = b"\2\0\0\0ab" + b"\6\0\0\0left=\n" + b"\2\1\0\0" + b"\3\0\0\0"
 
@@ -63,13 +72,17 @@ class AnswerTest(unittest.TestCase):
 
 class InputsTest(unittest.TestCase):
     def test_what_is_read_gives_the_same_lines(self):
-        longest = 0
+        """Each name in its declared spelling; lines so spelled come back unchanged."""
+        longest = other = 0
         for case in KIND.all():
             result = read_back(*case)
             if isinstance(result, Pair):
                 longest = max(longest, len(case.lines))
-                self.assertEqual(pair_lines(named_in(case.text), result), case.lines)
+                declared = spelled(case.text, case.lines)
+                other += declared != case.lines
+                self.assertEqual(pair_lines(named_in(case.text), result), declared)
         self.assertGreater(longest, MAX_TEXT)
+        self.assertGreater(other, 150)
 
 
 class ReasonsTest(unittest.TestCase):
@@ -104,6 +117,31 @@ class ReasonsTest(unittest.TestCase):
                      "read-not-opened-first", *longer,
                      text=b"terminals=0\nnonterminals=%s\nrule=%s:\n" % (b"x" * 15, b"x" * 15))
 
+    def test_case(self):
+        longer = ["read", "read-left-row-longer", "read-right-row-longer", "read-only-right-empty"]
+        every = ["read-every-name-in-another-case", "read-not-opened-first", *longer]
+        self.reasons(two(b"A"), "read-a-terminal", "read-a-terminal-in-another-case",
+                     "read-a-name-that-differs-in-its-first-letter-alone", *every)
+        self.reasons(two(b"AB"), "read-a-nonterminal", "read-a-nonterminal-in-another-case",
+                     "read-a-name-that-differs-behind-its-first-letter", *every)
+        used = FRONT + b"rule=s: a Ab\nrule=Ab:\n"
+        self.reasons(two(b"s"), "read-a-nonterminal", "read-a-nonterminal-in-another-case",
+                     "read-a-name-that-differs-in-its-first-letter-alone",
+                     "read-a-name-spelled-as-a-rule-uses-it", *every, text=used)
+        self.reasons(two(b"a"), "read-a-terminal", "read-not-opened-first",
+                     "read-as-declared-though-rules-use-another-case", *longer, text=used)
+        self.reasons(two(b"(0 s )0", b"(0 (1 S )1 )0"), "read", "read-rule-0", "read-a-nonterminal",
+                     "read-what-the-program-adds-in-another-case", "read-rows-exactly-enough",
+                     "read-a-nonterminal-in-another-case",
+                     "read-a-name-that-differs-in-its-first-letter-alone",
+                     text=CYCLE, lent=LentStrings(3, 5))
+        self.reasons(two(b"0 P"), "read-a-terminal", "read-a-nonterminal", "read-a-name-of-digits",
+                     "read-names-that-differ-by-32", "read-not-opened-first", *longer,
+                     text=b"terminals=0\nnonterminals=P\nrule=P: 0\n")
+        for text in (b"terminals=a,A\n", b"terminals=a\nnonterminals=S,A\n"):
+            self.reasons(two(b"a"), "grammar-18", "grammar-18-by-case", text=text)
+        self.reasons(two(b"a"), "grammar-18", text=b"terminals=a,A,a\n")
+
     def test_14(self):
         lines = two(b"a a", b"b")
         for lent, names in [
@@ -134,13 +172,16 @@ class ReasonsTest(unittest.TestCase):
         for line, name in [
             (b"", "16-blank-line"), (b"left", "16-no-equals-sign"),
             (b"left==", "16-two-equals-signs"), (b"right=", "16-right-twice"),
-            (b"lEft=a", "16-key-in-wrong-case-or-with-spaces"),
+            (b" left=a", "16-key-in-wrong-case-or-with-spaces"),
             (b"left =a", "16-key-in-wrong-case-or-with-spaces"), (b"rule=a", "16-key-unknown"),
             (b"left= a", "16-space-first"), (b"left=a ", "16-space-last"),
             (b"left=a  b", "16-space-double"), (b"left= ", "16-space-alone"),
         ]:
             others = ["16-other-byte"] if name == "16-two-equals-signs" else []
             self.reasons(line + b"\nright=\n", "16-at-1", name, *others)
+        for key in (b"Left", b"LEFT", b"lefT"):
+            self.reasons(key + b"=a\nright=\n", "16-at-1", "16-key-in-wrong-case",
+                         "16-key-in-wrong-case-or-with-spaces")
         self.reasons(b"left=\nleft=\n", "16-at-2", "16-left-twice")
         self.reasons(b"right=\nleft=\n", "16-at-1", "16-lines-exchanged",
                      "order-16-at-1-before-16-at-2")
@@ -164,6 +205,8 @@ class ReasonsTest(unittest.TestCase):
             (b"a" * 16, ["16-name-of-16"]), (b"a" * 17, ["16-name-longer"]),
             (b"a\tb", ["16-tab"]), (b"a\r", ["16-byte-13"]), (b"a\0", ["16-byte-0"]),
             (b"a\xe4", ["16-byte-above-127"]), (b"a,b", ["16-other-byte"]),
+            (b"a@", ["16-other-byte", "16-byte-next-to-the-letters"]),
+            (b"{", ["16-other-byte", "16-byte-next-to-the-letters"]),
             (b"(1\r", ["16-byte-13", "16-more-after-a-number"]),
         ]:
             self.reasons(two(b"a " + word), "16-at-1", *names)
@@ -171,8 +214,8 @@ class ReasonsTest(unittest.TestCase):
 
     def test_unknown_names(self):
         for word, names in [
-            (b"c", []), (b"A", ["17-other-case", "17-front-of-a-name"]), (b"AB", ["17-other-case"]),
-            (b"bc", ["17-a-name-and-more"]), (b"1", ["17-digits"]), (b"left", ["17-a-key"]),
+            (b"c", []), (b"AbC", ["17-a-name-and-more"]), (b"3", ["17-digits", "17-differs-by-32-from-a-name"]),
+            (b"bc", ["17-a-name-and-more"]), (b"aBc", ["17-a-name-and-more"]), (b"1", ["17-digits"]), (b"left", ["17-a-key"]),
             (b"c" * 15, ["17-of-15-bytes"]),
         ]:
             self.reasons(two(word + b" a"), "17-at-1", *names)

@@ -23,14 +23,16 @@ from program import printed
 from robot_grammars import CHANGES, grow, grown, named, states_of, table_of
 from search_cases import Case
 from searches import needed
+from spelling import in_another_case, respelled
+from spelling_reasons import as_declared, declared_in
 from tables import MAX_STATES, START
 from test_tables import STATES, WITHOUT
-from text import AMPLE, read_text
+from text import AMPLE, read_lines, read_text, write_text
 from text_read_inputs import EXAMPLE
 
 # SHA-256 of the file of cases, and of the program's texts, each after its length.
 DIGEST = "39399af0523c8224a2b048b70e4dd0d2e975c2c31c23e6a47b2aaec378ff02ea"
-TEXTS = "1177688351dd7e2b38084e0584bd66f9a637c0484d7f7784a4a4f8c1e7228a12"
+TEXTS = "efaf84d782cb4eeb4b332b5ecece80f3c1d07d989302c07322323af3cbe4860c"
 
 WITHOUT_LINES = b"refused=19\nat=0\n"
 RIGHT = b"states=6\nverdict=unambiguous\nreached=11\n"
@@ -108,6 +110,34 @@ class IndexTest(unittest.TestCase):
         self.assertEqual(self.faults("list-both", sentence="x comma x comma x comma x"), [])
         for sentence in ("x comma x", "x comma", "(empty)", "L comma x comma x", "y"):
             self.assertEqual(self.faults("list-both", sentence=sentence), wrong)
+
+    def test_sentences_in_another_case(self):
+        self.assertEqual(self.faults("list-both", sentence="X comma x Comma X"), [])
+        self.assertEqual(self.faults("list-both", sentence="l comma x comma x"),
+                         ["the sentence has no two trees"])
+
+    def test_names_of_the_corpus(self):
+        """No two names of a grammar differ in case alone, and rules use them as declared."""
+        for entry in entries():
+            text = text_in(entry.name)
+            names = declared_in(text)
+            self.assertEqual(len({name.lower() for name in names}), len(names), entry.name)
+            self.assertEqual(as_declared(text), text, entry.name)
+
+    def test_the_corpus_in_another_case(self):
+        """Every use respelled: the same table, and the text as declared when it is written."""
+        rng = random.Random(13)
+        for entry in entries():
+            text = text_in(entry.name)
+            other = join_lines(respelled(rng, text.split(b"\n")[:-1], in_another_case))
+            found = read_lines(other)
+            self.assertEqual(found, read_lines(text))
+            if entry.verdict != "refused":
+                self.assertEqual(text, write_text(
+                    found.terminals, found.nonterminals, found.table, other, found.starts,
+                    found.lengths, len(text)))
+                if entry.states <= 48:
+                    self.assertEqual(printed(other), printed(text))
 
     def test_an_ambiguous_grammar_is_no_false_alarm(self):
         found = self.faults("expr-minus", truth="false-alarm", sentence="-")
@@ -238,7 +268,7 @@ class PrintedTest(unittest.TestCase):
                          b"refused=14\nat=0\n")
 
     def test_rules_that_no_sentence_uses(self):
-        course = b"terminals=a\nnonterminals=S,A\nrule=S: a\nrule=S: A\nrule=A: A\n"
+        course = b"terminals=a\nnonterminals=S,W\nrule=S: a\nrule=S: W\nrule=W: W\n"
         self.assertEqual(printed(course), b"states=10\nverdict=unambiguous\nreached=11\n")
 
     def test_too_many_states(self):
@@ -281,7 +311,7 @@ class TextsTest(unittest.TestCase):
         for text, expected in [
             (EXAMPLE, ["unambiguous"]),
             (text_in("row-cycle-a"), ["potential", "readings-with-a-nonterminal",
-                                      "readings-of-unequal-length"]),
+                                      "readings-of-unequal-length", "readings-with-capitals"]),
             (text_in("row-cycle"), ["refused-19"]),
             (text_in("row-odd-a"), ["potential", "readings-with-a-terminal"]),
             (text_in("robot-48"), ["unambiguous", "of-48-states"]),

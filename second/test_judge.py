@@ -14,6 +14,7 @@ from corpus import Found, entries, found_in, table_in, text_in
 from judge import certified as judge_certified
 from judge import checked, run, verdict
 from live_misreadings import former_triples
+from named_grammars import join_lines
 from places import place_of
 from printed import (
     CHECKED, FORMS, MOST_BYTES, MOST_STATES, PLAIN, RUNS, Malformed, bytes_needed, certificate_in,
@@ -21,6 +22,7 @@ from printed import (
 )
 from program import printed
 from searches import Unambiguous, needed, search
+from spelling import in_another_case, respelled
 from tables import MAX_STATES, Grammar, Refusal
 from text import AMPLE, read_text
 from text_read_inputs import EXAMPLE
@@ -184,15 +186,29 @@ class PlaceTest(unittest.TestCase):
                 (lists + b"rule=S: a | b\n", 3, 11), (lists + b"rule=S: c\n", 3, 9), (lists + b"rule=a: a\n", 3, 6),
                 (b"terminals=a,b,a\n", 1, 15), (b"terminals=a\nnonterminals=S,a\n", 2, 16), (b"terminals=\nnonterminals=\n", 2, 14),
                 (lists + b"rule=S:" + b" a" * 13 + b"\n", 3, 6), (lists + b"rule=S: a\nrule=S:\nrule=S: a\n", 5, 6),
+                (b"terminals=a,b,A\n", 1, 15), (b"terminals=a\nnonterminals=S,A\n", 2, 16), (lists + b"rule=s: A C\n", 3, 11),
+                (lists + b"rule=A: a\n", 3, 6), (lists + b"Rule=S: a\n", 3, 1), (lists + b"rule=s: A\nrule=S: a\n", 4, 6),
                 (b"x" * 262145, 1, 1), (lists, 2, 14), (lists + b"rule=S: a S\n", 2, 14)]:
             self.assertEqual(self.place(text)[:2], (line, column), text[:60])
+
+    def test_names_in_messages(self):
+        """Declared names as they are declared, others as they stand there: document 02, [9]."""
+        lists = b"terminals=Take,b\nnonterminals=S\n"
+        for text, message in [
+                (lists + b"rule=TAKE: b\n", "'Take' is a terminal; only a nonterminal has rules"),
+                (lists + b"rule=s: take Give\n", "'Give' is not declared"),
+                (lists + b"rule=s: S\n", "'S' has no finite tree, so there is no sentence"),
+                (b"terminals=Take,b,take\n", "'take' is declared twice, before as 'Take'"),
+                (b"terminals=b\nnonterminals=S,B\n", "'B' is declared twice, before as 'b'"),
+                (b"terminals=b,b\n", "'b' is declared twice")]:
+            self.assertEqual(self.place(text).message, message)
 
     def test_every_refusal_has_its_line(self):
         rng = random.Random(1)
         for _ in range(2000):
             text = bytearray(EXAMPLE + b"rule=S: S a\n")
             for _ in range(rng.randrange(1, 4)):
-                text[rng.randrange(len(text))] = rng.choice(b"\n\r\t =:,|#_-aS\xc3")
+                text[rng.randrange(len(text))] = rng.choice(b"\n\r\t =:,|#_-aSAs\xc3")
             refusal = read_text(bytes(text), AMPLE)
             if isinstance(refusal, Refusal):
                 place = place_of(bytes(text), refusal)
@@ -228,6 +244,23 @@ class RunTest(unittest.TestCase):
         self.assertEqual([line.split(" ")[:2] for line in large[2:4]],
                          [["left=(0", "(2"], ["right=(0", "(2"]])
         self.assertEqual(large[4:], [""])
+
+    def test_case(self):
+        """All that is printed is as it is for the text with each use in its declared spelling."""
+        rng = random.Random(2)
+        for name in ("row-a", "row-cycle-a", "row-odd-a", "row-nested", "expr-minus", "robot-swap", "else-dangling",
+                     "robot-channels", "pairs-of-c", "no-start-rule"):
+            text = text_in(name)
+            other = join_lines(respelled(rng, text.split(b"\n")[:-1], in_another_case))
+            self.assertNotEqual(other, text)
+            for words in ([], ["--certificate"]):
+                told = self.run_with(text, words=words)
+                self.assertEqual(self.run_with(other, words=words), told)
+                if words and told[0] == 0:
+                    self.assertEqual(self.run_with(other, told[1].encode()), (0, "accepted\n", ""))
+        twice = EXAMPLE.replace(b"s=S", b"s=S,A")
+        self.assertEqual(self.run_with(twice), (
+            4, "refused=18\nat=2\n", "0:2:16: error: 'A' is declared twice, before as 'a'\n"))
 
     def test_certificates(self):
         self.assertEqual(self.run_with(EXAMPLE, LINES_CHECKED), (0, "accepted\n", ""))

@@ -18,7 +18,7 @@ ONE = Case(1, 1, (S, 1, 1), b"aS", (0, 1), (1, 1))
 
 class FileTest(FileTests, unittest.TestCase):
     KIND = KIND
-    DIGEST = "d2f2da68c147b3bc78d90b7f34d8c85eca9febe05756056afd25b790bebe9ae2"
+    DIGEST = "1c9908ccda6636ff7919ca7d3d21929e50c0ff9a180baa17f23d8e15136a592d"
     CASE = Case(*TABLE, b"ab", (WORD - 1, 1), (3,))
     BYTES = (TABLE_BYTES + b"\2\0\0\0ab" + b"\2\0\0\0\xff\xff\xff\xff\1\0\0\0"
              + b"\1\0\0\0\3\0\0\0")
@@ -42,6 +42,7 @@ class AnswerTest(unittest.TestCase):
     def test_refusals(self):
         self.assertEqual(answer(ONE._replace(starts=(0,))), "refused=16 at=1")
         self.assertEqual(answer(ONE._replace(names=b"aa")), "refused=18 at=1")
+        self.assertEqual(answer(ONE._replace(names=b"aA")), "refused=18 at=1")
         self.assertEqual(answer(ONE._replace(t=0)), "refused=5 at=2")
         self.assertEqual(answer(ONE._replace(table=(), names=b"")), "refused=19 at=0")
 
@@ -66,7 +67,8 @@ class ReasonsTest(unittest.TestCase):
         self.assertLessEqual(set(found), set(REASONS))
 
     def test_lengths(self):
-        told = "written", "written-a-name-at-the-end-of-the-bytes", "length-up-to-255"
+        told = ("written", "written-a-name-at-the-end-of-the-bytes", "length-up-to-255",
+                "written-capitals-and-small-letters")
         self.reasons({}, *told, "length-every-rule-used")
         self.reasons({"n": 2, "table": (S, 1, 1, S + 1, 0), "names": b"aSU",
                       "starts": (0, 1, 2), "lengths": (1, 1, 1)}, *told, "written-an-empty-rule",
@@ -76,6 +78,8 @@ class ReasonsTest(unittest.TestCase):
         self.reasons({"starts": (0,)}, "16", "16-starts-end")
         self.reasons({"lengths": (0, 0)}, "16", "16-length-0", "order-lowest-16-of-several")
         self.reasons({"names": b"aa"}, "18", "18-across-the-kinds", "18-equal-bytes-elsewhere")
+        self.reasons({"names": b"aA"}, "18", "18-across-the-kinds", "18-by-case-across-the-kinds",
+                     "18-by-case-in-the-first-letter-alone")
 
     def test_tables(self):
         self.reasons({"t": 0}, "table-5")
@@ -86,7 +90,7 @@ class ReasonsTest(unittest.TestCase):
                      "told-from-names-come-before-19")
 
     def test_none_is_about_the_room(self):
-        self.assertEqual(len(ABOUT_ROOM), 10)
+        self.assertEqual(len(ABOUT_ROOM), 11)
         self.assertFalse(set(ABOUT_ROOM) & set(REASONS))
 
 

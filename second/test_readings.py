@@ -25,8 +25,8 @@ from test_triples import closing, opening, symbol
 from triples import is_potential
 
 AMPLE = LentStrings(2 * 1024 * 1024, 2 * 1024 * 1024)
-FRONT = b"terminals=a,b\nnonterminals=S,A\n"
-TWO = FRONT + b"rule=S: a A\nrule=A:\n"      # rules 0, 1 and 2
+FRONT = b"terminals=a,b\nnonterminals=S,W\n"
+TWO = FRONT + b"rule=S: a W\nrule=W:\n"      # rules 0, 1 and 2
 ODD = text_of(figures_named()[7])            # S→a S a; S→a
 ODD_LINES = b"left=(0 (2 a )2 a )1 )0\nright=(0 (1 a (2 a )2 )0\n"
 NAME = re.compile(rb"[-0-9A-Za-z]{1,15}")
@@ -55,7 +55,7 @@ def verdict_of_line(line, key, known, rules):
             return 16
         if bracket is not None and int(bracket.group(1)) > rules:
             return 16
-    return 17 if any(WORD.fullmatch(w) is None and w not in known for w in words) else 0
+    return 17 if any(WORD.fullmatch(w) is None and w.lower() not in known for w in words) else 0
 
 
 class SidesTest(unittest.TestCase):
@@ -123,11 +123,20 @@ class LinesTest(unittest.TestCase):
         self.assertEqual(lines_of(text), b"left=(0 S )0\nright=(0 (11 S )11 )0\n")
 
     def test_dead_rules(self):
-        course = FRONT + b"rule=S: a\nrule=S: A\nrule=A: A\n"
+        course = FRONT + b"rule=S: a\nrule=S: W\nrule=W: W\n"
         self.assertEqual(lines_of(course), b"")
         self.assertEqual(printed(course), b"states=10\nverdict=unambiguous\nreached=11\n")
-        cycle = FRONT + b"rule=S: S A\nrule=A: A\nrule=S: S\nrule=S: a\n"
+        cycle = FRONT + b"rule=S: S W\nrule=W: W\nrule=S: S\nrule=S: a\n"
         self.assertEqual(lines_of(cycle), b"left=(0 S )0\nright=(0 (3 S )3 )0\n")
+
+    def test_the_declared_spelling(self):
+        """Document 02, [9]: whatever case the rules use."""
+        for text in (ODD, ODD.replace(b"rule=S", b"rule=s"), ODD.replace(b": a", b": A"),
+                     ODD.replace(b"rule=S: a S a", b"rule=s: A s A")):
+            self.assertEqual(printed(text), b"states=10\nverdict=potential\n" + ODD_LINES)
+        text = b"terminals=Go\nnonterminals=Start\nrule=START: start\nrule=start: GO\n"
+        self.assertEqual(lines_of(text), b"left=(0 Start )0\nright=(0 (1 Start )1 )0\n")
+        self.assertEqual(printed(text), b"states=8\nverdict=potential\n" + lines_of(text))
 
     def test_a_refused_text(self):
         self.assertEqual(named_in(b""), Refusal(16, 1))
@@ -146,7 +155,7 @@ class ReadBackTest(unittest.TestCase):
     def test_good_lines(self):
         self.read(two(b""), [], [])
         self.read(two(b"", b"a"), [], [symbol(1)])
-        self.read(two(b"(0 (2 )1 )0", b"S A b a"),
+        self.read(two(b"(0 (2 )1 )0", b"S W b a"),
                   [opening(0), opening(2), closing(1), closing(0)],
                   [symbol(S), symbol(S + 1), symbol(2), symbol(1)])
 
@@ -154,7 +163,7 @@ class ReadBackTest(unittest.TestCase):
         self.read(two(b")2 )2", b"(1"), [closing(2), closing(2)], [opening(1)])
 
     def test_dead_rules_are_rules_of_the_grammar(self):
-        text = FRONT + b"rule=S: a\nrule=A: A\n"
+        text = FRONT + b"rule=S: a\nrule=W: W\n"
         self.assertEqual(read_back(text, two(b"(2 )2", b""), AMPLE),
                          Pair((opening(2), closing(2)), ()))
         self.refused(two(b"(3"), 16, 1, text)
@@ -190,9 +199,31 @@ class ReadBackTest(unittest.TestCase):
             self.refused(two(b"c", b"b") + past, 17, 1)
 
     def test_unknown_names(self):
-        for value in (b"c", b"s", b"SA", b"a-", b"-", b"0", b"1", b"a" * 15, b"left", b"a b c"):
+        for value in (b"c", b"C", b"SW", b"a-", b"-", b"0", b"1", b"a" * 15, b"left", b"a b c"):
             self.refused(two(value), 17, 1)
             self.refused(two(b"a", value), 17, 2)
+
+    def test_names_in_another_case(self):
+        """Document 02, [9]."""
+        text = b"terminals=Take,b\nnonterminals=S,Volume-1\nrule=s: TAKE volume-1\nrule=VOLUME-1: B\n"
+        pair = Pair((opening(0), symbol(1), symbol(S + 1)), (symbol(S), symbol(2), closing(2)))
+        declared = two(b"(0 Take Volume-1", b"S b )2")
+        self.assertEqual(pair_lines(named_in(text), pair), declared)
+        for lines in (declared, two(b"(0 take volume-1", b"s B )2"), two(b"(0 TAKE VOLUME-1", b"S b )2"),
+                      two(b"(0 tAKE Volume-1", b"s b )2")):
+            self.assertEqual(read_back(text, lines, AMPLE), pair)
+            self.assertEqual(read_back(text, lines, LentStrings(3, 2)), Refused(LINES, Refusal(14, 0)))
+        for word in (b"tak", b"take-", b"VolumeQ1", b"Volume-Q", b"VolumeM1", b"0", b"c"):
+            self.refused(two(word), 17, 1, text)
+            self.refused(two(b"TAKE", word), 17, 2, text)
+        for word in (b"T@ke", b"take`", b"[", b"{", b"(0a", b"(O"):
+            self.refused(two(b"b", b"B " + word), 16, 2, text)
+        for lines in (b"Left=\nright=\n", b"LEFT=take\nright=\n", b"lefT=\nRIGHT=\n"):
+            self.refused(lines, 16, 1, text)
+        for lines in (b"left=\nRight=\n", b"left=\nrighT=b\n"):
+            self.refused(lines, 16, 2, text)
+        for twice in (b"terminals=a,A\n", b"terminals=a,S\nnonterminals=s\nrule=s:\n"):
+            self.refused(declared, 18, twice.count(b"\n") // 3 + 1, twice, part=GRAMMAR)
 
     def test_16_before_17_in_a_line_and_line_1_before_line_2(self):
         self.refused(two(b"c ("), 16, 1)
@@ -211,7 +242,7 @@ class ReadBackTest(unittest.TestCase):
                 (b"terminals=\nnonterminals=\n", 1, 2), (FRONT + b"rule=S: c\n", 17, 3),
                 (FRONT + b"rule=S:" + b" a" * 13 + b"\n", 4, 3),
                 (FRONT + b"rule=S:\nrule=S:\n", 6, 2), (FRONT, 19, 0),
-                (FRONT + b"rule=S: S\nrule=A:\n", 19, 0),
+                (FRONT + b"rule=S: S\nrule=W:\n", 19, 0),
             ]:
                 self.refused(lines, cause, position, text, LentStrings(0, 0), GRAMMAR)
 
@@ -292,8 +323,8 @@ class RoundTripTest(unittest.TestCase):
     def test_damaged_lines(self):
         """One byte changed, dropped or added: the answer by patterns, or the same lines."""
         rng = random.Random(4)
-        named, good = named_in(TWO), two(b"(0 a )2 S", b"(1 A b )0")
-        known, spare = [b"a", b"b", b"S", b"A"], b"()0123abSAc \n=left-_"
+        named, good = named_in(TWO), two(b"(0 a )2 S", b"(1 W b )0")
+        known, spare = [b"a", b"b", b"s", b"w"], b"()0123abSAcw \n=left-_"
         causes = {0: 0, 16: 0, 17: 0}
         for _ in range(3000):
             place, drop = rng.randrange(len(good) + 1), rng.randrange(2)
@@ -309,7 +340,8 @@ class RoundTripTest(unittest.TestCase):
             causes[cause] += 1
             found = read_back(TWO, lines, AMPLE)
             if cause == 0:
-                self.assertEqual(pair_lines(named, found), lines)
+                declared = lines.translate(bytes.maketrans(b"ABsw", b"abSW"))
+                self.assertEqual(pair_lines(named, found), declared)
             else:
                 self.assertEqual(found, Refused(LINES, Refusal(cause, line)))
         self.assertGreater(min(causes.values()), 200)

@@ -16,7 +16,7 @@ SHORT = "refused=14 at=0"
 
 class FileTest(FileTests, unittest.TestCase):
     KIND = KIND
-    DIGEST = "67ad3d38075abdb277427127c3b05715608d5a201a725dc209642e395128d030"
+    DIGEST = "70ae43e68266754afa2e7024a3b92990f6f68098661a31ad4bd601f1fd82da54"
     CASE = Case(b"ab", 258)
     BYTES = b"\x02\0\0\0" + b"ab" + b"\x02\x01\0\0"
 
@@ -54,7 +54,8 @@ class ReasonsTest(unittest.TestCase):
         self.reasons(b"", 15, "14-one-byte-short", "14-for-a-text-that-is-refused")
 
     def test_reasons_of_readings(self):
-        readings = "readings-with-a-nonterminal", "readings-of-unequal-length"
+        readings = ("readings-with-a-nonterminal", "readings-of-unequal-length",
+                    "readings-with-capitals")
         self.reasons(CYCLE, len(READINGS), "potential", "exactly-enough", *readings)
         self.reasons(CYCLE, ENOUGH, "potential", "longer", *readings)
         self.reasons(CYCLE, len(READINGS) - 1, "14-one-byte-short",
@@ -63,6 +64,21 @@ class ReasonsTest(unittest.TestCase):
                            (40, "14-room-for-the-verdict-and-left")]:
             self.reasons(CYCLE, room, "14-shorter", name)
         self.reasons(CYCLE, 26, "14-shorter")
+
+    def test_case(self):
+        """The report is in the declared spelling."""
+        other = CYCLE.replace(b"rule=S: S", b"rule=s: s").replace(b"rule=S: a", b"rule=s: A")
+        self.assertEqual(answer(Case(other, ENOUGH)), answer(Case(CYCLE, ENOUGH)))
+        self.reasons(other, ENOUGH, "potential", "longer", "readings-with-a-nonterminal",
+                     "readings-of-unequal-length", "readings-with-capitals",
+                     "potential-with-a-use-in-another-case",
+                     "readings-with-a-name-that-no-rule-spells-so")
+        self.reasons(TEXT.replace(b": a", b": A"), ENOUGH, "unambiguous", "longer",
+                     "unambiguous-with-a-use-in-another-case")
+        twice = b"terminals=a\nnonterminals=S,A\nrule=S: a\n"
+        self.assertEqual(answer(Case(twice, 16)), "written=16 text=%s" % b"refused=18\nat=2\n".hex())
+        self.reasons(twice, ENOUGH, "refused-18", "refused-18-by-case", "longer")
+        self.reasons(b"terminals=a,A,A\n", ENOUGH, "refused-18", "longer")
 
     def test_dead_rules(self):
         unused = b"terminals=a\nnonterminals=S,U\nrule=S: a\nrule=U: a\n"

@@ -17,7 +17,7 @@ OPENINGS = "told-from-openings-before-a-nonterminal-are-counted-once"
 
 class FileTest(FileTests, unittest.TestCase):
     KIND = KIND
-    DIGEST = "53c96b297bc930960c672de0b90a53692658e01ad3ec372df30e33fdb3fa637b"
+    DIGEST = "3735d286e28bbd57595ff0eda0b6530d176340d36e33def56dfd366a8d7d9d42"
     CASE = TABLE
     BYTES = TABLE_BYTES
 

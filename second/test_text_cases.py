@@ -11,6 +11,7 @@ from case_files import decode_all
 from file_tests import TABLE, TABLE_BYTES, FileTests, without_sentences
 from named_grammars import text_of
 from random_tables import S
+from spelling_reasons import as_declared
 from tables import Refusal
 from test_text import AMPLE, EMPTY, FRONT, WORD
 from text import Lent, Text, read_lines, read_text, write_text
@@ -23,14 +24,14 @@ GOOD = FRONT + b"rule=S:\n"
 
 class ReadFileTest(FileTests, unittest.TestCase):
     KIND = READ
-    DIGEST = "7de97d0973f7ffe229a7a98842a89a64e44e6b6c3d608dfef2a41fffb7843848"
+    DIGEST = "99735c3af078ea7f4bc4342ee881ee1688fc58c42d3292f9ed4371660beafae7"
     CASE = b"a\n", Lent(258, 3, 0)
     BYTES = b"\2\0\0\0a\n\2\1\0\0\3\0\0\0\0\0\0\0"
 
 
 class WriteFileTest(FileTests, unittest.TestCase):
     KIND = WRITE
-    DIGEST = "6647bae0995a1ebae1e3d0b4240018d427570ea7e1904253c4faa3fea06cd01e"
+    DIGEST = "50cb74bb46ce71ea2b5f153b997ab8a25298817853333b10e383853c3c1d518e"
     CASE = Case(*TABLE, b"ab", (WORD - 1, 1), (3,), 513)
     BYTES = (TABLE_BYTES + b"\2\0\0\0ab" + b"\2\0\0\0\xff\xff\xff\xff\1\0\0\0"
              + b"\1\0\0\0\3\0\0\0" + b"\1\2\0\0")
@@ -56,7 +57,7 @@ class InputsTest(unittest.TestCase):
 class AnswerTest(unittest.TestCase):
     def test_read_answers(self):
         self.assertEqual(
-            read_answer((FRONT + b"rule=A: b S\nrule=S:\n", AMPLE)),
+            read_answer((FRONT + b"rule=W: b S\nrule=S:\n", AMPLE)),
             "read terminals=2 nonterminals=2 states=8 table=32769,2,2,32768,32768,0 "
             "starts=10,12,27,29 lengths=1,1,1,1")
         self.assertEqual(
@@ -74,12 +75,21 @@ class AnswerTest(unittest.TestCase):
         self.assertEqual(write_answer(case._replace(table=(), starts=())), "refused=19 at=0")
 
     def test_what_is_read_is_written_back(self):
+        """Each use as declared; what is so spelled comes back unchanged."""
+        other = 0
         for text, lent in text_read_inputs.all_cases():
             result = read_text(text, lent)
             if isinstance(result, Text):
+                declared = as_declared(text)
+                other += declared != text
                 self.assertEqual(
                     write_text(result.terminals, result.nonterminals, result.table, text,
-                               result.starts, result.lengths, len(text)), text)
+                               result.starts, result.lengths, len(text)), declared)
+        self.assertGreater(other, 400)
+
+    def test_uses_in_another_case_are_read_alike(self):
+        for text, lent in text_read_inputs.used_in_another_case(random.Random(1)):
+            self.assertEqual(read_text(text, lent), read_text(as_declared(text), lent))
 
     def test_what_is_written_is_read_back(self):
         for case in text_write_inputs.all_cases():
@@ -101,8 +111,9 @@ class ReadReasonsTest(unittest.TestCase):
         self.assertLessEqual(set(found), set(text_read_reasons.REASONS))
 
     def test_read(self):
-        self.reasons(GOOD, "read", "read-an-empty-rule", "read-rows-all-longer")
-        self.reasons(b"terminals=\nnonterminals=S\nrule=S:\n", "read", "read-no-terminals",
+        self.reasons(GOOD, "read", "read-an-empty-rule", "read-rows-all-longer",
+                     "read-with-capitals-as-declared")
+        self.reasons(b"terminals=\nnonterminals=s\nrule=s:\n", "read", "read-no-terminals",
                      "read-an-empty-rule", "read-rows-exactly-enough", lent=Lent(2, 1, 1))
 
     def test_16(self):
@@ -111,7 +122,7 @@ class ReadReasonsTest(unittest.TestCase):
         self.reasons(b"terminals=", "16-in-line-1", "16-last-line-without-byte-10")
         self.reasons(b"\n", "16-in-line-1", "16-blank-line")
         self.reasons(b"terminals=\nrule=S:\n", "16-in-line-2", "16-key-of-another-line")
-        self.reasons(GOOD + b"Rule=S:\n", "16-in-a-rule-line",
+        self.reasons(GOOD + b" rule=S:\n", "16-in-a-rule-line",
                      "16-key-in-wrong-case-or-with-spaces")
         self.reasons(GOOD + b"rule=S: a  b \n", "16-in-a-rule-line",
                      "16-rule-with-double-space", "16-rule-with-space-at-its-end")
@@ -137,6 +148,48 @@ class ReadReasonsTest(unittest.TestCase):
         self.reasons(b"terminals=a\nnonterminals=%s,b\n" % names, "1-2001-nonterminals")
         self.reasons(GOOD + b"rule=S:" + b" S" * 13 + b"\n", "4-k-of-13")
 
+    def test_case(self):
+        longer = "read", "read-rows-all-longer"
+        every = "read-every-use-in-another-case", "read-a-use-that-differs-in-its-first-letter-alone"
+        self.reasons(FRONT + b"rule=s: A w\nrule=W:\n", *longer, every[1], "read-an-empty-rule",
+                     "read-a-left-name-in-another-case", "read-a-terminal-in-another-case",
+                     "read-a-nonterminal-in-another-case")
+        self.reasons(b"terminals=take\nnonterminals=00\nrule=00: tAKE\n", *longer, every[0],
+                     "read-a-terminal-in-another-case",
+                     "read-a-use-that-differs-behind-its-first-letter")
+        self.reasons(b"terminals=0,P\nnonterminals=x\nrule=X:\n", *longer, *every,
+                     "read-an-empty-rule", "read-a-left-name-in-another-case",
+                     "read-names-that-differ-by-32")
+        self.reasons(FRONT + b"rule=s: A\n", "14-and-a-use-in-another-case", "14-otherwise",
+                     lent=Lent(0, 0, 0))
+        self.reasons(FRONT + b"rule=s: s\n", "19", "19-and-a-use-in-another-case")
+        self.reasons(GOOD + b"Rule=S: a\n", "16-in-a-rule-line", "16-key-in-wrong-case",
+                     "16-key-in-wrong-case-or-with-spaces")
+        self.reasons(b"terminals=x@,x`\n", "16-in-line-1", "16-bad-byte-in-a-name",
+                     "16-byte-next-to-the-letters", "16-bytes-next-to-the-letters-in-two-names")
+        self.reasons(GOOD + b"rule=A: b\n", "17-left-a-terminal",
+                     "17-left-a-terminal-in-another-case")
+        self.reasons(b"terminals=m-\nnonterminals=S\nrule=S:\nrule=S: MM\n", "17-right-unknown",
+                     "17-differs-by-32-from-a-name")
+        self.reasons(GOOD + b"rule=s:\n", "6-equal-but-for-case", "6-next-to-the-earlier-rule")
+
+    def test_18_by_case(self):
+        first = "18-by-case-in-the-first-letter-alone"
+        self.reasons(b"terminals=a,A\nnonterminals=S\n", "18-among-terminals",
+                     "18-by-case-among-terminals", first)
+        self.reasons(b"terminals=aB\nnonterminals=S,ab\n", "18-across-the-lists",
+                     "18-by-case-across-the-lists", "18-by-case-behind-the-first-letter")
+        self.reasons(b"terminals=\nnonterminals=%s,%s\n" % (b"a" * 15, b"A" * 15),
+                     "18-among-nonterminals", "18-by-case-among-nonterminals", "18-by-case-of-15-bytes")
+        self.reasons(b"terminals=a,A,b,b\nnonterminals=S\n", "18-among-terminals")
+        self.reasons(b"terminals=a,A,\nnonterminals=S\n", "16-in-line-1", "16-name-empty-in-a-list",
+                     "order-16-before-18-in-a-line", "order-16-before-18-by-case-in-a-line")
+        names = b",".join(b"n%d" % number for number in range(2003))
+        self.reasons(b"terminals=%s,N7\nnonterminals=S\n" % names, "18-among-terminals", first,
+                     "18-before-1-on-line-1", "18-in-a-line-of-thousands", "order-18-before-1-in-a-line",
+                     "18-by-case-among-terminals", "18-by-case-before-1-on-line-1",
+                     "18-by-case-in-a-line-of-thousands")
+
     def test_14(self):
         self.reasons(GOOD, "14-only-the-starts-by-one", lent=Lent(2, 3, 4))
         self.reasons(GOOD, "14-only-the-lengths-by-one", lent=Lent(2, 9, 3))
@@ -149,9 +202,9 @@ class ReadReasonsTest(unittest.TestCase):
         self.reasons(FRONT, "19")
         self.reasons(FRONT + b"rule=S: S\n", "19", "order-19-before-14",
                      "told-from-14-comes-before-19", lent=Lent(2, 4, 4))
-        self.reasons(FRONT + b"rule=S: S\nrule=A: c\n", "17-right-unknown",
+        self.reasons(FRONT + b"rule=S: S\nrule=W: c\n", "17-right-unknown",
                      "order-17-before-19")
-        self.reasons(FRONT + b"rule=A:\nrule=A:\n", "6-next-to-the-earlier-rule",
+        self.reasons(FRONT + b"rule=W:\nrule=W:\n", "6-next-to-the-earlier-rule",
                      "order-6-before-19")
 
     def test_faults_that_the_order_hides(self):
@@ -176,8 +229,8 @@ class WriteReasonsTest(unittest.TestCase):
 
     def test_written(self):
         self.reasons({}, "written", "written-a-name-at-the-end-of-the-bytes",
-                     "written-more-room")
-        self.reasons({"starts": (1, 0, 0), "lengths": (1, 2), "room": 39}, "written",
+                     "written-capitals-and-small-letters", "written-more-room")
+        self.reasons({"starts": (1, 0, 0), "lengths": (1, 2), "room": 39, "names": b"as"}, "written",
                      "written-names-that-overlap", "written-names-not-in-order",
                      "written-a-name-at-the-end-of-the-bytes", "written-longer-rows",
                      "written-exact-room")
@@ -198,6 +251,24 @@ class WriteReasonsTest(unittest.TestCase):
                      "18-one-span-twice", "order-18-before-14")
         self.reasons({"room": 36}, "14-by-one")
         self.reasons({"room": 0}, "14-by-more", "14-no-room")
+
+    def test_case(self):
+        first, across = "18-by-case-in-the-first-letter-alone", "18-by-case-across-the-kinds"
+        self.reasons({"names": b"aA"}, "18-across-the-kinds", across, first)
+        self.reasons({"names": b"aA", "room": 0}, "18-across-the-kinds", across, first,
+                     "order-18-before-14", "order-18-by-case-before-14")
+        self.reasons({"names": b"xyxY", "starts": (0, 2), "lengths": (2, 2)}, "18-across-the-kinds",
+                     across, "18-by-case-behind-the-first-letter")
+        three = {"t": 2, "starts": (0, 1, 2), "lengths": (1, 1, 1)}
+        self.reasons({**three, "names": b"aAa"}, "18-among-terminals", first,
+                     "18-by-case-among-terminals", "order-lowest-18-of-several",
+                     "18-by-case-before-an-equal-name")
+        self.reasons({**three, "names": b"aaA"}, "18-among-terminals", "18-equal-bytes-elsewhere",
+                     "order-lowest-18-of-several", "18-by-case-behind-an-equal-name")
+        self.reasons({**three, "names": b"aA_"}, "16-bad-byte", "order-16-before-18-by-case",
+                     "order-16-before-18-of-a-lower-symbol")
+        self.reasons({"names": b"0P"}, "written", "written-a-name-at-the-end-of-the-bytes",
+                     "written-names-that-differ-by-32", "written-more-room")
 
     def test_table(self):
         self.reasons({"t": 0, "room": 0}, "table-5", "order-table-before-14")

@@ -93,6 +93,13 @@ class TwoTreesTest(unittest.TestCase):
         mirrored = trees._replace(left=trees.right, right=trees.left)
         self.assertEqual(explanation(named_in(IF), mirrored, strings_of(found)), TOLD)
 
+    def test_the_declared_spelling(self):
+        """Document 02, [9]: the trees have each name as it is declared."""
+        other = IF.replace(b"rule=S: if S\n", b"rule=s: IF S\n").replace(b"S else S", b"s Else s")
+        other = other.replace(b": x", b": X")
+        self.assertEqual(certified(other), certified(IF))
+        self.assertIn(TOLD, certified(other).printed)
+
     def test_phrase(self):
         """A phrase of another nonterminal stands in a sentence."""
         answer = certified(LISTS)

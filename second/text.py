@@ -1,6 +1,7 @@
 """The reader and the writer of document 01: "Grammar text", "Causes of refusal".
 
-Both refuse a grammar without a sentence: document 02, [4].
+Both refuse a grammar without a sentence: document 02, [4]. Names that differ only
+in the case of ASCII letters are one name: document 02, [9].
 
 `read_text` takes a text and the lengths of the rows lent to it, and answers a
 Text or a Refusal. `write_text` takes a table, its names and the room of the
@@ -18,8 +19,10 @@ from tables import (
 # The limits and forms of document 01 and of document 02's [8].
 MAX_TEXT = 262144         # "the text limit 262,144 bytes", document 02, [8]
 MAX_NAME = 15             # "Names are 1 to 15 ASCII letters, digits or hyphens"
-NAME_BYTES = (b"ABCDEFGHIJKLMNOPQRSTUVWXYZabcdefghijklmnopqrstuvwxyz"
-              b"0123456789-")
+CAPITALS = b"ABCDEFGHIJKLMNOPQRSTUVWXYZ"
+SMALL = b"abcdefghijklmnopqrstuvwxyz"
+NAME_BYTES = CAPITALS + SMALL + b"0123456789-"
+TO_SMALL = bytes.maketrans(CAPITALS, SMALL)
 KEYS = TERMINALS, NONTERMINALS, RULE = (b"terminals", b"nonterminals", b"rule")
 END = b"\n"               # "each ended by byte 10"
 EQUALS = b"="
@@ -93,6 +96,16 @@ def is_name(name: bytes) -> bool:
     return 1 <= len(name) <= MAX_NAME and not name.translate(None, NAME_BYTES)
 
 
+def without_case(name: bytes) -> bytes:
+    """The name with small letters: equal for names that are "the same name".
+
+    "Two names that differ only in the case of ASCII letters are the same name
+    wherever names are compared", document 02, [9]. All other bytes stay, and so do
+    the keys, which are no names.
+    """
+    return name.translate(TO_SMALL)
+
+
 def value_of(line: Line, key: bytes) -> Optional[bytes]:
     """The value of a line "of key=value" with this key; None if malformed.
 
@@ -159,9 +172,9 @@ def read_list(
 
 
 def first_double(names: Sequence[bytes]) -> Optional[int]:
-    """The place, from 0, of the first name that an earlier one equals."""
+    """The place, from 0, of the first name that is the same as an earlier one."""
     seen = set()
-    for place, name in enumerate(names):
+    for place, name in enumerate(map(without_case, names)):
         if name in seen:
             return place
         seen.add(name)
@@ -169,12 +182,15 @@ def first_double(names: Sequence[bytes]) -> Optional[int]:
 
 
 def read_rule(line: Line, codes: Dict[bytes, int]) -> Union[RuleCodes, Refusal]:
-    """The rule on this line: "within a line [...] 16, 17, 4"."""
+    """The rule on this line: "within a line [...] 16, 17, 4".
+
+    `codes` has the names without case; the rule may use them in any.
+    """
     value = value_of(line, RULE)
     names = None if value is None else rule_names(value)
     if names is None:
         return Refusal(MALFORMED, line.number)
-    left, right = names
+    left, *right = map(without_case, [names[0], *names[1]])
     if any(name not in codes for name in [left] + right) or codes[left] < START:
         return Refusal(UNKNOWN_NAME, line.number)
     if len(right) > MAX_LENGTH:
@@ -185,9 +201,13 @@ def read_rule(line: Line, codes: Dict[bytes, int]) -> Union[RuleCodes, Refusal]:
 def symbol_codes(
     terminals: Sequence[Name], nonterminals: Sequence[Name]
 ) -> Dict[bytes, int]:
-    """Each name's code; "Terminals are 1 to t", "The first nonterminal is S"."""
-    codes = {name.content: 1 + i for i, name in enumerate(terminals)}
-    codes.update((name.content, START + i) for i, name in enumerate(nonterminals))
+    """The code of each name without case.
+
+    "Terminals are 1 to t", "The first nonterminal is S".
+    """
+    codes = {without_case(name.content): 1 + i for i, name in enumerate(terminals)}
+    codes.update((without_case(name.content), START + i)
+                 for i, name in enumerate(nonterminals))
     return codes
 
 
@@ -311,7 +331,11 @@ def lent_names(
 
 
 def compose(grammar: Grammar, names: Sequence[bytes]) -> bytes:
-    """The text: "`terminals=`, `nonterminals=`, then `rule=` lines"."""
+    """The text: "`terminals=`, `nonterminals=`, then `rule=` lines".
+
+    "The declared spelling is written out", document 02, [9]: each use has the bytes
+    that its declaration has.
+    """
     terminals = names[:grammar.terminals]
     nonterminals = names[grammar.terminals:]
     name_of = {1 + i: name for i, name in enumerate(terminals)}

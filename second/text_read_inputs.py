@@ -13,6 +13,10 @@ from random_tables import Rule, random_rule, random_rules, some_rules
 from sentence_grammars import (
     large, large_sentenceless, named_table, nearly_sentenceless, sentenceless,
 )
+from spelling import (
+    APART, NEXT_TO_LETTERS, apart, in_another_case, lettered, lettered_names, places_apart,
+    respelled, respelled_rule, ways_to_respell,
+)
 from tables import MAX_LENGTH, MAX_NONTERMINALS, MAX_RULES, MAX_STATES, MAX_TERMINALS, START
 from text import MAX_NAME, MAX_TEXT, Lent
 
@@ -25,9 +29,9 @@ EXAMPLE = b"terminals=a\nnonterminals=S\nrule=S: a\n"     # document 01's own
 NO_SYMBOL = b"terminals=\nnonterminals=S\nrule=S:\n"
 NAMES = (b"terminals=a,b-1,Zz\nnonterminals=S,Expr,x9\nrule=S: a Expr\n"
          b"rule=Expr:\nrule=x9: b-1 Zz S S\nrule=S: x9\n")
-LONG_NAMES = (b"terminals=abcdefghijklmno,ABCDEFGHIJKLMNO\n"
+LONG_NAMES = (b"terminals=abcdefghijklmno,PQRSTUVWXYZABCD\n"
               b"nonterminals=0123456789-----\n"
-              b"rule=0123456789-----: abcdefghijklmno ABCDEFGHIJKLMNO\n")
+              b"rule=0123456789-----: abcdefghijklmno PQRSTUVWXYZABCD\n")
 KEY_NAMES = (b"terminals=rule,terminals,0\nnonterminals=nonterminals,-\n"
              b"rule=nonterminals: rule terminals -\nrule=-:\nrule=-: 0\n")
 BASES = [EXAMPLE, NO_SYMBOL, NAMES, LONG_NAMES, KEY_NAMES]
@@ -69,10 +73,11 @@ def named_with_rules(rng: Rng) -> Named:
 
 
 def unused_name(rng: Rng, grammar: Named) -> bytes:
-    """A good name that the grammar does not declare."""
+    """A good name that the grammar does not declare, in no case."""
+    declared = {name.lower() for name in grammar.names}
     while True:
         name = random_name(rng, 1 + rng.randrange(MAX_NAME))
-        if name not in grammar.names:
+        if name.lower() not in declared:
             return name
 
 
@@ -442,7 +447,7 @@ def unknown_names(rng: Rng) -> Iterator[Case]:
         lines = lines_of(grammar)
         left, right = lines[2 + place][5:].split(b":")
         bad = [unused_name(rng, grammar), rng.choice(grammar.names)[:-1] + b"-",
-               rng.choice(grammar.names).swapcase(), grammar.names[0] + b"0"]
+               grammar.names[0] + b"0"]
         line = rng.choice([
             b"rule=%s:%s" % (rng.choice(bad), right),
             b"rule=%s:%s" % (rng.choice(grammar.names[:grammar.t]), right),
@@ -719,6 +724,158 @@ def longest_texts(rng: Rng) -> Iterator[Case]:
     yield from at_ease(rng, [b"\n" * 65536, b"a" * 65537])
 
 
+# Case.
+
+def with_lists(grammar: Named, names: List[bytes], split: int) -> List[bytes]:
+    """The grammar's lines, with these names declared, so many of them as terminals."""
+    return [b"terminals=" + b",".join(names[:split]),
+            b"nonterminals=" + b",".join(names[split:])] + lines_of(grammar)[2:]
+
+
+def declared_in_two_cases(rng: Rng) -> Iterator[Case]:
+    """A name again in another case, in its list or the other one; then lines at fault or none."""
+    for _ in range(150):
+        grammar = lettered(rng, 3)
+        t, names = grammar.t, grammar.names
+        other = in_another_case(rng, rng.choice(names))
+        place = rng.randrange(len(names) + 1)
+        split = t + (1 if place < t or (place == t and rng.randrange(2)) else 0)
+        lines = with_lists(grammar, names[:place] + [other] + names[place:], split)
+        fault = faulty_rule_line(rng, grammar, rng.choice([1, 2, 4, 6]))
+        line = rng.randrange(2)
+        yield from with_lent(rng, grammar, [
+            join_lines(lines), join_lines(rng.choice([lines[:1], lines[:2], lines + [fault]])),
+            join_lines(change(lines, line, spoiled(rng, lines[line])))])
+
+
+def used_in_another_case(rng: Rng) -> Iterator[Case]:
+    """Uses in another case than declared: all, of one kind, on one side, some; large texts too."""
+    for _ in range(70):
+        grammar = lettered(rng, rng.choice([2, 6, 12]))
+        lines = lines_of(grammar)
+        texts = [respelled(rng, lines, respell) for respell in ways_to_respell(grammar)]
+        place = 2 + rng.randrange(len(grammar.rules))
+        for left in (True, False):
+            line = respelled_rule(rng, lines[place], in_another_case, left, not left)
+            texts.append(change(lines, place, line))
+        yield from with_lent(rng, grammar, [join_lines(some) for some in texts])
+    for _ in range(8):
+        for grammar in (full_named(rng), large_named(rng, MAX_RULES, MAX_STATES),
+                        large_named(rng, some_rules(rng), MAX_STATES)):
+            texts = respelled(rng, lines_of(grammar), in_another_case)
+            yield join_lines(texts), any_lent(rng, grammar)
+    t, end = MAX_TERMINALS, S + MAX_NONTERMINALS - 1
+    for _ in range(10):
+        grammar = with_names(rng, t, MAX_NONTERMINALS, [(S, (1, end, t)), (end, (t, end)), (end, ())])
+        yield join_lines(respelled(rng, lines_of(grammar), in_another_case)), ample_lent(rng)
+    grammar = longest_named(rng)
+    yield join_lines(respelled(rng, lines_of(grammar), in_another_case)), exact_lent(grammar)
+    for table in sentenceless(rng, 2):
+        grammar = named_table(rng, table)
+        texts = respelled(rng, lines_of(grammar), in_another_case)
+        yield join_lines(texts), any_lent(rng, grammar)
+
+
+def terminals_in_another_case(rng: Rng) -> Iterator[Case]:
+    """A terminal in another case on the left, beside good rules and faulty ones."""
+    for _ in range(30):
+        grammar = lettered(rng)
+        lines = respelled(rng, lines_of(grammar), in_another_case)
+        left = in_another_case(rng, rng.choice(grammar.names[:grammar.t]))
+        _, right = random_rule(rng, grammar.t, grammar.n, rng.choice([0, 1, 3, 13]))
+        line = rule_line(grammar, (S, right)).partition(b":")[2]
+        yield from with_lent(rng, grammar, [
+            join_lines(put(lines, 2 + rng.randrange(len(lines) - 1), [b"rule=%s:%s" % (left, line)]))])
+
+
+def equal_but_for_case(rng: Rng) -> Iterator[Case]:
+    """A rule again with its names in another case, next to the first or further on."""
+    for _ in range(60):
+        grammar = lettered(rng)
+        first = rng.randrange(len(grammar.rules))
+        later = first + 1 + rng.choice([0, rng.randrange(len(grammar.rules) - first)])
+        again = respelled_rule(rng, rule_line(grammar, grammar.rules[first]), in_another_case)
+        lines = put(lines_of(grammar), 2 + later, [again])
+        fault = faulty_rule_line(rng, grammar, rng.choice([1, 2, 4, 6]))
+        yield from with_lent(rng, grammar, [join_lines(lines), join_lines(lines + [fault])])
+
+
+def nearly_one_name(rng: Rng) -> Iterator[Case]:
+    """Names that differ by 32 in a digit or hyphen, or in length: declared both, or used for another."""
+    pairs = [(b"%c" % low, b"%c" % high) for low, high in APART.items() if low < high]
+    for low, high in pairs:
+        yield from at_ease(rng, [
+            b"terminals=%s,%s\nnonterminals=S-S\nrule=s-s: %s %s\n" % (low, high, high.lower(), low),
+            b"terminals=a%s\nnonterminals=S-S,A%s\nrule=S-S: a%s\n" % (high, low, low),
+            b"terminals=%sz\nnonterminals=S-S\nrule=S-S: %sz\n" % (low, high)])
+    for _ in range(60):
+        names = lettered_names(rng, 3)
+        if not places_apart(names[0]):
+            names[0] = (b"Q7-" + names[0])[:MAX_NAME]
+        near = apart(rng, in_another_case(rng, names[0]))
+        if not places_apart(near):
+            near = apart(rng, names[0])
+        shorter = rng.choice([names[0][:-1], names[0] + b"-"])[:MAX_NAME] or b"q"
+        for other in (near, shorter):
+            yield from at_ease(rng, [
+                b"terminals=%s,%s\nnonterminals=--0\nrule=--0: %s\n" % (names[0], other, other.swapcase()),
+                b"terminals=%s\nnonterminals=--0,%s\nrule=--0: %s\n" % (names[0], other, names[0].upper()),
+                b"terminals=%s\nnonterminals=--0\nrule=--0: %s\n" % (names[0], other),
+                b"terminals=\nnonterminals=%s\nrule=%s:\n" % (names[0], other)])
+
+
+def next_to_the_letters(rng: Rng) -> Iterator[Case]:
+    """Bytes 64, 91, 96 and 123 in names, also in two names that differ by 32 there."""
+    for byte in NEXT_TO_LETTERS:
+        other = byte ^ 32
+        for form in (b"%c", b"x%c", b"%cx", b"X%cx", b"z%cZ-1"):
+            one, two = form % byte, form % other
+            yield from at_ease(rng, [
+                b"terminals=%s,%s\nnonterminals=S\nrule=S:\n" % (one, two),
+                b"terminals=%s\nnonterminals=S,%s\nrule=S:\n" % (two.replace(b"%c" % other, b"q"), one),
+                b"terminals=a\nnonterminals=S\nrule=S: %s\n" % one,
+                b"terminals=a\nnonterminals=S\nrule=%s: a\n" % one])
+
+
+def shouted(rng: Rng) -> Iterator[Case]:
+    """Keys in another case, on one line or all, with the names or without them."""
+    for _ in range(30):
+        grammar = lettered(rng)
+        lines = lines_of(grammar)
+        place = rng.randrange(len(lines))
+        key, _, value = lines[place].partition(b"=")
+        yield from with_lent(rng, grammar, [
+            join_lines(lines).upper(), join_lines(change(lines, place, lines[place].swapcase())),
+            join_lines(change(lines, place, in_another_case(rng, key) + b"=" + value))])
+
+
+def thousands_in_two_cases(rng: Rng) -> Iterator[Case]:
+    """Lines of more than 2,000 names, of which two differ in case alone, near or far apart."""
+    places = [0, 1, 255, 256, 1023, 1998, 1999, 2000, 2001, 2500, 3000, 4095, 4999]
+    names = [b"q" + name for name in counted_names(5000)]
+    for later in range(1, len(places)):
+        for first in sorted({0, rng.randrange(later), later - 1}):
+            some = list(names)
+            some[places[later]] = in_another_case(rng, some[places[first]])
+            listed = b",".join(some[:max(places[later] + 1, MAX_TERMINALS + 1)])
+            yield from at_ease(rng, [
+                b"terminals=%s\nnonterminals=S\nrule=S:\n" % listed,
+                b"terminals=S-\nnonterminals=%s\n" % listed])
+    for count in (12000, 43000):
+        many = [b"q" + name for name in counted_names(count)]
+        for first in (0, count // 2):
+            listed = b",".join(many[:-1] + [in_another_case(rng, many[first])])
+            yield from at_ease(rng, [
+                b"terminals=%s\nnonterminals=S\n" % listed, b"terminals=-\nnonterminals=%s\n" % listed])
+    for _ in range(28):
+        earlier, own = names[:rng.choice([1, 200, 2000])], [b"x-" + name for name in names[:2003]]
+        count = rng.choice([2001, 2002, 2003])
+        double = in_another_case(rng, rng.choice(earlier))
+        own[rng.choice([0, 1000, 1999, 2000, count - 1])] = double
+        yield from at_ease(rng, [
+            b"terminals=%s\nnonterminals=%s\n" % (b",".join(earlier), b",".join(own[:count]))])
+
+
 GROUPS: List[Group] = [
     figures, good_small, good_large, lent_rows, replaced_bytes, changed_bytes,
     cut_texts, no_lines, damaged, noise, line_ends, moved_lines, blank_lines, keys,
@@ -727,6 +884,8 @@ GROUPS: List[Group] = [
     rule_forms, unknown_names, right_lengths, many_rules, many_states, equal_rules,
     faulty_lines, without_line_2, faults_and_short_rows, longest_texts,
     without_a_sentence, nearly_without, faulty_without,
+    declared_in_two_cases, used_in_another_case, terminals_in_another_case, equal_but_for_case,
+    nearly_one_name, next_to_the_letters, shouted, thousands_in_two_cases,
 ]
 
 

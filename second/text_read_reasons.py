@@ -10,6 +10,10 @@ from typing import Dict, List, NamedTuple, Sequence, Tuple
 import sentence_reasons
 from sentence_misreadings import AFTER_14, BEFORE_8, TOLD
 from sentence_reasons import CAUSE, RULES_REASONS, has_tree, of_rules
+from spelling_reasons import (
+    NEXT_TO_LETTERS, declared_in, differ_by_32, differ_in_case, first_differs, has_apart,
+    rest_differs, uses_in,
+)
 from tables import (
     EQUAL_RULE, FIXED_STATES, HEADER, MAX_LENGTH, MAX_NONTERMINALS, MAX_RULES,
     MAX_STATES, MAX_TERMINALS, NO_SENTENCE, OUT_OF_RANGE, START, TOO_LONG, TOO_MANY_RULES,
@@ -110,6 +114,28 @@ REASONS = [
     "order-16-at-0-before-a-rule",
     "order-18-before-a-missing-line",
     "order-1-before-a-missing-line",
+    "read-with-capitals-as-declared",
+    "read-every-use-in-another-case",
+    "read-a-left-name-in-another-case",
+    "read-a-terminal-in-another-case",
+    "read-a-nonterminal-in-another-case",
+    "read-a-use-that-differs-in-its-first-letter-alone",
+    "read-a-use-that-differs-behind-its-first-letter",
+    "read-2000-names-and-a-use-in-another-case",
+    "read-names-that-differ-by-32",
+    "14-and-a-use-in-another-case",
+    "19-and-a-use-in-another-case",
+    "16-key-in-wrong-case",
+    "16-byte-next-to-the-letters",
+    "16-bytes-next-to-the-letters-in-two-names",
+    "17-left-a-terminal-in-another-case",
+    "17-differs-by-32-from-a-name",
+    "6-equal-but-for-case",
+] + ["18-by-case-" + where for where in (
+    "among-terminals", "among-nonterminals", "across-the-lists", "in-the-first-letter-alone",
+    "behind-the-first-letter", "of-15-bytes", "before-1-on-line-1", "before-1-on-line-2",
+    "before-1-across-both-lines", "in-a-line-of-thousands")] + [
+    "order-16-before-18-by-case-in-a-line",
 ] + ["order-%d-before-%d-in-a-line" % pair for pair in IN_LINE] + [
     "order-%d-before-%d-on-a-later-line" % pair for pair in LATER_LINE
 ] + [
@@ -128,7 +154,7 @@ REASONS = [
 # Long texts are few.
 ENOUGH = {**sentence_reasons.ENOUGH, "16-text-of-262145-bytes": 12, "16-text-longer": 5,
           "text-of-262144-bytes": 12, "order-16-at-0-before-a-line": 12,
-          "order-16-at-0-before-a-rule": 3}
+          "order-16-at-0-before-a-rule": 3, "read-2000-names-and-a-use-in-another-case": 8}
 
 
 class Faults(NamedTuple):
@@ -146,7 +172,7 @@ def reasons_of(text: bytes, lent: Lent) -> List[str]:
         assert not has_faults(text), "what is read is without fault"
         rules = rules_of(result.table)
         assert has_tree(rules), "what is read has a sentence"
-        return names + passed_reasons(result, lent) + of_rules(rules)
+        return names + passed_reasons(result, lent) + spelled_reasons(text, result) + of_rules(rules)
     if result.cause == NO_SENTENCE:
         return names + none_reasons(text, lent)
     if len(text) > MAX_TEXT:
@@ -194,8 +220,51 @@ def none_reasons(text: bytes, lent: Lent) -> List[str]:
         ("19-1024-states", result.states == MAX_STATES),
         ("order-19-before-14", short),
         (TOLD[AFTER_14], short),
+        ("19-and-a-use-in-another-case", has_use_in_another_case(text)),
     ]
     return [name for name, holds in met if holds] + of_rules(rules)
+
+
+def other_spellings(text: bytes) -> List[Tuple[bytes, bytes, bool]]:
+    """The uses in a good text that are not as declared: use, declaration, whether it is a left name."""
+    declared = {name.lower(): name for name in declared_in(text)}
+    uses = [(use, declared[use.lower()], place == 0) for line in text.split(b"\n")[2:-1]
+            for place, use in enumerate(uses_in(line))]
+    found = [use for use in uses if use[0] != use[1]]
+    assert all(differ_in_case(use, name) for use, name, _ in found), "otherwise it is 17"
+    return found
+
+
+def has_use_in_another_case(text: bytes) -> bool:
+    return bool(other_spellings(text))
+
+
+def spelled_reasons(text: bytes, result: Text) -> List[str]:
+    """How the uses of a text that is read are spelled, and names that are nearly the same."""
+    names = declared_in(text)
+    assert [text[start:start + length] for start, length in zip(
+        result.starts, result.lengths)] == names, "starts and lengths are the declarations'"
+    assert len(set(name.lower() for name in names)) == len(names), "otherwise it is 18"
+    kinds = set(names[:result.terminals])
+    found = other_spellings(text)
+    with_letters = sum(use.lower() != use.upper() for line in text.split(b"\n")[2:-1]
+                       for use in uses_in(line))
+    met = [
+        ("read-with-capitals-as-declared", not found and text.lower() != text),
+        ("read-every-use-in-another-case", 0 < len(found) == with_letters),
+        ("read-a-left-name-in-another-case", any(left for _, _, left in found)),
+        ("read-a-terminal-in-another-case", any(name in kinds for _, name, _ in found)),
+        ("read-a-nonterminal-in-another-case",
+         any(name not in kinds for _, name, left in found if not left)),
+        ("read-a-use-that-differs-in-its-first-letter-alone",
+         any(not rest_differs(use, name) for use, name, _ in found)),
+        ("read-a-use-that-differs-behind-its-first-letter",
+         any(not first_differs(use, name) for use, name, _ in found)),
+        ("read-2000-names-and-a-use-in-another-case",
+         bool(found) and max(result.terminals, result.nonterminals) == MAX_TERMINALS),
+        ("read-names-that-differ-by-32", has_apart(names)),
+    ]
+    return [name for name, holds in met if holds]
 
 
 def rules_of(table: Codes) -> List[RuleCodes]:
@@ -228,11 +297,12 @@ def short_reasons(text: bytes, lent: Lent) -> List[str]:
     """Which row is too short."""
     result = read_lines(text)
     assert isinstance(result, Text), "14 comes last"
+    names = ["14-and-a-use-in-another-case"] if has_use_in_another_case(text) else []
     short = [min(0, spare) for spare in spare_of(result, lent)]
     for row, name in enumerate(Lent._fields):
         if short[row] == -1 and sum(short) == -1:
-            return ["14-only-the-%s-by-one" % name]
-    return ["14-otherwise"]
+            return names + ["14-only-the-%s-by-one" % name]
+    return names + ["14-otherwise"]
 
 
 # Faults of lines.
@@ -254,13 +324,15 @@ def fault_reasons(text: bytes, refusal: Refusal) -> List[str]:
     found = faults_of_lines(lines, names, codes)
     if not found:
         rules = [codes_of(line, codes) for line in lines[2:]]
-        return rule_fault_reasons(rules, refusal) + hidden_sentence(rules, refusal.cause)
+        return (rule_fault_reasons(rules, refusal) + equal_kinds(lines[2:], rules, refusal)
+                + hidden_sentence(rules, refusal.cause))
     first = found[0]
     assert refusal == Refusal(first.causes[0], first.position), "the first fault"
     wrong = {faults.position for faults in found}
     others = [codes_of(line, codes) for line in lines[2:] if line.number not in wrong]
     return (finer_line(lines, names, codes, refusal)
             + hidden_in_line(first)
+            + hidden_by_case(first, names)
             + hidden_on_later_lines(found, len(lines))
             + hidden_in_earlier_rules(lines, codes, refusal)
             + (hidden_sentence(others, refusal.cause) if refusal.position > 2 else []))
@@ -293,13 +365,18 @@ def faults_of_line(
         declared = [name for kind in names[:place + 1] for name in kind]
         most = (MAX_TERMINALS, MAX_NONTERMINALS)[place]
         empty = place == 1 and line.content.endswith(b"=") and not names[1]
-        fails += [(DECLARED_TWICE, len(set(declared)) < len(declared)),
+        fails += [(DECLARED_TWICE, has_double(declared)),
                   (OUT_OF_RANGE, empty or len(names[place]) > most)]
     else:
         left, right = rule_pieces(line)
         fails += [(UNKNOWN_NAME, bool(unknown_kinds(left, right, codes))),
                   (TOO_LONG, len(right) > MAX_LENGTH)]
     return Faults(line.number, [cause for cause, failed in fails if failed])
+
+
+def has_double(names: Sequence[bytes]) -> bool:
+    """Whether some name is there twice, in whatever case."""
+    return len({name.lower() for name in names}) < len(names)
 
 
 def value_pieces(line: Line) -> bytes:
@@ -319,11 +396,11 @@ def rule_pieces(line: Line) -> Tuple[bytes, List[bytes]]:
 
 
 def loose_codes(names: Sequence[Sequence[bytes]]) -> Dict[bytes, int]:
-    """The names' codes, those of lists at fault as well; past 2,000 all alike."""
+    """The codes of names in small letters, of lists at fault as well; past 2,000 all alike."""
     codes: Dict[bytes, int] = {}
     for first, kind in zip((1, START), names):
         for place, name in enumerate(kind):
-            codes.setdefault(name, first + min(place, MAX_TERMINALS - 1))
+            codes.setdefault(name.lower(), first + min(place, MAX_TERMINALS - 1))
     return codes
 
 
@@ -333,13 +410,27 @@ def unknown_kinds(
     """How well-formed names of this rule are unknown or of the wrong kind."""
     kinds = []
     if WHOLE_NAME.fullmatch(left):
-        if left not in codes:
+        if left.lower() not in codes:
             kinds.append("17-left-unknown")
-        elif codes[left] < START:
+        elif codes[left.lower()] < START:
             kinds.append("17-left-a-terminal")
-    if any(WHOLE_NAME.fullmatch(name) and name not in codes for name in right):
+    if any(WHOLE_NAME.fullmatch(name) and name.lower() not in codes for name in right):
         kinds.append("17-right-unknown")
     return kinds
+
+
+def unknown_by_case(left: bytes, right: Sequence[bytes], names: Sequence[List[bytes]]) -> List[str]:
+    """How names that are 17 differ from declared ones, in case or nearly so."""
+    declared = [name for kind in names for name in kind]
+    unknown = [name for name in [left, *right]
+               if not any(name.lower() == other.lower() for other in declared)]
+    met = [
+        ("17-left-a-terminal-in-another-case",
+         left not in declared and any(differ_in_case(left, name) for name in names[0])),
+        ("17-differs-by-32-from-a-name",
+         any(differ_by_32(use, name) for use in unknown for name in declared)),
+    ]
+    return [name for name, holds in met if holds]
 
 
 def finer_line(
@@ -360,7 +451,7 @@ def finer_line(
         return count_kinds(line.number, len(names[line.number - 1]))
     left, right = rule_pieces(line)
     if refusal.cause == UNKNOWN_NAME:
-        return unknown_kinds(left, right, codes)
+        return unknown_kinds(left, right, codes) + unknown_by_case(left, right, names)
     return ["4-k-of-13" if len(right) == MAX_LENGTH + 1 else "4-k-above-13"]
 
 
@@ -374,7 +465,8 @@ def malformed_kinds(line: Line, place: int) -> List[str]:
     if not equals:
         return ["16-no-equals-sign"]
     if key != KEYS[place]:
-        return [key_kind(key)]
+        by_case = differ_in_case(key, KEYS[place])
+        return [key_kind(key)] + ["16-key-in-wrong-case"] * by_case
     return sorted(set(list_kinds(value) if place < 2 else rule_kinds(value)))
 
 
@@ -394,6 +486,8 @@ def name_kinds(name: bytes) -> List[str]:
         kinds.append("16-byte-13")
     if BAD_BYTE.search(name.replace(b"\r", b"")):
         kinds.append("16-bad-byte-in-a-name")
+        if not BAD_BYTE.search(name.translate(None, NEXT_TO_LETTERS)):
+            kinds.append("16-byte-next-to-the-letters")
     if not kinds and len(name) > MAX_NAME:
         kinds.append("16-name-of-16" if len(name) == MAX_NAME + 1 else "16-name-longer")
     return kinds
@@ -403,6 +497,9 @@ def list_kinds(value: bytes) -> List[str]:
     """How the names of a list are malformed."""
     pieces = value.split(b",")
     kinds = [] if all(pieces) else ["16-name-empty-in-a-list"]
+    if any(differ_by_32(one, other) and one.translate(None, NEXT_TO_LETTERS) == other.translate(
+            None, NEXT_TO_LETTERS) for one, other in zip(pieces, pieces[1:])):
+        kinds.append("16-bytes-next-to-the-letters-in-two-names")
     return kinds + [kind for piece in pieces for kind in name_kinds(piece)]
 
 
@@ -423,14 +520,33 @@ def rule_kinds(value: bytes) -> List[str]:
 
 
 def double_kinds(names: Sequence[List[bytes]]) -> List[str]:
-    """Where the equal names of the last of these lists stand."""
+    """Where the equal names of the last of these lists stand, and whether case tells them apart."""
     own, earlier = names[-1], names[:-1]
     kinds = []
-    if len(set(own)) < len(own):
+    if has_double(own):
         kinds.append("18-among-nonterminals" if earlier else "18-among-terminals")
-    if earlier and set(own) & set(earlier[0]):
+    if earlier and {name.lower() for name in own} & {name.lower() for name in earlier[0]}:
         kinds.append("18-across-the-lists")
-    return kinds + many_kinds(len(own), kinds)
+    kinds += many_kinds(len(own), kinds)
+    declared = [name for kind in names for name in kind]
+    if len(set(declared)) < len(declared):
+        return kinds
+    return kinds + by_case_kinds(kinds, declared)
+
+
+def by_case_kinds(kinds: Sequence[str], declared: Sequence[bytes]) -> List[str]:
+    """The same where no two names have the same bytes, and how they differ."""
+    first: Dict[bytes, bytes] = {}
+    pairs = [(name, first[name.lower()]) for name in declared
+             if first.setdefault(name.lower(), name) != name]
+    assert pairs and all(differ_in_case(*pair) for pair in pairs)
+    met = [
+        ("18-by-case-in-the-first-letter-alone", any(not rest_differs(*pair) for pair in pairs)),
+        ("18-by-case-behind-the-first-letter", any(not first_differs(*pair) for pair in pairs)),
+        ("18-by-case-of-15-bytes", any(len(name) == MAX_NAME for name, _ in pairs)),
+    ]
+    return (["18-by-case-" + kind[len("18-"):] for kind in kinds]
+            + [name for name, holds in met if holds])
 
 
 def many_kinds(count: int, kinds: Sequence[str]) -> List[str]:
@@ -457,6 +573,15 @@ def hidden_in_line(first: Faults) -> List[str]:
     return ["order-%d-before-%d-in-a-line" % pair for pair in pairs if pair in IN_LINE]
 
 
+def hidden_by_case(first: Faults, names: Sequence[List[bytes]]) -> List[str]:
+    """18 by case alone in a line that is refused with 16."""
+    declared = [name for kind in names[:first.position] for name in kind]
+    by_case = len(set(declared)) == len(declared)
+    if first.causes[:2] == [MALFORMED, DECLARED_TWICE] and by_case:
+        return ["order-16-before-18-by-case-in-a-line"]
+    return []
+
+
 def hidden_on_later_lines(found: Sequence[Faults], count: int) -> List[str]:
     """The faults of later lines that would come first in one line."""
     cause = found[0].causes[0]
@@ -474,7 +599,7 @@ def hidden_on_later_lines(found: Sequence[Faults], count: int) -> List[str]:
 def codes_of(line: Line, codes: Dict[bytes, int]) -> RuleCodes:
     """The rule of a line without faults."""
     left, right = rule_pieces(line)
-    return codes[left], tuple(codes[name] for name in right)
+    return codes[left.lower()], tuple(codes[name.lower()] for name in right)
 
 
 def faults_of_rules(rules: Sequence[RuleCodes]) -> List[Faults]:
@@ -506,6 +631,15 @@ def rule_fault_reasons(rules: Sequence[RuleCodes], refusal: Refusal) -> List[str
             + ["order-%d-before-%d-of-a-rule" % pair for pair in pairs if pair in IN_RULE]
             + ["order-%d-before-%d-of-a-later-rule" % pair for pair in after
                if pair in LATER_RULE])
+
+
+def equal_kinds(lines: Sequence[Line], rules: Sequence[RuleCodes], refusal: Refusal) -> List[str]:
+    """Whether case tells the refused rule from all that it equals."""
+    if refusal.cause != EQUAL_RULE:
+        return []
+    place = next(place for place, rule in enumerate(rules) if rule in rules[:place])
+    earlier = [line.content for line in lines[:place]]
+    return [] if lines[place].content in earlier else ["6-equal-but-for-case"]
 
 
 def finer_rule(rules: Sequence[RuleCodes], refusal: Refusal) -> str:

@@ -12,7 +12,10 @@ from random_tables import Rule, encode, random_rules, some_rules, with_sentence
 from sentence_grammars import (
     faulty_sentenceless, large_sentenceless, named_table, nearly_sentenceless, sentenceless,
 )
-from tables import MAX_RULES, MAX_STATES, START
+from spelling import (
+    apart, in_another_case, lettered, lettered_names, places_apart,
+)
+from tables import MAX_NONTERMINALS, MAX_RULES, MAX_STATES, MAX_TERMINALS, START
 from text import MAX_NAME, NAME_BYTES
 from text_write_reasons import SHORTEST, WORD, Case
 
@@ -48,13 +51,13 @@ def scattered(rng: Rng, names: Sequence[bytes]) -> Rows:
 
 
 def overlapping(rng: Rng, count: int) -> Rows:
-    """Different names that share their bytes."""
+    """Different names that share their bytes; no two differ in case alone."""
     data = random_name(rng, 16 + count + rng.randrange(6))
     spans: Dict[bytes, Tuple[int, int]] = {}
     while len(spans) < count:
         length = 1 + rng.randrange(MAX_NAME)
         start = rng.randrange(len(data) - length + 1)
-        spans[data[start:start + length]] = (start, length)
+        spans[data[start:start + length].lower()] = (start, length)
     starts, lengths = zip(*spans.values())
     return data, list(starts), list(lengths)
 
@@ -421,12 +424,62 @@ def faulty_without(rng: Rng) -> Iterator[Case]:
         yield Case(t, n, table, data, tuple(starts), tuple(lengths), enough_room(rng))
 
 
+# Case.
+
+def names_in_two_cases(rng: Rng) -> Iterator[Case]:
+    """A name again in another case, of either kind; also with an equal name before or behind it."""
+    for _ in range(110):
+        grammar = lettered(rng)
+        count = grammar.t + grammar.n
+        names = list(grammar.names)
+        first, second = rng.sample(range(count), 2)
+        names[second] = in_another_case(rng, names[first])
+        yield make(grammar, scattered(rng, names), enough_room(rng))
+        names[rng.randrange(count)] = rng.choice(names)
+        yield make(grammar, scattered(rng, names), enough_room(rng))
+        more = grammar._replace(t=grammar.t + 2, names=lettered_names(rng, count + 2))
+        names = list(more.names)
+        places = sorted(rng.sample(range(count + 2), 3))
+        names[places[1]] = in_another_case(rng, names[places[0]])
+        names[places[2]] = rng.choice(names[:2])
+        yield make(more, packed(names), enough_room(rng))
+        data, starts, lengths = scattered(rng, names)
+        spoil(rng, len(data), starts, lengths)
+        yield make(more, (data, starts, lengths), enough_room(rng))
+
+
+def many_in_two_cases(rng: Rng) -> Iterator[Case]:
+    """As many symbols as there can be, two of which have one name in two cases; and none."""
+    t, n = MAX_TERMINALS, MAX_NONTERMINALS
+    for first, second in ((0, 1), (0, 1999), (1998, 1999), (0, 2000), (1999, 2000), (1999, 3999),
+                          (2000, 2001), (2000, 3999), (3998, 3999), (1000, 3000)):
+        names = lettered_names(rng, t + n)
+        grammar = Named(t, n, good_rules(rng, t, n, [1, 2, 0]), names)
+        names = list(names)
+        names[second] = in_another_case(rng, names[first])
+        yield make(grammar, packed(names), enough_room(rng))
+
+
+def nearly_one_name(rng: Rng) -> Iterator[Case]:
+    """Names that differ by 32 in a digit or hyphen, or in length alone: all are written."""
+    for _ in range(60):
+        grammar = lettered(rng)
+        names = list(grammar.names)
+        if not places_apart(names[0]):
+            names[0] = (b"Q7-" + names[0])[:MAX_NAME]
+        near = apart(rng, names[0])
+        names[1] = rng.choice([near, near, near.lower()])
+        grammar = grammar._replace(names=names)
+        yield make(grammar, laid(rng, grammar), some_room(rng, len(text_of(grammar))))
+
+
 GROUPS: List[Group] = [
     figures, good_small, good_large, overlapping_names, rooms, longest_rules, longer_rows,
     ranges,
     faulty_tables, short_rows, spans_past_the_bytes, name_lengths, all_bytes,
     equal_names, crossing_names, several_faults, damaged_bytes, no_names,
     without_a_sentence, nearly_without, faulty_without,
+    names_in_two_cases, many_in_two_cases, nearly_one_name,
 ]
 
 

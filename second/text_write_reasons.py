@@ -9,6 +9,7 @@ from typing import Dict, List, NamedTuple, Optional, Sequence, Tuple
 
 import sentence_reasons
 from sentence_misreadings import AFTER_14, AFTER_NAMES, TOLD
+from spelling_reasons import differ_in_case, first_differs, has_apart, rest_differs
 from tables import (
     MAX_LENGTH, MAX_NONTERMINALS, MAX_RULES, MAX_STATES, MAX_TERMINALS, NO_SENTENCE,
     OUT_OF_RANGE, START, TOO_MANY_STATES, Codes, Grammar, Refusal, check_table,
@@ -71,13 +72,22 @@ REASONS = [
     "order-18-before-14",
     "order-lowest-16-of-several",
     "order-lowest-18-of-several",
+    "written-capitals-and-small-letters",
+    "written-names-that-differ-by-32",
+] + ["18-by-case-" + how for how in (
+    "among-terminals", "among-nonterminals", "across-the-kinds", "in-the-first-letter-alone",
+    "behind-the-first-letter", "of-15-bytes", "among-thousands", "before-an-equal-name",
+    "behind-an-equal-name")] + [
+    "order-16-before-18-by-case",
+    "order-18-by-case-before-14",
     "19-alone",
     TOLD[AFTER_NAMES],
     TOLD[AFTER_14],
 ] + sentence_reasons.REASONS
 
 # Texts at the limits are long, and few.
-LONG = ["written-2000-terminals", "written-2000-nonterminals", "written-400-rules"]
+LONG = ["written-2000-terminals", "written-2000-nonterminals", "written-400-rules",
+        "18-by-case-among-thousands"]
 ENOUGH = {"table-19": sentence_reasons.FEWEST, **{name: 8 for name in LONG}}
 
 
@@ -132,10 +142,22 @@ def written_reasons(case: Case, text: bytes) -> List[str]:
         ("written-2000-nonterminals", case.n == MAX_NONTERMINALS),
         ("written-a-name-of-15", MAX_NAME in case.lengths[:case.t + case.n]),
     ]
-    met += grammar_reasons(grammar) + span_reasons(case)
+    met += grammar_reasons(grammar) + span_reasons(case) + spelled_reasons(case, text)
     met += [("written-exact-room", case.room == len(text)),
             ("written-more-room", case.room > len(text))]
     return [name for name, holds in met if holds]
+
+
+def spelled_reasons(case: Case, text: bytes) -> List[Tuple[str, bool]]:
+    """How the names are spelled; the text has each as it was lent."""
+    names = [bytes_of(case, symbol) for symbol in range(case.t + case.n)]
+    words = text.translate(bytes.maketrans(b",: ", b"===")).split(b"\n")
+    assert {word for line in words for word in line.split(b"=")[1:]} - {b""} == set(names)
+    joined = b"".join(names)
+    return [
+        ("written-capitals-and-small-letters", joined not in (joined.lower(), joined.upper())),
+        ("written-names-that-differ-by-32", has_apart(names)),
+    ]
 
 
 def grammar_reasons(grammar: Grammar) -> List[Tuple[str, bool]]:
@@ -182,7 +204,7 @@ def faults_of_names(case: Case) -> Tuple[List[int], List[int]]:
         if fault_of_name(case, symbol) is not None:
             malformed.append(symbol)
             continue
-        name = bytes_of(case, symbol)
+        name = bytes_of(case, symbol).lower()
         if name in seen:
             doubles.append(symbol)
         seen.setdefault(name, symbol)
@@ -227,6 +249,7 @@ def malformed_reasons(
          and case.starts[first] > 0 and case.lengths[first] == WORD - 1),
         ("order-16-before-18-of-a-lower-symbol", any(s < first for s in doubles)),
         ("order-16-before-18-of-a-higher-symbol", any(s > first for s in doubles)),
+        ("order-16-before-18-by-case", any(is_by_case(case, symbol) for symbol in doubles)),
         ("order-16-before-14", case.room < SHORTEST),
         ("order-lowest-16-of-several", len(malformed) > 1),
     ]
@@ -236,17 +259,51 @@ def malformed_reasons(
 def double_reasons(case: Case, doubles: Sequence[int]) -> List[str]:
     """Which names are equal, and what the order hides."""
     second = doubles[0]
-    name = bytes_of(case, second)
-    first = [bytes_of(case, symbol) for symbol in range(second)].index(name)
+    first = same_before(case, second)
     kind = ("18-among-terminals" if second < case.t else
             "18-among-nonterminals" if first >= case.t else "18-across-the-kinds")
     same = case.starts[first] == case.starts[second]
+    by_case = is_by_case(case, second)
     met = [
         (kind, True),
         ("18-one-span-twice", same),
-        ("18-equal-bytes-elsewhere", not same),
+        ("18-equal-bytes-elsewhere", not same and not by_case),
         ("order-18-before-14", case.room < SHORTEST),
+        ("order-18-by-case-before-14", by_case and case.room < SHORTEST),
         ("order-lowest-18-of-several", len(doubles) > 1),
+        ("18-by-case-behind-an-equal-name",
+         not by_case and any(is_by_case(case, symbol) for symbol in doubles)),
+    ]
+    found = [name for name, holds in met if holds]
+    return found + (by_case_reasons(case, kind, first, doubles) if by_case else [])
+
+
+def same_before(case: Case, symbol: int) -> int:
+    """The lowest symbol whose name is the same, in whatever case."""
+    name = bytes_of(case, symbol).lower()
+    return next(other for other in range(symbol + 1) if fault_of_name(case, other) is None
+                and bytes_of(case, other).lower() == name)
+
+
+def is_by_case(case: Case, symbol: int) -> bool:
+    """Whether a symbol's name is that of a lower one, but in another case than all of these."""
+    names = [bytes_of(case, other) for other in range(symbol)
+             if fault_of_name(case, other) is None]
+    name = bytes_of(case, symbol)
+    return name not in names and any(differ_in_case(name, other) for other in names)
+
+
+def by_case_reasons(case: Case, kind: str, first: int, doubles: Sequence[int]) -> List[str]:
+    """How the names differ that are one name in two cases, and what a look at the bytes would find."""
+    pair = bytes_of(case, first), bytes_of(case, doubles[0])
+    met = [
+        ("18-by-case-" + kind[len("18-"):], True),
+        ("18-by-case-in-the-first-letter-alone", not rest_differs(*pair)),
+        ("18-by-case-behind-the-first-letter", not first_differs(*pair)),
+        ("18-by-case-of-15-bytes", len(pair[0]) == MAX_NAME),
+        ("18-by-case-among-thousands", case.t + case.n > 2000),
+        ("18-by-case-before-an-equal-name",
+         any(not is_by_case(case, symbol) for symbol in doubles)),
     ]
     return [name for name, holds in met if holds]
 

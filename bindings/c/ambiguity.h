@@ -3,7 +3,7 @@
  * prints, and reading back of the two strings that it prints. Each function answers as its entry promises;
  * crates/ambiguity_c/src/lib.rt has the promises, proved.
  * "Document 01" is the paper that the library follows: it has the tables, the certificates and the causes of refusal. Cause 19, the
- * codes of 16 bits and the limits are document 02's, which has the requests after it.
+ * codes of 16 bits, the limits and names in any case are document 02's, which has the requests after it.
  *
  * What holds of every function:
  * - Every input is taken: what is wrong is refused, with a cause from 1 to 19 and a position. `cause` 0 says that nothing is
@@ -11,6 +11,8 @@
  * - A row is lent as a pointer and its number of entries. The pointer is never NULL, also at 0 entries, and is aligned as its
  *   type is. A row that is written overlaps no other row of the call. Nothing is kept after the return.
  * - A written row may be longer than needed: its front is written, the rest stays as it was.
+ * - Names that differ only in the case of ASCII letters are the same name wherever names are compared: in lists, rules, what the writer
+ *   is given and lines that are read back. The spelling of the declaration is written out. Keys, as `rule=`, are no names.
  * - There is no state, no allocation and no lock: every function is re-entrant, and calls may run at the same time.
  * - The archive needs memcpy and memset and nothing else. It is for x86-64 with the System V calling convention.
  */
@@ -25,8 +27,8 @@
 #endif
 
 /* The version of the whole: library, header, wrapper, tools. The first number changes when a caller has to. */
-#define AMBIGUITY_VERSION "3.0.0"
-#define AMBIGUITY_VERSION_MAJOR 3
+#define AMBIGUITY_VERSION "4.0.0"
+#define AMBIGUITY_VERSION_MAJOR 4
 
 /* The limits of document 02. A right side has at most 12 codes. */
 #define AMBIGUITY_MAX_TERMINALS 2000
@@ -88,8 +90,8 @@ enum ambiguity_cause {
     AMBIGUITY_BUFFER_TOO_SHORT = 14,  /* a lent output or work row too short: at 0 */
     AMBIGUITY_WITNESS_WRONG = 15,     /* at the first wrong entry, or at the row's length if only the end fails */
     AMBIGUITY_MALFORMED = 16,         /* malformed line, or name: at the line; for the writer at the symbol number from 0 */
-    AMBIGUITY_NAME_UNKNOWN = 17,      /* name unknown or of the wrong kind: at the line */
-    AMBIGUITY_NAME_REPEATED = 18,     /* name declared twice: at the line, or at the symbol number */
+    AMBIGUITY_NAME_UNKNOWN = 17,      /* name unknown or of the wrong kind: at the line; one declared in another case is known */
+    AMBIGUITY_NAME_REPEATED = 18,     /* name declared twice, in whatever case: at the line, or at the symbol number */
     AMBIGUITY_NO_SENTENCE = 19        /* the start, the first nonterminal, has no finite tree: at 0 */
 };
 
@@ -245,7 +247,9 @@ ambiguity_search_reply ambiguity_search(size_t t, size_t n, const uint16_t *tabl
                                         size_t certificate_bytes, uint32_t *queue, size_t queue_entries, uint32_t *parents,
                                         size_t parents_entries, uint32_t *witness, size_t witness_entries);
 
-/* Reads grammar text. Written are the table, and the start in the text and the length of each symbol's name, terminals first.
+/* Reads grammar text. Written are the table, and the start in the text and the length of each symbol's name as it is declared,
+ * terminals first. Names that differ only in the case of ASCII letters are the same: `rule=take: Vol` uses `Take` and `vol`, and a
+ * second declaration that differs in case is 18.
  * AMBIGUITY_MAX_TABLE_ENTRIES and AMBIGUITY_MAX_NAMES are always enough. Refuses with 16, 17, 18, 1, 4, 7, 6, 8, 19, 14; the
  * positions of 6, 7 and 8 are offsets in the table that it would write, those of 19 and 14 are 0, all others are lines from 1. A
  * text of more than AMBIGUITY_MAX_TEXT_BYTES is 16 at 0. */
@@ -260,15 +264,16 @@ ambiguity_length_reply ambiguity_written_length(size_t t, size_t n, const uint16
                                                 const uint32_t *lengths, size_t lengths_entries);
 
 /* Writes grammar text. The name of symbol i, terminals first, is the part of `names` that starts at starts[i] and has lengths[i]
- * bytes; the text that was read serves as `names`. Lent are as many bytes as ambiguity_written_length tells;
- * AMBIGUITY_MAX_TEXT_BYTES is always enough. Refuses with 16, 18, 14. */
+ * bytes; the text that was read serves as `names`: it comes back with each use in its declared spelling. Two names that differ only in
+ * case are 18. Lent are as many bytes as ambiguity_written_length tells; AMBIGUITY_MAX_TEXT_BYTES is always enough. Refuses with 16,
+ * 18, 14. */
 ambiguity_write_reply ambiguity_write_text(size_t t, size_t n, const uint16_t *table, size_t table_entries, const uint8_t *names,
                                            size_t names_bytes, const uint32_t *starts, size_t starts_entries,
                                            const uint32_t *lengths, size_t lengths_entries, uint8_t *out, size_t out_bytes);
 
 /* Writes what the program prints for a text, each line ended by byte 10: `states=` and `verdict=`, then with unambiguous `reached=`,
  * with potential `left=` and `right=`, the two strings of the shortest witness; or `refused=` and `at=`. In a string `(i` opens rule
- * i, `)i` closes it, a symbol stands by its name, and one space stands between two letters. A text that has more than
+ * i, `)i` closes it, a symbol stands by its name as declared, and one space stands between two letters. A text that has more than
  * AMBIGUITY_MAX_REPORT_TEXT_BYTES, is at fault, 19 among its faults, or has more than AMBIGUITY_MAX_REPORT_STATES states is answered
  * by a report of its refusal, the first in this order, and `cause` is 0. Refuses with 14 alone, if the output is too short;
  * AMBIGUITY_MAX_REPORT_BYTES are always enough. */
@@ -278,7 +283,7 @@ ambiguity_report_reply ambiguity_report(const uint8_t *text, size_t text_bytes, 
  * and strings may have any length; rows of `lines_bytes` entries are always enough. The strings need be neither accepted by the
  * automaton nor parting. First the text is refused, as by ambiguity_read_text but never with 14 (AMBIGUITY_GRAMMAR); then line 1 with
  * 16 or 17, line 2 likewise, and the rows with 14 (AMBIGUITY_LINES). 16 is a line that is missing or not of this form, a rule number
- * that the grammar lacks, and anything behind line 2; 17 is a name that it lacks. */
+ * that the grammar lacks, and anything behind line 2; 17 is a name that it lacks in any case of its letters. */
 ambiguity_read_back_reply ambiguity_read_back(const uint8_t *text, size_t text_bytes, const uint8_t *lines, size_t lines_bytes,
                                               uint32_t *left, size_t left_entries, uint32_t *right, size_t right_entries);
 

@@ -1,7 +1,7 @@
 /* The certificate check on document 01's cases of S -> a, the witness check over records on those of S -> S; S -> a, the report,
- * and reading its two strings back; searches and texts lent just what is told beforehand, and one less; all twelve functions on
- * grammars without a sentence; and tables and texts at the limits and just past them. Exits with 0 if every answer is document 01's
- * and document 02's. */
+ * and reading its two strings back; searches and texts lent just what is told beforehand, and one less; names in any case; all twelve
+ * functions on grammars without a sentence; and tables and texts at the limits and just past them. Exits with 0 if every answer is
+ * document 01's and document 02's. */
 #include <stdio.h>
 #include <string.h>
 
@@ -435,6 +435,54 @@ static void expect_lengths(void)
     wrong += !right;
 }
 
+/* S -> S; S -> a with its names used in another case than they are declared in, and as they are declared. */
+static const char MIXED_TEXT[] = "terminals=Take\nnonterminals=step\nrule=Step: STEP\nrule=step: tAKE\n";
+static const char DECLARED_TEXT[] = "terminals=Take\nnonterminals=step\nrule=step: step\nrule=step: Take\n";
+static const uint32_t CASES[] = {10, 11};
+
+/* The cause and position with which the reader refuses a text that is lent no rows. */
+static ambiguity_check_reply read_refused(const char *text)
+{
+    ambiguity_read_reply reply =
+        ambiguity_read_text((const uint8_t *)text, strlen(text), lent_table, 0, lent_rows[0], 0, lent_rows[1], 0);
+    return (ambiguity_check_reply){reply.cause, reply.at};
+}
+
+/* A text in any case is read, and written with each use as it is declared. */
+static void expect_spelling(void)
+{
+    uint16_t table[6];
+    uint32_t starts[2], lengths[2];
+    const uint8_t *text = (const uint8_t *)MIXED_TEXT;
+    size_t length = strlen(DECLARED_TEXT);
+    ambiguity_read_reply read = ambiguity_read_text(text, strlen(MIXED_TEXT), table, 6, starts, 2, lengths, 2);
+    fill_lent();
+    ambiguity_write_reply written =
+        ambiguity_write_text(1, 1, table, 6, text, strlen(MIXED_TEXT), starts, 2, lengths, 2, lent_bytes, length);
+    int right = read.cause == AMBIGUITY_NOT_REFUSED && read.entries == 6 && memcmp(table, CYCLE, sizeof CYCLE) == 0
+        && starts[0] == 10 && lengths[0] == 4 && starts[1] == 28 && lengths[1] == 4 && written.cause == AMBIGUITY_NOT_REFUSED
+        && written.length == length && memcmp(lent_bytes, DECLARED_TEXT, length) == 0 && is_kept(length, 0, 0, 0);
+    printf("%s: a text in any case, read and written\n", right ? "ok" : "WRONG");
+    wrong += !right;
+}
+
+static void expect_case(void)
+{
+    expect_spelling();
+    expect_report(MIXED_TEXT, "states=8\nverdict=potential\nleft=(0 step )0\nright=(0 (1 step )1 )0\n");
+    expect_read_back("two strings in another case", CYCLE_TEXT, "left=(0 s )0\nright=(0 (1 s )1 )0\n", 5,
+                     (ambiguity_read_back_reply){0, 0, 0, 3, 5});
+    expect_read_back("a key in another case", CYCLE_TEXT, "left=\nRight=\n", 0,
+                     (ambiguity_read_back_reply){16, 2, AMBIGUITY_LINES, 0, 0});
+    expect("declared in two cases", read_refused("terminals=a,A\nnonterminals=S\nrule=S: a\n"), AMBIGUITY_NAME_REPEATED, 1);
+    expect("declared in both lists", read_refused("terminals=a\nnonterminals=S,A\nrule=S: a\n"), AMBIGUITY_NAME_REPEATED, 2);
+    expect("equal rules in two cases", read_refused("terminals=a\nnonterminals=S\nrule=S: a\nrule=s: A\n"), AMBIGUITY_RULE_REPEATED, 3);
+    expect("a key in capitals", read_refused("terminals=a\nnonterminals=S\nRule=S: a\n"), AMBIGUITY_MALFORMED, 3);
+    ambiguity_length_reply length =
+        ambiguity_written_length(1, 1, CYCLE, ENTRIES(CYCLE), (const uint8_t *)"terminals=aA", 12, CASES, 2, LENGTHS, 2);
+    expect_length("names in two cases", length, AMBIGUITY_NAME_REPEATED, 1, 0);
+}
+
 int main(void)
 {
     uint8_t longer[BYTES + 1] = {0};
@@ -455,7 +503,7 @@ int main(void)
     expect("a right state of Q and more, though the index is right", check_other(2, 0, 1, 10), AMBIGUITY_WITNESS_WRONG, 2);
     expect_report("terminals=a\nnonterminals=S\nrule=S: a\n", "states=6\nverdict=unambiguous\nreached=11\n");
     expect_report(CYCLE_TEXT, "states=8\nverdict=potential\nleft=(0 S )0\nright=(0 (1 S )1 )0\n");
-    expect_report("terminals=a\nnonterminals=S,A\nrule=S: a\nrule=S: A\nrule=A: A\n",
+    expect_report("terminals=a\nnonterminals=S,W\nrule=S: a\nrule=S: W\nrule=W: W\n",
                   "states=10\nverdict=unambiguous\nreached=11\n");
     expect_report("", "refused=16\nat=1\n");
     expect_read_back("its two strings read back", CYCLE_TEXT, CYCLE_LINES, 5, (ambiguity_read_back_reply){0, 0, 0, 3, 5});
@@ -468,6 +516,7 @@ int main(void)
     expect_read_back("a fault of the grammar", "", CYCLE_LINES, 0, (ambiguity_read_back_reply){16, 1, AMBIGUITY_GRAMMAR, 0, 0});
     expect_rooms();
     expect_lengths();
+    expect_case();
     expect_report(ENDLESS_TEXT, "refused=19\nat=0\n");
     expect_without_sentence();
     expect_order();

@@ -99,7 +99,8 @@ def lent(data: bytes):
 
 
 class Grammar:
-    """A grammar that was read from its text: `states` is Q, `names` are terminals, then nonterminals."""
+    """A grammar that was read from its text: `states` is Q, `names` are terminals, then nonterminals, as they are declared. Names that
+    differ only in the case of ASCII letters are the same."""
 
     def __init__(self, text: bytes) -> None:
         table = (ctypes.c_uint16 * MAX_TABLE_ENTRIES)()

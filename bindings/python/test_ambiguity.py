@@ -58,6 +58,11 @@ def main():
     names = b",".join(b"t%d" % place for place in range(2000))
     most = ambiguity.Grammar(b"terminals=" + names + b"\nnonterminals=" + names.replace(b"t", b"N") + b"\nrule=N0:\n")
     assert (len(most.names), most.names[-1], most.search().size) == (4000, "N1999", 10)
+    mixed = b"terminals=take,Vol\nnonterminals=Step\nrule=STEP: Take vol step\nrule=step:\n"
+    assert ambiguity.Grammar(mixed).names == ["take", "Vol", "Step"]
+    declared = b"terminals=take,Vol\nnonterminals=Step\nrule=Step: take Vol Step\nrule=Step:\n"
+    assert ambiguity.Grammar(mixed).search() == ambiguity.Grammar(declared).search()
+    assert refusal(ambiguity.Grammar, mixed.replace(b"Step", b"Step,TAKE", 1)) == (18, 2)
     assert refusal(ambiguity.Grammar, b"") == (16, 1) and refusal(ambiguity.Grammar, b"\xff" * 262_145) == (16, 0)
     print("%d grammars" % len(small))
 

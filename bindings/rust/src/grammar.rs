@@ -81,7 +81,18 @@ fn rules_of(mut entries: &[Code]) -> Vec<Rule> {
 }
 
 impl Grammar {
-    /// Reads grammar text. Uses as much stack as [`read_text`] does.
+    /// Reads grammar text. Names that differ only in the case of ASCII letters are the same name, and the declared spelling is kept.
+    /// Uses as much stack as [`read_text`] does.
+    ///
+    /// ```
+    /// use ambiguity::Grammar;
+    ///
+    /// let grammar = Grammar::read(b"terminals=take,vol\nnonterminals=Step\nrule=step: Take VOL\n")?;
+    /// assert_eq!(grammar.write(), "terminals=take,vol\nnonterminals=Step\nrule=Step: take vol\n");
+    /// let refusal = Grammar::read(b"terminals=take,Take\nnonterminals=Step\nrule=Step: take\n").unwrap_err();
+    /// assert_eq!(refusal.to_string(), "refused=18 at=1");
+    /// # Ok::<(), ambiguity::Refusal>(())
+    /// ```
     ///
     /// # Errors
     ///
@@ -110,7 +121,7 @@ impl Grammar {
         })
     }
 
-    /// The grammar as text: what was read comes back the same.
+    /// The grammar as text: what was read comes back the same, each use of a name in its declared spelling.
     ///
     /// ```
     /// let text = "terminals=a\nnonterminals=S\nrule=S: S a\nrule=S:\n";
@@ -188,19 +199,19 @@ impl Grammar {
         &self.rules
     }
 
-    /// The terminals' names, in order of their codes from 1.
+    /// The terminals' names as they are declared, in order of their codes from 1.
     #[must_use]
     pub fn terminals(&self) -> &[String] {
         &self.names[..self.terminals]
     }
 
-    /// The nonterminals' names, in order of their codes from [`START`]; the first is the start.
+    /// The nonterminals' names as they are declared, in order of their codes from [`START`]; the first is the start.
     #[must_use]
     pub fn nonterminals(&self) -> &[String] {
         &self.names[self.terminals..]
     }
 
-    /// The name of a symbol; none for a code that is not declared.
+    /// The name of a symbol as it is declared; none for a code that is not.
     #[must_use]
     pub fn name(&self, code: Code) -> Option<&str> {
         let (names, first) = if code < START { (self.terminals(), 1) } else { (self.nonterminals(), START) };

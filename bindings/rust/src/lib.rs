@@ -8,6 +8,9 @@
 //! that a call uses is measured and not proved: bindings/c/ambiguity.h has the figures, for reader, search, report and reading back
 //! `AMBIGUITY_READ_TEXT_STACK_BYTES` and so on, for all others `AMBIGUITY_STACK_BYTES`.
 //!
+//! Names that differ only in the case of ASCII letters are the same name: in the lists and rules of a text, among those that the writer
+//! is given, and in two lines that are read back. What is written has the declared spelling. Keys, as `rule=`, are no names.
+//!
 //! [`Grammar`] owns its rows: read a text, search it, check a certificate, read two strings back. The functions below it lend rows.
 
 #![warn(missing_docs)]
@@ -302,8 +305,8 @@ pub fn search(
     refusal::or_else(reply.cause, reply.at, || verdict_of(&reply))
 }
 
-/// Reads grammar text; the table, and the start and length of each name, come at the fronts of the lent rows. `MAX_TABLE_ENTRIES`
-/// and `MAX_NAMES` entries are always enough.
+/// Reads grammar text; the table, and the start and length of each name where it is declared, come at the fronts of the lent rows.
+/// `MAX_TABLE_ENTRIES` and `MAX_NAMES` entries are always enough.
 ///
 /// # Errors
 ///
@@ -329,8 +332,8 @@ pub fn read_text(text: &[u8], table: &mut [Code], starts: &mut [u32], lengths: &
     })
 }
 
-/// Writes grammar text to the front of `out`; back comes its length, which [`written_length`] tells beforehand. `MAX_TEXT_BYTES` are
-/// always enough.
+/// Writes grammar text to the front of `out`, each name as `names` has it; back comes its length, which [`written_length`] tells
+/// beforehand. `MAX_TEXT_BYTES` are always enough.
 ///
 /// # Errors
 ///

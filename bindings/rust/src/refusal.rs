@@ -38,9 +38,9 @@ pub enum Cause {
     WitnessWrong = 15,
     /// A line or a name is malformed: at the line; for the writer at the symbol's number from 0.
     Malformed = 16,
-    /// A name is unknown or of the wrong kind: at the line.
+    /// A name is unknown or of the wrong kind: at the line. A name that is declared in another case is known.
     NameUnknown = 17,
-    /// A name is declared twice: at the line, or at the symbol's number.
+    /// A name is declared twice, in whatever case: at the line, or at the symbol's number.
     NameRepeated = 18,
     /// The start, the first nonterminal, has no finite tree, so the grammar has no sentence: at 0.
     NoSentence = 19,

@@ -123,8 +123,8 @@ impl Grammar {
         Some(Strings { left: letters(|step| step.on_left), right: letters(|step| step.on_right) })
     }
 
-    /// The word of a letter: `(2` opens rule 2, `)2` closes it, a symbol's word is its name. None for a rule or a code that the
-    /// grammar lacks; rule 0 is one of its rules.
+    /// The word of a letter: `(2` opens rule 2, `)2` closes it, a symbol's word is its name as it is declared. None for a rule or a
+    /// code that the grammar lacks; rule 0 is one of its rules.
     #[must_use]
     pub fn word(&self, letter: Letter) -> Option<String> {
         let has = |rule: u16| usize::from(rule) <= self.rules().len();
@@ -155,8 +155,8 @@ impl Grammar {
         Some(format!("left={}\nright={}\n", left.join(" "), right.join(" ")))
     }
 
-    /// The two strings of the lines `left=` and `right=`. They need be neither accepted by the automaton nor parting. Uses as
-    /// much stack as [`read_back`] does.
+    /// The two strings of the lines `left=` and `right=`. Names may stand there in any case. The strings need be neither accepted by
+    /// the automaton nor parting. Uses as much stack as [`read_back`] does.
     ///
     /// # Errors
     ///
@@ -181,7 +181,8 @@ mod tests {
         let strings = grammar.strings(&witness).unwrap();
         let lines = grammar.lines(&strings).unwrap();
         assert_eq!(lines, "left=(0 S )0\nright=(0 (1 S )1 )0\n");
-        assert_eq!(grammar.read_back(lines.as_bytes()), Ok(strings));
+        assert_eq!(grammar.read_back(lines.as_bytes()), Ok(strings.clone()));
+        assert_eq!(grammar.read_back(b"left=(0 s )0\nright=(0 (1 s )1 )0\n"), Ok(strings));
         assert_eq!(grammar.read_back(b"left=\nright=\n"), Ok(Strings::default()));
         assert_eq!(grammar.lines(&Strings::default()).unwrap(), "left=\nright=\n");
         assert_eq!(grammar.read_back(b"left=(3\nright=\n").unwrap_err().to_string(), "refused=16 at=1");

@@ -26,8 +26,8 @@ fn grammars_on_file() {
         ("a", "S", "S: S;S: a", 8, 55, Err("left=(0 S )0\nright=(0 (1 S )1 )0\n")),
         ("a", "S", "S: a S a;S: a", 10, 140, Err("left=(0 (2 a )2 a )1 )0\nright=(0 (1 a (2 a )2 )0\n")),
         ("", "S,A,B", "S: A;S: B;A:;B:", 10, 85, Err("left=(0 (2 (4 )4 )2 )0\nright=(0 (1 (3 )3 )1 )0\n")),
-        ("a", "S,A,B", "S: A;S: B;A: A a a;A: a;B: a a", 17, 145, Ok(82)),
-        ("a", "S,A", "S: a;S: A;A: A", 10, 14, Ok(11)),
+        ("a", "S,W,X", "S: W;S: X;W: W a a;W: a;X: a a", 17, 145, Ok(82)),
+        ("a", "S,W", "S: a;S: W;W: W", 10, 14, Ok(11)),
     ];
     for (terminals, nonterminals, rules, states, looked, found) in rows {
         let text = text_of(terminals, nonterminals, rules);

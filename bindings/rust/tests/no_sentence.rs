@@ -16,15 +16,15 @@ struct Endless {
     states: usize,
 }
 
-/// No rule; none of S; rules that need S again, at once or by A; a tree for A and none for B.
+/// No rule; none of S; rules that need S again, at once or by W; a tree for W and none for X.
 const ENDLESS: [Endless; 7] = [
     endless(0, 1, &[], "terminals=\nnonterminals=S\n", 4),
-    endless(1, 2, &[A, 1, 1, A, 0], "terminals=a\nnonterminals=S,A\nrule=A: a\nrule=A:\n", 7),
+    endless(1, 2, &[A, 1, 1, A, 0], "terminals=a\nnonterminals=S,W\nrule=W: a\nrule=W:\n", 7),
     endless(0, 1, &[S, 1, S], "terminals=\nnonterminals=S\nrule=S: S\n", 6),
     endless(1, 1, &[S, 2, 1, S], "terminals=a\nnonterminals=S\nrule=S: a S\n", 7),
     endless(0, 1, &[S, 2, S, S], "terminals=\nnonterminals=S\nrule=S: S S\n", 7),
-    endless(1, 2, &[S, 1, A, A, 2, 1, S], "terminals=a\nnonterminals=S,A\nrule=S: A\nrule=A: a S\n", 9),
-    endless(1, 3, &[S, 2, A, B, A, 0, B, 2, 1, B], "terminals=a\nnonterminals=S,A,B\nrule=S: A B\nrule=A:\nrule=B: a B\n", 11),
+    endless(1, 2, &[S, 1, A, A, 2, 1, S], "terminals=a\nnonterminals=S,W\nrule=S: W\nrule=W: a S\n", 9),
+    endless(1, 3, &[S, 2, A, B, A, 0, B, 2, 1, B], "terminals=a\nnonterminals=S,W,X\nrule=S: W X\nrule=W:\nrule=X: a X\n", 11),
 ];
 
 const fn endless(terminals: usize, nonterminals: usize, rules: &'static [Code], text: &'static str, states: usize) -> Endless {
@@ -112,7 +112,7 @@ fn texts_written() {
     for Endless { table, text, .. } in ENDLESS {
         for (starts, lengths) in [([0; 4], [0; 4]), ([u32::MAX; 4], [1; 4]), ([0; 4], [1; 4]), ([0, 2, 4, 6], [1; 4])] {
             for (given, room) in [(0, 0), (4, 0), (4, text.len())] {
-                let names = Names { bytes: b"a,S,A,B", starts: &starts[..given], lengths: &lengths[..given] };
+                let names = Names { bytes: b"a,S,W,X", starts: &starts[..given], lengths: &lengths[..given] };
                 let mut out = Lent::new(&vec![7; room], 0xFF);
                 assert_eq!(ambiguity::write_text(table, names, out.row_mut()), Err(NO_SENTENCE));
                 assert!(out.kept());

@@ -214,6 +214,9 @@ fn lengths_that_are_refused() {
         (b"sixteen-letters", &[0, 1], &[15, 1], Ok(37 + 2 * 14)),
         (b"aa", &[0, 1], &[1, 1], refused(Cause::NameRepeated, 1)),
         (b"aa", &[1, 1], &[1, 1], refused(Cause::NameRepeated, 1)),
+        (b"aA", &[0, 1], &[1, 1], refused(Cause::NameRepeated, 1)),
+        (b"Take-1tAKE-1", &[0, 6], &[6, 6], refused(Cause::NameRepeated, 1)),
+        (b"Take-1tAKE-1", &[0, 6], &[6, 5], Ok(37 + 2 * 5 + 2 * 4)),
         // What stands behind the symbols is not looked at.
         (b"aS", &[0, 1, 7], &[1, 1, 0, 99], Ok(37)),
     ] {

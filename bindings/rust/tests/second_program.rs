@@ -1,11 +1,13 @@
 //! The library's answers on the second program's cases, for each of the twelve entries: damaged, short and long inputs, each row lent
 //! between guards; of a search all that it wrote is compared, the witness entry by entry, and of lines read back every letter. What is
-//! told beforehand is compared, and held to every search and every text that is written, and to how much a search looked at.
+//! told beforehand is compared, and held to every search and every text that is written, and to how much a search looked at. What is read
+//! is written again, and lines that are read back are printed again, with the declared spelling of names.
 
 mod support;
 
 use ambiguity::{certificate_bytes, row_entries, Cause, Code, Grammar, Letter, Names, Part, PartRefusal, Refusal, Strings};
 use ambiguity::{Table, TripleRecord, Verdict};
+use std::collections::HashSet;
 use support::{all_steps, lent_room, refused, Cases, Comparison, Lent};
 
 /// The causes of a table that is refused.
@@ -186,6 +188,30 @@ fn room_line(cases: &mut Cases, guard: u8) -> String {
     })
 }
 
+/// A text that was read is written with the same lists, and with each use of a name as it is declared; that is read alike, and comes
+/// back unchanged.
+fn written_again(text: &[u8], table: Table, starts: &[u32], lengths: &[u32]) {
+    let write = |bytes: &[u8]| {
+        let names = Names { bytes, starts, lengths };
+        let mut out = vec![0; ambiguity::written_length(table, names).unwrap()];
+        assert_eq!(ambiguity::write_text(table, names, &mut out), Ok(out.len()));
+        out
+    };
+    let written = write(text);
+    assert!(written.eq_ignore_ascii_case(text));
+    let lines = |text: &[u8]| text.split(|byte| *byte == b'\n').map(<[u8]>::to_vec).collect::<Vec<_>>();
+    let (read, again) = (lines(text), lines(&written));
+    assert_eq!(read[..2], again[..2]);
+    let declared: HashSet<&[u8]> =
+        starts.iter().zip(lengths).map(|(start, length)| &text[*start as usize..][..*length as usize]).collect();
+    let uses = again[2..again.len() - 1].iter().flat_map(|line| line["rule=".len()..].split(|byte| b": ".contains(byte)));
+    assert!(uses.filter(|name| !name.is_empty()).all(|name| declared.contains(name)));
+    let mut rows = (vec![0; table.rules.len()], vec![0; starts.len()], vec![0; lengths.len()]);
+    ambiguity::read_text(&written, &mut rows.0, &mut rows.1, &mut rows.2).unwrap();
+    assert_eq!((&rows.0[..], &rows.1[..], &rows.2[..]), (table.rules, starts, lengths));
+    assert_eq!(write(&written), written);
+}
+
 fn read_line(cases: &mut Cases, guard: u8) -> String {
     let text = Lent::new(&cases.bytes(), guard);
     let mut table = Lent::new(&vec![half(guard ^ 0x5A); cases.number()], half(guard));
@@ -195,6 +221,9 @@ fn read_line(cases: &mut Cases, guard: u8) -> String {
     let (entries, names) = answer.map_or((0, 0), |read| (read.entries, read.terminals + read.nonterminals));
     assert!(text.kept() && table.kept_past(entries) && starts.kept_past(names) && lengths.kept_past(names));
     line_of(answer.map(|read| {
+        let rules = &table.row()[..entries];
+        let told = Table { terminals: read.terminals, nonterminals: read.nonterminals, rules };
+        written_again(text.row(), told, &starts.row()[..names], &lengths.row()[..names]);
         format!(
             "read terminals={} nonterminals={} states={} table={} starts={} lengths={}",
             read.terminals,
@@ -258,13 +287,16 @@ fn report_line(cases: &mut Cases, guard: u8) -> String {
     line_of(answer.map(|length| format!("written={length} text={}", hex(&out.row()[..length]))))
 }
 
-/// Lines that are read back are printed again the same.
+/// Lines that are read back are printed again the same, but for the spelling of names, which is then that of their declarations.
 fn printed_again(text: &[u8], lines: &[u8], left: &[u32], right: &[u32]) {
     let grammar = Grammar::read(text).unwrap();
     let letters = |row: &[u32]| row.iter().map(|entry| Letter::of_entry(*entry).unwrap()).collect();
     let strings = Strings { left: letters(left), right: letters(right) };
-    assert_eq!(grammar.lines(&strings).unwrap().as_bytes(), lines);
-    assert_eq!(grammar.read_back(lines), Ok(strings));
+    let printed = grammar.lines(&strings).unwrap();
+    assert!(printed.as_bytes().eq_ignore_ascii_case(lines));
+    for lines in [lines, printed.as_bytes()] {
+        assert_eq!(grammar.read_back(lines).as_ref(), Ok(&strings));
+    }
 }
 
 fn back_line(cases: &mut Cases, guard: u8) -> String {

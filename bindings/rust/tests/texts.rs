@@ -26,7 +26,7 @@ type Report<'a> = (&'a [u8], usize, Result<&'a [u8], Refusal>);
 #[test]
 fn texts_read() {
     let long = NESTED.replace("y S y", "y S y y y y y y y y y y y");
-    let cases: [Reading; 10] = [
+    let cases: [Reading; 18] = [
         (NESTED, [11, 4, 4], Ok((read(2, 2, 11, 12), &NESTED_RULES, &[10, 12, 27, 29]))),
         (NESTED, [100, 10, 11], Ok((read(2, 2, 11, 12), &NESTED_RULES, &[10, 12, 27, 29]))),
         (NESTED, [10, 4, 4], refused(Cause::BufferTooShort, 0)),
@@ -34,6 +34,14 @@ fn texts_read() {
         (NESTED.trim_end(), [100, 10, 10], refused(Cause::Malformed, 5)),
         (&NESTED.replace("y S y", "y S z"), [100, 10, 10], refused(Cause::NameUnknown, 5)),
         (&NESTED.replace("S,A", "S,x"), [100, 10, 10], refused(Cause::NameRepeated, 2)),
+        (&NESTED.replace("S,A", "S,X"), [100, 10, 10], refused(Cause::NameRepeated, 2)),
+        (&NESTED.replace("x,y", "x,y,Y"), [100, 10, 10], refused(Cause::NameRepeated, 1)),
+        (&NESTED.replace("S,A", "S,A,s"), [100, 10, 10], refused(Cause::NameRepeated, 2)),
+        (&NESTED.replace("S: x A", "s: X a"), [11, 4, 4], Ok((read(2, 2, 11, 12), &NESTED_RULES, &[10, 12, 27, 29]))),
+        (&NESTED.replace("rule=A", "rule=X"), [100, 10, 10], refused(Cause::NameUnknown, 5)),
+        (&NESTED.replace("rule=A", "Rule=A"), [100, 10, 10], refused(Cause::Malformed, 5)),
+        (&NESTED.replace("nonterminals", "Nonterminals"), [100, 10, 10], refused(Cause::Malformed, 2)),
+        (&format!("{NESTED}rule=s:\n"), [100, 10, 10], refused(Cause::RuleRepeated, 11)),
         (&long, [100, 10, 10], refused(Cause::RuleTooLong, 5)),
         ("terminals=x\nnonterminals=S,A\nrule=S: x\n", [100, 10, 10], Ok((read(1, 2, 3, 6), &[S, 1, 1], &[10, 25, 27]))),
         ("", [0, 0, 0], refused(Cause::Malformed, 1)),
@@ -90,10 +98,13 @@ fn texts_written() {
     let cut = [&NESTED_RULES[..], &[S]].concat();
     let nested = grammar(2, 2, &NESTED_RULES);
     let empty = grammar(0, 1, &[S, 0]);
-    let cases: [Writing; 10] = [
+    let cases: [Writing; 13] = [
         (nested, "xyABS", &[0, 1, 4, 2], &[1; 4], 200, Ok(NESTED)),
         (nested, "--start.left.", &[0, 2, 2, 8], &[1, 5, 5, 4], 200, refused(Cause::NameRepeated, 2)),
         (nested, "--start.left.", &[0, 2, 2, 8], &[1, 4, 5, 4], 300, Ok(&hyphens)),
+        (nested, "xyAaS", &[0, 1, 2, 3], &[1; 4], 200, refused(Cause::NameRepeated, 3)),
+        (nested, "xyXS", &[0, 1, 3, 2], &[1; 4], 200, refused(Cause::NameRepeated, 3)),
+        (nested, "xyAS", &[0, 1, 3, 2], &[1; 4], 200, Ok(NESTED)),
         (nested, "xyABS", &[0, 1, 4, 2], &[1; 4], 10, refused(Cause::BufferTooShort, 0)),
         (empty, "S", &[0], &[1], 33, refused(Cause::BufferTooShort, 0)),
         (empty, "S", &[0], &[1], 34, Ok("terminals=\nnonterminals=S\nrule=S:\n")),
@@ -108,6 +119,52 @@ fn texts_written() {
         let answer = ambiguity::write_text(table, names, &mut out);
         assert_eq!(answer.map(|length| std::str::from_utf8(&out[..length]).unwrap()), expected);
     }
+}
+
+/// A text with uses in any case, and the same as it is declared.
+const MIXED: &str =
+    "terminals=take,Vol-1\nnonterminals=Method,step\nrule=METHOD: METHOD Step\nrule=method: step\nrule=Step: TAKE vOL-1\n";
+const DECLARED: &str =
+    "terminals=take,Vol-1\nnonterminals=Method,step\nrule=Method: Method step\nrule=Method: step\nrule=step: take Vol-1\n";
+
+/// What was read is written with each use as it is declared, and then comes back unchanged; nothing else depends on case.
+#[test]
+fn read_and_written() {
+    let (mixed, declared) = (Grammar::read(MIXED.as_bytes()).unwrap(), Grammar::read(DECLARED.as_bytes()).unwrap());
+    assert_eq!(mixed, declared);
+    assert_eq!((mixed.write().as_str(), declared.write().as_str()), (DECLARED, DECLARED));
+    assert_eq!(
+        (mixed.terminals(), mixed.nonterminals()),
+        (&["take", "Vol-1"].map(String::from)[..], &["Method", "step"].map(String::from)[..])
+    );
+    // The text that was read serves as the names.
+    let (mut table, mut starts, mut lengths) = ([0; 20], [0; 4], [0; 4]);
+    let read = ambiguity::read_text(MIXED.as_bytes(), &mut table, &mut starts, &mut lengths).unwrap();
+    let names = Names { bytes: MIXED.as_bytes(), starts: &starts, lengths: &lengths };
+    let mut out = [7; 200];
+    let length = ambiguity::write_text(grammar(2, 2, &table[..read.entries]), names, &mut out).unwrap();
+    assert_eq!(std::str::from_utf8(&out[..length]), Ok(DECLARED));
+    assert_eq!(ambiguity::written_length(grammar(2, 2, &table[..read.entries]), names), Ok(length));
+}
+
+/// The program prints names as they are declared, and reads them back in any case.
+#[test]
+fn reports_in_any_case() {
+    let report = |text: &str| {
+        let mut out = vec![7; MAX_REPORT_BYTES];
+        let length = ambiguity::report(text.as_bytes(), &mut out).unwrap();
+        String::from_utf8(out[..length].to_vec()).unwrap()
+    };
+    assert_eq!(report(MIXED), report(DECLARED));
+    let odd = "terminals=Take\nnonterminals=Step\nrule=STEP: take step TAKE\nrule=step: tAKE\n";
+    let lines = "left=(0 (2 Take )2 Take )1 )0\nright=(0 (1 Take (2 Take )2 )0\n";
+    assert_eq!(report(odd), format!("states=10\nverdict=potential\n{lines}"));
+    let grammar = Grammar::read(odd.as_bytes()).unwrap();
+    let strings = grammar.read_back(lines.as_bytes()).unwrap();
+    for other in [lines.replace("Take", "TAKE"), lines.replace("Take", "take"), lines.replacen("Take", "tAkE", 1)] {
+        assert_eq!(grammar.read_back(other.as_bytes()), Ok(strings.clone()), "{other}");
+    }
+    assert_eq!(grammar.lines(&strings).unwrap(), lines);
 }
 
 /// A text's refusal is a report too; an output that is too short is the report's own.
@@ -161,8 +218,8 @@ fn lines_that_are_refused() {
         ("left=sixteen-letters-\nright=\n", malformed(1)),
         ("left=sixteen-letters\nright=\n", unknown(1)),
         ("left=z\nright=\n", unknown(1)),
-        ("left=X\nright=\n", unknown(1)),
         ("left=1\nright=\n", unknown(1)),
+        ("left=X Z\nright=\n", unknown(1)),
         ("left=left\nright=\n", unknown(1)),
         // Within a line 16 comes before 17, and line 1 before line 2.
         ("left=z (4\nright=\n", malformed(1)),
@@ -172,6 +229,7 @@ fn lines_that_are_refused() {
         ("left=\nright=z\n", unknown(2)),
         ("left=\nright=z\n\n", malformed(2)),
         ("left=x\nright=y\n", (Cause::BufferTooShort, 0)),
+        ("left=X\nright=a\n", (Cause::BufferTooShort, 0)),
     ];
     for (lines, (cause, at)) in cases {
         let answer = ambiguity::read_back(NESTED.as_bytes(), lines.as_bytes(), &mut [], &mut []);

@@ -143,7 +143,7 @@ mod tests {
 
     #[test]
     fn live() {
-        let grammar = read("terminals=a\nnonterminals=S,A,B\nrule=S: a\nrule=S: A\nrule=A: A\nrule=B: a\nrule=S: B A\n");
+        let grammar = read("terminals=a\nnonterminals=S,W,X\nrule=S: a\nrule=S: W\nrule=W: W\nrule=X: a\nrule=S: X W\n");
         assert_eq!(live_rules(&grammar), [true, false, false, false, false]);
         assert_eq!(live_rules(&read("terminals=\nnonterminals=S\nrule=S: S\nrule=S:\n")), [true, true]);
     }

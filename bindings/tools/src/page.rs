@@ -91,11 +91,11 @@ pub fn of(subject: &Subject) -> String {
     let parts = match (subject.searched, subject.explanation) {
         (Searched::Unambiguous { certificate, size, looked }, _) => {
             let lines = lines::written(grammar, *size, certificate, Form::usual(grammar.states()));
-            [unambiguous(grammar, *size, *looked), grammar_part(subject.text, &[]), certificate_part(&lines, grammar.states())]
+            [unambiguous(grammar, *size, *looked), grammar_part(grammar, &[]), certificate_part(&lines, grammar.states())]
         }
         (Searched::Potential { witness, looked }, Some(explanation)) => {
             let strings = strings_part(&strings::printed(subject.text, grammar, witness));
-            let text = grammar_part(subject.text, &parting_lines(explanation));
+            let text = grammar_part(grammar, &parting_lines(explanation));
             [potential(grammar, explanation, *looked), trees_part(grammar, explanation), text + &strings]
         }
         (Searched::Potential { .. }, None) => [String::new(), String::new(), String::new()],
@@ -159,8 +159,9 @@ fn parting_lines(explanation: &Explanation) -> Vec<usize> {
     rules.into_iter().filter(|rule| *rule > 0).map(words::line_of_rule).collect()
 }
 
-fn grammar_part(text: &[u8], marked: &[usize]) -> String {
-    let text = String::from_utf8_lossy(text);
+/// The grammar's text, each name as it is declared; the lines are those of the file.
+fn grammar_part(grammar: &Grammar, marked: &[usize]) -> String {
+    let text = grammar.write();
     let rows = text.lines().enumerate().map(|(place, line)| {
         let class = if marked.contains(&(place + 1)) { " class=\"parting\"" } else { "" };
         // Long lists may be broken behind a comma.

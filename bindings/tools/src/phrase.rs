@@ -113,7 +113,7 @@ mod tests {
     /// Of two children that differ the first is taken, if its rows are the same.
     #[test]
     fn two_children_differ() {
-        let text = b"terminals=a\nnonterminals=S,A,B\nrule=S: A A\nrule=A: a\nrule=A: B\nrule=B: a\n";
+        let text = b"terminals=a\nnonterminals=S,W,X\nrule=S: W W\nrule=W: a\nrule=W: X\nrule=X: a\n";
         let grammar = Grammar::read(text).unwrap();
         let (a, one, other) = (Leaf(1), [Rule(2), Leaf(1)], [Rule(3), Rule(4), Leaf(1)]);
         let left = [&[Rule(1)][..], &one, &other].concat();

@@ -1,4 +1,4 @@
-//! Symbols, rules and states of a grammar in words. A rule is written as the grammar's text has it.
+//! Symbols, rules and states of a grammar in words. A rule is written as the grammar's text has it, each name as it is declared.
 
 use ambiguity::{Code, Grammar, START};
 
@@ -13,7 +13,12 @@ pub fn key(line: usize) -> &'static str {
     KEYS[line.min(KEYS.len()) - 1]
 }
 
-/// The name of a declared symbol.
+/// A name in small letters. Names that are equal so are the same name: case does not count, and only ASCII has it.
+pub fn small(name: &[u8]) -> Vec<u8> {
+    name.to_ascii_lowercase()
+}
+
+/// The name of a declared symbol, as it is declared.
 pub fn symbol(grammar: &Grammar, code: Code) -> &str {
     grammar.name(code).expect("a grammar that was read has no undeclared code")
 }
@@ -48,7 +53,7 @@ fn sides(grammar: &Grammar, number: usize) -> (String, &[Code]) {
     }
 }
 
-/// A rule by its number, as the text has it: `S: a b`.
+/// A rule by its number, as the text has it, with the names as they are declared: `S: a b`.
 pub fn rule(grammar: &Grammar, number: usize) -> String {
     let (left, right) = sides(grammar, number);
     format!("{left}: {}", row(grammar, right)).trim_end().to_string()

@@ -26,6 +26,7 @@ use Rattle.triple_laws.proofs.Position.{position-regular, position-listed}
 use Rattle.parting.proofs.Position.{single}
 use Rattle.figures.proofs.ShortestLaws.{shortest-of}
 use Rattle.figures.proofs.SidesLaws.{shortest-steps, sides-few, sides-part}
+use Rattle.text.specs.Names.{folded}
 use Rattle.text.specs.Read.{Source, symbolNames}
 use Rattle.text.specs.Rules.{checkText}
 use Rattle.text.proofs.Admit.{text-checked}
@@ -37,6 +38,7 @@ use Rattle.readings.specs.declared.ReadBack.the-variants.{Read, GrammarRefused,
 use Rattle.readings.proofs.Again.{lines-again, lines-apart}
 use Rattle.readings.proofs.Letters.{letter-again}
 use Rattle.readings.proofs.Only.{lines-only}
+use Rattle.readings.proofs.Case.{lines-case}
 use Rattle.readings.proofs.Said.{strings-right}
 use Rattle.ambiguity.specs.Readings.{stringsOf, ReadingTheorems, SidesTheorems, Unchanged, BackTheorems}
 
@@ -53,6 +55,8 @@ reading-theorems text s e =
       lines-apart = lines-apart limits t n (length (s .rules)) (symbolNames s) low (c .well .named) (c .well .once) many;
       said = strings-right limits t n (length (s .rules)) (symbolNames s) low many;
       only = lines-only limits t (length (s .rules)) (symbolNames s) low;
+      only-case = λ lines u v e. ap (map folded) (lines-only limits t (length (s .rules)) (symbolNames s) low lines u v e)
+          ∙ lines-case (symbolNames s) lines;
       entries = letter-again t n (length (s .rules)) (c .well .terminals-most) (c .well .nonterminals-most) (w .count);
     }
 

@@ -2,22 +2,25 @@
 use Prim.Native.Nat.{ℕ, _+_, _≤_}
 use mathlib.Core.Path.{_≡_, refl, ap, sym, subst, _∙_}
 use mathlib.Core.Bool.{Bool, true, false}
-use mathlib.Core.List.{List, _++_}
+use mathlib.Core.List.{List, _++_, map}
 use mathlib.Core.Logic.{_↔_}
 use native.Mathlib.Omega.{arith}
 use lib.ListN.{length, take, drop, length-append}
 use lib.Seq.{take-at}
+use Rattle.grammar.specs.Basics.{over}
 use Rattle.grammar.specs.Limits.{limits}
 use Rattle.grammar.specs.Table.{encode}
 use Rattle.grammar.specs.Refusal.{Answer, done, refused, refuseUnless, andThen, bufferTooShort, noSentence}
 use Rattle.grammar.specs.TableCheck.{checkTable, tableChecked, TableAnswer}
 use Rattle.grammar.specs.declared.TableChecked.{TableChecked}
 use Rattle.grammar.specs.declared.TableVerdict.the-variants.{Passed, Refused}
-use Rattle.grammar.proofs.Answers.{no-answer, then-goes, then-stops}
+use Rattle.grammar.proofs.Answers.{done-inj, no-answer, then-goes, then-stops}
 use Rattle.grammar.proofs.WellFormed.{room}
 use Rattle.table_check.proofs.Callers.{passed-table, refused-table}
 use Rattle.text.specs.Read.{Source, symbolNames, grammarOf, readText}
 use Rattle.text.specs.Rules.{lastTests, checkText, readInto}
+use Rattle.text.specs.Names.{folded}
+use Rattle.text.specs.Spelling.{spelledText, AsDeclared}
 use Rattle.text.specs.Print.{gather, writeInto}
 use Rattle.text.specs.Promise.{nameStarts, nameLengths, textRead, textWritten, afterwards, ReadsText, WritesText}
 use Rattle.text.specs.declared.TextRead.{TextRead}
@@ -26,6 +29,9 @@ use Rattle.text.specs.declared.TextRead.the-variants.{Read}
 use Rattle.text.specs.declared.TextWritten.{TextWritten}
 use Rattle.text.specs.declared.TextWritten.the-variants as writer
 use Rattle.text.specs.declared.TextWritten.the-variants.{Written}
+use Rattle.text.proofs.Case.{text-case}
+use Rattle.text.proofs.PrintRead.{print-read}
+use Rattle.text.proofs.ReadPrinted.{read-again}
 use Rattle.text.proofs.Spans.{length-lengths, length-name-starts}
 use Rattle.text.proofs.Admit.{read-tests, Checked, text-checked}
 use Rattle.text.proofs.Gather.{gather-front, gather-read}
@@ -162,9 +168,41 @@ write-refused t n table bytes starts lengths out r out′ w c cause at h e =
     (table-refuses limits t n table bytes starts lengths cause at (refused-table t n table c h cause at e)) in
     (w .answer ∙ ap textWritten o, w .out-after ∙ ap (λ (o : Answer (List ℕ)). afterwards o (λ text. text) out) o)
 
+text-again : (text table starts lengths table′ starts′ lengths′ : List ℕ) (t n e q : ℕ) (out out′ : List ℕ) (r : TextWritten)
+    → ReadsText text table starts lengths (Read t n e q) table′ starts′ lengths′
+    → WritesText t n (take e table′) text starts′ lengths′ out r out′ → length text ≤ length out
+    → (s : Source) → readText limits text ≡ done s
+    → (r ≡ Written (length text)) × (out′ ≡ over (spelledText (symbolNames s) text) out)
+text-again text table starts lengths table′ starts′ lengths′ t n e q out out′ r p w h s d =
+    let a = read-write text table starts lengths table′ starts′ lengths′ t n e q out out′ r p w h in
+    let into = into-checked limits (length table) (length starts) (length lengths) text (a .0) (a .1) in
+    let c = text-checked limits apart text (a .0) into in
+    let same : a .0 ≡ s = done-inj (sym (c .read) ∙ d) in
+    (a .2, a .3 ∙ ap (λ (x : Source). over (spelledText (symbolNames x) text) out) same)
+
+unchanged : (text table starts lengths table′ starts′ lengths′ : List ℕ) (t n e q : ℕ) (out out′ : List ℕ) (r : TextWritten)
+    → ReadsText text table starts lengths (Read t n e q) table′ starts′ lengths′
+    → WritesText t n (take e table′) text starts′ lengths′ out r out′ → length text ≤ length out
+    → (s : Source) → readText limits text ≡ done s → AsDeclared (symbolNames s) text → out′ ≡ over text out
+unchanged text table starts lengths table′ starts′ lengths′ t n e q out out′ r p w h s d declared =
+    text-again text table starts lengths table′ starts′ lengths′ t n e q out out′ r p w h s d .1 ∙ ap (λ (x : List ℕ). over x out) declared
+
+only-case : (text : List ℕ) (s : Source) → readText limits text ≡ done s
+    → (map folded (spelledText (symbolNames s) text) ≡ map folded text)
+    × (readText limits (spelledText (symbolNames s) text) ≡ done s)
+    × AsDeclared (symbolNames s) (spelledText (symbolNames s) text)
+only-case text s d =
+    let again = read-again limits apart text s d in (
+      text-case (symbolNames s) text,
+      again,
+      sym (print-read limits apart (spelledText (symbolNames s) text) s again) ∙ print-read limits apart text s d,
+    )
+
 pub text-theorems : TextTheorems
 text-theorems = record {
-  text-again = read-write;
+  text-again = text-again;
+  unchanged = unchanged;
+  only-case = only-case;
   tables-again = write-read;
   never-19 = never-19;
   short = short;

@@ -1,4 +1,4 @@
--- What holds of the two lines of a witness, and what follows from the promise of reading back. Source: document 02, [2].
+-- What holds of the two lines of a witness, and what follows from the promise of reading back. Source: document 02, [2], [9].
 -- Assumes nothing.
 use Prim.Native.Nat.{ℕ, _≤_, _<_}
 use mathlib.Core.Path.{_≡_}
@@ -16,9 +16,11 @@ use Rattle.automaton.specs.PositionMoves.{movesOf}
 use Rattle.triples.specs.Index.{tripleCount}
 use Rattle.triples.specs.Shortest.{ShortestWitness, shortest}
 use Rattle.triples.specs.Sides.{OneEach, leftSide, rightSide}
+use Rattle.text.specs.Names.{folded}
 use Rattle.text.specs.Read.{Source, symbolNames}
 use Rattle.text.specs.Rules.{checkText}
 use Rattle.readings.specs.Readings.{readingLines, Valid, AllValid, readStrings}
+use Rattle.readings.specs.Spelling.{spelledReadings}
 use Rattle.readings.specs.Letters.{letterNumber, letterFrom}
 use Rattle.readings.specs.declared.ReadBack.{ReadBack}
 use Rattle.readings.specs.declared.ReadBack.the-variants.{Read, GrammarRefused, Refused}
@@ -49,8 +51,12 @@ pub record ReadingTheorems (s : Source) : Type 0 where
       → linesOf s u v ≡ linesOf s u′ v′ → (u ≡ u′) × (v ≡ v′)
   -- what lines say is strings of the grammar's letters
   pub said : (lines : List ℕ) (u v : List Letter) → stringsOf s lines ≡ done (u, v) → IsString s u × IsString s v
-  -- and no lines but those printed of two strings say them
-  pub only : (lines : List ℕ) (u v : List Letter) → stringsOf s lines ≡ done (u, v) → lines ≡ linesOf s u v
+  -- and in lines again they are these lines with each name as it is declared ([9]), so lines so spelled come back unchanged;
+  -- nothing but the case of letters differs
+  pub only : (lines : List ℕ) (u v : List Letter) → stringsOf s lines ≡ done (u, v)
+      → linesOf s u v ≡ spelledReadings (symbolNames s) lines
+  pub only-case : (lines : List ℕ) (u v : List Letter) → stringsOf s lines ≡ done (u, v)
+      → map folded (linesOf s u v) ≡ map folded lines
   -- an entry of a row tells its letter
   pub entries : (l : Letter) → Valid limits (length (s .terminals)) (length (s .nonterminals)) (length (s .rules)) l
       → letterFrom (letterNumber l) ≡ l

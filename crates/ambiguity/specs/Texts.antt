@@ -1,8 +1,8 @@
--- What follows from the promises of the reader and the writer, whatever the input. Source: document 01; document 02, [4]; README.md
--- has the demands. Assumes nothing.
+-- What follows from the promises of the reader and the writer, whatever the input. Source: document 01; document 02, [4], [9];
+-- README.md has the demands. Assumes nothing.
 use Prim.Native.Nat.{ℕ, _+_, _≤_}
 use mathlib.Core.Path.{_≡_}
-use mathlib.Core.List.{List}
+use mathlib.Core.List.{List, map}
 use mathlib.Core.Logic.{_↔_}
 use lib.ListN.{length, take}
 use Rattle.grammar.specs.Basics.{over}
@@ -14,7 +14,9 @@ use Rattle.grammar.specs.Refusal.{done, noSentence}
 use Rattle.grammar.specs.declared.TableChecked.{TableChecked}
 use Rattle.grammar.specs.declared.TableVerdict.the-variants.{Passed, Refused}
 use Rattle.grammar.specs.TableCheck.{TableAnswer}
+use Rattle.text.specs.Names.{folded}
 use Rattle.text.specs.Read.{Source, symbolNames, grammarOf, readText}
+use Rattle.text.specs.Spelling.{spelledText, AsDeclared}
 use Rattle.text.specs.Print.{gather}
 use Rattle.text.specs.Promise.{textRead, ReadsText, WritesText, SameAgain}
 use Rattle.text.specs.declared.TextRead.{TextRead}
@@ -25,11 +27,24 @@ use Rattle.text.specs.declared.TextWritten.the-variants as writer
 use Rattle.text.specs.declared.TextWritten.the-variants.{Written}
 
 pub record TextTheorems : Type 0 where
-  -- demand 2: text that is read and written again, with the names that the reader gave, is the same text
+  -- demand 2: text that is read and written again, with the names that the reader gave, comes back with each use in its declared
+  -- spelling, and as long ([9])
   pub text-again : (text table starts lengths table′ starts′ lengths′ : List ℕ) (t n e q : ℕ) (out out′ : List ℕ) (r : TextWritten)
       → ReadsText text table starts lengths (Read t n e q) table′ starts′ lengths′
       → WritesText t n (take e table′) text starts′ lengths′ out r out′ → length text ≤ length out
-      → (r ≡ Written (length text)) × (out′ ≡ over text out)
+      → (s : Source) → readText limits text ≡ done s
+      → (r ≡ Written (length text)) × (out′ ≡ over (spelledText (symbolNames s) text) out)
+  -- text already so spelled comes back unchanged
+  pub unchanged : (text table starts lengths table′ starts′ lengths′ : List ℕ) (t n e q : ℕ) (out out′ : List ℕ) (r : TextWritten)
+      → ReadsText text table starts lengths (Read t n e q) table′ starts′ lengths′
+      → WritesText t n (take e table′) text starts′ lengths′ out r out′ → length text ≤ length out
+      → (s : Source) → readText limits text ≡ done s → AsDeclared (symbolNames s) text → out′ ≡ over text out
+  -- what comes back differs in the case of letters only, says the same, and has each use in its declared spelling: read and
+  -- written again it is unchanged
+  pub only-case : (text : List ℕ) (s : Source) → readText limits text ≡ done s
+      → (map folded (spelledText (symbolNames s) text) ≡ map folded text)
+      × (readText limits (spelledText (symbolNames s) text) ≡ done s)
+      × AsDeclared (symbolNames s) (spelledText (symbolNames s) text)
   -- tables and names that are written and read again, lent enough, are the same tables and the same names
   pub tables-again : (t n : ℕ) (table bytes starts lengths out : List ℕ) (m : ℕ) (out′ table₂ starts₂ lengths₂ : List ℕ) (r : TextRead)
       (table′ starts′ lengths′ : List ℕ)

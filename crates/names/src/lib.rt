@@ -95,10 +95,15 @@ pub fn is_name(s: &[u8]) -> bool
     true
 }
 
-// What of a byte counts where names are compared: all of it. All comparisons of names go through this function.
+// What of a byte counts where names are compared: a capital letter counts as the small one (document 02, [9]). All comparisons of
+// names go through this function.
 pub fn fold(b: u8) -> u8
     ensures { λ r. ⌜ r ≡ folded b ⌝ }
 {
+    let is_capital = between(b, 65, 90);
+    if is_capital {
+        return b + 32;
+    }
     b
 }
 

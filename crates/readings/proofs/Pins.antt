@@ -13,8 +13,10 @@ use Rattle.text.specs.Names.{isNameByte, all, isName, folded, sameName, place}
 use Rattle.text.specs.Numbers.{decimalTo, numberFrom, isDecimal}
 use Rattle.text.specs.Keys.{valueOf}
 use Rattle.text.specs.Read.{refuseNone, numberOf, isKnown, codeOf, symbolOf, wholeLine}
+use Rattle.text.specs.Spelling.{spelling}
 use Rattle.text.specs.Print.{nameOf}
 use Rattle.readings.specs.Readings.{words, readingLines, ruleNumber, wordOf, wordsOf, piecesOf, readWords, readStrings}
+use Rattle.readings.specs.Spelling.{spelledWord, spelledReadings}
 use Rattle.readings.specs.Letters.{letterNumber}
 
 -- the bytes of an ASCII text
@@ -37,6 +39,10 @@ print : List Letter → List Letter → List ℕ
 unfolding names readingLines words join ledBy endedBy nameOf symbolOf decimalTo
 print u v = readingLines byteLimits 1 names u v
 
+spell : List (List ℕ) → String → List ℕ
+unfolding read spelledReadings spelledWord spelling join ledBy
+spell names lines = spelledReadings names (bytes lines)
+
 -- the readings' example
 left : List Letter
 left = opening 0 ∷ opening 2 ∷ symbol 1 ∷ closing 2 ∷ symbol 1 ∷ closing 1 ∷ closing 0 ∷ []
@@ -56,6 +62,22 @@ back = refl
 empty-strings : read "left=\nright=\n" ≡ done ([], [])
 unfolding read
 empty-strings = refl
+
+-- a name in another case is the same name, and is printed as it is declared; keys are no names
+other-case : (read "left=A s\nright=a\n" ≡ done (symbol 1 ∷ symbol 128 ∷ [], symbol 1 ∷ []))
+    × (print (symbol 1 ∷ symbol 128 ∷ []) (symbol 1 ∷ []) ≡ bytes "left=a S\nright=a\n")
+    × (read "Left=a\nright=\n" ≡ refused 16 1)
+    × (read "left=a\nRight=\n" ≡ refused 16 2)
+unfolding read print
+other-case = (refl, refl, refl, refl)
+
+-- lines in declared spelling: names take it; openings and closings, keys, names that are not declared and further lines stay
+spelled-lines : (spell names "left=(0 A s )0\nright=a B\n" ≡ bytes "left=(0 a S )0\nright=a B\n")
+    × (spell (bytes "LEFT" ∷ []) "left=left\nright=Left left\nleft=left\n" ≡ bytes "left=LEFT\nright=LEFT LEFT\nleft=left\n")
+    × (spell names "Left=A\nright=A" ≡ bytes "Left=A\nright=a")
+    × (spell names "left=A" ≡ bytes "left=A")
+unfolding spell
+spelled-lines = (refl, refl, refl, refl)
 
 nonterminal : read "left=S\nright=\n" ≡ done (symbol 128 ∷ [], [])
 unfolding read

@@ -1,3 +1,4 @@
 pub mod Readings
+pub mod Spelling
 pub mod Letters
 pub mod Promise

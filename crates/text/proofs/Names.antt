@@ -1,9 +1,9 @@
 -- Names: what no name has in it, names compared and looked up, codes and symbol numbers, and the value of a line.
--- Lookup uses only that `sameName` is reflexive and symmetric; `same-exact` alone uses that every byte counts.
+-- Lookup uses only that `sameName` is reflexive and symmetric; `same-case` alone uses which bytes count as the same.
 -- Assumes nothing.
 use Prim.Native.Nat.{ℕ, zero, suc, _+_, _-_, _≤_, _<_}
 use mathlib.Core.Path.{_≡_, refl, ap, ap₂, sym, _∙_}
-use mathlib.Core.List.{List, [], _∷_, _++_}
+use mathlib.Core.List.{List, [], _∷_, _++_, map}
 use mathlib.Core.Bool.{Bool, true, false, not, _||_}
 use mathlib.Core.Logic.{_⊎_, inl, inr}
 use mathlib.Core.Option.{none, some}
@@ -18,6 +18,7 @@ use Rattle.grammar.proofs.Answers.{no-bool, and-both, both-and}
 use Rattle.text.specs.Names.{within, isNameByte, all, any, isName, folded, sameName, hasDouble, place}
 use Rattle.text.specs.Keys.{valueOf}
 use Rattle.text.specs.Read.{numberOf, isKnown, codeOf, symbolOf}
+use Rattle.text.specs.Spelling.{spelling}
 use Rattle.text.specs.Print.{nameOf}
 use Rattle.text.proofs.Pieces.{all-weaker, other}
 
@@ -116,15 +117,15 @@ same-sym [] (y ∷ b) = refl
 same-sym (x ∷ a) [] = refl
 same-sym (x ∷ a) (y ∷ b) = rw (same-sym a b, eqb-sym (folded x) (folded y))
 
--- the same name is the same bytes
-pub same-exact : (a b : List ℕ) → sameName a b ≡ true → a ≡ b
-unfolding sameName folded
-same-exact [] [] h = refl
-same-exact [] (y ∷ b) h = no-bool (sym h)
-same-exact (x ∷ a) [] h = no-bool (sym h)
-same-exact (x ∷ a) (y ∷ b) h =
-    let c = and-both (eqb x y) (sameName a b) h in
-    ap₂ (λ (z : ℕ) (l : List ℕ). z ∷ l) (eqb-true x y (c .0)) (same-exact a b (c .1))
+-- the same names differ only in the case of letters
+same-case : (a b : List ℕ) → sameName a b ≡ true → map folded a ≡ map folded b
+unfolding sameName
+same-case [] [] h = refl
+same-case [] (y ∷ b) h = no-bool (sym h)
+same-case (x ∷ a) [] h = no-bool (sym h)
+same-case (x ∷ a) (y ∷ b) h =
+    let c = and-both (eqb (folded x) (folded y)) (sameName a b) h in
+    ap₂ (λ (z : ℕ) (l : List ℕ). z ∷ l) (eqb-true (folded x) (folded y) (c .0)) (same-case a b (c .1))
 
 -- an element of a list in which none passes does not pass
 any-at : {A : Type 0} (p : A → Bool) (xs : List A) (i : ℕ) (d : A) → any p xs ≡ false → i < length xs → p (getD xs i d) ≡ false
@@ -149,17 +150,6 @@ double-front (x ∷ xs) ys h =
     neither-or (any (sameName x) xs) (hasDouble xs) (any-front (sameName x) xs ys (c .0)) (double-front xs ys (c .1))
 
 -- ---- names looked up
-
--- the element at a place that was found passes
-pub place-hit : {A : Type 0} (p : A → Bool) (xs : List A) (d : A) → place p xs < length xs → p (getD xs (place p xs) d) ≡ true
-unfolding place
-place-hit p [] d h = absurd (omega arith)
-place-hit p (x ∷ xs) d h = go (p x) refl (place-hit p xs d) h
-  where
-    go : (t : Bool) → p x ≡ t → (place p xs < length xs → p (getD xs (place p xs) d) ≡ true)
-        → choose t 0 (suc (place p xs)) < suc (length xs) → p (getD (x ∷ xs) (choose t 0 (suc (place p xs))) d) ≡ true
-    go true e again l = e
-    go false e again l = again (omega arith)
 
 -- a declared name is found at its own number
 pub place-again : (names : List (List ℕ)) (i : ℕ) → hasDouble names ≡ false → i < length names
@@ -253,14 +243,33 @@ module _ (L : Limits) (t : ℕ) (apart : t < start L) where
       record { low = omega arith; high = rw p (omega arith); again = rw (p, q) (omega arith) }
   right-number n c (inr h) = let a = left-number n c h in record { low = omega arith; high = a .high; again = a .again }
 
--- a known name's code has that name
+getD-any : {A : Type 0} (l : List A) (i : ℕ) (d e : A) → i < length l → getD l i d ≡ getD l i e
+getD-any [] i d e h = absurd (omega arith)
+getD-any (x ∷ l) zero d e h = refl
+getD-any (x ∷ l) (suc i) d e h = getD-any l i d e (omega arith)
+
+-- a known name's code has that name, as it is declared
 pub known-name : (L : Limits) (t from : ℕ) (names : List (List ℕ)) (x : List ℕ) → t < start L → isKnown from names x ≡ true
-    → nameOf L t names (codeOf L t (numberOf names x)) ≡ x
-unfolding nameOf numberOf
+    → nameOf L t names (codeOf L t (numberOf names x)) ≡ spelling names x
+unfolding nameOf numberOf spelling
 known-name L t from names x h e =
     let i = place (sameName x) names in
-    ap (λ j. getD names j []) (symbol-code L t h i)
-    ∙ sym (same-exact x (getD names i []) (place-hit (sameName x) names [] (known-number from names x e .1)))
+    ap (λ j. getD names j []) (symbol-code L t h i) ∙ getD-any names i [] x (known-number from names x e .1)
+
+-- which differs from a name, declared or not, only in the case of letters
+place-case : (x : List ℕ) (names : List (List ℕ)) → map folded (getD names (place (sameName x) names) x) ≡ map folded x
+unfolding place
+place-case x [] = refl
+place-case x (y ∷ ys) = go (sameName x y) refl (place-case x ys)
+  where
+    go : (b : Bool) → sameName x y ≡ b → map folded (getD ys (place (sameName x) ys) x) ≡ map folded x
+        → map folded (getD (y ∷ ys) (choose b 0 (suc (place (sameName x) ys))) x) ≡ map folded x
+    go true e again = sym (same-case x y e)
+    go false e again = again
+
+pub spelling-case : (names : List (List ℕ)) (x : List ℕ) → map folded (spelling names x) ≡ map folded x
+unfolding numberOf spelling
+spelling-case names x = place-case x names
 
 -- ---- the value of a line
 

@@ -25,6 +25,7 @@ use Rattle.text.specs.Names.{isNameByte, all, any, isName, folded, sameN
 use Rattle.text.specs.Keys.{keyTable, keyLengths, key, valueOf}
 use Rattle.text.specs.Read.{Source, refuseNone, namesOf, declaration, bodyOf, sidesOf, numberOf, isKnown}
 use Rattle.text.specs.Read.{codeOf, symbolOf, ruleOf, ruleLine, ruleLines, wholeLine, readLines, readText}
+use Rattle.text.specs.Spelling.{spelling, spelledLine, spelledLines, spelledText}
 use Rattle.text.specs.Rules.{admit, lastTests, checkText, readInto}
 use Rattle.text.specs.Print.{printLine, nameOf, printRule, printed, nameAt, gather, firstDouble, textFrom, writeInto}
 use Rattle.text.specs.Promise.{startsFrom, nameStarts, nameLengths, textLength}
@@ -89,6 +90,10 @@ print : Source → List ℕ
 unfolding bytes printed printRule nameOf symbolOf printLine endedBy join ledBy key keyTable keyLengths
 print s = printed byteLimits s
 
+spell : List String → String → List ℕ
+unfolding read spelledText spelledLines spelledLine spelling join ledBy
+spell names text = spelledText (map bytes names) (bytes text)
+
 toldLength : ℕ → ℕ → List ℕ → String → List ℕ → List ℕ → TextLength
 unfolding print textFrom gather nameAt firstDouble refuseNone isName isNameByte all any sameName folded refuseUnless
     andThen checkTable storedTable checkFrom nextRule readRule declaredFront isAmong sameCodes stateCount encode
@@ -117,33 +122,55 @@ name-lengths : (isName [] ≡ false)
 unfolding bytes isName all isNameByte
 name-lengths = (refl, refl, refl, refl)
 
--- a name is not the same as its front, nor as one of another case
+-- capital letters count as small ones; the bytes beside letters, digits and the hyphen count as they are
+folds : (map folded (64 ∷ 65 ∷ 90 ∷ 91 ∷ []) ≡ 64 ∷ 97 ∷ 122 ∷ 91 ∷ [])
+    × (map folded (96 ∷ 97 ∷ 122 ∷ 123 ∷ []) ≡ 96 ∷ 97 ∷ 122 ∷ 123 ∷ [])
+    × (map folded (45 ∷ 48 ∷ 57 ∷ []) ≡ 45 ∷ 48 ∷ 57 ∷ [])
+unfolding folded
+folds = (refl, refl, refl)
+
+-- a name is not the same as its front; case does not count
 names-differ : (sameName (bytes "a") (bytes "a") ≡ true)
     × (sameName (bytes "a") (bytes "ab") ≡ false)
     × (sameName (bytes "ab") (bytes "a") ≡ false)
-    × (sameName (bytes "ab") (bytes "aB") ≡ false)
+    × (sameName (bytes "A") (bytes "a") ≡ true)
+    × (sameName (bytes "a") (bytes "A") ≡ true)
+    × (sameName (bytes "Take-9") (bytes "tAKE-9") ≡ true)
+    × (sameName (bytes "A") (bytes "b") ≡ false)
+    × (sameName (bytes "@") (bytes "`") ≡ false)
+    × (sameName (bytes "[") (bytes "{") ≡ false)
 unfolding bytes sameName folded
-names-differ = (refl, refl, refl, refl)
+names-differ = (refl, refl, refl, refl, refl, refl, refl, refl, refl)
 
 -- ---- what texts say, and how sources are printed
 
--- S → a; S without rules; an empty right side; two of each kind, and names that differ in one bit
+-- S → a; S without rules; an empty right side; two of each kind, used in another case than they are declared in
 texts : (read "terminals=a\nnonterminals=S\nrule=S: a\n" ≡ done (source ("a" ∷ []) ("S" ∷ []) (rule 128 (1 ∷ []) ∷ [])))
     × (read "terminals=\nnonterminals=S\n" ≡ done (source [] ("S" ∷ []) []))
     × (read "terminals=\nnonterminals=S\nrule=S:\n" ≡ done (source [] ("S" ∷ []) (rule 128 [] ∷ [])))
-    × (read "terminals=a,A\nnonterminals=S,s\nrule=S: s A\nrule=s: a S\n"
-    ≡ done (source ("a" ∷ "A" ∷ []) ("S" ∷ "s" ∷ []) (rule 128 (129 ∷ 2 ∷ []) ∷ rule 129 (1 ∷ 128 ∷ []) ∷ [])))
+    × (read "terminals=a,B\nnonterminals=S,t\nrule=s: T b\nrule=t: A S\n"
+    ≡ done (source ("a" ∷ "B" ∷ []) ("S" ∷ "t" ∷ []) (rule 128 (129 ∷ 2 ∷ []) ∷ rule 129 (1 ∷ 128 ∷ []) ∷ [])))
 unfolding read
 texts = (refl, refl, refl, refl)
 
--- the same printed
+-- the same printed: each name as it is declared
 prints : (print (source ("a" ∷ []) ("S" ∷ []) (rule 128 (1 ∷ []) ∷ [])) ≡ bytes "terminals=a\nnonterminals=S\nrule=S: a\n")
     × (print (source [] ("S" ∷ []) []) ≡ bytes "terminals=\nnonterminals=S\n")
     × (print (source [] ("S" ∷ []) (rule 128 [] ∷ [])) ≡ bytes "terminals=\nnonterminals=S\nrule=S:\n")
-    × (print (source ("a" ∷ "A" ∷ []) ("S" ∷ "s" ∷ []) (rule 128 (129 ∷ 2 ∷ []) ∷ rule 129 (1 ∷ 128 ∷ []) ∷ []))
-    ≡ bytes "terminals=a,A\nnonterminals=S,s\nrule=S: s A\nrule=s: a S\n")
+    × (print (source ("a" ∷ "B" ∷ []) ("S" ∷ "t" ∷ []) (rule 128 (129 ∷ 2 ∷ []) ∷ rule 129 (1 ∷ 128 ∷ []) ∷ []))
+    ≡ bytes "terminals=a,B\nnonterminals=S,t\nrule=S: t B\nrule=t: a S\n")
 unfolding print
 prints = (refl, refl, refl, refl)
+
+-- a text in declared spelling: uses take it, the lines that declare stay, and so do keys and names that are not declared
+spells : (spell ("a" ∷ "B" ∷ "S" ∷ "t" ∷ []) "terminals=a,B\nnonterminals=S,t\nrule=s: T b\nrule=t: A S\n"
+    ≡ bytes "terminals=a,B\nnonterminals=S,t\nrule=S: t B\nrule=t: a S\n")
+    × (spell ("TAKE" ∷ "rule" ∷ []) "terminals=TAKE\nnonterminals=rule\nrule=RULE: take Take\nrule=rule:\n"
+    ≡ bytes "terminals=TAKE\nnonterminals=rule\nrule=rule: TAKE TAKE\nrule=rule:\n")
+    × (spell ("a" ∷ "S" ∷ []) "terminals=A\nnonterminals=s\nRule=s: A\nrule=s: B A\n"
+    ≡ bytes "terminals=A\nnonterminals=s\nRule=s: A\nrule=S: B a\n")
+unfolding spell
+spells = (refl, refl, refl)
 
 -- the names' starts and lengths; none for no terminals
 spans : (nameStarts (source ("a" ∷ "bc" ∷ []) ("S" ∷ "T" ∷ []) []) ≡ 10 ∷ 12 ∷ 28 ∷ 30 ∷ [])
@@ -167,7 +194,7 @@ cause-16-lines : (read "" ≡ refused 16 1)
 unfolding read
 cause-16-lines = (refl, refl, refl, refl, refl, refl, refl, refl, refl)
 
--- 16 at a line with another key, in another order, or without an equals sign
+-- 16 at a line with another key, in another order, or without an equals sign; keys are no names, so their case counts
 cause-16-keys : (read "terminal=a\nnonterminals=S\n" ≡ refused 16 1)
     × (read "nonterminals=S\nterminals=a\n" ≡ refused 16 1)
     × (read "terminals\nnonterminals=S\n" ≡ refused 16 1)
@@ -175,8 +202,11 @@ cause-16-keys : (read "terminal=a\nnonterminals=S\n" ≡ refused 16 1)
     × (read "terminals=a\nterminals=S\n" ≡ refused 16 2)
     × (read "terminals=a\nnonterminals=S\nrules=S: a\n" ≡ refused 16 3)
     × (read "terminals=a\nnonterminals=S\nterminals=b\n" ≡ refused 16 3)
+    × (read "Terminals=a\nnonterminals=S\n" ≡ refused 16 1)
+    × (read "terminals=a\nnonTerminals=S\n" ≡ refused 16 2)
+    × (read "terminals=a\nnonterminals=S\nRule=S: a\n" ≡ refused 16 3)
 unfolding read
-cause-16-keys = (refl, refl, refl, refl, refl, refl, refl)
+cause-16-keys = (refl, refl, refl, refl, refl, refl, refl, refl, refl, refl)
 
 -- 16 at a list with an empty or malformed name
 cause-16-names : (read "terminals=a,\nnonterminals=S\n" ≡ refused 16 1)
@@ -203,12 +233,15 @@ cause-16-rules : (read "terminals=a\nnonterminals=S\nrule=S\n" ≡ refused 16 3)
 unfolding read
 cause-16-rules = (refl, refl, refl, refl, refl, refl, refl, refl, refl)
 
--- 18 at the line that declares a name again
+-- 18 at the line that declares a name again, in whatever case
 cause-18 : (read "terminals=a,b,a\nnonterminals=S\n" ≡ refused 18 1)
     × (read "terminals=a\nnonterminals=S,S\n" ≡ refused 18 2)
     × (read "terminals=a,b\nnonterminals=S,b\n" ≡ refused 18 2)
+    × (read "terminals=a,A\nnonterminals=S\n" ≡ refused 18 1)
+    × (read "terminals=a\nnonterminals=S,s\n" ≡ refused 18 2)
+    × (read "terminals=a,Take\nnonterminals=S,tAKE\n" ≡ refused 18 2)
 unfolding read
-cause-18 = (refl, refl, refl)
+cause-18 = (refl, refl, refl, refl, refl, refl)
 
 -- 1 at the line with no nonterminal or with too many names
 cause-1 : (read "terminals=a\nnonterminals=\n" ≡ refused 1 2)
@@ -218,11 +251,11 @@ cause-1 : (read "terminals=a\nnonterminals=\n" ≡ refused 1 2)
 unfolding readSmall
 cause-1 = (refl, refl, refl, refl)
 
--- 17 at a rule with an unknown name, or a terminal's on the left; case counts
+-- 17 at a rule with an unknown name, or a terminal's on the left
 cause-17 : (read "terminals=a\nnonterminals=S\nrule=S: b\n" ≡ refused 17 3)
     × (read "terminals=a\nnonterminals=S\nrule=T: a\n" ≡ refused 17 3)
     × (read "terminals=a\nnonterminals=S\nrule=a: a\n" ≡ refused 17 3)
-    × (read "terminals=a\nnonterminals=S\nrule=S: A\n" ≡ refused 17 3)
+    × (read "terminals=a\nnonterminals=S\nrule=S: S-\n" ≡ refused 17 3)
     × (read "terminals=a\nnonterminals=S\nrule=S: a\nrule=S: aa\n" ≡ refused 17 4)
 unfolding read
 cause-17 = (refl, refl, refl, refl, refl)
@@ -251,19 +284,20 @@ reader-order : (read "terminals=a,a,_\nnonterminals=S\n" ≡ refused 16 1)
 unfolding readSmall
 reader-order = (refl, refl, refl, refl, refl, refl, refl)
 
--- 7, 6 and 8 at the rule's offset in the table, in this order, and after all lines
+-- 7, 6 and 8 at the rule's offset in the table, in this order, and after all lines; a rule in another case is the same rule
 rules-order : (check small "terminals=a\nnonterminals=S\nrule=S:\nrule=S:\n" ≡ refused 7 2)
     × (check roomy "terminals=a\nnonterminals=S\nrule=S: a\nrule=S: a\n" ≡ refused 6 3)
     × (check roomy "terminals=a\nnonterminals=S\nrule=S:\nrule=S: a\n" ≡ refused 8 2)
     × (check roomy "terminals=a\nnonterminals=S\nrule=S: a\n" ≡ done (source ("a" ∷ []) ("S" ∷ []) (rule 10 (1 ∷ []) ∷ [])))
     × (check byteLimits "terminals=a\nnonterminals=S\nrule=S: a\nrule=S:\nrule=S: a\n" ≡ refused 6 5)
     × (check byteLimits "terminals=a\nnonterminals=S\nrule=S: a\nrule=S: a\nrule=S: b\n" ≡ refused 17 5)
+    × (check byteLimits "terminals=a\nnonterminals=S\nrule=S: a\nrule=s: A\n" ≡ refused 6 3)
 unfolding check
-rules-order = (refl, refl, refl, refl, refl, refl)
+rules-order = (refl, refl, refl, refl, refl, refl, refl)
 
 -- 19 at 0 where S has no finite tree, after 8 and before 14; one whose only sentence is empty passes
 cause-19 : (check byteLimits "terminals=a\nnonterminals=S\n" ≡ refused 19 0)
-    × (check byteLimits "terminals=a\nnonterminals=S,A\nrule=S: a A\nrule=A: S\n" ≡ refused 19 0)
+    × (check byteLimits "terminals=a\nnonterminals=S,B\nrule=S: a B\nrule=B: S\n" ≡ refused 19 0)
     × (check roomy "terminals=a\nnonterminals=S\nrule=S: S\nrule=S: S\n" ≡ refused 6 3)
     × (into 0 0 0 "terminals=a\nnonterminals=S\nrule=S: S\n" ≡ refused 19 0)
     × (check byteLimits "terminals=\nnonterminals=S\nrule=S:\n" ≡ done (source [] ("S" ∷ []) (rule 128 [] ∷ [])))
@@ -306,11 +340,14 @@ writer-16 : (write 1 1 (128 ∷ 0 ∷ []) "aS" (0 ∷ []) (1 ∷ 1 ∷ []) 100 �
 unfolding write
 writer-16 = (refl, refl, refl, refl, refl)
 
--- 18 at the lowest symbol whose name an earlier one has
+-- 18 at the lowest symbol whose name an earlier one has, in whatever case; names are written as they are lent
 writer-18 : (write 2 2 (128 ∷ 0 ∷ []) "ab" (0 ∷ 1 ∷ 0 ∷ 1 ∷ []) (1 ∷ 1 ∷ 1 ∷ 1 ∷ []) 100 ≡ refused 18 2)
     × (write 1 2 (128 ∷ 0 ∷ []) "ab" (1 ∷ 0 ∷ 0 ∷ []) (1 ∷ 1 ∷ 1 ∷ []) 100 ≡ refused 18 2)
+    × (write 1 1 (128 ∷ 0 ∷ []) "sS" (0 ∷ 1 ∷ []) (1 ∷ 1 ∷ []) 100 ≡ refused 18 1)
+    × (write 1 1 (128 ∷ 1 ∷ 1 ∷ []) "TAKEs" (0 ∷ 4 ∷ []) (4 ∷ 1 ∷ []) 100
+    ≡ done (bytes "terminals=TAKE\nnonterminals=s\nrule=s: TAKE\n"))
 unfolding write
-writer-18 = (refl, refl)
+writer-18 = (refl, refl, refl, refl)
 
 -- table faults before 16 before 18 before 14
 writer-order : (write 1 0 [] "" [] [] 0 ≡ refused 1 0)
@@ -337,8 +374,9 @@ told-refusals : (toldLength 1 0 [] "" [] [] ≡ Refused 1 0)
     × (toldLength 1 1 (128 ∷ 0 ∷ []) "aS" (0 ∷ 1 ∷ []) (1 ∷ []) ≡ Refused 16 1)
     × (toldLength 2 1 (128 ∷ 0 ∷ []) "a_" (0 ∷ 0 ∷ 1 ∷ []) (1 ∷ 1 ∷ 1 ∷ []) ≡ Refused 16 2)
     × (toldLength 1 1 (128 ∷ 0 ∷ []) "a" (0 ∷ 0 ∷ []) (1 ∷ 1 ∷ []) ≡ Refused 18 1)
+    × (toldLength 1 1 (128 ∷ 0 ∷ []) "aA" (0 ∷ 1 ∷ []) (1 ∷ 1 ∷ []) ≡ Refused 18 1)
 unfolding toldLength
-told-refusals = (refl, refl, refl, refl, refl, refl)
+told-refusals = (refl, refl, refl, refl, refl, refl, refl)
 
 -- ---- the limits in force
 

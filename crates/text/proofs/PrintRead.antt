@@ -1,4 +1,4 @@
--- Text read and printed again is the same text, and what a successful read says of its source.
+-- Text read and printed again is the text in declared spelling, and what a successful read says of its source.
 -- Over any limits that keep terminals below the first nonterminal.
 -- Assumes nothing.
 use Prim.Native.Nat.{ℕ, suc, _+_, _≤_, _<_}
@@ -17,13 +17,14 @@ use Rattle.grammar.specs.Refusal.{Answer, done}
 use Rattle.grammar.proofs.Answers.{and-both, no-answer, done-inj, unless-done, then-done}
 use Rattle.text.specs.Pieces.{splitOn, ledBy, join, endedBy}
 use Rattle.text.specs.Names.{all, isName, hasDouble}
-use Rattle.text.specs.Keys.{key, valueOf}
-use Rattle.text.specs.Read.{Source, symbolNames, refuseNone, namesOf, declaration, Sides, bodyOf, sidesOf, numberOf}
+use Rattle.text.specs.Keys.{keyTable, keyLengths, key, valueOf}
+use Rattle.text.specs.Read.{Source, symbolNames, refuseNone, namesOf, declaration, Sides, sidesOf, numberOf}
 use Rattle.text.specs.Read.{isKnown, codeOf, ruleOf, ruleLine, ruleLines, wholeLine, readLines, readText}
+use Rattle.text.specs.Spelling.{spelling, spelledSides, orLine, valueSides, spelledLine, spelledLines, spelledText}
 use Rattle.text.specs.Print.{printLine, nameOf, printRule, printed}
 use Rattle.text.proofs.Pieces.{join-split, all-head, all-tail, all-append}
-use Rattle.text.proofs.Names.{no-value, some-inj, within-both, known-number, code-left, code-right, known-name}
-use Rattle.text.proofs.Names.{value-key}
+use Rattle.text.proofs.Names.{within-both, known-number, code-left, code-right, known-name, value-key}
+use Rattle.text.proofs.Case.{text-length}
 use Rattle.text.proofs.WellNamed.{RuleFits, WellNamedSource, mem-each, mem-none}
 
 -- ---- what a result says of its parts
@@ -81,23 +82,9 @@ declared at k lo hi earlier line names h =
 
 -- ---- a rule's line
 
-sides-body : (l : List ℕ) (ps : List (List ℕ)) (s : Sides) → bodyOf l ps ≡ some s
-    → (s .head ≡ l) × (ledBy 32 (s .body) ≡ join 32 ps)
-unfolding bodyOf join
-sides-body l [] s h = no-value h
-sides-body l ([] ∷ names) s h =
-    let e : _≡_ {A = Sides} (record { head = l; body = names }) s = some-inj h in
-    (ap (λ x. x .head) (sym e), ap (λ x. ledBy 32 (x .body)) (sym e))
-sides-body l ((b ∷ p) ∷ names) s h = no-value h
-
-sides-whole : (ps : List (List ℕ)) (s : Sides) → sidesOf ps ≡ some s → join 58 ps ≡ s .head ++ 58 ∷ ledBy 32 (s .body)
-unfolding sidesOf join ledBy
-sides-whole [] s h = no-value h
-sides-whole (l ∷ []) s h = no-value h
-sides-whole (l ∷ r ∷ []) s h =
-    let b = sides-body l (splitOn 32 r) s h in
-    rw (append-nil, b .0, b .1, join-split 32 r)
-sides-whole (l ∷ r ∷ q ∷ qs) s h = no-value h
+line-none : (names : List (List ℕ)) → spelledLine names [] ≡ []
+unfolding spelledLine valueOf key keyTable keyLengths
+line-none names = refl
 
 empty-list : (p : List ℕ) → length p ≡ 0 → p ≡ []
 empty-list [] h = refl
@@ -139,27 +126,27 @@ module _ (L : Limits) where
 
   -- what the rules' lines say
   pub record RulesRead (t n : ℕ) (names ps : List (List ℕ)) (rs : List Rule) : Type 0 where
-    pub spelled : join 10 ps ≡ endedBy 10 (map (printRule L t names) rs)
+    pub spelled : join 10 (map (spelledLine names) ps) ≡ endedBy 10 (map (printRule L t names) rs)
     pub fit : (r : Rule) → Mem r rs → RuleFits L t n r
 
   module _ (t : ℕ) (apart : t < start L) (names : List (List ℕ)) where
     names-back : (xs : List (List ℕ)) → all (isKnown 0 names) xs ≡ true
-        → map (nameOf L t names) (map (λ x. codeOf L t (numberOf names x)) xs) ≡ xs
+        → map (nameOf L t names) (map (λ x. codeOf L t (numberOf names x)) xs) ≡ map (spelling names) xs
     names-back [] e = refl
     names-back (x ∷ xs) e =
         ap₂ (λ w ws. w ∷ ws) (known-name L t 0 names x apart (all-head (isKnown 0 names) x xs e))
         (names-back xs (all-tail (isKnown 0 names) x xs e))
 
     rule-print : (s : Sides) → isKnown t names (s .head) ≡ true → all (isKnown 0 names) (s .body) ≡ true
-        → printRule L t names (ruleOf L t names s) ≡ key 2 ++ 61 ∷ (s .head ++ 58 ∷ ledBy 32 (s .body))
+        → printRule L t names (ruleOf L t names s) ≡ spelledSides names s
     unfolding printRule ruleOf printLine
     rule-print s h b = rw (known-name L t t names (s .head) apart h, names-back (s .body) b)
 
-    -- a rule's line is the printed rule
-    pub rule-spelled : (line : List ℕ) (r : Rule) → RuleRead t names line r → line ≡ printRule L t names r
+    -- a rule's line, its names as they are declared, is the printed rule
+    pub rule-spelled : (line : List ℕ) (r : Rule) → RuleRead t names line r → spelledLine names line ≡ printRule L t names r
+    unfolding spelledLine
     rule-spelled line r d =
-        value-key (key 2) line (d .v) (d .value)
-        ∙ ap (λ w. key 2 ++ 61 ∷ w) (sym (join-split 58 (d .v)) ∙ sides-whole (splitOn 58 (d .v)) (d .s) (d .sides))
+        ap (λ (o : Option (List ℕ)). orLine line names (valueSides o)) (d .value) ∙ ap (orLine line names) (d .sides)
         ∙ sym (rule-print (d .s) (d .head-known) (d .body-known)) ∙ ap (printRule L t names) (d .made)
 
     codes-fit : (n : ℕ) → length names ≡ t + n → (xs : List (List ℕ)) → all (isKnown 0 names) xs ≡ true
@@ -198,7 +185,11 @@ module _ (L : Limits) where
     rules-read n e at (p ∷ []) rs d =
         let u = unless-done _ _ _ _ _ d in
         let q : p ≡ [] = empty-list p (eqb-true (length p) 0 (u .0)) in
-        subst (RulesRead t n names (p ∷ [])) (done-inj (u .1)) (record { spelled = append-nil p ∙ q; fit = λ r m. mem-none m })
+        subst (RulesRead t n names (p ∷ [])) (done-inj (u .1))
+        (record {
+          spelled = append-nil (spelledLine names p) ∙ ap (spelledLine names) q ∙ line-none names;
+          fit = λ r m. mem-none m;
+        })
     rules-read n e at (p ∷ q ∷ qs) rs d =
         let a = then-done _ _ _ d in
         let b = then-done _ _ _ (a .2) in
@@ -207,7 +198,7 @@ module _ (L : Limits) where
         let y = rules-read n e (suc at) (q ∷ qs) (b .0) (b .1) in
         subst (RulesRead t n names (p ∷ q ∷ qs)) (done-inj (b .2))
         (record {
-          spelled = ap (λ w. w ++ 10 ∷ join 10 (q ∷ qs)) (rule-spelled p r x)
+          spelled = ap (λ w. w ++ 10 ∷ join 10 (map (spelledLine names) (q ∷ qs))) (rule-spelled p r x)
               ∙ ap (λ w. printRule L t names r ++ 10 ∷ w) (y .spelled);
           fit = mem-each (RuleFits L t n) r (b .0) (rule-fits n e p r x) (y .fit);
         })
@@ -252,20 +243,38 @@ module _ (L : Limits) (apart : L .maxTerminals < L .nonterminalBase) where
       rules-read L (length (s .terminals)) (omega arith) (symbolNames s) (length (s .nonterminals))
       (length-append (s .terminals) (s .nonterminals)) 3 (d .third ∷ d .rest) (s .rules) (d .rs)
 
-  lines-spelled : (ps : List (List ℕ)) (s : Source) → LinesRead L ps s → join 10 ps ≡ printed L s
-  unfolding printed endedBy join ledBy
+  lines-spelled : (ps : List (List ℕ)) (s : Source) → LinesRead L ps s → join 10 (spelledLines (symbolNames s) ps) ≡ printed L s
+  unfolding printed endedBy join ledBy spelledLines
   lines-spelled ps s d =
-      ap (join 10) (d .at)
-      ∙ ap₂ (λ p q. p ++ 10 ∷ (q ++ 10 ∷ join 10 (d .third ∷ d .rest))) (d .ts .spelled) (d .ns .spelled)
+      ap (λ qs. join 10 (spelledLines (symbolNames s) qs)) (d .at)
+      ∙ ap₂ (λ p q. p ++ 10 ∷ (q ++ 10 ∷ join 10 (map (spelledLine (symbolNames s)) (d .third ∷ d .rest))))
+      (d .ts .spelled) (d .ns .spelled)
       ∙ ap (λ w. printLine 0 (join 44 (s .terminals)) ++ 10 ∷ (printLine 1 (join 44 (s .nonterminals)) ++ 10 ∷ w))
       (lines-rules ps s d .spelled)
 
-  -- text read and printed again is the same text
-  pub print-read : (text : List ℕ) (s : Source) → readText L text ≡ done s → printed L s ≡ text
-  unfolding readText
+  -- text read and printed again is the text with each use in its declared spelling
+  pub print-read : (text : List ℕ) (s : Source) → readText L text ≡ done s → printed L s ≡ spelledText (symbolNames s) text
+  unfolding readText spelledText
   print-read text s d =
       let r = unless-done _ _ _ _ _ d in
-      sym (lines-spelled (splitOn 10 text) s (lines-read L (splitOn 10 text) s (r .1))) ∙ join-split 10 text
+      sym (lines-spelled (splitOn 10 text) s (lines-read L (splitOn 10 text) s (r .1)))
+
+  -- and so as long as the text
+  pub read-length : (text : List ℕ) (s : Source) → readText L text ≡ done s → length (printed L s) ≡ length text
+  read-length text s d = ap length (print-read text s d) ∙ text-length (symbolNames s) text
+
+  -- its two declaring lines stand in front
+  pub read-front : (text : List ℕ) (s : Source) → readText L text ≡ done s
+      → (rest : List ℕ)
+      × (text ≡ printLine 0 (join 44 (s .terminals)) ++ 10 ∷ (printLine 1 (join 44 (s .nonterminals)) ++ 10 ∷ rest))
+  unfolding readText join ledBy
+  read-front text s d =
+      let r = unless-done _ _ _ _ _ d in
+      let l = lines-read L (splitOn 10 text) s (r .1) in (
+        join 10 (l .third ∷ l .rest),
+        sym (join-split 10 text) ∙ ap (join 10) (l .at)
+            ∙ ap₂ (λ p q. p ++ 10 ∷ (q ++ 10 ∷ join 10 (l .third ∷ l .rest))) (l .ts .spelled) (l .ns .spelled),
+      )
 
   -- a source that was read is well named, its rules fit, and its text is not too long
   pub read-well : (text : List ℕ) (s : Source) → readText L text ≡ done s → WellNamedSource L s
@@ -273,7 +282,6 @@ module _ (L : Limits) (apart : L .maxTerminals < L .nonterminalBase) where
   read-well text s d =
       let r = unless-done _ _ _ _ _ d in
       let l = lines-read L (splitOn 10 text) s (r .1) in
-      let p : printed L s ≡ text = print-read text s d in
       record {
         named = all-append isName (s .terminals) (s .nonterminals) (l .ts .named) (l .ns .named);
         once = l .ns .once;
@@ -281,5 +289,5 @@ module _ (L : Limits) (apart : L .maxTerminals < L .nonterminalBase) where
         nonterminals-least = l .ns .least;
         nonterminals-most = l .ns .most;
         fit = lines-rules (splitOn 10 text) s l .fit;
-        short = subst (λ w. length w ≤ L .maxText) (sym p) (leb-true (length text) (L .maxText) (r .0));
+        short = subst (λ n. n ≤ L .maxText) (sym (read-length text s d)) (leb-true (length text) (L .maxText) (r .0));
       }

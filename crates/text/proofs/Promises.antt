@@ -14,6 +14,7 @@ use Rattle.grammar.specs.Refusal.{Answer, done, refused}
 use Rattle.grammar.proofs.Rules.{decode-encode}
 use Rattle.text.specs.Read.{Source, symbolNames}
 use Rattle.text.specs.Rules.{checkText, readInto}
+use Rattle.text.specs.Spelling.{spelledText}
 use Rattle.text.specs.Print.{gather, writeInto}
 use Rattle.text.specs.Promise.{nameStarts, nameLengths, textRead, textWritten, textLength, afterwards, ReadsText, WritesText, SameAgain}
 use Rattle.text.specs.declared.TextRead.{TextRead}
@@ -21,6 +22,7 @@ use Rattle.text.specs.declared.TextRead.the-variants.{Read, Refused}
 use Rattle.text.specs.declared.TextLength.the-variants.{Bytes, Refused as LengthRefused}
 use Rattle.text.specs.declared.TextWritten.{TextWritten}
 use Rattle.text.specs.declared.TextWritten.the-variants.{Written}
+use Rattle.text.proofs.Case.{text-length}
 use Rattle.text.proofs.Spans.{length-lengths, length-name-starts}
 use Rattle.text.proofs.Admit.{text-checked}
 use Rattle.text.proofs.Gather.{gather-front, gather-read}
@@ -81,11 +83,12 @@ module _ (text table starts lengths : List ℕ) (r : TextRead) (table′ starts�
   lengths-front : lengths′ ≡ nameLengths (symbolNames s) ++ drop (length (nameLengths (symbolNames s))) lengths
   lengths-front = after-done _ (λ s. nameLengths (symbolNames s)) lengths lengths′ s e (p .lengths-after)
 
--- text read and written again with the rows that the reader left is the same text
+-- text read and written again with the rows that the reader left is the text with each use in its declared spelling
 pub read-write : (text table starts lengths table′ starts′ lengths′ : List ℕ) (t n e q : ℕ) (out out′ : List ℕ) (r : TextWritten)
     → ReadsText text table starts lengths (Read t n e q) table′ starts′ lengths′
     → WritesText t n (take e table′) text starts′ lengths′ out r out′ → length text ≤ length out
-    → (r ≡ Written (length text)) × (out′ ≡ over text out)
+    → (s : Source) × (readInto limits (length table) (length starts) (length lengths) text ≡ done s)
+    × (r ≡ Written (length text)) × (out′ ≡ over (spelledText (symbolNames s) text) out)
 read-write text table starts lengths table′ starts′ lengths′ t n e q out out′ r p w h =
     let a = read-as _ t n e q (p .answer) in
     let s = a .source in
@@ -108,12 +111,16 @@ read-write text table starts lengths table′ starts′ lengths′ t n e q out o
     let same : writeInto limits t n (take e table′) text starts′ lengths′ room
     ≡ writeInto limits k l (encode (s .rules)) text (xs ++ xs′) (ys ++ ys′) room
     = λ d. writeInto limits (sym i d) (sym j d) (x d) text (y d) (z d) room in
-    let o : writeInto limits t n (take e table′) text starts′ lengths′ room ≡ done text
+    let o : writeInto limits t n (take e table′) text starts′ lengths′ room ≡ done (spelledText (symbolNames s) text)
     = same
     ∙ write-front limits k l (encode (s .rules)) text xs ys xs′ ys′ room (omega (arith, length-name-starts s))
     (omega (arith, length-lengths (symbolNames s)))
-    ∙ limits-read-then-write (length table) (length starts) (length lengths) text s room (a .whole) h in
-    (w .answer ∙ ap textWritten o, w .out-after ∙ ap (λ o. afterwards o (λ text. text) out) o)
+    ∙ limits-read-then-write (length table) (length starts) (length lengths) text s room (a .whole) h in (
+      s,
+      a .whole,
+      w .answer ∙ ap textWritten o ∙ ap (λ (k : ℕ). Written k) (text-length (symbolNames s) text),
+      w .out-after ∙ ap (λ o. afterwards o (λ text. text) out) o,
+    )
 
 -- what was written stands at the output's front
 written-front : (t n : ℕ) (table bytes starts lengths out : List ℕ) (m : ℕ) (out′ : List ℕ) → WritesText t n table bytes starts lengths out (Written m) out′

@@ -1,11 +1,11 @@
--- A well-named source, printed and read, is the same source; so reading and printing are inverse on exactly these.
+-- A well-named source, printed and read, is the same source; so a text in declared spelling says what the text said.
 -- Over any limits that keep terminals below the first nonterminal.
 -- Assumes nothing.
 use Prim.Native.Nat.{ℕ, zero, suc, _+_, _≤_, _<_}
 use mathlib.Core.Path.{_≡_, refl, ap, ap₂, sym, _∙_}
 use mathlib.Core.List.{List, [], _∷_, _++_, map}
 use mathlib.Core.Bool.{true, false}
-use mathlib.Core.Logic.{_⊎_, _↔_}
+use mathlib.Core.Logic.{_⊎_}
 use mathlib.Core.Option.{some}
 use native.Mathlib.Omega.{arith}
 use borrow.Author.Tests.{le-leb}
@@ -17,8 +17,9 @@ use Rattle.grammar.specs.Refusal.{Answer, done, refuseUnless, andThen}
 use Rattle.text.specs.Pieces.{splitOn, ledBy, join, endedBy}
 use Rattle.text.specs.Names.{all, isName, hasDouble}
 use Rattle.text.specs.Keys.{keyTable, keyLengths, key}
-use Rattle.text.specs.Read.{Source, refuseNone, namesOf, declaration, bodyOf, sidesOf, numberOf, isKnown, codeOf}
-use Rattle.text.specs.Read.{symbolOf, ruleOf, ruleLine, ruleLines, wholeLine, readLines, readText}
+use Rattle.text.specs.Read.{Source, symbolNames, refuseNone, namesOf, declaration, bodyOf, sidesOf, numberOf}
+use Rattle.text.specs.Read.{isKnown, codeOf, symbolOf, ruleOf, ruleLine, ruleLines, wholeLine, readLines, readText}
+use Rattle.text.specs.Spelling.{spelledText}
 use Rattle.text.specs.Print.{printLine, nameOf, printRule, printed}
 use Rattle.text.proofs.Pieces.{other, split-piece, split-free, split-join, split-ended, led-free, join-free, all-none}
 use Rattle.text.proofs.Pieces.{all-head, all-cons, all-append, all-front, all-back, all-at}
@@ -213,3 +214,8 @@ module _ (L : Limits) (apart : L .maxTerminals < L .nonterminalBase) where
         declared-again 2 1 1 (L .maxNonterminals) ts ns gn (w .once) (w .nonterminals-least) (w .nonterminals-most),
         rules-again L t (length ns) a (ts ++ ns) size (w .named) (w .once) 3 (s .rules) (w .fit),
       )
+
+  -- in declared spelling a text says what it said
+  pub read-again : (text : List ℕ) (s : Source) → readText L text ≡ done s
+      → readText L (spelledText (symbolNames s) text) ≡ done s
+  read-again text s e = ap (readText L) (sym (print-read L apart text s e)) ∙ read-print s (read-well L apart text s e)

@@ -1,5 +1,6 @@
--- The round trips of the reader and the writer: text read and written again with the reader's names is the same text; tables and
--- names written and read again are the same table and names. What is written is never longer than the reader takes.
+-- The round trips of the reader and the writer: text read and written again with the reader's names is the text with each use in
+-- its declared spelling; tables and names written and read again are the same table and names. What is written is never longer
+-- than the reader takes.
 -- Assumes nothing.
 use Prim.Native.Nat.{ℕ, _+_, _*_, _≤_, _<_}
 use mathlib.Core.Path.{_≡_, ap, sym, subst, subst₂, _∙_}
@@ -22,10 +23,11 @@ use Rattle.grammar.proofs.Sentence.{passed-stored, takes-all, takes-only}
 use Rattle.text.specs.Names.{all, isName, hasDouble}
 use Rattle.text.specs.Read.{Source, symbolNames, readText}
 use Rattle.text.specs.Rules.{checkText, readInto}
+use Rattle.text.specs.Spelling.{spelledText}
 use Rattle.text.specs.Print.{printed, gather, firstDouble, textFrom, writeInto}
 use Rattle.text.specs.Promise.{nameStarts, nameLengths}
 use Rattle.text.proofs.WellNamed.{RuleFits, WellNamedSource}
-use Rattle.text.proofs.PrintRead.{print-read}
+use Rattle.text.proofs.PrintRead.{print-read, read-length}
 use Rattle.text.proofs.ReadPrinted.{read-print}
 use Rattle.text.proofs.Admit.{text-checked, checked-text}
 use Rattle.text.proofs.Gather.{gather-front, gathered, gather-read, first-double}
@@ -155,20 +157,20 @@ module _ (L : Limits) where
       x .1 ∙ unless-done _ _ _ _ _ (x .2) .1
 
 module _ (L : Limits) (apart : L .maxTerminals < L .nonterminalBase) where
-  -- text read and written again with the reader's names, lent enough, is the same text
+  -- text read and written again with the reader's names, lent enough, is the text with each use in its declared spelling
   pub read-then-write : (e a b : ℕ) (text : List ℕ) (s : Source) (room : ℕ) → readInto L e a b text ≡ done s
       → length text ≤ room
       → writeInto L (length (s .terminals)) (length (s .nonterminals)) (encode (s .rules)) text (nameStarts s)
-      (nameLengths (symbolNames s)) room ≡ done text
+      (nameLengths (symbolNames s)) room ≡ done (spelledText (symbolNames s) text)
   read-then-write e a b text s room h k =
       let c = text-checked L apart text s (into-checked L e a b text s h) in
       let t = length (s .terminals) in
       let n = length (s .nonterminals) in
-      let p : printed L (sourceOf t (symbolNames s) (s .rules)) ≡ text
+      let p : printed L (sourceOf t (symbolNames s) (s .rules)) ≡ spelledText (symbolNames s) text
       = ap (printed L) (source-again s) ∙ print-read L apart text s (c .read) in
       writes L t n (encode (s .rules)) text (nameStarts s) (nameLengths (symbolNames s)) room (grammarOf t n (s .rules))
       (symbolNames s) (c .table) (gather-read L apart text s (c .read)) (c .well .once)
-      (subst (λ w. length w ≤ room) (sym p) k)
+      (subst (λ n. n ≤ room) (sym (ap length (ap (printed L) (source-again s)) ∙ read-length L apart text s (c .read))) k)
       ∙ ap done p
 
 -- t, n, as many names, and the well-formed grammar of a table that passes
@@ -282,11 +284,11 @@ pub limits-short : (t n : ℕ) (table bytes starts lengths : List ℕ) (room : �
     → writeInto limits t n table bytes starts lengths room ≡ done text → length text ≤ limits .maxText
 limits-short = write-short limits room wide
 
--- text read and written again is the same text
+-- text read and written again is the text in declared spelling
 pub limits-read-then-write : (e a b : ℕ) (text : List ℕ) (s : Source) (room : ℕ) → readInto limits e a b text ≡ done s
     → length text ≤ room
     → writeInto limits (length (s .terminals)) (length (s .nonterminals)) (encode (s .rules)) text (nameStarts s)
-    (nameLengths (symbolNames s)) room ≡ done text
+    (nameLengths (symbolNames s)) room ≡ done (spelledText (symbolNames s) text)
 limits-read-then-write = read-then-write limits apart
 
 -- a table and names written and read again are the same table and names

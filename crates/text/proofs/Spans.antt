@@ -1,20 +1,20 @@
 -- The names stand in the text where their starts and lengths say. Assumes nothing.
 use Prim.Native.Nat.{ℕ, zero, suc, _+_, _≤_, _<_}
 use mathlib.Core.Path.{_≡_, refl, ap, ap₂, sym, subst, _∙_}
-use mathlib.Core.List.{List, [], _∷_, _++_, append-assoc, append-nil, map}
+use mathlib.Core.List.{List, [], _∷_, _++_, append-assoc, append-nil}
 use native.Mathlib.Omega.{arith}
 use native.Mathlib.Nat.{add-assoc}
 use lib.ListN.{length, take, drop, getD, length-append, length-drop}
 use lib.Seq.{take-append-seam, drop-append-add, drop-drop}
 use Rattle.grammar.specs.Limits.{Limits}
 use Rattle.grammar.specs.Refusal.{done}
-use Rattle.text.specs.Pieces.{ledBy, join, endedBy}
+use Rattle.text.specs.Pieces.{ledBy, join}
 use Rattle.text.specs.Keys.{key}
 use Rattle.text.specs.Read.{Source, symbolNames, readText}
-use Rattle.text.specs.Print.{printLine, printRule, printed}
+use Rattle.text.specs.Print.{printLine}
 use Rattle.text.specs.Promise.{startsFrom, nameStarts, nameLengths}
 use Rattle.text.specs.Spelled.{spelled, Inside}
-use Rattle.text.proofs.PrintRead.{print-read}
+use Rattle.text.proofs.PrintRead.{read-front}
 
 -- there are as many as starts
 pub length-spelled : (text starts lengths : List ℕ) → length starts ≡ length lengths → length (spelled text starts lengths) ≡ length starts
@@ -122,22 +122,23 @@ line-value : (k : ℕ) (v post : List ℕ) → drop (length (key k) + 1) (printL
 unfolding printLine
 line-value k v post = rw (append-assoc, drop-append-add (key k))
 
-module _ (L : Limits) (s : Source) where
+-- in a text that begins with the two declaring lines of a source
+module _ (s : Source) (text rest : List ℕ)
+    (front : text ≡ printLine 0 (join 44 (s .terminals)) ++ 10 ∷ (printLine 1 (join 44 (s .nonterminals)) ++ 10 ∷ rest)) where
   record Lines : Type 0 where
     first : List ℕ
     second : List ℕ
-    at-first : drop (length (key 0) + 1) (printed L s) ≡ join 44 (s .terminals) ++ first
-    at-second : drop (length (printLine 0 (join 44 (s .terminals))) + 1 + (length (key 1) + 1)) (printed L s)
+    at-first : drop (length (key 0) + 1) text ≡ join 44 (s .terminals) ++ first
+    at-second : drop (length (printLine 0 (join 44 (s .terminals))) + 1 + (length (key 1) + 1)) text
         ≡ join 44 (s .nonterminals) ++ second
-    room-first : length (key 0) + 1 ≤ length (printed L s)
-    room-second : length (printLine 0 (join 44 (s .terminals))) + 1 + (length (key 1) + 1) ≤ length (printed L s)
+    room-first : length (key 0) + 1 ≤ length text
+    room-second : length (printLine 0 (join 44 (s .terminals))) + 1 + (length (key 1) + 1) ≤ length text
 
   lines : Lines
-  unfolding printed endedBy
   lines =
       let v = join 44 (s .terminals) in
       let w = join 44 (s .nonterminals) in
-      let more : List ℕ = 10 ∷ endedBy 10 (map (printRule L (length (s .terminals)) (symbolNames s)) (s .rules)) in
+      let more : List ℕ = 10 ∷ rest in
       let a = printLine 0 v in
       let b = printLine 1 w in
       let k : length a ≡ length (key 0) + suc (length v) = unfold printLine in length-append (key 0) (61 ∷ v) in
@@ -145,50 +146,48 @@ module _ (L : Limits) (s : Source) where
       record {
         first = 10 ∷ (b ++ more);
         second = more;
-        at-first = line-value 0 v (10 ∷ (b ++ more));
-        at-second = sym (drop-drop (length (key 1) + 1) (length a + 1) (a ++ 10 ∷ (b ++ more)))
+        at-first = ap (drop (length (key 0) + 1)) front ∙ line-value 0 v (10 ∷ (b ++ more));
+        at-second = ap (drop (length a + 1 + (length (key 1) + 1))) front
+            ∙ sym (drop-drop (length (key 1) + 1) (length a + 1) (a ++ 10 ∷ (b ++ more)))
             ∙ ap (drop (length (key 1) + 1)) (drop-append-add a (10 ∷ (b ++ more)) 1) ∙ line-value 1 w more;
-        room-first = omega (arith, length-append a (10 ∷ (b ++ more)));
-        room-second = omega (arith, length-append a (10 ∷ (b ++ more)), length-append b more);
+        room-first = omega (arith, ap length front, length-append a (10 ∷ (b ++ more)));
+        room-second = omega (arith, ap length front, length-append a (10 ∷ (b ++ more)), length-append b more);
       }
 
-  -- in a printed text the names stand where the spans say
-  pub printed-spelled : spelled (printed L s) (nameStarts s) (nameLengths (symbolNames s)) ≡ symbolNames s
+  -- the names stand where the spans say
+  front-spelled : spelled text (nameStarts s) (nameLengths (symbolNames s)) ≡ symbolNames s
   unfolding nameStarts
-  printed-spelled =
+  front-spelled =
       let ts = s .terminals in
       let ns = s .nonterminals in
       let a = length (key 0) + 1 in
       let b = length (printLine 0 (join 44 ts)) + 1 + (length (key 1) + 1) in
-      ap (spelled (printed L s) (startsFrom a ts ++ startsFrom b ns)) (lengths-append ts ns)
-      ∙ spelled-append (printed L s) (startsFrom a ts) (startsFrom b ns) (nameLengths ts) (nameLengths ns)
+      ap (spelled text (startsFrom a ts ++ startsFrom b ns)) (lengths-append ts ns)
+      ∙ spelled-append text (startsFrom a ts) (startsFrom b ns) (nameLengths ts) (nameLengths ns)
       (length-starts a ts ∙ sym (length-lengths ts))
-      ∙ ap₂ (λ xs ys. xs ++ ys) (spans-spell (printed L s) a ts (lines .first) (lines .at-first))
-      (spans-spell (printed L s) b ns (lines .second) (lines .at-second))
+      ∙ ap₂ (λ xs ys. xs ++ ys) (spans-spell text a ts (lines .first) (lines .at-first))
+      (spans-spell text b ns (lines .second) (lines .at-second))
 
   -- and lie in it
-  pub printed-inside : Inside (printed L s) (nameStarts s) (nameLengths (symbolNames s))
+  front-inside : Inside text (nameStarts s) (nameLengths (symbolNames s))
   unfolding nameStarts
-  printed-inside =
+  front-inside =
       let ts = s .terminals in
       let ns = s .nonterminals in
       let a = length (key 0) + 1 in
       let b = length (printLine 0 (join 44 ts)) + 1 + (length (key 1) + 1) in
-      subst (Inside (printed L s) (startsFrom a ts ++ startsFrom b ns)) (sym (lengths-append ts ns))
-      (inside-append (printed L s) (startsFrom a ts) (startsFrom b ns) (nameLengths ts) (nameLengths ns)
+      subst (Inside text (startsFrom a ts ++ startsFrom b ns)) (sym (lengths-append ts ns))
+      (inside-append text (startsFrom a ts) (startsFrom b ns) (nameLengths ts) (nameLengths ns)
       (length-starts a ts ∙ sym (length-lengths ts))
-      (spans-inside (printed L s) a ts (lines .first) (lines .room-first) (lines .at-first))
-      (spans-inside (printed L s) b ns (lines .second) (lines .room-second) (lines .at-second)))
+      (spans-inside text a ts (lines .first) (lines .room-first) (lines .at-first))
+      (spans-inside text b ns (lines .second) (lines .room-second) (lines .at-second)))
 
 module _ (L : Limits) (apart : L .maxTerminals < L .nonterminalBase) (text : List ℕ) (s : Source)
     (e : readText L text ≡ done s) where
   -- in a text that was read the names stand where the spans say
   pub read-spelled : spelled text (nameStarts s) (nameLengths (symbolNames s)) ≡ symbolNames s
-  read-spelled =
-      subst (λ w. spelled w (nameStarts s) (nameLengths (symbolNames s)) ≡ symbolNames s) (print-read L apart text s e)
-      (printed-spelled L s)
+  read-spelled = let f = read-front L apart text s e in front-spelled s text (f .0) (f .1)
 
   -- and lie in it
   pub read-inside : Inside text (nameStarts s) (nameLengths (symbolNames s))
-  read-inside = subst (λ w. Inside w (nameStarts s) (nameLengths (symbolNames s))) (print-read L apart text s e)
-      (printed-inside L s)
+  read-inside = let f = read-front L apart text s e in front-inside s text (f .0) (f .1)

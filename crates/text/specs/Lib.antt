@@ -3,6 +3,7 @@ pub mod Names
 pub mod Numbers
 pub mod Keys
 pub mod Read
+pub mod Spelling
 pub mod Rules
 pub mod Print
 pub mod Spelled

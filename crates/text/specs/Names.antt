@@ -1,7 +1,8 @@
 -- Names: which are well formed, which are the same, which are declared twice.
--- Source: document 01, "Grammar text". Names are compared byte for byte; `folded` is the one place that says so.
+-- Source: document 01, "Grammar text"; document 02, [9]: names that differ only in the case of ASCII letters are the same.
+-- `folded` is the one place that says so.
 -- Assumes nothing.
-use Prim.Native.Nat.{ℕ, suc}
+use Prim.Native.Nat.{ℕ, suc, _+_}
 use mathlib.Core.Bool.{Bool, true, false, _&&_, _||_}
 use mathlib.Core.List.{List, [], _∷_}
 use lib.Dec.{eqb, leb}
@@ -29,9 +30,9 @@ any test (x ∷ xs) = test x || any test xs
 unfoldable pub isName : List ℕ → Bool
 isName s = within 1 15 (length s) && all isNameByte s
 
--- what of a byte counts where names are compared: all of it, a and A are two names
+-- what of a byte counts where names are compared: a capital letter counts as the small one
 unfoldable pub folded : ℕ → ℕ
-folded b = b
+folded b = choose (within 65 90 b) (b + 32) b
 
 -- two names are the same name
 unfoldable pub sameName : List ℕ → List ℕ → Bool

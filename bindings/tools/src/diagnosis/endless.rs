@@ -3,7 +3,7 @@
 use std::collections::HashSet;
 
 use super::{declared, rule_words, Found, Word};
-use crate::words::{self, key, LISTS};
+use crate::words::{self, key, small, LISTS};
 
 /// Of more nonterminals than this few are named.
 const MOST_NAMED: usize = 127;
@@ -25,19 +25,20 @@ pub fn found(lines: &[&[u8]]) -> Found {
 
 /// The nonterminals without a finite tree, in the order of their list, where every name is declared.
 fn without_tree<'a>(lines: &[&'a [u8]]) -> Vec<Word<'a>> {
-    let rules: Vec<Vec<Word>> = lines.iter().skip(LISTS).map(|line| rule_words(line)).collect();
+    let small_words = |line: &&[u8]| rule_words(line).iter().map(|word| small(word.bytes)).collect();
+    let rules: Vec<Vec<Vec<u8>>> = lines.iter().skip(LISTS).map(small_words).collect();
     let names = declared(lines, LISTS);
-    let mut without: HashSet<&[u8]> = names.iter().map(|name| name.bytes).collect();
+    let mut without: HashSet<Vec<u8>> = names.iter().map(|name| small(name.bytes)).collect();
     while let Some(left) = rules.iter().find_map(|rule| left_with_tree(&without, rule)) {
         without.remove(left);
     }
-    names.into_iter().filter(|name| without.contains(name.bytes)).collect()
+    names.into_iter().filter(|name| without.contains(&small(name.bytes))).collect()
 }
 
 /// The left name of a rule, if it is among these and its right side does without them.
-fn left_with_tree<'a>(without: &HashSet<&[u8]>, rule: &[Word<'a>]) -> Option<&'a [u8]> {
+fn left_with_tree<'a>(without: &HashSet<Vec<u8>>, rule: &'a [Vec<u8>]) -> Option<&'a Vec<u8>> {
     let (left, right) = rule.split_first()?;
-    (without.contains(left.bytes) && !right.iter().any(|word| without.contains(word.bytes))).then_some(left.bytes)
+    (without.contains(left) && !right.iter().any(|word| without.contains(word))).then_some(left)
 }
 
 #[cfg(test)]
@@ -48,10 +49,15 @@ mod tests {
     fn names_in_the_order_of_the_text() {
         for (text, named) in [
             ("terminals=\nnonterminals=S\n", "'S'"),
-            ("terminals=a\nnonterminals=S,A\nrule=A: a\n", "'S'"),
-            ("terminals=a\nnonterminals=S,A,B,C\nrule=S: C\nrule=C: a S\nrule=B: A A\nrule=A:\n", "'S' and 'C'"),
-            ("terminals=a\nnonterminals=S,D,A,B\nrule=A: B\nrule=S: A a\nrule=B: B\nrule=D: a\n", "'S', 'A' and 'B'"),
-            ("terminals=a\nnonterminals=S,A,B\nrule=B: a\nrule=A: B B\nrule=S: A S\nrule=S: B S A\n", "'S'"),
+            ("terminals=a\nnonterminals=S,W\nrule=W: a\n", "'S'"),
+            ("terminals=a\nnonterminals=S,W,X,Y\nrule=S: Y\nrule=Y: a S\nrule=X: W W\nrule=W:\n", "'S' and 'Y'"),
+            ("terminals=a\nnonterminals=S,Z,W,X\nrule=W: X\nrule=S: W a\nrule=X: X\nrule=Z: a\n", "'S', 'W' and 'X'"),
+            ("terminals=a\nnonterminals=S,W,X\nrule=X: a\nrule=W: X X\nrule=S: W S\nrule=S: X S W\n", "'S'"),
+            (
+                "terminals=a\nnonterminals=S,Up,Down\nrule=s: UP\nrule=uP: A down\nrule=DOWN: S\nrule=Down: UP A\n",
+                "'S', 'Up' and 'Down'",
+            ),
+            ("terminals=a\nnonterminals=S,Up,Down\nrule=s: s UP\nrule=uP: A down\nrule=DOWN: a\n", "'S'"),
         ] {
             let lines: Vec<&[u8]> = text.as_bytes().split(|byte| *byte == b'\n').collect();
             let (place, message) = found(&lines);

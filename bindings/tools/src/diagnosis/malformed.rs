@@ -85,7 +85,9 @@ fn of_key(line: &[u8], number: usize) -> Option<Found> {
     };
     let found = Word { at: 0, bytes: &line[..equals] };
     let is = |other: &str| other.as_bytes() == &line[..=equals];
-    let hint = if is("certificate-form=") {
+    let hint = if line[..=equals].eq_ignore_ascii_case(expected.as_bytes()) {
+        "case counts in a key, though not in a name".to_string()
+    } else if is("certificate-form=") {
         "this is a certificate, and no grammar's text".to_string()
     } else if is(key(LISTS + 1)) {
         "the two lists come before the rules".to_string()

@@ -11,7 +11,7 @@ use std::collections::{HashMap, HashSet};
 
 use ambiguity::{Cause, Refusal, MAX_NONTERMINALS, MAX_RULES, MAX_STATES, MAX_TERMINALS, MAX_TEXT_BYTES};
 
-use crate::words::{key, LISTS};
+use crate::words::{key, small, LISTS};
 
 pub use strings::of_strings;
 
@@ -98,14 +98,16 @@ pub fn beside(text: &[u8], refusal: Refusal) -> Vec<Finding> {
     let lists_hold = whole.len() >= LISTS && (1..=LISTS).all(|number| fault(number).is_none());
     let lists = lists_hold.then(|| Lists::new(&bare));
     let mut messages = vec![first.message];
-    // What was found unknown: a text may say the same of thousands of lines.
+    // What was found unknown: a text may say the same of thousands of lines, also in another case.
     let mut unknown = HashSet::new();
+    let of_first = lists.as_ref().filter(|_| refusal.cause == Cause::NameUnknown);
+    unknown.extend(of_first.and_then(|lists| lists.unknown(bare[refusal.at - 1])).map(|found| found.kind_and_name()));
     let mut findings = Vec::new();
     for number in refusal.at + 1..=whole.len() {
         let mut told = || {
             let lists = lists.as_ref().filter(|_| number > LISTS)?;
             let found = lists.unknown(bare[number - 1])?;
-            unknown.insert((found.kind, found.word.bytes)).then(|| lists.told(&found))
+            unknown.insert(found.kind_and_name()).then(|| lists.told(&found))
         };
         let Some((place, message)) = fault(number).or_else(&mut told) else { continue };
         if !messages.contains(&message) {
@@ -152,8 +154,8 @@ const EMPTY_WORDS: [&str; 6] = ["epsilon", "eps", "empty", "lambda", "nothing", 
 struct Lists<'a> {
     terminals: Vec<Word<'a>>,
     nonterminals: Vec<Word<'a>>,
-    /// The same, to be looked up.
-    known: [HashSet<&'a [u8]>; 2],
+    /// The same as they are declared, to be looked up in small letters.
+    known: [HashMap<Vec<u8>, &'a [u8]>; 2],
 }
 
 /// How a name of a rule's line is unknown.
@@ -167,15 +169,24 @@ enum Kind<'a> {
     Nothing(&'a [u8]),
 }
 
+/// A name that is declared is shown so; the place is that of its use.
 struct Unknown<'a> {
     kind: Kind<'a>,
     word: Word<'a>,
 }
 
+impl<'a> Unknown<'a> {
+    fn kind_and_name(&self) -> (Kind<'a>, Vec<u8>) {
+        (self.kind, small(self.word.bytes))
+    }
+}
+
 impl<'a> Lists<'a> {
     fn new(lines: &[&'a [u8]]) -> Lists<'a> {
         let [terminals, nonterminals] = [1, 2].map(|number| declared(lines, number));
-        let known = [&terminals, &nonterminals].map(|names| names.iter().map(|name| name.bytes).collect());
+        // Of a name that is declared twice the first counts.
+        let spelled = |name: &Word<'a>| (small(name.bytes), name.bytes);
+        let known = [&terminals, &nonterminals].map(|names| names.iter().rev().map(spelled).collect());
         Lists { terminals, nonterminals, known }
     }
 
@@ -183,14 +194,21 @@ impl<'a> Lists<'a> {
     fn unknown(&self, line: &'a [u8]) -> Option<Unknown<'a>> {
         let words = rule_words(line);
         let left = *words.first()?;
-        if self.known[0].contains(left.bytes) {
-            return Some(Unknown { kind: Kind::Terminal, word: left });
+        let [terminal, declared_left] = [0, 1].map(|list| self.known[list].get(&small(left.bytes)));
+        if let (Some(bytes), None) = (terminal, declared_left) {
+            return Some(Unknown { kind: Kind::Terminal, word: Word { at: left.at, bytes } });
         }
-        let word = *words.iter().find(|word| self.known.iter().all(|names| !names.contains(word.bytes)))?;
+        let is_known = |word: &Word| {
+            let name = small(word.bytes);
+            self.known.iter().any(|names| names.contains_key(&name))
+        };
+        let word = *words.iter().find(|word| !is_known(word))?;
         let is_nothing = |nothing: &&str| word.bytes.eq_ignore_ascii_case(nothing.as_bytes());
         let kind = match word.at == left.at {
             true => Kind::Left,
-            false if words.len() == 2 && EMPTY_WORDS.iter().any(is_nothing) => Kind::Nothing(left.bytes),
+            false if words.len() == 2 && EMPTY_WORDS.iter().any(is_nothing) => {
+                Kind::Nothing(declared_left.unwrap_or(&left.bytes))
+            }
             false => Kind::Right,
         };
         Some(Unknown { kind, word })
@@ -221,18 +239,18 @@ impl<'a> Lists<'a> {
 }
 
 fn repeated_name(lines: &[&[u8]], number: usize) -> Found {
-    let mut earlier: HashMap<&[u8], (usize, Word)> = HashMap::new();
+    let mut earlier: HashMap<Vec<u8>, (usize, Word)> = HashMap::new();
     for line in 1..=number {
         for name in declared(lines, line) {
-            match earlier.get(name.bytes) {
-                Some((first_line, first)) if line == number => {
-                    let place = format!("line {first_line}, column {}", first.at + 1);
-                    return (name.at, format!("{} is declared twice, first on {place}; take one of them out", name.quoted()));
-                }
-                Some(_) => (),
-                None => {
-                    earlier.insert(name.bytes, (line, name));
-                }
+            let (first_line, first) = *earlier.entry(small(name.bytes)).or_insert((line, name));
+            if line == number && (first_line, first.at) != (line, name.at) {
+                let place = format!("line {first_line}, column {}", first.at + 1);
+                let rest = if first.bytes == name.bytes {
+                    "; take one of them out".to_string()
+                } else {
+                    format!(" as {}: case does not count; take one of them out, or give it another name", first.quoted())
+                };
+                return (name.at, format!("{} is declared twice, first on {place}{rest}", name.quoted()));
             }
         }
     }
@@ -274,8 +292,9 @@ fn of_rule(lines: &[&[u8]], cause: Cause, offset: usize) -> (usize, Found) {
     let line = LISTS + place + 1;
     let message = match cause {
         Cause::RuleRepeated => {
-            let first = lines.iter().position(|first| *first == lines[line - 1]).unwrap_or(0) + 1;
-            format!("this rule equals the rule on line {first}; take one of them out")
+            let first = lines.iter().position(|first| first.eq_ignore_ascii_case(lines[line - 1])).unwrap_or(0) + 1;
+            let case = if lines[first - 1] == lines[line - 1] { "" } else { ", since case does not count" };
+            format!("this rule equals the rule on line {first}{case}; take one of them out")
         }
         Cause::TooManyRules => format!("this is rule {}; the limit is {MAX_RULES}", place + 1),
         Cause::TooManyStates => format!("with this rule there are {states} states; the limit is {MAX_STATES}"),

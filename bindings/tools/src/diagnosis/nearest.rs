@@ -1,6 +1,6 @@
 //! The declared name that was probably meant.
 
-/// The least number of letters to be put in, taken out, replaced or swapped with a neighbour; case is not told apart.
+/// The least number of letters to be put in, taken out, replaced or swapped with a neighbour; case does not count.
 fn distance(one: &[u8], other: &[u8]) -> usize {
     let mut rows = vec![(0..=other.len()).collect::<Vec<_>>()];
     for i in 1..=one.len() {

@@ -8,6 +8,7 @@ use ambiguity::{Cause, Grammar, Refusal};
 use super::malformed::{of_encoding, shown, MAX_NAME};
 use super::{nearest, Finding, Found, Word};
 use crate::strings::KEYS;
+use crate::words::small;
 
 /// Keys of other lines that the programs print.
 const OTHER_KEYS: [&str; 5] = ["states=", "verdict=", "reached=", "refused=", "at="];
@@ -34,9 +35,9 @@ fn letters(line: &[u8], key: usize) -> impl Iterator<Item = Word<'_>> {
 fn unknown_name(grammar: &Grammar, lines: &[u8], number: usize) -> Found {
     let line = lines.split(|byte| *byte == b'\n').nth(number - 1).unwrap_or_default();
     let names: Vec<&[u8]> = grammar.terminals().iter().chain(grammar.nonterminals()).map(|name| name.as_bytes()).collect();
-    let known: HashSet<&[u8]> = names.iter().copied().collect();
+    let known: HashSet<Vec<u8>> = names.iter().map(|name| small(name)).collect();
     let is_unknown =
-        |word: &Word| !word.bytes.starts_with(b"(") && !word.bytes.starts_with(b")") && !known.contains(word.bytes);
+        |word: &Word| !word.bytes.starts_with(b"(") && !word.bytes.starts_with(b")") && !known.contains(&small(word.bytes));
     let Some(unknown) = letters(line, KEYS[number - 1].len()).find(is_unknown) else {
         return (0, "a name is none of the grammar's".to_string());
     };
@@ -80,6 +81,8 @@ fn of_key(line: &[u8], number: usize) -> Option<Found> {
         "; the file has the lines 'left=' and 'right=' alone"
     } else if is("certificate-form=") {
         "; a certificate is checked without --lines"
+    } else if found.bytes.eq_ignore_ascii_case(key.as_bytes()) {
+        "; case counts in a key, though not in a name"
     } else {
         ""
     };

@@ -1,4 +1,5 @@
-//! Names that the grammar's text takes: 1 to 15 letters, digits and hyphens, no two alike, also not in upper and lower case.
+//! Names that the grammar's text takes: 1 to 15 letters, digits and hyphens, no two alike. Case does not count there: words of other
+//! notations that differ only in case get names that differ in more.
 
 use std::collections::{HashMap, HashSet};
 
@@ -88,7 +89,8 @@ fn plain(word: &str) -> String {
 #[derive(Default)]
 struct Names {
     given: HashMap<String, String>,
-    taken: HashSet<String>,
+    /// By a name in small letters the word that has it.
+    taken: HashMap<String, String>,
     /// The last number that was tried for names that are cut alike.
     numbers: HashMap<String, usize>,
 }
@@ -102,14 +104,21 @@ impl Names {
         let cut = &plain[..plain.len().min(MOST)];
         let last = self.numbers.entry(cut.to_ascii_lowercase()).or_insert(1);
         let mut name = cut.to_string();
-        while self.taken.contains(&name.to_ascii_lowercase()) {
+        while self.taken.contains_key(&name.to_ascii_lowercase()) {
             *last += 1;
             let ending = format!("-{last}");
             name = format!("{}{ending}", &plain[..plain.len().min(MOST - ending.len())]);
         }
-        self.taken.insert(name.to_ascii_lowercase());
+        self.taken.insert(name.to_ascii_lowercase(), word.to_string());
         self.given.insert(word.to_string(), name.clone());
         name
+    }
+
+    /// The other word, as people wrote it, for which a word could not keep its name: they differ in case alone.
+    fn other_case(&self, word: &str) -> Option<String> {
+        let (word, plain) = (shown(word), plain(word).to_ascii_lowercase());
+        let other = shown(self.taken.get(&plain[..plain.len().min(MOST)])?);
+        (other != word && other.eq_ignore_ascii_case(&word)).then_some(other)
     }
 }
 
@@ -125,7 +134,9 @@ pub fn written(draft: &mut Draft) -> String {
         let name = names.of(word);
         let shown = shown(word);
         if name != shown {
-            draft.note(1, format!("'{}' is written '{name}'", shown.escape_debug()));
+            let other =
+                names.other_case(word).map(|other| format!(", to differ from '{}' in more than case", other.escape_debug()));
+            draft.note(1, format!("'{}' is written '{name}'{}", shown.escape_debug(), other.unwrap_or_default()));
         }
     }
     let mut list = |words: &[String]| words.iter().map(|word| names.of(word)).collect::<Vec<_>>().join(",");
@@ -175,5 +186,6 @@ mod tests {
         let given = ["aspirate_very_slowly", "aspirate_very_fast", "IF", "if", "IF"].map(|word| names.of(word));
         assert_eq!(given, ["aspirate-very-s", "aspirate-very-f", "IF", "if-2", "IF"]);
         assert_eq!(names.of("aspirate_very_sly"), "aspirate-very-2");
+        assert_eq!((names.other_case("if"), names.other_case("IF")), (Some("IF".to_string()), None));
     }
 }

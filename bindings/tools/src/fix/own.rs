@@ -1,5 +1,7 @@
 //! Slips of the own form: what editors add, and what other notations write otherwise.
 
+use std::collections::{HashMap, HashSet};
+
 use super::{Draft, MOST};
 use crate::diagnosis::Finding;
 
@@ -26,14 +28,41 @@ pub fn draft(text: &[u8]) -> Result<Draft, Finding> {
         draft.note(lines.len(), "the last line gets its end");
     }
     let whole = lines.len() - usize::from(lines.last() == Some(&""));
+    let mut rule_lines = Vec::new();
     for (place, line) in lines[..whole].iter().enumerate() {
         self::line(&mut draft, place + 1, line)?;
+        rule_lines.resize(draft.rules.len(), place + 1);
         if draft.is_too_large() {
             let message = format!("there are more than {MOST} names or rules");
             return Err(Finding { line: place + 1, column: 1, message });
         }
     }
+    spell_as_declared(&mut draft, &rule_lines);
     Ok(draft)
+}
+
+/// Each use of a name gets the spelling of its declaration; `rule_lines` has the line of each rule. Two declarations that differ in
+/// case are left: each keeps the uses that are spelled as it is.
+fn spell_as_declared(draft: &mut Draft, rule_lines: &[usize]) {
+    let declared: HashSet<String> = draft.nonterminals.iter().chain(&draft.terminals).cloned().collect();
+    let mut spelled: HashMap<String, String> = HashMap::new();
+    for name in draft.nonterminals.iter().chain(&draft.terminals) {
+        spelled.entry(name.to_ascii_lowercase()).or_insert_with(|| name.clone());
+    }
+    let mut changed = None;
+    for ((left, right), line) in draft.rules.iter_mut().zip(rule_lines) {
+        for word in std::iter::once(left).chain(right).filter(|word| !declared.contains(*word)) {
+            // Where no declaration is found, the first use counts.
+            let name = spelled.entry(word.to_ascii_lowercase()).or_insert_with(|| word.clone());
+            if word != name {
+                word.clone_from(name);
+                changed = changed.or(Some(*line));
+            }
+        }
+    }
+    if let Some(line) = changed {
+        draft.note(line, "each use of a name is spelled as the name is declared");
+    }
 }
 
 /// Reads one line.
@@ -56,7 +85,11 @@ fn line(draft: &mut Draft, number: usize, whole: &str) -> Result<(), Finding> {
     let Some((key, value)) = content.split_once('=') else {
         return fault(1, "no '=' is found; a line is 'terminals=a,b', 'nonterminals=S' or 'rule=S: a b'");
     };
-    match key.trim().to_lowercase().as_str() {
+    let key = key.trim();
+    if key != key.to_ascii_lowercase() {
+        draft.note(number, "keys are written in small letters");
+    }
+    match key.to_ascii_lowercase().as_str() {
         "terminals" | "terminal" => draft.terminals.extend(names(value)),
         "nonterminals" | "nonterminal" => draft.nonterminals.extend(names(value)),
         "rule" | "rules" => return rule(draft, number, value.trim()),
@@ -108,7 +141,8 @@ fn rule(draft: &mut Draft, number: usize, value: &str) -> Result<(), Finding> {
     }
     for choice in choices {
         let mut symbols: Vec<String> = choice.split_whitespace().map(bare).filter(|name| !name.is_empty()).collect();
-        let declared = |word: &String| draft.terminals.contains(word) || draft.nonterminals.contains(word);
+        let declared =
+            |word: &String| draft.terminals.iter().chain(&draft.nonterminals).any(|name| name.eq_ignore_ascii_case(word));
         if matches!(&symbols[..], [word] if EMPTY.contains(&&word[..]) && !declared(word)) {
             draft.note(number, format!("'{}' is an empty right side", symbols[0]));
             symbols.clear();

@@ -86,7 +86,7 @@ mod tests {
 
     #[test]
     fn leaves_with_the_empty_sentence_alone() {
-        let text = b"terminals=a\nnonterminals=S,N,A,B\nrule=S: N S\nrule=S: a\nrule=N: A B\nrule=A:\nrule=B: A A\n";
+        let text = b"terminals=a\nnonterminals=S,N,W,X\nrule=S: N S\nrule=S: a\nrule=N: W X\nrule=W:\nrule=X: W W\n";
         let grammar = Grammar::read(text).unwrap();
         let tree = [Node::Rule(1), Node::Leaf(START + 1), Node::Leaf(START)];
         let expected = [1, 3, 4, 5, 4, 4].map(Node::Rule);

@@ -72,7 +72,7 @@ mod tests {
 
     #[test]
     fn common_subtrees() {
-        let text = b"terminals=a\nnonterminals=S,A\nrule=S: S S\nrule=S: A\nrule=A: a\nrule=S:\n";
+        let text = b"terminals=a\nnonterminals=S,W\nrule=S: S S\nrule=S: W\nrule=W: a\nrule=S:\n";
         let grammar = Grammar::read(text).unwrap();
         let (s, a) = (Leaf(START), Leaf(1));
         let left = [Rule(1), Rule(1), s, s, Rule(2), Rule(3), a];

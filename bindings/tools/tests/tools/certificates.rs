@@ -45,7 +45,7 @@ fn what_cannot_mean_anything_else_is_read() {
             assert_eq!(check(&grammar, &other), said(0, "accepted\n"), "{other:?}");
         }
     }
-    let wide = text("a", "S,A,B", &["S: A", "S: B", "A: A a a", "A: a", "B: a a"]);
+    let wide = text("a", "S,W,X", &["S: W", "S: X", "W: W a a", "W: a", "X: a a"]);
     let Ran { out: lines, .. } = certify(&wide);
     let (head, bytes) = lines.split_at(lines.find("0000:").unwrap());
     assert_ne!(bytes, bytes.to_uppercase());
@@ -55,7 +55,7 @@ fn what_cannot_mean_anything_else_is_read() {
 #[test]
 fn lines_that_are_malformed() {
     let grammar = file("malformed", &one_a());
-    let wide = text("a", "S,A,B", &["S: A", "S: B", "A: A a a", "A: a", "B: a a"]);
+    let wide = text("a", "S,W,X", &["S: W", "S: X", "W: W a a", "W: a", "X: a a"]);
     let wide_grammar = file("malformed-wide", &wide);
     let wide_plain = run(CERTIFY, &["--form=1", &wide_grammar], b"").out;
     let wide_checked = certify(&wide).out;

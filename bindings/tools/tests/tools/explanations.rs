@@ -247,7 +247,7 @@ fn steps_hold_together() {
         text("", "S,A,B", &["S: A", "S: B", "A:", "B:"]),
         text("plus,id", "expr", &["expr: expr plus expr", "expr: id"]),
         dangling(),
-        text("a,b,c", "S,A,B,C,D", &["S: A D", "S: B C", "A: a A", "A:", "D: b D c", "D:", "B: a B b", "B:", "C: c C", "C:"]),
+        text("a,b,c", "S,W,X,Y,Z", &["S: W Z", "S: X Y", "W: a W", "W:", "Z: b Z c", "Z:", "X: a X b", "X:", "Y: c Y", "Y:"]),
     ] {
         let Ran { status, out, .. } = run(CERTIFY, &["--steps", "-"], text.as_bytes());
         assert!(status == 1 || status == 3);

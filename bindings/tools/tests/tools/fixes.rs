@@ -34,6 +34,53 @@ fn slips_of_the_own_form() {
     assert_eq!(fixed(&good), (0, good.clone(), "<stdin>: note: nothing is changed\n".to_string()));
 }
 
+/// In the own form a use in another case is the name that is declared; where two declarations differ in case, they are two symbols.
+#[test]
+fn names_in_another_case() {
+    let (status, out, err) =
+        fixed("Terminals=take,vol_ul\nnonterminals=Method,Empty\nRULE=method: Take VOL_UL empty\nrule=EMPTY: epsilon\n");
+    let good = text("take,vol-ul", "Method,Empty", &["Method: take vol-ul Empty", "Empty:"]);
+    assert_eq!((status, &out), (0, &good), "{err}");
+    for change in [
+        "1:1: note: keys are written in small letters",
+        "3:1: note: each use of a name is spelled as the name is declared",
+        "1:1: note: 'vol_ul' is written 'vol-ul'",
+    ] {
+        assert!(err.contains(&format!("<stdin>:{change}\n")), "{err}");
+    }
+    let (status, out, err) = fixed(&text("a,b", "S,A", &["S: A a", "A: b A", "A: B", "s: b"]));
+    assert_eq!((status, out), (0, text("a-2,b", "S,A", &["S: A a-2", "A: b A", "A: b", "S: b"])), "{err}");
+    assert!(err.contains("note: 'a' is written 'a-2', to differ from 'A' in more than case\n"), "{err}");
+    // Nothing is made up where no declaration is found.
+    let (status, out, err) = fixed(&text("a", "S", &["S: Foo", "s: foo a"]));
+    assert_eq!((status, out), (4, text("a", "S", &["S: Foo", "S: Foo a"])), "{err}");
+}
+
+/// Other notations tell Expr and expr apart.
+#[test]
+fn symbols_that_differ_in_case() {
+    let told = |err: &str, word: &str, name: &str, other: &str| {
+        assert!(
+            err.contains(&format!("note: '{word}' is written '{name}', to differ from '{other}' in more than case\n")),
+            "{err}"
+        );
+    };
+    let (status, out, err) = fixed("<Expr> ::= <expr> | <Expr> \"+\" <expr>\n<expr> ::= x | \"EXPR\"\n");
+    let rules = ["Expr: expr-2", "Expr: Expr plus expr-2", "expr-2: x", "expr-2: EXPR-3"];
+    assert_eq!((status, out), (0, text("plus,x,EXPR-3", "Expr,expr-2", &rules)), "{err}");
+    told(&err, "expr", "expr-2", "Expr");
+    told(&err, "EXPR", "EXPR-3", "Expr");
+    let (status, out, err) = fixed("Step = { step } ;\nstep = \"Step\" ;\n");
+    let rules = ["Step-1:", "Step-1: Step-1 step-2", "Step: Step-1", "step-2: Step-3"];
+    assert_eq!((status, out), (0, text("Step-3", "Step,Step-1,step-2", &rules)), "{err}");
+    told(&err, "step", "step-2", "Step");
+    let (status, out, err) =
+        fixed("%token NUM IF\n%start prog\n%%\nprog: if | prog if;\nif: IF NUM | If num;\nnum: NUM;\nIf: 'if';\n");
+    let rules = ["prog: if", "prog: prog if", "if: IF-3 NUM-2", "if: If-2 num", "num: NUM-2", "If-2: if-4"];
+    assert_eq!((status, out), (0, text("NUM-2,IF-3,if-4", "prog,if,num,If-2", &rules)), "{err}");
+    told(&err, "NUM", "NUM-2", "num");
+}
+
 /// What comes out is judged as strictly as any text; what cannot be understood is told by its place.
 #[test]
 fn what_is_still_wrong() {
@@ -105,9 +152,11 @@ fn long_names() {
     let (status, out, err) =
         fixed("statement_list_of_one -> a_very_long_terminal_name | a_very_long_terminal_game IF\nif -> b\n");
     assert_eq!((status, out.lines().next().unwrap()), (0, "terminals=a-very-long-ter,a-very-long-t-2,IF-2,b"), "{out}");
-    for change in
-        ["'statement_list_of_one' is written 'statement-list-'", "'a_very_long_terminal_game' is written 'a-very-long-t-2'"]
-    {
+    for change in [
+        "'statement_list_of_one' is written 'statement-list-'",
+        "'a_very_long_terminal_game' is written 'a-very-long-t-2'",
+        "'IF' is written 'IF-2', to differ from 'if' in more than case",
+    ] {
         assert!(err.contains(change), "{err}");
     }
     let names: Vec<&str> = out.lines().take(2).flat_map(|line| line.split('=').nth(1).unwrap().split(',')).collect();

@@ -7,5 +7,6 @@ mod fixes;
 mod messages;
 mod pages;
 mod parting_strings;
+mod spelling;
 mod strings;
 mod support;

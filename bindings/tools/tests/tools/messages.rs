@@ -43,7 +43,7 @@ fn messages_differ() {
     let all = messages.len();
     messages.sort();
     messages.dedup();
-    assert!(all >= 83 && messages.len() >= 74, "{} of {all}", messages.len());
+    assert!(all >= 90 && messages.len() >= 80, "{} of {all}", messages.len());
 }
 
 #[test]
@@ -138,11 +138,11 @@ fn searched(text: &str) -> (bool, usize, usize) {
 fn unused_rules_change_no_verdict() {
     let mut texts: Vec<String> = corpus().into_iter().map(|entry| entry.text).collect();
     texts.extend([
-        text("a", "S,A", &["S: a", "S: A", "A: A"]),
-        text("a,b", "S,A,B", &["S: A", "A: B", "B: A b", "A: B a", "S: a"]),
-        text("a", "S,A,B", &["A: A a", "S: S", "S: A B", "S:", "B: a"]),
-        text("a", "S,A,B,C", &["C: S S", "S: a S a", "B: a", "S: A B", "S: a", "A: B A", "C: a"]),
-        text("a", "S,A,B", &["B: a B", "S: S S", "A: S A", "S: a", "B: S", "A: B A"]),
+        text("a", "S,W", &["S: a", "S: W", "W: W"]),
+        text("a,b", "S,W,X", &["S: W", "W: X", "X: W b", "W: X a", "S: a"]),
+        text("a", "S,W,X", &["W: W a", "S: S", "S: W X", "S:", "X: a"]),
+        text("a", "S,W,X,Y", &["Y: S S", "S: a S a", "X: a", "S: W X", "S: a", "W: X W", "Y: a"]),
+        text("a", "S,W,X", &["X: a X", "S: S S", "W: S W", "S: a", "X: S", "W: X W"]),
     ]);
     let mut unused = 0;
     for text in texts {

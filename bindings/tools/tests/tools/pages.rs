@@ -85,10 +85,10 @@ fn one_page_for_one_file() {
 
 #[test]
 fn warnings_on_a_page() {
-    let page = page(&text("a,b", "S,A", &["S: a", "S: A b"]));
+    let page = page(&text("a,b", "S,W", &["S: a", "S: W b"]));
     well_formed(&page);
-    let warnings = "<p class=\"warnings\"><strong>Warnings</strong>\n<br/>Line 2: the nonterminal &#39;A&#39; has no rule\n\
-                    <br/>Line 4: no sentence uses this rule: &#39;A&#39; has no finite tree\n</p>";
+    let warnings = "<p class=\"warnings\"><strong>Warnings</strong>\n<br/>Line 2: the nonterminal &#39;W&#39; has no rule\n\
+                    <br/>Line 4: no sentence uses this rule: &#39;W&#39; has no finite tree\n</p>";
     assert!(page.contains("<strong>Unambiguous</strong>") && page.contains(warnings), "{page}");
 }
 
