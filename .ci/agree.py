@@ -1,6 +1,6 @@
 """Compares the tools with the program ambig and with the second program, judge.py.
 
-    agree.py TOOLS AMBIG     TOOLS is the folder of ambig-certify and ambig-check
+    agree.py TOOLS AMBIG     TOOLS is the folder of ambig-certify, ambig-check and ambig-join
 
 Prints a line for each comparison and exits with 1 if one fails.
 """
@@ -19,15 +19,19 @@ sys.path.insert(0, os.path.join(ROOT, "second"))
 sys.dont_write_bytecode = True
 
 from corpus import AMBIGUOUS, EMPTY, POTENTIAL, coded, entries, found_in, text_in  # noqa: E402
+from joining import join_written, read_alone  # noqa: E402
 from judge import certified, checked, verdict  # noqa: E402
 from printed import RUNS, certificate_in, lines_of  # noqa: E402
 from program import MAX_BYTES, MAX_STATES  # noqa: E402
 from readings import LentStrings, Refused, named_in, read_back, reading_lines  # noqa: E402
+from tables import Refusal  # noqa: E402
 from test_partings import accepts, has_pair  # noqa: E402
+from text import AMPLE, MAX_TEXT, read_text  # noqa: E402
 from trees import MOST, tree_count  # noqa: E402
 from triples import triples_of  # noqa: E402
 
 MESSAGES = sorted(glob.glob(os.path.join(ROOT, "bindings/tools/tests/messages/*.grammar")))
+JOINS = sorted(glob.glob(os.path.join(ROOT, "bindings/tools/tests/joins/*.[mr]o*")))
 FORMS = "--form=1", "--form=2", "--form=3"
 SMALL = 60                # states up to which the second program is quick
 SLIPS = 450
@@ -35,12 +39,18 @@ LETTER_SLIPS = 1500       # of which most do not part
 RANDOM = 400              # grammars
 SHORT_TEXT = 2000         # bytes of a text that is tried in another case
 SHORT = 4                 # terminals of a short sentence
+PAIRS = 600               # texts that are joined
 
 
 def ran(words, text):
     """Output, messages and exit status."""
     done = subprocess.run(words, input=text, capture_output=True)
     return done.stdout.decode(), done.stderr.decode(), done.returncode
+
+
+def contents(path):
+    with open(path, "rb") as file:
+        return file.read()
 
 
 def line_of(message):
@@ -53,15 +63,14 @@ class Tools:
     def __init__(self, folder, ambig):
         self.certify = os.path.join(folder, "ambig-certify")
         self.check = os.path.join(folder, "ambig-check")
+        self.join = os.path.join(folder, "ambig-join")
         self.ambig = ambig
 
 
 def as_ambig(tools):
     """With --quiet ambig-certify prints what ambig prints, where ambig takes the text."""
     texts = [text_in(entry.name) for entry in entries() if entry.states <= MAX_STATES]
-    for path in MESSAGES:
-        with open(path, "rb") as file:
-            texts.append(file.read())
+    texts += [contents(path) for path in MESSAGES]
     for text in texts:
         if len(text) <= MAX_BYTES:
             quiet = ran([tools.certify, "--quiet", "-"], text)[0]
@@ -72,8 +81,7 @@ def as_ambig(tools):
 def messages(tools):
     """The second program refuses alike, and names the same line."""
     for path in MESSAGES:
-        with open(path, "rb") as file:
-            text = file.read()
+        text = contents(path)
         answer = verdict(text)
         assert answer.printed == ran([tools.certify, "--quiet", path], b"")[0], path
         assert answer.grammar_fault.line == line_of(ran([tools.certify, path], b"")[1].replace(path, "")), path
@@ -130,8 +138,7 @@ def json_lines(tools):
     for path, line in zip(paths, lines):
         told = json.loads(line)
         assert told["file"] == path
-        with open(path, "rb") as file:
-            text = file.read()
+        text = contents(path)
         if told["verdict"] == "refused":
             assert "refused=%d\nat=%d\n" % (told["refused"], told["at"]) == verdict(text).printed
             assert told["line"] >= 1 and told["column"] >= 1 and told["message"]
@@ -277,6 +284,37 @@ def strings(tools):
     return "%d pairs, damaged: %s" % (len(printed), ", ".join("%s %d" % count for count in found.items()))
 
 
+def refused_part(robot, module):
+    """Which text a refusal is about, by the reader alone."""
+    if isinstance(read_text(robot, AMPLE), Refusal):
+        return "robot"
+    return "module" if isinstance(read_alone(module), Refusal) else "join"
+
+
+def joins(tools):
+    """Two texts are joined by both alike, or refused by both, and the verdict of what is joined is that of its text."""
+    rng = random.Random(1)
+    paths = [os.path.join(ROOT, "corpus", entry.name + ".grammar") for entry in entries() if entry.states <= SMALL]
+    found = dict.fromkeys(["joined", "robot", "module", "join"], 0)
+    for _ in range(PAIRS):
+        robot_path, module_path = rng.choice(paths + JOINS), rng.choice(rng.choice([paths, JOINS, MESSAGES]))
+        robot, module = (contents(path) for path in (robot_path, module_path))
+        if rng.randrange(3) == 0:
+            module = rules_in_case(rng, module)
+        written = join_written(robot, module, MAX_TEXT)
+        out = ran([tools.join, "--quiet", robot_path, "-"], module)[0]
+        judged = ran([tools.join, "--certify", "--quiet", robot_path, "-"], module)[0]
+        if isinstance(written, Refusal):
+            part = refused_part(robot, module)
+            assert out == judged == "refused=%d\nat=%d\npart=%s\n" % (*written, part), (robot_path, module)
+            found[part] += 1
+        else:
+            assert out.encode() == written and judged == ran([tools.certify, "--quiet", "-"], written)[0], (robot_path, module)
+            found["joined"] += 1
+    assert min(found.values()) >= PAIRS // 40, found
+    return ", ".join("%s %d" % count for count in found.items())
+
+
 def told_ambiguous(out):
     """The sentence of terminals that is called ambiguous, in the form of the corpus' index; None if there is none."""
     told = re.search(r"ambiguous: (the empty sentence|an empty [^ ]*|`[^`]*`|the [^ ]* `[^`]*`) has two trees"
@@ -337,7 +375,7 @@ def random_grammars(tools):
 def main(folder, ambig):
     tools = Tools(folder, ambig)
     failed = 0
-    for test in (as_ambig, messages, certificates, same_certificates, json_lines, strings, spelling, sentences,
+    for test in (as_ambig, messages, certificates, same_certificates, json_lines, strings, spelling, joins, sentences,
                  random_grammars):
         try:
             print("%s: %s" % (test(tools), test.__doc__.strip()))

@@ -1,16 +1,8 @@
-/* The reader of grammar text in plain C: one pass over the lines, names in a hash table, compared in small letters. A list with more names than a grammar may
- * have goes through a hash table of its own, since a double in it comes before its length. */
+/* The reader of grammar text in plain C: one pass over the lines, names in a hash table, compared in small letters. A list with more
+ * names than a grammar may have goes through a hash table of its own, since a double in it comes before its length. */
 #include "read.h"
-#include "searches.h"
 
-enum { NAMES = MAX_TERMINALS + MAX_NONTERMINALS, LONGEST_NAME = 15, SLOTS = 8192, MANY_SLOTS = 262144 };
-
-/* Names by number, and slots with numbers from 1. There are at least two slots for each name. */
-struct names {
-    uint32_t start[NAMES], length[NAMES];
-    uint16_t slot[SLOTS];
-    size_t count, last_slot;
-};
+enum { MANY_SLOTS = 262144 };
 
 /* Bytes of names, letters as small ones; 0 for all others. */
 #define LETTERS \
@@ -56,6 +48,12 @@ static int find(struct names *names, const uint8_t *text, const uint8_t *name, s
         names->slot[k] = (uint16_t)++names->count;
     }
     return -1;
+}
+
+int plain_find(const struct names *names, const uint8_t *text, const uint8_t *name, size_t length)
+{
+    /* Nothing is put in. */
+    return find((struct names *)names, text, name, length, 0);
 }
 
 /* Past a name; a name that is malformed has no byte or too many. */
@@ -175,11 +173,6 @@ static uint64_t read_rule(struct names *names, size_t t, const uint8_t *text, co
     return symbols > MAX_LENGTH ? 4 : 0;
 }
 
-static ambiguity_read_reply refused(uint64_t cause, uint64_t at)
-{
-    return (ambiguity_read_reply){cause, at, 0, 0, 0, 0};
-}
-
 /* Does a line that ends there begin so? */
 static int begins(const uint8_t *at, const uint8_t *end, const char *front)
 {
@@ -187,44 +180,53 @@ static int begins(const uint8_t *at, const uint8_t *end, const char *front)
     return end != NULL && (size_t)(end - at) >= length && memcmp(at, front, length) == 0;
 }
 
-ambiguity_read_reply plain_read(const uint8_t *text, size_t text_bytes, uint16_t *table, size_t table_entries, uint32_t *starts,
-                                size_t starts_entries, uint32_t *lengths, size_t lengths_entries)
+check_reply plain_keep(const uint8_t *text, size_t text_bytes, struct kept *kept)
 {
     static const char *const fronts[2] = {"terminals=", "nonterminals="};
-    struct names names;
-    uint16_t row[(MAX_RULES + 1) * (MAX_LENGTH + 2)];
-    size_t used = 0, t = 0, line = 1;
+    struct names *names = &kept->names;
+    size_t line = 1;
     const uint8_t *at = text, *stop = text + text_bytes, *end;
     if (text_bytes > AMBIGUITY_MAX_TEXT_BYTES)
-        return refused(16, 0);
-    names.count = 0;
-    names.last_slot = slots_for(text_bytes / 2, SLOTS) - 1;
-    memset(names.slot, 0, (names.last_slot + 1) * sizeof *names.slot);
+        return (check_reply){16, 0};
+    kept->used = 0;
+    names->count = 0;
+    names->last_slot = slots_for(text_bytes / 2, SLOTS) - 1;
+    memset(names->slot, 0, (names->last_slot + 1) * sizeof *names->slot);
     for (; line <= 2; line++, at = end + 1) {
         end = memchr(at, '\n', (size_t)(stop - at));
         if (!begins(at, end, fronts[line - 1]))
-            return refused(16, line);
-        t = names.count;
-        uint64_t cause = read_list(&names, text, at + strlen(fronts[line - 1]), end, line == 2);
+            return (check_reply){16, line};
+        kept->t = names->count;
+        uint64_t cause = read_list(names, text, at + strlen(fronts[line - 1]), end, line == 2);
         if (cause != 0)
-            return refused(cause, line);
+            return (check_reply){cause, line};
     }
     for (size_t rules = 0; at < stop; rules++, line++, at = end + 1) {
         end = memchr(at, '\n', (size_t)(stop - at));
         if (!begins(at, end, "rule="))
-            return refused(16, line);
-        uint64_t cause = read_rule(&names, t, text, at + strlen("rule="), end, rules <= MAX_RULES, row, &used);
+            return (check_reply){16, line};
+        uint64_t cause = read_rule(names, kept->t, text, at + strlen("rule="), end, rules <= MAX_RULES, kept->row, &kept->used);
         if (cause != 0)
-            return refused(cause, line);
+            return (check_reply){cause, line};
     }
     struct grammar g;
-    check_reply checked = check_table(t, names.count - t, row, used, &g);
+    check_reply checked = check_table(kept->t, names->count - kept->t, kept->row, kept->used, &g);
+    kept->states = checked.cause == 0 || checked.cause == 19 ? g.states : 0;
+    return checked;
+}
+
+ambiguity_read_reply plain_read(const uint8_t *text, size_t text_bytes, uint16_t *table, size_t table_entries, uint32_t *starts,
+                                size_t starts_entries, uint32_t *lengths, size_t lengths_entries)
+{
+    struct kept kept;
+    check_reply checked = plain_keep(text, text_bytes, &kept);
     if (checked.cause != 0)
-        return refused(checked.cause, checked.at);
-    if (table_entries < used || starts_entries < names.count || lengths_entries < names.count)
-        return refused(14, 0);
-    memcpy(table, row, used * sizeof *table);
-    memcpy(starts, names.start, names.count * sizeof *starts);
-    memcpy(lengths, names.length, names.count * sizeof *lengths);
-    return (ambiguity_read_reply){0, 0, t, names.count - t, used, g.states};
+        return (ambiguity_read_reply){checked.cause, checked.at, 0, 0, 0, 0};
+    size_t count = kept.names.count;
+    if (table_entries < kept.used || starts_entries < count || lengths_entries < count)
+        return (ambiguity_read_reply){14, 0, 0, 0, 0, 0};
+    memcpy(table, kept.row, kept.used * sizeof *table);
+    memcpy(starts, kept.names.start, count * sizeof *starts);
+    memcpy(lengths, kept.names.length, count * sizeof *lengths);
+    return (ambiguity_read_reply){0, 0, kept.t, count - kept.t, kept.used, kept.states};
 }

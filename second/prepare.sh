@@ -33,6 +33,9 @@ make writes text_cases.py write-
 make lengths length_cases.py
 make reports report_cases.py
 make backs back_cases.py
+make joins join_cases.py join-
+make join-texts join_cases.py join-text-
+make shown join_cases.py shown-
 
 python3 carry.py "$folder"
 count "carry: every byte table of the cases that passed the old limits is answered alike when it is carried over" $?

@@ -1,18 +1,19 @@
 /* The library for C: the table check, the step records, the certificate check, the witness check over indices and over records, the
  * search, the reader and the writer of grammar text, what search and writer are to be lent, told beforehand, the report that the program
- * prints, and reading back of the two strings that it prints. Each function answers as its entry promises;
- * crates/ambiguity_c/src/lib.rt has the promises, proved.
- * "Document 01" is the paper that the library follows: it has the tables, the certificates and the causes of refusal. Cause 19, the
- * codes of 16 bits, the limits and names in any case are document 02's, which has the requests after it.
+ * prints, reading back of the two strings that it prints, and the join of a module's text to the robot's. Each function answers as its
+ * entry promises; crates/ambiguity_c/src/lib.rt has the promises, proved.
+ * "Document 01" is the paper that the library follows: it has the tables, the certificates and the causes of refusal. Causes 19 and 20,
+ * the codes of 16 bits, the limits, names in any case and modules are document 02's, which has the requests after it.
  *
  * What holds of every function:
- * - Every input is taken: what is wrong is refused, with a cause from 1 to 19 and a position. `cause` 0 says that nothing is
+ * - Every input is taken: what is wrong is refused, with a cause from 1 to 20 and a position. `cause` 0 says that nothing is
  *   refused. A refusal changes no lent row. A field that an answer does not have is 0.
  * - A row is lent as a pointer and its number of entries. The pointer is never NULL, also at 0 entries, and is aligned as its
  *   type is. A row that is written overlaps no other row of the call. Nothing is kept after the return.
  * - A written row may be longer than needed: its front is written, the rest stays as it was.
- * - Names that differ only in the case of ASCII letters are the same name wherever names are compared: in lists, rules, what the writer
- *   is given and lines that are read back. The spelling of the declaration is written out. Keys, as `rule=`, are no names.
+ * - Names that differ only in the case of ASCII letters are the same name wherever names are compared: in lists, rules, two texts that
+ *   are joined, what the writer is given and lines that are read back. The spelling of the declaration is written out. Keys, as
+ *   `rule=`, are no names.
  * - There is no state, no allocation and no lock: every function is re-entrant, and calls may run at the same time.
  * - The archive needs memcpy and memset and nothing else. It is for x86-64 with the System V calling convention.
  */
@@ -27,7 +28,7 @@
 #endif
 
 /* The version of the whole: library, header, wrapper, tools. The first number changes when a caller has to. */
-#define AMBIGUITY_VERSION "4.0.0"
+#define AMBIGUITY_VERSION "4.1.0"
 #define AMBIGUITY_VERSION_MAJOR 4
 
 /* The limits of document 02. A right side has at most 12 codes. */
@@ -63,13 +64,15 @@
 
 /* The stack that a call may use, below the caller's frame. It is measured on a painted stack, with the largest grammars and texts, and
  * not proved: where there is less, a call crashes. bindings/c/stack.c measures it, and prints the figure of each function.
- * The reader, the search, the report, which lends both of them their rows, and reading back, which calls the reader, have figures of
- * their own; the first figure is for all others. */
+ * The reader, the search, the report, which lends both of them their rows, reading back, which calls the reader, and the join, whose
+ * second figure is for writing the joined text, have figures of their own; the first figure is for all others. */
 #define AMBIGUITY_STACK_BYTES 61440
 #define AMBIGUITY_READ_TEXT_STACK_BYTES 65536
 #define AMBIGUITY_SEARCH_STACK_BYTES 55296
 #define AMBIGUITY_REPORT_STACK_BYTES 360448
 #define AMBIGUITY_READ_BACK_STACK_BYTES 65536
+#define AMBIGUITY_JOIN_STACK_BYTES 126976
+#define AMBIGUITY_WRITE_JOINED_STACK_BYTES 233472
 
 /* The causes of refusal. */
 enum ambiguity_cause {
@@ -92,7 +95,8 @@ enum ambiguity_cause {
     AMBIGUITY_MALFORMED = 16,         /* malformed line, or name: at the line; for the writer at the symbol number from 0 */
     AMBIGUITY_NAME_UNKNOWN = 17,      /* name unknown or of the wrong kind: at the line; one declared in another case is known */
     AMBIGUITY_NAME_REPEATED = 18,     /* name declared twice, in whatever case: at the line, or at the symbol number */
-    AMBIGUITY_NO_SENTENCE = 19        /* the start, the first nonterminal, has no finite tree: at 0 */
+    AMBIGUITY_NO_SENTENCE = 19,       /* the start, the first nonterminal, has no finite tree: at 0 */
+    AMBIGUITY_KINDS_CLASH = 20        /* name a terminal in one text and a nonterminal in the other: at the module's line */
 };
 
 enum ambiguity_moved { AMBIGUITY_STILL = 0, AMBIGUITY_OPENING = 1, AMBIGUITY_CLOSING = 2, AMBIGUITY_SYMBOL = 3 };
@@ -103,6 +107,9 @@ enum ambiguity_verdict { AMBIGUITY_NO_VERDICT = 0, AMBIGUITY_UNAMBIGUOUS = 1, AM
 
 /* What reading back refuses: the grammar's text, or the two lines and the rows for them. */
 enum ambiguity_part { AMBIGUITY_NO_PART = 0, AMBIGUITY_GRAMMAR = 1, AMBIGUITY_LINES = 2 };
+
+/* Which text a name is a part of. */
+enum ambiguity_text { AMBIGUITY_NO_TEXT = 0, AMBIGUITY_ROBOT = 1, AMBIGUITY_MODULE = 2 };
 
 typedef struct {
     uint64_t cause;
@@ -189,6 +196,13 @@ typedef struct {
     uint64_t left;  /* letters of the left string */
     uint64_t right; /* letters of the right string */
 } ambiguity_read_back_reply;
+
+/* A part of one of two texts; all 0 for none. */
+typedef struct {
+    uint64_t text;   /* an ambiguity_text */
+    uint64_t start;  /* from 0 */
+    uint64_t length; /* in bytes */
+} ambiguity_part_reply;
 
 #ifdef __cplusplus
 extern "C" {
@@ -286,6 +300,30 @@ ambiguity_report_reply ambiguity_report(const uint8_t *text, size_t text_bytes, 
  * that the grammar lacks, and anything behind line 2; 17 is a name that it lacks in any case of its letters. */
 ambiguity_read_back_reply ambiguity_read_back(const uint8_t *text, size_t text_bytes, const uint8_t *lines, size_t lines_bytes,
                                               uint32_t *left, size_t left_entries, uint32_t *right, size_t right_entries);
+
+/* Joins a module's text, `addon`, to the robot's. The joined terminals are the robot's, then those that the module adds; so the
+ * nonterminals, and the start is the robot's. The joined rules are the robot's, then those of the module that are not already there, with
+ * the joined codes. The table is written, and t, n, entries and Q come back: all is what ambiguity_read_text gives for the joined text,
+ * and every derivation tree of the robot's grammar is one of the joined grammar.
+ * AMBIGUITY_MAX_TABLE_ENTRIES are always enough. First the robot's text is refused, then the module's text read alone, both as by
+ * ambiguity_read_text but never with 14, and the module's never with 19: it may lack sentences. Then a name of the module that the robot
+ * declares as the other kind is 20, at line 1 or 2 of the module, the first that has one. Then the joined text is refused: 1 at 1, 1 at
+ * 2, 7, 8 at an offset in the joined table; then 14 at 0. A position does not say which text it is of; ambiguity_read_text does, asked
+ * about the robot's text and then about the module's. */
+ambiguity_read_reply ambiguity_join_texts(const uint8_t *robot, size_t robot_bytes, const uint8_t *addon, size_t addon_bytes,
+                                          uint16_t *table, size_t table_entries);
+
+/* The name shown for a symbol of the joined grammar, by its number: joined terminals from 0, then joined nonterminals. It is the part of
+ * the text that declares it, the robot's where both do, so that it has the declared spelling. All is 0 for a number past the last
+ * symbol, and for texts that ambiguity_join_texts refuses with another cause than 14. Each call reads both texts: whoever wants all
+ * names reads the text of ambiguity_write_joined. */
+ambiguity_part_reply ambiguity_joined_name(const uint8_t *robot, size_t robot_bytes, const uint8_t *addon, size_t addon_bytes,
+                                           size_t symbol);
+
+/* Writes the joined text, each use of a name as it is shown. Refuses as ambiguity_join_texts does, with 14 at 0 if the output is shorter
+ * than the text; AMBIGUITY_MAX_TEXT_BYTES are always enough. */
+ambiguity_write_reply ambiguity_write_joined(const uint8_t *robot, size_t robot_bytes, const uint8_t *addon, size_t addon_bytes,
+                                             uint8_t *out, size_t out_bytes);
 
 #ifdef __cplusplus
 }

@@ -28,6 +28,7 @@ static inline const char *ambiguity_cause_text(uint64_t cause)
     case AMBIGUITY_NAME_UNKNOWN: return "a name is not declared, or is of the wrong kind";
     case AMBIGUITY_NAME_REPEATED: return "a name is declared twice";
     case AMBIGUITY_NO_SENTENCE: return "the start has no finite tree, so there is no sentence";
+    case AMBIGUITY_KINDS_CLASH: return "a name is a terminal in one text and a nonterminal in the other";
     default: return "a cause that this header does not know";
     }
 }

@@ -1,7 +1,8 @@
 /* The stack that each function uses, in bytes. A thread runs on a stack that was painted; after the call the paint tells how deep
  * the stack went below the caller. Exits with 0 if none went deeper than ambiguity.h says. The frames are of fixed size and no
  * function calls itself, so the largest grammar, with the most names, has the deepest calls that there are. A line with more names
- * than the limit is read another way, which is measured too. The report takes no more than 48 states; its two strings are read back. */
+ * than the limit is read another way, which is measured too, in the robot's text and in a module's. The report takes no more than 48
+ * states; its two strings are read back. */
 #define _XOPEN_SOURCE 700
 #include <pthread.h>
 #include <stdio.h>
@@ -25,6 +26,7 @@
 static uint16_t table[AMBIGUITY_MAX_TABLE_ENTRIES];
 static uint8_t certificate[AMBIGUITY_CERTIFICATE_BYTES(MOST)];
 static uint8_t text[AMBIGUITY_MAX_TEXT_BYTES + 1];
+static uint8_t addon[AMBIGUITY_MAX_TEXT_BYTES + 1];
 static uint8_t out[AMBIGUITY_MAX_TEXT_BYTES];
 static uint32_t starts[AMBIGUITY_MAX_NAMES];
 static uint32_t lengths[AMBIGUITY_MAX_NAMES];
@@ -36,6 +38,8 @@ static ambiguity_triple_record records[] = {{0, 0, 0}, {0, 2, 2}, {0, 2, 3}};
 static uint32_t strings[2][LETTERS];
 static ambiguity_read_back_reply read_back;
 static ambiguity_read_reply grammar;
+static ambiguity_read_reply joined;
+static ambiguity_part_reply name;
 static ambiguity_check_reply checked;
 static ambiguity_write_reply written;
 static uint64_t verdict;
@@ -96,6 +100,21 @@ static void run_read_back(void)
 {
     read_back = ambiguity_read_back(text, strlen((char *)text), (const uint8_t *)LINES, strlen(LINES), strings[0], LETTERS,
                                     strings[1], LETTERS);
+}
+
+static void run_join(void)
+{
+    joined = ambiguity_join_texts(text, strlen((char *)text), addon, strlen((char *)addon), table, AMBIGUITY_MAX_TABLE_ENTRIES);
+}
+
+static void run_name(void)
+{
+    name = ambiguity_joined_name(text, strlen((char *)text), addon, strlen((char *)addon), AMBIGUITY_MAX_NAMES - 1);
+}
+
+static void run_write_joined(void)
+{
+    written = ambiguity_write_joined(text, strlen((char *)text), addon, strlen((char *)addon), out, sizeof out);
 }
 
 static void run_report(void) { ambiguity_report(text, strlen((char *)text), out, sizeof out); }
@@ -200,6 +219,40 @@ static int measure_long_texts(void)
     return wrong + (memcmp(out, "refused=18\nat=1\n", 16) != 0);
 }
 
+/* The join of the text and the module, its last name, and the joined text, with this cause. */
+static int measure_joined(const char *join, const char *shown, const char *write, uint64_t cause)
+{
+    int wrong = measure(join, run_join, AMBIGUITY_JOIN_STACK_BYTES);
+    wrong += joined.cause != cause;
+    wrong += measure(shown, run_name, AMBIGUITY_JOIN_STACK_BYTES);
+    wrong += (name.text == AMBIGUITY_NO_TEXT) != (cause != AMBIGUITY_NOT_REFUSED);
+    wrong += measure(write, run_write_joined, AMBIGUITY_WRITE_JOINED_STACK_BYTES);
+    return wrong + (written.cause != cause);
+}
+
+/* A module with the names and rules of the largest grammar in capitals; one with a line of too many names; then such a robot. */
+static int measure_joins(void)
+{
+    int wrong;
+    size_t i;
+    make_text(MOST, AMBIGUITY_MAX_TERMINALS, LAST);
+    strcpy((char *)addon, (char *)text);
+    for (i = 0; addon[i] != 0; i++)
+        if (addon[i] == 'a' && addon[i + 1] >= '0' && addon[i + 1] <= '9')
+            addon[i] = 'A';
+    wrong = measure_joined("ambiguity_join_texts", "ambiguity_joined_name", "ambiguity_write_joined", AMBIGUITY_NOT_REFUSED);
+    wrong += joined.states != MOST || written.length != strlen((char *)text);
+    make_long_text(AMBIGUITY_MAX_TEXT_BYTES, "terminals=a\nnonterminals=");
+    strcpy((char *)addon, (char *)text);
+    make_text(MOST, AMBIGUITY_MAX_TERMINALS, LAST);
+    wrong += measure_joined("ambiguity_join_texts, a module of many names", "ambiguity_joined_name, a module of many names",
+                            "ambiguity_write_joined, a module of many names", AMBIGUITY_OUT_OF_RANGE);
+    make_doubled_text(AMBIGUITY_MAX_TEXT_BYTES);
+    wrong += measure_joined("ambiguity_join_texts, many doubles", "ambiguity_joined_name, many doubles",
+                            "ambiguity_write_joined, many doubles", AMBIGUITY_NAME_REPEATED);
+    return wrong;
+}
+
 /* The search of the largest grammar that ends so and has this verdict. */
 static int measure_search(const char *name, const char *last, uint64_t right)
 {
@@ -251,5 +304,6 @@ int main(void)
     wrong += measure_report("ambiguity_report, unambiguous", LAST, "states=46\nverdict=unambiguous\n");
     wrong += measure_report("ambiguity_report, potential", LAST_POTENTIAL, "states=46\nverdict=potential\nleft=(0 ");
     wrong += measure_long_texts();
+    wrong += measure_joins();
     return wrong != 0;
 }

@@ -1,7 +1,7 @@
 /* The certificate check on document 01's cases of S -> a, the witness check over records on those of S -> S; S -> a, the report,
- * and reading its two strings back; searches and texts lent just what is told beforehand, and one less; names in any case; all twelve
- * functions on grammars without a sentence; and tables and texts at the limits and just past them. Exits with 0 if every answer is
- * document 01's and document 02's. */
+ * and reading its two strings back; searches and texts lent just what is told beforehand, and one less; names in any case; a heating
+ * module joined to the robot's text, with each kind of refusal; all fifteen functions on grammars without a sentence; and tables and
+ * texts at the limits and just past them. Exits with 0 if every answer is document 01's and document 02's. */
 #include <stdio.h>
 #include <string.h>
 
@@ -207,15 +207,22 @@ static void expect_table_without_sentence(size_t lent)
     expect_no_sentence("written length", length.cause, length.at, length.length);
 }
 
-/* Both functions that take a text and refuse it, with rows of so many entries; the two lines are at fault too. */
+/* The functions that take a text and refuse it, with rows of so many entries; the two lines, and the module, are at fault too. */
 static void expect_text_without_sentence(size_t lent)
 {
+    const uint8_t *text = (const uint8_t *)ENDLESS_TEXT;
+    size_t bytes = strlen(ENDLESS_TEXT);
+    ambiguity_read_reply joined = ambiguity_join_texts(text, bytes, lent_bytes, lent, lent_table, lent);
+    ambiguity_part_reply name = ambiguity_joined_name(text, bytes, text, bytes, 0);
+    ambiguity_write_reply written = ambiguity_write_joined(text, bytes, NO_NAMES, 0, lent_bytes, lent);
     ambiguity_read_reply read = ambiguity_read_text((const uint8_t *)ENDLESS_TEXT, strlen(ENDLESS_TEXT), lent_table, lent,
                                                     lent_rows[0], lent, lent_rows[1], lent);
     ambiguity_read_back_reply back = ambiguity_read_back((const uint8_t *)ENDLESS_TEXT, strlen(ENDLESS_TEXT), lent_bytes, lent,
                                                          lent_rows[0], lent, lent_rows[1], lent);
     expect_no_sentence("reader", read.cause, read.at, read.terminals | read.nonterminals | read.entries | read.states);
     expect_no_sentence("reading back", back.cause, back.at, (back.part ^ AMBIGUITY_GRAMMAR) | back.left | back.right);
+    expect_no_sentence("join", joined.cause, joined.at, joined.terminals | joined.nonterminals | joined.entries | joined.states);
+    expect_no_sentence("joined text", written.cause, written.at, written.length | name.text | name.start | name.length);
 }
 
 static void expect_without_sentence(void)
@@ -483,6 +490,149 @@ static void expect_case(void)
     expect_length("names in two cases", length, AMBIGUITY_NAME_REPEATED, 1, 0);
 }
 
+/* A robot's text, a heating module that declares what it uses in its own spelling, and both joined. Of the module's four rules one is
+ * the robot's; Step has a rule in it and Method has none, so that it has no sentence. */
+static const char ROBOT[] = "terminals=take,Vol\nnonterminals=Method,Step\nrule=Method: Step\nrule=Step: take vol\n";
+static const char HEATING[] =
+    "terminals=heat,VOL,Take\nnonterminals=method,STEP,Warm\nrule=step: TAKE Vol\nrule=Step: Warm VOL\nrule=WARM: Heat\nrule=warm:\n";
+static const char JOINED[] = "terminals=take,Vol,heat\nnonterminals=Method,Step,Warm\nrule=Method: Step\nrule=Step: take Vol\n"
+                             "rule=Step: Warm Vol\nrule=Warm: heat\nrule=Warm:\n";
+static const uint16_t JOINED_TABLE[] = {S, 1, S + 1, S + 1, 2, 1, 2, S + 1, 2, S + 2, 2, S + 2, 1, 3, S + 2, 0};
+
+/* The joined table in a row of so many entries: it is written, or refused with 14, and nothing behind it changes. */
+static int is_joined(size_t entries, int is_enough)
+{
+    ambiguity_read_reply right = {AMBIGUITY_NOT_REFUSED, 0, 3, 3, ENTRIES(JOINED_TABLE), 15}, short_of = {14, 0, 0, 0, 0, 0};
+    ambiguity_read_reply joined = ambiguity_join_texts((const uint8_t *)ROBOT, strlen(ROBOT), (const uint8_t *)HEATING, strlen(HEATING),
+                                                       lent_table, entries);
+    size_t front = is_enough ? ENTRIES(JOINED_TABLE) : 0, i;
+    for (i = front; i < LENT; i++)
+        if (lent_table[i] != 7)
+            return 0;
+    return memcmp(&joined, is_enough ? &right : &short_of, sizeof joined) == 0
+        && memcmp(lent_table, JOINED_TABLE, front * sizeof *lent_table) == 0;
+}
+
+/* The joined text, likewise. */
+static int is_written(size_t bytes, int is_enough)
+{
+    ambiguity_write_reply right = {AMBIGUITY_NOT_REFUSED, 0, strlen(JOINED)}, short_of = {14, 0, 0};
+    ambiguity_write_reply written = ambiguity_write_joined((const uint8_t *)ROBOT, strlen(ROBOT), (const uint8_t *)HEATING,
+                                                           strlen(HEATING), lent_bytes, bytes);
+    size_t length = is_enough ? strlen(JOINED) : 0;
+    return memcmp(&written, is_enough ? &right : &short_of, sizeof written) == 0 && memcmp(lent_bytes, JOINED, length) == 0
+        && is_kept(length, 0, 0, 0);
+}
+
+static void expect_joined(size_t entries, size_t bytes, int is_enough)
+{
+    fill_lent();
+    int right = is_joined(entries, is_enough);
+    fill_lent();
+    right = is_written(bytes, is_enough) && right;
+    printf("%s: a heating module joined, lent %zu entries and %zu bytes, which is %s\n", right ? "ok" : "WRONG", entries, bytes,
+           is_enough ? "enough" : "too little");
+    wrong += !right;
+}
+
+/* All three functions refuse these texts, whatever is lent, and change nothing. */
+static void expect_not_joined(const char *what, const char *robot, const char *addon, uint64_t cause, uint64_t at)
+{
+    const uint8_t *texts[] = {(const uint8_t *)robot, (const uint8_t *)addon};
+    size_t lengths[] = {strlen(robot), strlen(addon)}, lent;
+    int right = 1;
+    fill_lent();
+    for (lent = 0; lent <= LENT; lent += LENT) {
+        ambiguity_read_reply joined = ambiguity_join_texts(texts[0], lengths[0], texts[1], lengths[1], lent_table, lent);
+        ambiguity_write_reply written = ambiguity_write_joined(texts[0], lengths[0], texts[1], lengths[1], lent_bytes, lent);
+        ambiguity_part_reply name = ambiguity_joined_name(texts[0], lengths[0], texts[1], lengths[1], lent);
+        right = right && joined.cause == cause && joined.at == at
+            && (joined.terminals | joined.nonterminals | joined.entries | joined.states) == 0 && written.cause == cause
+            && written.at == at && written.length == 0 && (name.text | name.start | name.length) == 0 && is_kept(0, 0, 0, 0);
+    }
+    printf("%s: %s, cause %llu at %llu\n", right ? "ok" : "WRONG", what, (unsigned long long)cause, (unsigned long long)at);
+    wrong += !right;
+}
+
+/* The name of a joined symbol is this part of this text; at 0 bytes none. */
+static void expect_name(size_t symbol, uint64_t text, const char *name)
+{
+    ambiguity_part_reply part = ambiguity_joined_name((const uint8_t *)ROBOT, strlen(ROBOT), (const uint8_t *)HEATING, strlen(HEATING),
+                                                      symbol);
+    const char *from = text == AMBIGUITY_MODULE ? HEATING : ROBOT;
+    const char *found = strstr(from, name);
+    int right = part.text == text && part.length == strlen(name) && found != NULL && part.start == (size_t)(found - from);
+    printf("%s: symbol %zu is '%s' of text %llu\n", right ? "ok" : "WRONG", symbol, name, (unsigned long long)part.text);
+    wrong += !right;
+}
+
+static void expect_names(void)
+{
+    expect_name(0, AMBIGUITY_ROBOT, "take");
+    expect_name(1, AMBIGUITY_ROBOT, "Vol");
+    expect_name(2, AMBIGUITY_MODULE, "heat");
+    expect_name(3, AMBIGUITY_ROBOT, "Method");
+    expect_name(4, AMBIGUITY_ROBOT, "Step");
+    expect_name(5, AMBIGUITY_MODULE, "Warm");
+    expect_name(6, AMBIGUITY_NO_TEXT, "");
+    expect_name(65538, AMBIGUITY_NO_TEXT, "");
+    expect_name(((size_t)1 << 32) + 2, AMBIGUITY_NO_TEXT, "");
+    expect_name((size_t)-1, AMBIGUITY_NO_TEXT, "");
+}
+
+/* A text with the terminals `front` from a number to a number, S, and a rule of S for each of those from `rules` on. */
+static void put_numbered(char *end, const char *front, int from, int to, int rules)
+{
+    int i;
+    end += sprintf(end, "terminals=%s%d", front, from);
+    for (i = from + 1; i < to; i++)
+        end += sprintf(end, ",%s%d", front, i);
+    end += sprintf(end, "\nnonterminals=S\nrule=S:\n");
+    for (i = rules; i < to; i++)
+        end += sprintf(end, "rule=S: %s%d\n", front, i);
+}
+
+/* 1,500 and 1,000 names of which 500 are alike but for case make 2,000, 501 more make one too many; 300 rules and 200 others likewise.
+ * The empty rule of S is in both. */
+static void expect_joined_limits(void)
+{
+    static char robot[32768], addon[32768];
+    ambiguity_read_reply joined;
+    put_numbered(robot, "t", 0, 1500, 1500);
+    put_numbered(addon, "T", 1000, 2000, 2000);
+    joined = ambiguity_join_texts((uint8_t *)robot, strlen(robot), (uint8_t *)addon, strlen(addon), lent_table, LENT);
+    expect("2000 joined terminals", (ambiguity_check_reply){joined.cause, joined.at}, AMBIGUITY_NOT_REFUSED, 0);
+    put_numbered(addon, "T", 1000, 2001, 2001);
+    expect_not_joined("2001 joined terminals", robot, addon, AMBIGUITY_OUT_OF_RANGE, 1);
+    put_numbered(robot, "t", 0, 299, 0);
+    put_numbered(addon, "T", 100, 399, 199);
+    joined = ambiguity_join_texts((uint8_t *)robot, strlen(robot), (uint8_t *)addon, strlen(addon), lent_table, LENT);
+    expect("400 joined rules", (ambiguity_check_reply){joined.cause, joined.at}, AMBIGUITY_NOT_REFUSED, 0);
+    put_numbered(addon, "T", 100, 400, 199);
+    expect_not_joined("401 joined rules", robot, addon, AMBIGUITY_TOO_MANY_RULES, 2 + 399 * 3);
+}
+
+/* The causes of either text, of names of two kinds and of what is joined, in this order. */
+static void expect_joins(void)
+{
+    static const char clash[] = "terminals=Step\nnonterminals=Heat\n", other_clash[] = "terminals=heat\nnonterminals=Method,TAKE\n";
+    expect_joined(ENTRIES(JOINED_TABLE), strlen(JOINED), 1);
+    expect_joined(LENT, LENT, 1);
+    expect_joined(ENTRIES(JOINED_TABLE) - 1, strlen(JOINED) - 1, 0);
+    expect_joined(0, 0, 0);
+    expect_names();
+    expect_not_joined("the robot's text empty, and the module's", "", "", AMBIGUITY_MALFORMED, 1);
+    expect_not_joined("a fault of the robot's text, and of the module's", "terminals=a\nnonterminals=S\nrule=S: b\n", "",
+                      AMBIGUITY_NAME_UNKNOWN, 3);
+    expect_not_joined("the robot's text without a sentence", HEATING, ROBOT, AMBIGUITY_NO_SENTENCE, 0);
+    expect_not_joined("a fault of the module's text", ROBOT, "terminals=Step,step\nnonterminals=S\n", AMBIGUITY_NAME_REPEATED, 1);
+    expect_not_joined("a name that the robot's text alone declares", ROBOT, "terminals=heat\nnonterminals=Step\nrule=Step: heat Vol\n",
+                      AMBIGUITY_NAME_UNKNOWN, 3);
+    expect_not_joined("a terminal that is the robot's nonterminal", ROBOT, clash, AMBIGUITY_KINDS_CLASH, 1);
+    expect_not_joined("a nonterminal that is the robot's terminal", ROBOT, other_clash, AMBIGUITY_KINDS_CLASH, 2);
+    expect_joined_limits();
+}
+
 int main(void)
 {
     uint8_t longer[BYTES + 1] = {0};
@@ -517,6 +667,7 @@ int main(void)
     expect_rooms();
     expect_lengths();
     expect_case();
+    expect_joins();
     expect_report(ENDLESS_TEXT, "refused=19\nat=0\n");
     expect_without_sentence();
     expect_order();

@@ -4,6 +4,7 @@
     found = grammar.search()
     if found.unambiguous:
         grammar.check(found.certificate)
+    joined = ambiguity.join(robot, module)
 
 Every verdict is the library's. What it refuses is raised as Refused, with the
 cause's number and the position. The shared library is looked for in the file
@@ -17,7 +18,10 @@ from typing import List, NamedTuple, Optional
 
 MAX_TABLE_ENTRIES = 1420  # enough for any grammar
 MAX_NAMES = 4000
+MAX_TEXT_BYTES = 262144
 UNAMBIGUOUS = 1
+MODULE = 2                # of two texts that are joined; the robot's is 1
+BUFFER_TOO_SHORT, NO_SENTENCE = 14, 19
 HERE = os.path.dirname(os.path.abspath(__file__))
 
 Numbers = ctypes.c_uint64
@@ -36,7 +40,15 @@ READ = reply("terminals", "nonterminals", "entries", "states")
 ROOM = reply("states", "certificate", "entries", "moves")
 SEARCH = reply("verdict", "count", "looked")
 CHECK = reply()
+WRITE = reply("length")
 TABLE = [Size, Size, Codes, Size]
+TEXTS = [Bytes, Size, Bytes, Size]
+
+
+class PART(ctypes.Structure):
+    """A part of one of two texts; it has no cause."""
+
+    _fields_ = [(name, Numbers) for name in ("text", "start", "length")]
 
 
 def opened() -> ctypes.CDLL:
@@ -50,6 +62,9 @@ def opened() -> ctypes.CDLL:
         "ambiguity_search_room": (ROOM, TABLE),
         "ambiguity_search": (SEARCH, TABLE + [Bytes, Size, Row, Size, Row, Size, Row, Size]),
         "ambiguity_check_certificate": (CHECK, TABLE + [Bytes, Size]),
+        "ambiguity_join_texts": (READ, TEXTS + [Codes, Size]),
+        "ambiguity_joined_name": (PART, TEXTS + [Size]),
+        "ambiguity_write_joined": (WRITE, TEXTS + [Bytes, Size]),
         "ambiguity_version": (ctypes.c_char_p, []),
         "ambiguity_cause_words": (ctypes.c_char_p, [Numbers]),
     }
@@ -68,12 +83,14 @@ def version() -> str:
 
 
 class Refused(ValueError):
-    """What the library refuses: `cause` is a number from 1 to 19, `at` a position."""
+    """What the library refuses: `cause` is a number from 1 to 20, `at` a position. Where two texts are joined, `part` says what is
+    refused: "robot", "module" or "join"."""
 
-    def __init__(self, cause: int, at: int) -> None:
+    def __init__(self, cause: int, at: int, part: Optional[str] = None) -> None:
         words = LIBRARY.ambiguity_cause_words(cause).decode("ascii")
-        super().__init__("refused=%d at=%d: %s" % (cause, at, words))
-        self.cause, self.at = cause, at
+        of_part = " part=%s" % part if part else ""
+        super().__init__("refused=%d at=%d%s: %s" % (cause, at, of_part, words))
+        self.cause, self.at, self.part = cause, at, part
 
 
 class Searched(NamedTuple):
@@ -127,3 +144,61 @@ class Grammar:
     def check(self, certificate: bytes) -> None:
         """Raises Refused unless the certificate is acceptable: then no sentence has two derivation trees."""
         taken(LIBRARY.ambiguity_check_certificate(*self._table, lent(certificate), len(certificate)))
+
+
+class Joined(NamedTuple):
+    """The table of two texts that are joined: t, n, Q, and its entries."""
+
+    terminals: int
+    nonterminals: int
+    states: int
+    table: List[int]
+
+
+def both(robot: bytes, module: bytes):
+    """Two texts as rows."""
+    return lent(robot), len(robot), lent(module), len(module)
+
+
+def is_at_fault(text: bytes, *other: int) -> bool:
+    """Is a text refused alone? Lent nothing, one without fault is refused with 14; other causes may be let pass."""
+    row = (ctypes.c_uint32 * 1)()
+    answer = LIBRARY.ambiguity_read_text(lent(text), len(text), (ctypes.c_uint16 * 1)(), 0, row, 0, row, 0)
+    return answer.cause not in (BUFFER_TOO_SHORT,) + other
+
+
+def taken_of_both(answer, robot: bytes, module: bytes):
+    """An answer about two texts that refuses nothing. The module's text may lack sentences."""
+    if answer.cause:
+        part = "robot" if is_at_fault(robot) else "module" if is_at_fault(module, NO_SENTENCE) else "join"
+        raise Refused(answer.cause, answer.at, part)
+    return answer
+
+
+def join_texts(robot: bytes, module: bytes) -> Joined:
+    """The joined table: the robot's lists and rules, then what the module adds."""
+    table = (ctypes.c_uint16 * MAX_TABLE_ENTRIES)()
+    read = taken_of_both(LIBRARY.ambiguity_join_texts(*both(robot, module), table, MAX_TABLE_ENTRIES), robot, module)
+    return Joined(read.terminals, read.nonterminals, read.states, table[:read.entries])
+
+
+def joined_name(robot: bytes, module: bytes, symbol: int) -> memoryview:
+    """The name shown for a symbol, joined terminals from 0, then joined nonterminals: the part of the text that declares it, the robot's
+    where both do. Empty for a symbol of neither, and for texts that are refused."""
+    if not 0 <= symbol < MAX_NAMES:
+        return memoryview(b"")  # ctypes would cut the number
+    part = LIBRARY.ambiguity_joined_name(*both(robot, module), symbol)
+    text = module if part.text == MODULE else robot
+    return memoryview(text)[part.start:part.start + part.length]
+
+
+def joined_text(robot: bytes, module: bytes) -> bytes:
+    """The joined text, each use of a name as it is declared, the robot's spelling where both texts declare it."""
+    out = (ctypes.c_uint8 * MAX_TEXT_BYTES)()
+    written = taken_of_both(LIBRARY.ambiguity_write_joined(*both(robot, module), out, MAX_TEXT_BYTES), robot, module)
+    return bytes(out[:written.length])
+
+
+def join(robot: bytes, module: bytes) -> Grammar:
+    """The grammar of the joined text."""
+    return Grammar(joined_text(robot, module))

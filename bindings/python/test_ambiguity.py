@@ -1,4 +1,4 @@
-"""Compares the module ambiguity with the second program on the corpus.
+"""Compares the module ambiguity with the second program on the corpus, alone and joined.
 
     test_ambiguity.py FOLDER REPOSITORY     FOLDER holds the module that is tried
 """
@@ -12,9 +12,13 @@ sys.dont_write_bytecode = True
 
 import ambiguity  # noqa: E402
 from corpus import WITHOUT, entries, found_in, text_in  # noqa: E402
+from joining import join, join_written, shown  # noqa: E402
 from searches import Potential, needed, search  # noqa: E402
+from tables import Refusal  # noqa: E402
 
 SMALL = 60                # states up to which the second program is quick
+STEPS = 3, 7              # which grammars of the corpus are joined
+ENOUGH = 262_144          # entries and bytes for what is joined
 
 
 def refusal(call, *words):
@@ -43,6 +47,56 @@ def compare(entry):
     assert refusal(grammar.check, bytes(len(searched.certificate))) == (11, 0), entry.name
 
 
+def compare_joined(robot, module):
+    """Two texts, joined by both; 1 if they are refused."""
+    expected, text = join(robot, module, ENOUGH), join_written(robot, module, ENOUGH)
+    if isinstance(expected, Refusal):
+        for call in ambiguity.join_texts, ambiguity.joined_text, ambiguity.join:
+            assert refusal(call, robot, module) == tuple(expected), (robot, module)
+        assert bytes(ambiguity.joined_name(robot, module, 0)) == b""
+        return 1
+    table = expected.terminals, expected.nonterminals, expected.states, list(expected.table)
+    assert ambiguity.join_texts(robot, module) == table and ambiguity.joined_text(robot, module) == text, (robot, module)
+    joined = ambiguity.join(robot, module)
+    assert (joined.terminals, joined.nonterminals, joined.states) == table[:3]
+    for symbol, name in enumerate(joined.names + [""]):
+        part, view = shown(robot, module, symbol), ambiguity.joined_name(robot, module, symbol)
+        of = {0: b"", 1: robot, 2: module}[part.text]
+        assert of[part.start:part.start + part.length] == view == name.encode("ascii"), (robot, module, symbol)
+    return 0
+
+
+def part_refused(robot, module):
+    """Which part of two texts is refused."""
+    try:
+        ambiguity.join(robot, module)
+    except ambiguity.Refused as refused:
+        return str(refused).split(":")[0], refused.part
+    return None
+
+
+def compare_joins(small):
+    """Pairs of the corpus, and a heating module; each part is told that is refused."""
+    texts = [text_in(entry.name) for entry in small]
+    pairs = [(robot, texts[(place * step + 1) % len(texts)]) for place, robot in enumerate(texts) for step in STEPS]
+    refused = sum(compare_joined(*pair) for pair in pairs)
+    assert 0 < refused < len(pairs) // 2
+    robot = b"terminals=take,Vol\nnonterminals=Step\nrule=Step: take Vol\n"
+    module = b"terminals=heat,VOL\nnonterminals=STEP,Warm\nrule=step: Warm vol\nrule=WARM: heat\n"
+    compare_joined(robot, module)
+    view = ambiguity.joined_name(robot, module, 2)
+    assert view == b"heat" and view.obj is module
+    view = ambiguity.joined_name(robot, module, 1)
+    assert view == b"Vol" and view.obj is robot
+    assert all(ambiguity.joined_name(robot, module, symbol) == b"" for symbol in (5, 4000, -1, 2 ** 64 - 1, 2 ** 64, 2 ** 64 + 2))
+    assert part_refused(module.replace(b"=WARM", b"=x"), b"") == ("refused=17 at=4 part=robot", "robot")
+    assert part_refused(robot, b"") == ("refused=16 at=1 part=module", "module")
+    clash = b"terminals=step\nnonterminals=Warm\n"
+    assert part_refused(robot, clash) == ("refused=20 at=1 part=join", "join")
+    assert part_refused(clash, robot) == ("refused=19 at=0 part=robot", "robot")
+    return len(pairs), refused
+
+
 def main():
     assert os.path.dirname(os.path.abspath(ambiguity.__file__)) == os.path.abspath(FOLDER)
     with open(os.path.join(ROOT, "VERSION"), encoding="ascii") as file:
@@ -64,7 +118,7 @@ def main():
     assert ambiguity.Grammar(mixed).search() == ambiguity.Grammar(declared).search()
     assert refusal(ambiguity.Grammar, mixed.replace(b"Step", b"Step,TAKE", 1)) == (18, 2)
     assert refusal(ambiguity.Grammar, b"") == (16, 1) and refusal(ambiguity.Grammar, b"\xff" * 262_145) == (16, 0)
-    print("%d grammars" % len(small))
+    print("%d grammars, %d pairs of them joined or refused (%d)" % (len(small), *compare_joins(small)))
 
 
 if __name__ == "__main__":

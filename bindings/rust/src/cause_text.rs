@@ -28,6 +28,7 @@ impl Cause {
             Cause::NameUnknown => "a name is not declared, or is of the wrong kind",
             Cause::NameRepeated => "a name is declared twice",
             Cause::NoSentence => "the start has no finite tree, so there is no sentence",
+            Cause::KindsClash => "a name is a terminal in one text and a nonterminal in the other",
         }
     }
 }

@@ -1,17 +1,19 @@
 //! The library for Rust: the table check, the step records, the certificate check, the witness check over indices and over records,
 //! the search, the reader and the writer of grammar text, what search and writer are to be lent, told beforehand, the report that the
-//! program prints, and reading back of the two strings that it prints. bindings/c/ambiguity.h says of each what is lent and what comes
-//! back; here slices stand for pointers, and enums for numbers. Rows that are written cannot overlap others: the borrow rules see to
-//! that.
+//! program prints, reading back of the two strings that it prints, and the join of a module's text to the robot's.
+//! bindings/c/ambiguity.h says of each what is lent and what comes back; here slices stand for pointers, and enums for numbers. Rows that
+//! are written cannot overlap others: the borrow rules see to that.
 //!
 //! Every input is taken. A refusal changes no lent row. A written row may be longer than needed: its rest stays as it was. The stack
-//! that a call uses is measured and not proved: bindings/c/ambiguity.h has the figures, for reader, search, report and reading back
-//! `AMBIGUITY_READ_TEXT_STACK_BYTES` and so on, for all others `AMBIGUITY_STACK_BYTES`.
+//! that a call uses is measured and not proved: bindings/c/ambiguity.h has the figures, for reader, search, report, reading back and
+//! join `AMBIGUITY_READ_TEXT_STACK_BYTES` and so on, for all others `AMBIGUITY_STACK_BYTES`.
 //!
-//! Names that differ only in the case of ASCII letters are the same name: in the lists and rules of a text, among those that the writer
-//! is given, and in two lines that are read back. What is written has the declared spelling. Keys, as `rule=`, are no names.
+//! Names that differ only in the case of ASCII letters are the same name: in the lists and rules of a text, in two texts that are
+//! joined, among those that the writer is given, and in two lines that are read back. What is written has the declared spelling. Keys,
+//! as `rule=`, are no names.
 //!
-//! [`Grammar`] owns its rows: read a text, search it, check a certificate, read two strings back. The functions below it lend rows.
+//! [`Grammar`] owns its rows: read a text, or two that are joined ([`join`]), search it, check a certificate, read two strings back. The
+//! functions below it lend rows.
 
 #![warn(missing_docs)]
 
@@ -20,6 +22,7 @@ compile_error!("the archive is for x86-64 with the System V calling convention")
 
 mod cause_text;
 mod grammar;
+mod joining;
 mod letters;
 mod raw;
 mod refusal;
@@ -27,6 +30,7 @@ mod room;
 mod strings;
 
 pub use grammar::{Code, Grammar, Rule, Searched, START};
+pub use joining::{join, join_texts, joined_name, joined_text, write_joined, JoinPart, JoinRefusal};
 pub use letters::{Letter, Part, PartRefusal, ReadBack};
 pub use refusal::{Cause, Refusal};
 pub use room::{search_room, written_length, Room};

@@ -92,6 +92,13 @@ pub struct ReadBackReply {
     pub right: u64,
 }
 
+#[repr(C)]
+pub struct PartReply {
+    pub text: u64,
+    pub start: u64,
+    pub length: u64,
+}
+
 extern "C" {
     pub fn ambiguity_check_table(t: usize, n: usize, table: *const u16, table_entries: usize) -> TableReply;
 
@@ -201,4 +208,30 @@ extern "C" {
         right: *mut u32,
         right_entries: usize,
     ) -> ReadBackReply;
+
+    pub fn ambiguity_join_texts(
+        robot: *const u8,
+        robot_bytes: usize,
+        module: *const u8,
+        module_bytes: usize,
+        table: *mut u16,
+        table_entries: usize,
+    ) -> ReadReply;
+
+    pub fn ambiguity_joined_name(
+        robot: *const u8,
+        robot_bytes: usize,
+        module: *const u8,
+        module_bytes: usize,
+        symbol: usize,
+    ) -> PartReply;
+
+    pub fn ambiguity_write_joined(
+        robot: *const u8,
+        robot_bytes: usize,
+        module: *const u8,
+        module_bytes: usize,
+        out: *mut u8,
+        out_bytes: usize,
+    ) -> WriteReply;
 }

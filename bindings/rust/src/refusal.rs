@@ -1,8 +1,8 @@
-//! Refusals: the causes of document 01, and 19 of document 02, each with its position.
+//! Refusals: the causes of document 01, and 19 and 20 of document 02, each with its position.
 
 use std::fmt;
 
-/// Why something is refused; the numbers are document 01's, and 19 is document 02's.
+/// Why something is refused; the numbers are document 01's, and 19 and 20 are document 02's.
 #[derive(Clone, Copy, Debug, PartialEq, Eq)]
 #[repr(u8)]
 pub enum Cause {
@@ -44,9 +44,11 @@ pub enum Cause {
     NameRepeated = 18,
     /// The start, the first nonterminal, has no finite tree, so the grammar has no sentence: at 0.
     NoSentence = 19,
+    /// A name is a terminal in one text and a nonterminal in the other: at the module's line.
+    KindsClash = 20,
 }
 
-pub(crate) const CAUSES: [Cause; 19] = [
+pub(crate) const CAUSES: [Cause; 20] = [
     Cause::OutOfRange,
     Cause::Truncated,
     Cause::LeftUndeclared,
@@ -66,6 +68,7 @@ pub(crate) const CAUSES: [Cause; 19] = [
     Cause::NameUnknown,
     Cause::NameRepeated,
     Cause::NoSentence,
+    Cause::KindsClash,
 ];
 
 /// What is refused, and where; bindings/c/ambiguity.h says for each cause what the position counts.
@@ -78,7 +81,7 @@ pub struct Refusal {
 }
 
 impl Cause {
-    /// Its number, 1 to 19.
+    /// Its number, 1 to 20.
     #[must_use]
     pub fn number(self) -> u8 {
         self as u8
@@ -98,7 +101,7 @@ impl fmt::Display for Refusal {
 
 impl std::error::Error for Refusal {}
 
-/// The refusal of a reply, or what comes where nothing is refused. That a cause is at most 19 is proved (`CauseTheorems`).
+/// The refusal of a reply, or what comes where nothing is refused. That a cause is at most 20 is proved (`CauseTheorems`).
 pub(crate) fn or_else<T>(cause: u64, at: u64, given: impl FnOnce() -> T) -> Result<T, Refusal> {
     if cause == 0 {
         return Ok(given());

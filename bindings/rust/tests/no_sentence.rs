@@ -1,9 +1,10 @@
 //! Grammars in which S has no finite tree: every entry refuses them with 19 at 0, after 1 to 8 and before it looks at a certificate, a
-//! witness, names, lines or the length of a row. Nothing that is lent changes.
+//! witness, names, lines, a module or the length of a row. Nothing that is lent changes. A module's text alone may be of this kind.
 
 mod support;
 
-use ambiguity::{certificate_bytes, row_entries, Cause, Code, Names, Part, PartRefusal, Refusal, Table, TripleRecord};
+use ambiguity::{certificate_bytes, row_entries, Cause, Code, JoinPart, JoinRefusal, Names, Part, PartRefusal, Refusal};
+use ambiguity::{Table, TripleRecord};
 use ambiguity::{MAX_NAMES, MAX_NONTERMINALS, MAX_REPORT_BYTES, MAX_REPORT_TEXT_BYTES, MAX_STATES, MAX_TABLE_ENTRIES};
 use support::{bytes_of, grammar, refused, Lent, A, B, S};
 
@@ -103,6 +104,25 @@ fn texts() {
             assert_eq!(answer, Err(PartRefusal { part: Part::Grammar, refusal: NO_SENTENCE }), "{text}{lines}");
             assert!(left.kept() && right.kept());
         }
+    }
+}
+
+/// The robot's text, whatever the module's is; as a module's text it is joined.
+#[test]
+fn joins() {
+    let robot = "terminals=a\nnonterminals=S\nrule=S: a S\nrule=S:\n";
+    for Endless { text, .. } in ENDLESS {
+        for module in [text, robot, ""] {
+            let refusal = JoinRefusal { part: JoinPart::Robot, refusal: NO_SENTENCE };
+            let mut table = Lent::new(&[7; MAX_TABLE_ENTRIES], 0xFFFF);
+            assert_eq!(ambiguity::join_texts(text.as_bytes(), module.as_bytes(), table.row_mut()), Err(refusal), "{text}");
+            assert!(table.kept());
+            assert_eq!(ambiguity::joined_text(text.as_bytes(), module.as_bytes()), Err(refusal), "{text}");
+            assert_eq!(ambiguity::joined_name(text.as_bytes(), module.as_bytes(), 0), b"", "{text}");
+        }
+        let joined = ambiguity::join(robot.as_bytes(), text.as_bytes()).unwrap();
+        let added = text.lines().skip(2).filter(|line| !robot.lines().any(|of_robot| of_robot == *line)).count();
+        assert_eq!((joined.rules().len(), joined.terminals().len()), (2 + added, 1), "{text}");
     }
 }
 

@@ -1,12 +1,13 @@
-//! The library's answers on the second program's cases, for each of the twelve entries: damaged, short and long inputs, each row lent
+//! The library's answers on the second program's cases, for each of the fifteen entries: damaged, short and long inputs, each row lent
 //! between guards; of a search all that it wrote is compared, the witness entry by entry, and of lines read back every letter. What is
 //! told beforehand is compared, and held to every search and every text that is written, and to how much a search looked at. What is read
-//! is written again, and lines that are read back are printed again, with the declared spelling of names.
+//! is written again, and lines that are read back are printed again, with the declared spelling of names. A joined table is the reader's
+//! for the joined text, and the name shown for a symbol lies in the text that is said.
 
 mod support;
 
 use ambiguity::{certificate_bytes, row_entries, Cause, Code, Grammar, Letter, Names, Part, PartRefusal, Refusal, Strings};
-use ambiguity::{Table, TripleRecord, Verdict};
+use ambiguity::{JoinPart, JoinRefusal, Table, TripleRecord, Verdict};
 use std::collections::HashSet;
 use support::{all_steps, lent_room, refused, Cases, Comparison, Lent};
 
@@ -318,6 +319,109 @@ fn back_line(cases: &mut Cases, guard: u8) -> String {
     }
 }
 
+/// The two texts in front of a case, which are only looked at.
+fn with_texts<A>(cases: &mut Cases, guard: u8, ask: impl FnOnce(&mut Cases, &[u8], &[u8]) -> A) -> A {
+    let [robot, module] = [0; 2].map(|_| Lent::new(&cases.bytes(), guard));
+    let answer = ask(cases, robot.row(), module.row());
+    assert!(robot.kept() && module.kept());
+    answer
+}
+
+/// What a text alone is refused for, if all is lent.
+fn fault(text: &[u8]) -> Option<Cause> {
+    Grammar::read(text).err().map(|refusal| refusal.cause)
+}
+
+/// The line of a refusal. The part that is refused is the first text that is at fault by the reader, and the join where none is.
+fn join_refused(robot: &[u8], module: &[u8], JoinRefusal { part, refusal }: JoinRefusal) -> String {
+    let of_join = [Cause::KindsClash, Cause::OutOfRange, Cause::TooManyRules, Cause::TooManyStates, Cause::BufferTooShort];
+    match part {
+        JoinPart::Robot => assert_eq!(Grammar::read(robot), Err(refusal)),
+        JoinPart::Module => {
+            assert_eq!((fault(robot), Grammar::read(module)), (None, Err(refusal)));
+            assert_ne!(refusal.cause, Cause::NoSentence);
+        }
+        JoinPart::Join => {
+            assert!(fault(robot).is_none() && fault(module).map_or(true, |cause| cause == Cause::NoSentence));
+            assert!(of_join.contains(&refusal.cause));
+        }
+    }
+    refusal.to_string()
+}
+
+/// The joined text, which is read, and written again unchanged.
+fn joined_text(robot: &[u8], module: &[u8]) -> (String, Grammar) {
+    let text = ambiguity::joined_text(robot, module).unwrap();
+    let grammar = Grammar::read(text.as_bytes()).unwrap();
+    assert_eq!(grammar.write(), text);
+    (text, grammar)
+}
+
+/// The joined table is what the reader gives for the joined text; the robot's table stands in front, with its codes.
+fn join_line(cases: &mut Cases, guard: u8) -> String {
+    with_texts(cases, guard, |cases, robot, module| {
+        let mut table = Lent::new(&vec![half(guard ^ 0x5A); cases.number()], half(guard));
+        let answer = ambiguity::join_texts(robot, module, table.row_mut());
+        assert!(table.kept_past(answer.map_or(0, |read| read.entries)));
+        let read = match answer {
+            Ok(read) => read,
+            Err(refused) => return join_refused(robot, module, refused),
+        };
+        let rules = &table.row()[..read.entries];
+        let (text, grammar) = joined_text(robot, module);
+        let Table { terminals, nonterminals, rules: expected } = grammar.table();
+        assert_eq!((read.terminals, read.nonterminals, read.states), (terminals, nonterminals, grammar.states()));
+        assert_eq!(rules, expected, "{text}");
+        assert_eq!(ambiguity::join(robot, module).as_ref(), Ok(&grammar));
+        assert!(rules.starts_with(Grammar::read(robot).unwrap().table().rules));
+        format!("joined terminals={terminals} nonterminals={nonterminals} states={} table={}", read.states, joined(rules))
+    })
+}
+
+/// The writer that is lent just the text's length writes it, and is refused with one less.
+fn join_text_line(cases: &mut Cases, guard: u8) -> String {
+    with_texts(cases, guard, |cases, robot, module| {
+        let mut out = Lent::new(&vec![guard ^ 0x5A; cases.number()], guard);
+        let answer = ambiguity::write_joined(robot, module, out.row_mut());
+        assert!(out.kept_past(answer.unwrap_or(0)));
+        let length = match answer {
+            Ok(length) => length,
+            Err(refused) => return join_refused(robot, module, refused),
+        };
+        let written = &out.row()[..length];
+        assert_eq!(joined_text(robot, module).0.as_bytes(), written);
+        assert_eq!(ambiguity::write_joined(robot, module, &mut vec![guard; length]), Ok(length));
+        let less = ambiguity::write_joined(robot, module, &mut vec![guard; length - 1]);
+        assert_eq!(less.map_err(|refused| refused.refusal), refused(Cause::BufferTooShort, 0));
+        format!("written={length} text={}", hex(written))
+    })
+}
+
+/// The number of the text that a name lies in, and its start there; for an empty one 0 and 0.
+fn place(name: &[u8], robot: &[u8], module: &[u8]) -> (usize, usize) {
+    let [robot, module, place] = [robot, module, name].map(<[u8]>::as_ptr_range);
+    let lies_in = |text: &std::ops::Range<*const u8>| text.start <= place.start && place.end <= text.end;
+    let found = (1..).zip([robot, module]).find(|(_, text)| !name.is_empty() && lies_in(text));
+    found.map_or((0, 0), |(number, text)| (number, place.start as usize - text.start as usize))
+}
+
+/// A name that is shown is that of the symbol in the joined text; an empty one is that of no symbol, or of texts that are not joined.
+fn shown_line(cases: &mut Cases, guard: u8) -> String {
+    with_texts(cases, guard, |cases, robot, module| {
+        let symbol = cases.long();
+        let name = ambiguity::joined_name(robot, module, symbol);
+        match ambiguity::join(robot, module) {
+            Ok(grammar) => {
+                let names = [grammar.terminals(), grammar.nonterminals()].concat();
+                assert_eq!(names.get(symbol).map_or(&b""[..], |name| name.as_bytes()), name);
+            }
+            Err(_) => assert!(name.is_empty()),
+        }
+        let (text, start) = place(name, robot, module);
+        format!("shown text={text} start={start} length={}", name.len())
+    })
+}
+
 /// The comparison of a kind that has all of an answer's line.
 fn comparison<'a>(kind: &'a str, script: &'a str, causes: &'a [usize]) -> Comparison<'a> {
     Comparison { kind, script, verb: "", causes, grammar_causes: &[], told: whole }
@@ -391,4 +495,21 @@ fn report() {
 fn reading_back() {
     let grammar_causes = &[1, 4, 6, 7, 8, 16, 17, 18, 19];
     Comparison { grammar_causes, ..comparison("backs", "back_cases.py", &[14, 16, 17]) }.agrees(back_line);
+}
+
+#[test]
+fn join() {
+    let causes = [1, 4, 6, 7, 8, 14, 16, 17, 18, 19, 20];
+    Comparison { verb: "join-", ..comparison("joins", "join_cases.py", &causes) }.agrees(join_line);
+}
+
+#[test]
+fn joined_texts() {
+    let causes = [1, 4, 6, 7, 8, 14, 16, 17, 18, 19, 20];
+    Comparison { verb: "join-text-", ..comparison("join-texts", "join_cases.py", &causes) }.agrees(join_text_line);
+}
+
+#[test]
+fn names_shown() {
+    Comparison { verb: "shown-", ..comparison("shown", "join_cases.py", &[]) }.agrees(shown_line);
 }

@@ -15,7 +15,7 @@ pub const VERSION: &str = include_str!("../../../VERSION");
 /// The exit status; of several files the worst one counts.
 #[derive(Clone, Copy, Debug, PartialEq, Eq)]
 pub enum Status {
-    /// Unambiguous, or accepted.
+    /// Unambiguous, accepted, or joined.
     Yes = 0,
     /// Ambiguous, with two trees; or a certificate or two lines that are not accepted.
     No = 1,
@@ -65,6 +65,8 @@ pub struct Tool {
     pub bare: &'static [&'static str],
     /// The files that are judged together.
     pub files: usize,
+    /// Whether no more files are taken than these.
+    pub once: bool,
 }
 
 /// Options and files of a command.
@@ -133,6 +135,9 @@ fn contradiction(tool: &Tool, request: &Request) -> Option<String> {
         if let [first, second, ..] = given[..] {
             return Some(format!("{first} and {second} do not go together"));
         }
+    }
+    if tool.once && request.files.len() > tool.files {
+        return Some("there are too many files".to_string());
     }
     if request.files.is_empty() || request.files.len() % tool.files != 0 {
         return Some("files are missing".to_string());

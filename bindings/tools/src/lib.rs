@@ -1,5 +1,6 @@
-//! What `ambig-certify` and `ambig-check` share. Verdicts are the library's; here they are put into words, lines and pages.
+//! What `ambig-certify`, `ambig-check` and `ambig-join` share. Verdicts are the library's; here they are put into words, lines and pages.
 
+pub mod certify;
 pub mod codes;
 pub mod command;
 pub mod diagnosis;
@@ -7,6 +8,7 @@ pub mod drawing;
 pub mod explanation;
 pub mod fix;
 pub mod holes;
+pub mod joins;
 pub mod json;
 pub mod layout;
 pub mod lines;

@@ -1,8 +1,9 @@
 //! Refusals in words: `FILE:LINE:COLUMN: error: what is wrong`, and behind it the library's number and position.
 
-use ambiguity::{Cause, Grammar, Refusal};
+use ambiguity::{Cause, Grammar, JoinPart, JoinRefusal, Refusal};
 
-use crate::diagnosis;
+use crate::diagnosis::{self, Finding};
+use crate::joins::Pair;
 use crate::lines::{Certificate, Malformed};
 use crate::strings::{self, NotParting};
 use crate::words;
@@ -24,11 +25,27 @@ fn error(file: &str, line: usize, column: usize, text: &str) -> String {
 
 /// A refusal of grammar text, and what else is wrong with it. Only the first has the library's number and position.
 pub fn of_text(file: &str, text: &[u8], refusal: Refusal) -> String {
-    let finding = diagnosis::of(text, refusal);
-    let first = error(file, finding.line, finding.column, &format!("{} ({refusal})", finding.message));
-    let beside = diagnosis::beside(text, refusal);
-    let others = beside.iter().map(|finding| error(file, finding.line, finding.column, &finding.message));
-    first + &others.collect::<String>()
+    let mut findings = vec![diagnosis::of(text, refusal)];
+    findings.extend(diagnosis::beside(text, refusal));
+    of_findings(file, &findings, refusal)
+}
+
+/// Findings in a file, of which the first has the library's number and position.
+fn of_findings(file: &str, findings: &[Finding], refusal: Refusal) -> String {
+    let said = |(place, finding): (usize, &Finding)| {
+        let numbers = if place == 0 { format!(" ({refusal})") } else { String::new() };
+        error(file, finding.line, finding.column, &format!("{}{numbers}", finding.message))
+    };
+    findings.iter().enumerate().map(said).collect()
+}
+
+/// A refusal of two texts that are joined; the file is the one at fault.
+pub fn of_join(pair: &Pair, JoinRefusal { part, refusal }: JoinRefusal) -> String {
+    match part {
+        JoinPart::Robot => of_text(pair.robot_file, pair.robot, refusal),
+        JoinPart::Module => of_findings(pair.module_file, &diagnosis::of_module(pair, refusal), refusal),
+        JoinPart::Join => of_findings(pair.module_file, &diagnosis::of_join(pair, refusal), refusal),
+    }
 }
 
 /// Lines of a certificate that are malformed.
@@ -58,8 +75,7 @@ pub fn of_certificate(file: &str, certificate: &Certificate, refusal: Refusal, g
 
 /// A refusal of the lines of two strings.
 pub fn of_strings(file: &str, grammar: &Grammar, lines: &[u8], refusal: Refusal) -> String {
-    let finding = diagnosis::of_strings(grammar, lines, refusal);
-    error(file, finding.line, finding.column, &format!("{} ({refusal})", finding.message))
+    of_findings(file, &[diagnosis::of_strings(grammar, lines, refusal)], refusal)
 }
 
 /// Two strings that do not part.

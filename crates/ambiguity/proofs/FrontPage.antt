@@ -40,6 +40,7 @@ use Rattle.ambiguity.proofs.Readings.{reading-theorems, back-theorems}
 use Rattle.ambiguity.proofs.Reports.{report-theorems}
 use Rattle.ambiguity.proofs.Steps.{step-theorems}
 use Rattle.ambiguity.proofs.Texts.{text-theorems}
+use Rattle.ambiguity.proofs.Joins.{join-theorems, shown-theorems, place-theorems, joined-theorems}
 use Rattle.ambiguity.proofs.Carried.{carried-theorems}
 use Rattle.ambiguity.specs.Entries.{Stores}
 use Rattle.ambiguity.specs.Automata.{AutomatonTheorems, IndexTheorems}
@@ -181,6 +182,10 @@ front-page = record {
   rooms = room-theorems;
   texts = text-theorems;
   text-lengths = length-theorems;
+  joins = join-theorems;
+  joined-names = shown-theorems;
+  joined-places = place-theorems;
+  joined-texts = joined-theorems;
   reports = report-theorems;
   readings = reading-theorems;
   backs = back-theorems;

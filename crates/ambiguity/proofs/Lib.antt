@@ -3,6 +3,7 @@ pub mod Searches
 pub mod Rooms
 pub mod Steps
 pub mod Texts
+pub mod Joins
 pub mod Readings
 pub mod Reports
 pub mod Carried

@@ -1,8 +1,8 @@
 -- What holds of the library, whatever the input: theorems over what the public entries promise. A promise is
 -- the entry's `ensures`; it determines the answer and all that was lent. Each promise is one definition:
--- specs/Entries.antt says where. specs/Searches.antt, specs/Rooms.antt, specs/Texts.antt, specs/Reports.antt
--- and specs/Readings.antt have what follows for the search, for room told beforehand, for texts, for the
--- program and for the two lines of a witness, specs/Carried.antt what holds of byte tables carried over,
+-- specs/Entries.antt says where. specs/Searches.antt, specs/Rooms.antt, specs/Texts.antt, specs/Joins.antt,
+-- specs/Reports.antt and specs/Readings.antt have what follows for the search, for room told beforehand, for texts,
+-- for two texts that are joined, for the program and for the two lines of a witness, specs/Carried.antt what holds of byte tables carried over,
 -- specs/Automata.antt whose moves the promises compute with, proofs/FrontPage.antt the value of the record.
 -- Source: document 01 and document 02's requests; README.md has the demands. Of demand 1, that a refusal is the
 -- first in the documents' order is in the definitions that the promises equal.
@@ -41,6 +41,11 @@ use Rattle.rooms.specs.Room.{RoomAnswer}
 use Rattle.rooms.specs.declared.SearchRoom.{SearchRoom}
 use Rattle.text.specs.Promise.{LengthAnswer}
 use Rattle.text.specs.declared.TextLength.{TextLength}
+use Rattle.text.specs.declared.TextRead.{TextRead}
+use Rattle.text.specs.declared.TextWritten.{TextWritten}
+use Rattle.modules.specs.Shown.{partOf}
+use Rattle.modules.specs.Promise.{JoinsTexts, WritesJoined, ShowsPlace, ShowsName}
+use Rattle.modules.specs.declared.Place.{Place}
 use Rattle.grammar.specs.Refusal.{done, noSentence}
 use Rattle.text.specs.Read.{Source}
 use Rattle.text.specs.Rules.{checkText}
@@ -51,6 +56,7 @@ use Rattle.report.specs.declared.Reported.{Reported}
 use Rattle.ambiguity.specs.Entries.{Usize, IsTableOf, Stores, StepAnswers}
 use Rattle.ambiguity.specs.Searches.{SearchTheorems}
 use Rattle.ambiguity.specs.Texts.{TextTheorems}
+use Rattle.ambiguity.specs.Joins.{JoinTheorems, ShownTheorems, JoinedTextTheorems}
 use Rattle.ambiguity.specs.Readings.{ReadingTheorems, BackTheorems}
 use Rattle.ambiguity.specs.Reports.{ReportTheorems}
 use Rattle.ambiguity.specs.Automata.{AutomatonTheorems, IndexTheorems}
@@ -130,6 +136,14 @@ pub record FrontPage : Type 1 where
   pub texts : TextTheorems
   pub text-lengths : (t n : ℕ) (table bytes starts lengths : List ℕ) (r : TextLength) → LengthAnswer t n table bytes starts lengths r
       → LengthTheorems t n table bytes starts lengths r
+  -- document 02, [10]: a module's text joined to the robot's
+  pub joins : (robot addon table : List ℕ) (v : TextRead) (table′ : List ℕ) → JoinsTexts robot addon table v table′
+      → JoinTheorems robot addon table v table′
+  pub joined-names : (robot addon : List ℕ) (i : ℕ) (part : List ℕ) → ShowsName robot addon i part → ShownTheorems robot addon i part
+  pub joined-places : (robot addon : List ℕ) (i : ℕ) (place : Place) → ShowsPlace robot addon i place
+      → ShownTheorems robot addon i (partOf robot addon place)
+  pub joined-texts : (robot addon out : List ℕ) (w : TextWritten) (out′ : List ℕ) → WritesJoined robot addon out w out′
+      → JoinedTextTheorems robot addon out w out′
   pub reports : (text out : List ℕ) (r : Reported) (out′ : List ℕ) → Reports text out r out′ → ReportTheorems text out r out′
   pub readings : (text : List ℕ) (s : Source) → checkText limits text ≡ done s → ReadingTheorems s
   pub backs : (text lines left right : List ℕ) (r : ReadBack) (left′ right′ : List ℕ) → ReadsBack text lines left right r left′ right′

@@ -2,6 +2,7 @@ pub mod Entries
 pub mod Searches
 pub mod Rooms
 pub mod Texts
+pub mod Joins
 pub mod Readings
 pub mod Reports
 pub mod Automata

@@ -10,7 +10,7 @@ use mathlib.Core.List.{List}
 use mathlib.Core.Logic.{inl, inr}
 use Rattle.grammar.specs.Limits.{limits}
 use Rattle.grammar.specs.Grammar.{Grammar}
-use Rattle.grammar.specs.Refusal.{Answer, done, refused, andThen, noSentence}
+use Rattle.grammar.specs.Refusal.{Answer, done, refused, andThen, noSentence, kindsClash}
 use Rattle.grammar.specs.TableCheck.{tableChecked}
 use Rattle.grammar.specs.declared.TableVerdict.the-variants.{Passed}
 use Rattle.grammar.proofs.Answers.{and-both}
@@ -36,9 +36,9 @@ use Rattle.text.specs.declared.TextLength.the-variants as length
 use Rattle.text.specs.declared.TextWritten.the-variants.{Written}
 use Rattle.witness_records.specs.Records.{triples}
 use Rattle.ambiguity_c.specs.Replies.{tableReply, stepReply, checkReply, searchReply, roomReply, readReply, writeReply, lengthReply, reportReply, readBackReply}
-use Rattle.ambiguity_c.specs.Causes.{Tells, IsRead, IsRoom, IsVerdict, IsStep, CauseTheorems}
+use Rattle.ambiguity_c.specs.Causes.{Tells, JoinTells, IsRead, IsRoom, IsVerdict, IsStep, CauseTheorems}
 use Rattle.grammar.proofs.Causes.{cause}
-use Rattle.ambiguity_c.proofs.Refusals.{isCause, Caused, check-table, nth-step, check-witness, check-records, check-certificate, search-asked, search-room, check-text, read-into, text-from, write-into, report-into, strings-into}
+use Rattle.ambiguity_c.proofs.Refusals.{isCause, Caused, isJoinCause, JoinCaused, join-into, joined-into, check-table, nth-step, check-witness, check-records, check-certificate, search-asked, search-room, check-text, read-into, text-from, write-into, report-into, strings-into}
 
 -- nothing is refused
 tells-done : {X : Type 0} → X → Tells 0 X
@@ -120,6 +120,23 @@ back-promised : (a b : ℕ) (text lines : List ℕ) → let w = readBack (readBa
 unfolding readBackInto
 back-promised a b text lines = back-tells a b lines (checkText limits text) (check-text limits text)
 
+-- over two texts
+join-tells : {X : Type 0} (c : ℕ) → isJoinCause c ≡ true → JoinTells c X
+join-tells c h =
+    let b = and-both (leb 1 c) (leb c kindsClash) h in
+    let low : 1 ≤ c = leb-true 1 c (b .0) in
+    let high : c ≤ kindsClash = leb-true c kindsClash (b .1) in
+    record { known = high; zero = λ e. absurd (omega arith) }
+
+join-read-tells : (o : Answer Source) → JoinCaused o → JoinTells (readReply (textRead o) .cause) (IsRead (textRead o))
+join-read-tells (done s) h = record { known = omega arith; zero = λ e. refl }
+join-read-tells (refused c p) (cause h) = join-tells c h
+
+join-write-tells : (o : Answer (List ℕ)) → JoinCaused o
+    → JoinTells (writeReply (textWritten o) .cause) (textWritten o ≡ Written (writeReply (textWritten o) .length))
+join-write-tells (done s) h = record { known = omega arith; zero = λ e. refl }
+join-write-tells (refused c p) (cause h) = join-tells c h
+
 pub cause-theorems : CauseTheorems
 cause-theorems = record {
   tables = λ t n table r a.
@@ -138,6 +155,11 @@ cause-theorems = record {
       (write-tells _ (write-into limits t n table bytes starts lengths _));
   text-lengths = λ t n table bytes starts lengths v a.
       subst (λ v. Tells (lengthReply v .cause) (v ≡ length.Bytes (lengthReply v .length))) (sym a) (length-tells _ (text-from limits t n table bytes starts lengths));
+  joins = λ robot addon table v table′ a.
+      subst (λ v. JoinTells (readReply v .cause) (IsRead v)) (sym (a .answer)) (join-read-tells _ (join-into limits _ robot addon));
+  joined-texts = λ robot addon out v out′ a.
+      subst (λ v. JoinTells (writeReply v .cause) (v ≡ Written (writeReply v .length))) (sym (a .answer))
+      (join-write-tells _ (joined-into limits _ robot addon));
   reports = λ text out v out′ a.
       subst (λ v. Tells (reportReply v .cause) (v ≡ report.Written (reportReply v .length))) (sym (a .answer))
       (report-tells _ (report-into _ text));

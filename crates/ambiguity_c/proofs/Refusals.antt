@@ -10,9 +10,8 @@ use lib.Dec.{leb}
 use lib.ListN.{length}
 use Rattle.grammar.specs.Basics.{choose}
 use Rattle.grammar.specs.Limits.{Limits}
-use Rattle.grammar.specs.Grammar.{Rule}
 use Rattle.grammar.specs.Table.{ruleAt}
-use Rattle.grammar.specs.Refusal.{Answer, done, refused, refuseUnless, andThen, ruleRepeated, tooManyStates, certificateLength, spareBit, startMissing, endPresent, successorMissing, bufferTooShort, witnessWrong, malformed, nameUnknown, nameRepeated, noSentence}
+use Rattle.grammar.specs.Refusal.{Answer, done, refused, refuseUnless, andThen, tooManyStates, certificateLength, spareBit, startMissing, endPresent, successorMissing, bufferTooShort, witnessWrong, malformed, nameUnknown, nameRepeated, noSentence, kindsClash}
 use Rattle.grammar.specs.TableCheck.{checkTable}
 use Rattle.grammar.proofs.Answers.{and-both, both-and}
 use Rattle.grammar.proofs.Causes.{CausedBy, result, cause, unless, next, upTo, caused-more, stored-causes}
@@ -20,6 +19,7 @@ use Rattle.automaton.specs.Moves.{Moves}
 use Rattle.automaton.specs.PositionMoves.{movesOf}
 use Rattle.triples.specs.Certificate.{checkBytes, checkCertificate}
 use Rattle.triples.specs.Witness.{checkOn, checkRow, checkWitness, checkWitnessRecords}
+use Rattle.modules.specs.Joined.{joinedText, refuseClash, joinTexts, joinedTableInto, joinedTextInto}
 use Rattle.report.specs.Report.{reportInto}
 use Rattle.rooms.specs.Room.{searchRoom}
 use Rattle.search.specs.Promise.{Lent, searchable}
@@ -27,9 +27,9 @@ use Rattle.steps.specs.Steps.{nthStep}
 use Rattle.readings.specs.Readings.{readWords, readStrings}
 use Rattle.readings.specs.Promise.{stringsInto}
 use Rattle.text.specs.Read.{Source}
-use Rattle.text.specs.Rules.{admit, lastTests, checkText, readInto}
+use Rattle.text.specs.Rules.{lastTests, checkText, readInto}
 use Rattle.text.specs.Print.{textFrom, writeInto}
-use Rattle.text.proofs.Causes.{or-none, whole-line, gather-causes, text-causes}
+use Rattle.text.proofs.Causes.{or-none, whole-line, gather-causes, text-causes, admit-causes, module-causes}
 
 -- the documents' causes
 abbrev pub isCause : ℕ → Bool
@@ -93,18 +93,9 @@ pub search-room : (L : Limits) (t n : ℕ) (table : List ℕ) → Caused (search
 unfolding searchRoom
 search-room L t n table = next _ _ (check-table L t n table) (λ G. result)
 
-admits : (L : Limits) (m : ℕ) (earlier : List Rule) (at : ℕ) (rules : List Rule) → Caused (admit L m earlier at rules)
-unfolding admit
-admits L zero earlier at [] = result
-admits L zero earlier at (r ∷ rs) = cause refl
-admits L (suc m) earlier at [] = result
-admits L (suc m) earlier at (r ∷ rs) =
-    unless ruleRepeated _ _ _ refl
-    (unless tooManyStates _ _ _ refl (admits L m (earlier ++ (r ∷ [])) (at + 2 + length (r .right)) rs))
-
 last-tests : (L : Limits) (s : Source) → Caused (lastTests L s)
 unfolding lastTests
-last-tests L s = next _ _ (admits L (L .maxRules) [] 0 (s .rules)) (λ rules. unless noSentence _ _ _ refl result)
+last-tests L s = next _ _ (caused-more (more nameRepeated (omega arith)) _ (admit-causes L (L .maxRules) [] 0 (s .rules))) (λ rules. unless noSentence _ _ _ refl result)
 
 pub check-text : (L : Limits) (text : List ℕ) → Caused (checkText L text)
 unfolding checkText
@@ -145,3 +136,32 @@ read-strings L t count names lines =
 pub strings-into : (L : Limits) (a b : ℕ) (lines : List ℕ) (s : Source) → Caused (stringsInto L a b lines s)
 unfolding stringsInto
 strings-into L a b lines s = next _ _ (read-strings L _ _ _ lines) (λ p. unless bufferTooShort _ _ _ refl result)
+
+-- ---- two texts, where 20 is a cause too
+
+abbrev pub isJoinCause : ℕ → Bool
+isJoinCause = upTo kindsClash
+
+abbrev pub JoinCaused : {A : Type 0} → Answer A → Type 0
+JoinCaused o = CausedBy isJoinCause o
+
+among : (c : ℕ) → isCause c ≡ true → isJoinCause c ≡ true
+among c e =
+    let b = and-both (leb 1 c) (leb c noSentence) e in
+    let low : c ≤ noSentence = leb-true c noSentence (b .1) in
+    both-and (leb 1 c) (leb c kindsClash) (b .0) (le-leb c kindsClash (omega arith))
+
+join-texts : (L : Limits) (robot addon : List ℕ) → JoinCaused (joinTexts L robot addon)
+unfolding joinTexts refuseClash
+join-texts L robot addon =
+    next _ _ (caused-more among _ (check-text L robot)) (λ r.
+    next _ _ (caused-more (λ c h. among c (more nameRepeated (omega arith) c h)) _ (module-causes L addon)) (λ m.
+    unless kindsClash _ _ _ refl (unless kindsClash _ _ _ refl (caused-more among _ (check-text L (joinedText L r m))))))
+
+pub join-into : (L : Limits) (e : ℕ) (robot addon : List ℕ) → JoinCaused (joinedTableInto L e robot addon)
+unfolding joinedTableInto
+join-into L e robot addon = next _ _ (join-texts L robot addon) (λ s. unless bufferTooShort _ _ _ refl result)
+
+pub joined-into : (L : Limits) (e : ℕ) (robot addon : List ℕ) → JoinCaused (joinedTextInto L e robot addon)
+unfolding joinedTextInto
+joined-into L e robot addon = next _ _ (join-texts L robot addon) (λ s. unless bufferTooShort _ _ _ refl result)

@@ -1,10 +1,10 @@
--- What the cause in a reply tells a caller: it is one of document 01's or document 02's 19, or 0, and then nothing is refused.
+-- What the cause in a reply tells a caller: it is one of document 01's or document 02's 19 and 20, or 0, and then nothing is refused.
 -- proofs/Causes.antt has the value of the record. Assumes nothing.
 use Prim.Native.Nat.{ℕ, _≤_}
 use mathlib.Core.Path.{_≡_}
 use mathlib.Core.List.{List}
 use mathlib.Core.Logic.{_⊎_}
-use Rattle.grammar.specs.Refusal.{noSentence}
+use Rattle.grammar.specs.Refusal.{noSentence, kindsClash}
 use Rattle.grammar.specs.declared.TableChecked.{TableChecked}
 use Rattle.grammar.specs.declared.TableVerdict.the-variants.{Passed}
 use Rattle.grammar.specs.TableCheck.{TableAnswer}
@@ -12,6 +12,7 @@ use Rattle.triples.specs.declared.CheckVerdict.{CheckVerdict}
 use Rattle.triples.specs.declared.CheckVerdict.the-variants.{Accepted}
 use Rattle.triples.specs.declared.Step.{Step}
 use Rattle.triples.specs.Verdict.{WitnessAnswer, CertificateAnswer}
+use Rattle.modules.specs.Promise.{JoinsTexts, WritesJoined}
 use Rattle.readings.specs.Promise.{ReadsBack}
 use Rattle.readings.specs.declared.ReadBack.{ReadBack}
 use Rattle.readings.specs.declared.ReadBack.the-variants as back
@@ -41,6 +42,11 @@ use Rattle.ambiguity_c.specs.Replies.{tableReply, stepReply, checkReply,
 -- the cause is none that the documents do not have, and 0 tells that something is answered
 pub record Tells (cause : ℕ) (Answered : Type 0) : Type 0 where
   pub known : cause ≤ noSentence
+  pub zero : cause ≡ 0 → Answered
+
+-- over two texts it may be 20 too
+pub record JoinTells (cause : ℕ) (Answered : Type 0) : Type 0 where
+  pub known : cause ≤ kindsClash
   pub zero : cause ≡ 0 → Answered
 
 -- the numbers of the reply are the answer
@@ -81,6 +87,10 @@ pub record CauseTheorems : Type 0 where
       → WritesText t n table bytes starts lengths out v out′ → Tells (writeReply v .cause) (v ≡ Written (writeReply v .length))
   pub text-lengths : (t n : ℕ) (table bytes starts lengths : List ℕ) (v : TextLength) → LengthAnswer t n table bytes starts lengths v
       → Tells (lengthReply v .cause) (v ≡ length.Bytes (lengthReply v .length))
+  pub joins : (robot addon table : List ℕ) (v : TextRead) (table′ : List ℕ) → JoinsTexts robot addon table v table′
+      → JoinTells (readReply v .cause) (IsRead v)
+  pub joined-texts : (robot addon out : List ℕ) (v : TextWritten) (out′ : List ℕ) → WritesJoined robot addon out v out′
+      → JoinTells (writeReply v .cause) (v ≡ Written (writeReply v .length))
   pub reports : (text out : List ℕ) (v : Reported) (out′ : List ℕ) → Reports text out v out′
       → Tells (reportReply v .cause) (v ≡ report.Written (reportReply v .length))
   pub backs : (text lines left right : List ℕ) (v : ReadBack) (left′ right′ : List ℕ) → ReadsBack text lines left right v left′ right′

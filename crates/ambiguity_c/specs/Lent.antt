@@ -3,6 +3,7 @@
 use Prim.Native.Nat.{ℕ}
 use mathlib.Core.Path.{_≡_}
 use mathlib.Core.List.{List}
+use Rattle.modules.specs.Promise.{JoinsTexts, WritesJoined}
 use Rattle.readings.specs.Promise.{ReadsBack}
 use Rattle.report.specs.Report.{Reports}
 use Rattle.search.specs.Promise.{Lent, Searches}
@@ -29,6 +30,12 @@ RepliesRead text table starts lengths r table′ starts′ lengths′ =
 
 abbrev pub RepliesWritten : ℕ → ℕ → List ℕ → List ℕ → List ℕ → List ℕ → List ℕ → WriteReply → List ℕ → Type 0
 RepliesWritten t n table bytes starts lengths out r out′ = Replies (λ v. WritesText t n table bytes starts lengths out v out′) writeReply r
+
+abbrev pub RepliesJoin : List ℕ → List ℕ → List ℕ → ReadReply → List ℕ → Type 0
+RepliesJoin robot addon table r table′ = Replies (λ v. JoinsTexts robot addon table v table′) readReply r
+
+abbrev pub RepliesJoined : List ℕ → List ℕ → List ℕ → WriteReply → List ℕ → Type 0
+RepliesJoined robot addon out r out′ = Replies (λ v. WritesJoined robot addon out v out′) writeReply r
 
 abbrev pub RepliesReport : List ℕ → List ℕ → ReportReply → List ℕ → Type 0
 RepliesReport text out r out′ = Replies (λ v. Reports text out v out′) reportReply r

@@ -1,9 +1,11 @@
 -- The entries' answers as C has them: for each case of an enum document 01's number and values. `cause` 0 says that nothing is
--- refused; fields that a case does not have are 0. Source: document 01, "Causes of refusal"; document 02, [2] and [5]. Assumes nothing.
+-- refused; fields that a case does not have are 0. Source: document 01, "Causes of refusal"; document 02, [2], [5] and [10]. Assumes nothing.
 use Prim.Native.Nat.{ℕ}
 use Rattle.grammar.specs.declared.TableChecked.{TableChecked}
 use Rattle.grammar.specs.declared.TableVerdict.{TableVerdict}
 use Rattle.grammar.specs.declared.TableVerdict.the-variants as table
+use Rattle.modules.specs.declared.Place.{Place}
+use Rattle.modules.specs.declared.Place.the-variants as place
 use Rattle.readings.specs.declared.ReadBack.{ReadBack}
 use Rattle.readings.specs.declared.ReadBack.the-variants as back
 use Rattle.report.specs.declared.Reported.{Reported}
@@ -34,6 +36,7 @@ use Rattle.ambiguity_c.specs.declared.RoomReply.{RoomReply}
 use Rattle.ambiguity_c.specs.declared.ReadReply.{ReadReply}
 use Rattle.ambiguity_c.specs.declared.WriteReply.{WriteReply}
 use Rattle.ambiguity_c.specs.declared.LengthReply.{LengthReply}
+use Rattle.ambiguity_c.specs.declared.PartReply.{PartReply}
 use Rattle.ambiguity_c.specs.declared.ReportReply.{ReportReply}
 use Rattle.ambiguity_c.specs.declared.ReadBackReply.{ReadBackReply}
 
@@ -97,6 +100,12 @@ writeReply (writer.Refused cause at) = record { cause = cause; at = at; length =
 abbrev pub lengthReply : TextLength → LengthReply
 lengthReply (length.Bytes m) = record { cause = 0; at = 0; length = m }
 lengthReply (length.Refused cause at) = record { cause = cause; at = at; length = 0 }
+
+-- document 02, [10]: where a joined symbol's name stands: 1 in the robot's text, 2 in the module's, 0 nowhere
+abbrev pub partReply : Place → PartReply
+partReply (place.Robot start size) = record { text = 1; start = start; length = size }
+partReply (place.Module start size) = record { text = 2; start = start; length = size }
+partReply place.Neither = record { text = 0; start = 0; length = 0 }
 
 -- what the program prints: how many bytes were written
 abbrev pub reportReply : Reported → ReportReply

@@ -3,14 +3,15 @@
 mod replies;
 
 ghost use Rattle.grammar.specs.TableCheck.{TableAnswer};
+ghost use Rattle.modules.specs.Promise.{ShowsPlace};
 ghost use Rattle.rooms.specs.Room.{RoomAnswer};
 ghost use Rattle.search.specs.Promise.{lent};
 ghost use Rattle.steps.specs.Steps.{NthAnswer};
 ghost use Rattle.text.specs.Promise.{LengthAnswer};
 ghost use Rattle.triples.specs.Verdict.{CertificateAnswer, WitnessAnswer};
 ghost use Rattle.witness_records.specs.Records.{RecordsAnswer};
-ghost use Rattle.ambiguity_c.specs.Replies.{tableReply, stepReply, checkReply, roomReply, lengthReply};
-ghost use Rattle.ambiguity_c.specs.Lent.{Replies, RepliesSearch, RepliesRead, RepliesWritten, RepliesReport, RepliesBack};
+ghost use Rattle.ambiguity_c.specs.Replies.{tableReply, stepReply, checkReply, roomReply, lengthReply, partReply};
+ghost use Rattle.ambiguity_c.specs.Lent.{Replies, RepliesSearch, RepliesRead, RepliesWritten, RepliesJoin, RepliesJoined, RepliesReport, RepliesBack};
 use ambiguity::TripleRecord;
 
 // In every reply `cause` is 0, or the number of a cause with its position `at`; what a case does not have is 0.
@@ -107,6 +108,14 @@ pub struct ReadBackReply {
     pub part: u64,
     pub left: u64,
     pub right: u64,
+}
+
+// Where a name stands: 0 nowhere, 1 in the robot's text, 2 in the module's; its start and its length.
+#[repr(C)]
+pub struct PartReply {
+    pub text: u64,
+    pub start: u64,
+    pub length: u64,
 }
 
 #[no_mangle]
@@ -262,4 +271,28 @@ pub extern "C" fn ambiguity_read_back(
 {
     let answer = ambiguity::read_back(text, lines, left, right);
     replies::back_told(answer)
+}
+
+#[no_mangle]
+pub extern "C" fn ambiguity_join_texts(robot: &[u8], addon: &[u8], table: &mut [u16]) -> ReadReply
+    ensures { λ r. ⌜ RepliesJoin (now (robot .entry)) (now (addon .entry)) (now (table .entry)) r (now (table .exit)) ⌝ }
+{
+    let answer = ambiguity::join_texts(robot, addon, table);
+    replies::read_told(answer)
+}
+
+#[no_mangle]
+pub extern "C" fn ambiguity_joined_name(robot: &[u8], addon: &[u8], symbol: usize) -> PartReply
+    ensures { λ r. ⌜ Replies (ShowsPlace (now (robot .entry)) (now (addon .entry)) symbol) partReply r ⌝ }
+{
+    let place = ambiguity::joined_place(robot, addon, symbol);
+    replies::part_told(place)
+}
+
+#[no_mangle]
+pub extern "C" fn ambiguity_write_joined(robot: &[u8], addon: &[u8], out: &mut [u8]) -> WriteReply
+    ensures { λ r. ⌜ RepliesJoined (now (robot .entry)) (now (addon .entry)) (now (out .entry)) r (now (out .exit)) ⌝ }
+{
+    let answer = ambiguity::write_joined(robot, addon, out);
+    replies::write_told(answer)
 }

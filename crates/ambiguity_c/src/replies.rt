@@ -1,9 +1,10 @@
 // The answers of the entries, told in numbers: an arm for each case of specs/Replies.antt.
 ghost use mathlib.Core.Path.{_≡_};
-ghost use Rattle.ambiguity_c.specs.Replies.{verdictReply, moveReply, recordReply, noRecord, stepReply, checkReply, searchReply, readReply, writeReply, reportReply, readBackReply, roomReply, lengthReply};
+ghost use Rattle.ambiguity_c.specs.Replies.{verdictReply, moveReply, recordReply, noRecord, stepReply, checkReply, searchReply, readReply, writeReply, reportReply, readBackReply, roomReply, lengthReply, partReply};
 use super::CheckReply;
 use super::LengthReply;
 use super::MoveReply;
+use super::PartReply;
 use super::ReadBackReply;
 use super::ReadReply;
 use super::ReportReply;
@@ -14,6 +15,7 @@ use super::TableReply;
 use super::WriteReply;
 use ambiguity::CheckVerdict;
 use ambiguity::Move;
+use ambiguity::Place;
 use ambiguity::ReadBack;
 use ambiguity::Reported;
 use ambiguity::SearchRoom;
@@ -286,6 +288,28 @@ pub fn back_told(answer: ReadBack) -> ReadBackReply
             part: 2,
             left: 0,
             right: 0,
+        },
+    }
+}
+
+pub fn part_told(place: Place) -> PartReply
+    ensures { λ r. ⌜ r ≡ partReply place ⌝ }
+{
+    match place {
+        Place::Robot(start, length) => PartReply {
+            text: 1,
+            start: start as u64,
+            length: length as u64,
+        },
+        Place::Module(start, length) => PartReply {
+            text: 2,
+            start: start as u64,
+            length: length as u64,
+        },
+        Place::Neither => PartReply {
+            text: 0,
+            start: 0,
+            length: 0,
         },
     }
 }

@@ -8,7 +8,7 @@ mod values;
 ghost use Prim.Native.Nat.{_≤_};
 ghost use lib.ListN.{length};
 ghost use Rattle.text.specs.Spelled.{spelled};
-ghost use Rattle.text_read.specs.Texts.{smallText, Rows, ChecksText};
+ghost use Rattle.text_read.specs.Texts.{smallText};
 ghost use Rattle.readings.specs.Promise.{ReadsBack};
 ghost use Rattle.readings_read.specs.Words.{Named};
 ghost use Rattle.readings_read.specs.Lines.{BackTold, GrammarChecked};
@@ -86,15 +86,6 @@ fn read_planted(
     reading::read_lines(text, starts, lengths, &links, t, count, lines, left, right)
 }
 
-// All tests of a grammar's text. The rows get its table and the places of its names.
-fn check_grammar(text: &[u8], row: &mut [u16], starts: &mut [u32], lengths: &mut [u32]) -> TextRead
-    requires { ⌜ Rows (length (now text)) (now row) (now starts) (now lengths) ⌝ }
-    ensures { λ r. ⌜ ChecksText (now (text .entry)) r (now (row .exit)) (now (starts .exit)) (now (lengths .exit)) ⌝ }
-{
-    let kept = text_read::keep_text(text, row, starts, lengths);
-    text_read::check_kept(kept, row)
-}
-
 // The two lines, after the grammar's text.
 fn back_in(
     read: TextRead,
@@ -139,7 +130,7 @@ fn back_small(text: &[u8], lines: &[u8], left: &mut [u32], right: &mut [u32]) ->
     let mut row = [0u16; SMALL_TEXT];
     let mut starts = [0u32; SMALL_TEXT];
     let mut lengths = [0u32; SMALL_TEXT];
-    let read = check_grammar(text, &mut row, &mut starts, &mut lengths);
+    let read = text_read::check_text(text, &mut row, &mut starts, &mut lengths);
     back_in(read, text, &starts, &lengths, lines, left, right)
 }
 
@@ -149,7 +140,7 @@ fn back_large(text: &[u8], lines: &[u8], left: &mut [u32], right: &mut [u32]) ->
     let mut row = [0u16; KEPT_ENTRIES];
     let mut starts = [0u32; MAX_NAMES];
     let mut lengths = [0u32; MAX_NAMES];
-    let read = check_grammar(text, &mut row, &mut starts, &mut lengths);
+    let read = text_read::check_text(text, &mut row, &mut starts, &mut lengths);
     back_in(read, text, &starts, &lengths, lines, left, right)
 }
 

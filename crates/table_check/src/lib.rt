@@ -2,14 +2,16 @@
 mod earlier;
 mod reading;
 
+pub use earlier::same_rule;
 ghost use mathlib.Core.Path.{_≡_};
 ghost use Prim.Native.Nat.{_+_, _≤_};
 ghost use lib.ListN.{length};
 ghost use lib.Seq.{paste};
+ghost use Rattle.grammar.specs.Basics.{choose};
 ghost use Rattle.grammar.specs.Limits.{limits};
 ghost use Rattle.grammar.specs.Record.{recordOf};
 ghost use Rattle.grammar.specs.Refusal.{refused};
-ghost use Rattle.grammar.specs.TableCheck.{inRange, storedTable, tableChecked, TableAnswer};
+ghost use Rattle.grammar.specs.TableCheck.{inRange, storedTable, checkTable, tableChecked, TableAnswer};
 ghost use Rattle.table_check.specs.Contracts.{ruleRead, ruleless, Before, nextOrFull};
 use earlier::repeats;
 use grammar::CheckedGrammar;
@@ -116,7 +118,7 @@ fn refuse(cause: u8, at: usize) -> TableChecked
 }
 
 // 1 to 8: the record of the grammar that the table stores, or the first refusal in document 01's order with an empty record.
-pub fn check_stored(t: usize, n: usize, table: &[u16]) -> TableChecked
+fn check_stored(t: usize, n: usize, table: &[u16]) -> TableChecked
     ensures { λ r. ⌜ r ≡ tableChecked (storedTable limits t n (now (table .entry))) ⌝ }
 {
     if !in_range(t, n) {
@@ -162,9 +164,9 @@ pub fn check_stored(t: usize, n: usize, table: &[u16]) -> TableChecked
     }
 }
 
-// The table check: then 19 for a grammar without a sentence.
-pub fn check_table(t: usize, n: usize, table: &[u16]) -> TableChecked
-    ensures { λ r. ⌜ TableAnswer t n (now (table .entry)) r ⌝ }
+// Then 19 for a grammar without a sentence, where the whole check is asked for. It alone calls check_stored, whose record is then its own.
+pub fn check_up_to(t: usize, n: usize, table: &[u16], whole: bool) -> TableChecked
+    ensures { λ r. ⌜ r ≡ tableChecked (choose whole (checkTable limits t n (now (table .entry))) (storedTable limits t n (now (table .entry)))) ⌝ }
 {
     let checked = check_stored(t, n, table);
     let verdict = checked.verdict;
@@ -173,11 +175,21 @@ pub fn check_table(t: usize, n: usize, table: &[u16]) -> TableChecked
             return refuse(cause, at);
         }
         TableVerdict::Passed => {
-            let g = checked.grammar;
-            if has_sentence(g) {
-                return checked;
+            if whole {
+                let g = checked.grammar;
+                if has_sentence(g) {
+                    return checked;
+                }
+                return refuse(NO_SENTENCE, 0);
             }
-            return refuse(NO_SENTENCE, 0);
+            return checked;
         }
     }
+}
+
+// The table check.
+pub fn check_table(t: usize, n: usize, table: &[u16]) -> TableChecked
+    ensures { λ r. ⌜ TableAnswer t n (now (table .entry)) r ⌝ }
+{
+    check_up_to(t, n, table, true)
 }

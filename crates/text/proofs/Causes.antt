@@ -1,14 +1,18 @@
--- The causes with which the names that are lent to the writer are refused, and those of a text before its rules are counted.
+-- The causes with which the names that are lent to the writer are refused, those of a text before its rules are counted, and those of a
+-- module's text.
 -- Assumes nothing.
-use Prim.Native.Nat.{ℕ, zero, suc}
+use Prim.Native.Nat.{ℕ, zero, suc, _+_}
 use mathlib.Core.Path.{_≡_, refl}
 use mathlib.Core.Bool.{Bool, true}
 use mathlib.Core.List.{List, [], _∷_, _++_}
 use mathlib.Core.Option.{Option, none, some}
 use Rattle.grammar.specs.Limits.{Limits}
-use Rattle.grammar.specs.Refusal.{Answer, malformed, nameUnknown, nameRepeated, outOfRange, ruleTooLong}
+use Rattle.grammar.specs.Refusal.{Answer, malformed, nameUnknown, nameRepeated, outOfRange, ruleTooLong, ruleRepeated, tooManyStates}
+use lib.ListN.{length}
+use Rattle.grammar.specs.Grammar.{Rule}
 use Rattle.grammar.proofs.Causes.{CausedBy, result, cause, unless, next, upTo}
 use Rattle.text.specs.Read.{refuseNone, declaration, ruleLine, ruleLines, wholeLine, readLines, readText}
+use Rattle.text.specs.Rules.{admit, checkModule}
 use Rattle.text.specs.Print.{gather}
 
 module _ {among : ℕ → Bool} where
@@ -61,3 +65,16 @@ module _ (L : Limits) where
       whole-line 2 more _ refl (λ second rest.
       next _ _ (declaration-causes _ _ _ _ _ second) (λ ns.
       next _ _ (rules-causes 3 _ (ts ++ ns) rest) (λ rs. result))))))
+
+  -- 7, 6, 8
+  pub admit-causes : (m : ℕ) (earlier : List Rule) (at : ℕ) (rs : List Rule) → CausedBy (upTo nameRepeated) (admit L m earlier at rs)
+  unfolding admit
+  admit-causes m earlier at [] = result
+  admit-causes zero earlier at (r ∷ rs) = cause refl
+  admit-causes (suc m) earlier at (r ∷ rs) =
+      unless ruleRepeated _ _ _ refl (unless tooManyStates _ _ _ refl (admit-causes m (earlier ++ (r ∷ [])) (at + 2 + length (r .right)) rs))
+
+  -- a module's text is never refused with 19
+  pub module-causes : (text : List ℕ) → CausedBy (upTo nameRepeated) (checkModule L text)
+  unfolding checkModule
+  module-causes text = next _ _ (text-causes text) (λ s. next _ _ (admit-causes (L .maxRules) [] 0 (s .rules)) (λ rules. result))

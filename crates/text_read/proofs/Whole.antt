@@ -16,21 +16,21 @@ use Rattle.grammar.specs.Table.{encode}
 use Rattle.grammar.specs.Refusal.{Answer, done, refused, refuseUnless, andThen, noSentence}
 use Rattle.grammar.specs.Live.{hasSentence}
 use Rattle.grammar.specs.Record.{recordOf}
-use Rattle.grammar.specs.TableCheck.{isAmong, checkTable, tableChecked}
+use Rattle.grammar.specs.TableCheck.{isAmong, storedTable, checkTable, tableChecked}
 use Rattle.grammar.specs.declared.TableChecked.{TableChecked}
 use Rattle.grammar.specs.declared.TableVerdict.the-variants.{Passed, Refused as TableRefused}
 use Rattle.grammar.proofs.Answers.{no-answer, done-inj, unless-holds, unless-fails, unless-done, then-done, then-goes, then-stops}
 use Rattle.text.specs.Pieces.{splitOn, join, endedBy}
 use Rattle.text.specs.Keys.{key}
 use Rattle.text.specs.Read.{Source, symbolNames, grammarOf, namesOf, ruleLines, readLines, readText}
-use Rattle.text.specs.Rules.{admit, lastTests, checkText}
+use Rattle.text.specs.Rules.{admit, lastTests, checkText, checkModule}
 use Rattle.text.specs.Print.{printLine, printRule, printed}
 use Rattle.text.specs.Promise.{startsFrom, nameStarts, nameLengths, textRead}
 use Rattle.text.specs.declared.TextRead.{TextRead}
 use Rattle.text.specs.declared.TextRead.the-variants.{Read, Refused}
 use Rattle.text.proofs.WellNamed.{WellNamedSource, mem-each, mem-none}
 use Rattle.text.proofs.PrintRead.{read-well, join-names}
-use Rattle.text.proofs.Admit.{table-tests, passed-said, text-checked}
+use Rattle.text.proofs.Admit.{admit-same, stored-admit, table-tests, passed-said}
 use Rattle.text.proofs.RoundTrip.{apart}
 use Rattle.text.specs.Spelled.{spelled}
 use Rattle.text.proofs.Spans.{lengths-append}
@@ -43,7 +43,7 @@ use Rattle.text_read.specs.Lines.{RulesReady, RulesKept, RulesTold, kept
 use Rattle.text_read.specs.Values.{allNames, smaller}
 use Rattle.text_read.specs.declared.TextKept.{TextKept}
 use Rattle.text_read.specs.declared.TextKept.the-variants as K
-use Rattle.text_read.specs.Texts.{HeadsAt, HeadsRead, HeadsTold, tableRead, Ready, TextRules, LinesTold, NamesTold, KeptWithin, keptRead, ChecksText}
+use Rattle.text_read.specs.Texts.{HeadsAt, HeadsRead, HeadsTold, tableRead, Ready, TextRules, LinesTold, NamesTold, KeptWithin, keptRead, moduleRead, Checks, ChecksText, ChecksModule}
 use Rattle.text_read.proofs.Rooms.{smaller-in, heads-most}
 use Rattle.text_read.proofs.Places.{heads-spelled}
 
@@ -61,7 +61,7 @@ admit-first L (suc m) earlier at (r ∷ rs) =
     (admit-first L m (earlier ++ (r ∷ [])) (at + 2 + length (r .right)) rs)
 
 -- rules that pass are not too many
-admit-few : (L : Limits) (m : ℕ) (earlier : List Rule) (at : ℕ) (rs q : List Rule) → admit L m earlier at rs ≡ done q → length rs ≤ m
+pub admit-few : (L : Limits) (m : ℕ) (earlier : List Rule) (at : ℕ) (rs q : List Rule) → admit L m earlier at rs ≡ done q → length rs ≤ m
 unfolding admit
 admit-few L m earlier at [] q e = omega arith
 admit-few L zero earlier at (r ∷ rs) q e = no-answer e
@@ -148,68 +148,106 @@ module _ (s : Source) where
   unfolding lastTests
   passed-first G e = let a = then-done _ _ _ e in few-first (a .0) (a .1)
 
+-- what is kept of a text that was read, and the answer of the tests of its table, which are those of the text
+module _ (s : Source) (t n end : ℕ) (row : List ℕ) (p : t ≡ length (s .terminals)) (q : n ≡ length (s .nonterminals))
+    (used : end ≡ length (encode (take keptRules (s .rules)))) (front : take end row ≡ encode (take keptRules (s .rules)))
+    (r : TextRead) (tests : Answer Grammar) (told : r ≡ tableRead t n end tests)
+    (said : (G : Grammar) → tests ≡ done G → (G ≡ grammarOf s) × (take keptRules (s .rules) ≡ s .rules))
+    (o : Answer Source) (whole : o ≡ andThen tests (λ G. done s)) (starts lengths : List ℕ) (names : NamesTold (done s) starts lengths) where
+  last-told : Checks o r row starts lengths
+  last-told = go tests refl
+    where
+      go : (x : Answer Grammar) → tests ≡ x → Checks o r row starts lengths
+      go (refused c i) e =
+          let x : o ≡ refused c i = whole ∙ then-stops _ _ c i e in
+          record {
+            answer = told ∙ ap (tableRead t n end) e ∙ sym (ap textRead x);
+            table = λ z w. no-answer (sym x ∙ w);
+            names = record { starts-front = λ z w. no-answer (sym x ∙ w); lengths-front = λ z w. no-answer (sym x ∙ w) };
+          }
+      go (done G) e =
+          let same = said G e .0 in
+          let all = said G e .1 in
+          let x : o ≡ done s = whole ∙ then-goes _ _ G e in
+          let size : end ≡ length (encode (s .rules)) = used ∙ ap (λ rs. length (encode rs)) all in
+          record {
+            answer = told ∙ ap (tableRead t n end) e
+                ∙ (λ d. Read (p d) (q d) (size d) (stateCount (same d .rules))) ∙ sym (ap textRead x);
+            table = λ z w. subst (λ (z : Source). take (length (encode (z .rules))) row ≡ encode (z .rules)) (done-inj (sym x ∙ w))
+                (ap (λ m. take m row) (sym size) ∙ front ∙ ap encode all);
+            names = subst (λ (o : Answer Source). NamesTold o starts lengths) (sym x) names;
+          }
+
+-- the two ways of testing a text that was read
 module _ (text : List ℕ) (s : Source) (read : readText limits text ≡ done s) where
   check-on : checkText limits text ≡ andThen (lastTests limits s) (λ G. done s)
   unfolding checkText
   check-on = then-goes (readText limits text) (λ s. andThen (lastTests limits s) (λ G. done s)) s read
 
-  module _ (t n end : ℕ) (row : List ℕ) (r : TextRead) (p : t ≡ length (s .terminals)) (q : n ≡ length (s .nonterminals))
-      (used : end ≡ length (encode (take keptRules (s .rules)))) (front : take end row ≡ encode (take keptRules (s .rules)))
-      (told : r ≡ tableRead t n end (checkTable limits t n (take end row))) (starts lengths : List ℕ) (names : NamesTold text starts lengths) where
-    table-is : checkTable limits t n (take end row) ≡ lastTests limits s
-    table-is =
-        (λ d. checkTable limits (p d) (q d) (front d))
-        ∙ table-tests limits (firstRules keptRules s) (first-well keptRules s (read-well limits apart text s read)) ∙ first-tests s
+  -- the rules up to 8, as a grammar
+  abbrev ruleTests : Answer Grammar
+  ruleTests = andThen (admit limits (limits .maxRules) [] 0 (s .rules)) (λ rules. done (grammarOf s))
 
-    last-told : ChecksText text r row starts lengths
-    last-told = go (lastTests limits s) refl
+  module-on : checkModule limits text ≡ andThen ruleTests (λ G. done s)
+  unfolding checkModule
+  module-on = then-goes (readText limits text) _ s read ∙ go (admit limits (limits .maxRules) [] 0 (s .rules))
+    where
+      go : (o : Answer (List Rule)) → andThen o (λ rules. done s) ≡ andThen (andThen o (λ rules. done (grammarOf s))) (λ G. done s)
+      go (refused c i) = unfold andThen in refl
+      go (done rules) = unfold andThen in refl
+
+  well : WellNamedSource limits (firstRules keptRules s)
+  well = first-well keptRules s (read-well limits apart text s read)
+
+  module _ (t n end : ℕ) (row : List ℕ) (p : t ≡ length (s .terminals)) (q : n ≡ length (s .nonterminals))
+      (front : take end row ≡ encode (take keptRules (s .rules))) where
+    table-is : checkTable limits t n (take end row) ≡ lastTests limits s
+    table-is = (λ d. checkTable limits (p d) (q d) (front d)) ∙ table-tests limits (firstRules keptRules s) well ∙ first-tests s
+
+    stored-is : storedTable limits t n (take end row) ≡ ruleTests
+    stored-is =
+        (λ d. storedTable limits (p d) (q d) (front d)) ∙ stored-admit limits (firstRules keptRules s) well
+        ∙ ap (λ o. andThen o (λ rules. done (record { terminals = length (s .terminals); nonterminals = length (s .nonterminals); rules = rules })))
+        (admit-first limits (limits .maxRules) [] 0 (s .rules))
+        ∙ go (admit limits (limits .maxRules) [] 0 (s .rules)) refl
       where
-        go : (o : Answer Grammar) → lastTests limits s ≡ o → ChecksText text r row starts lengths
-        go (refused c i) e =
-            let x : checkText limits text ≡ refused c i = check-on ∙ then-stops _ _ c i e in
-            record {
-              answer = told ∙ ap (tableRead t n end) (table-is ∙ e) ∙ sym (ap textRead x);
-              table = λ z w. no-answer (sym x ∙ w);
-              names = names;
-            }
-        go (done G) e =
-            let same : G ≡ grammarOf s = passed-said limits s G e in
-            let all = passed-first s G e in
-            let x : checkText limits text ≡ done s = check-on ∙ then-goes _ _ G e in
-            let size : end ≡ length (encode (s .rules)) = used ∙ ap (λ rs. length (encode rs)) all in
-            record {
-              answer = told ∙ ap (tableRead t n end) (table-is ∙ e)
-                  ∙ (λ d. Read (p d) (q d) (size d) (stateCount (same d .rules))) ∙ sym (ap textRead x);
-              table = λ z w. subst (λ (z : Source). take (length (encode (z .rules))) row ≡ encode (z .rules)) (done-inj (sym x ∙ w))
-                  (ap (λ m. take m row) (sym size) ∙ front ∙ ap encode all);
-              names = names;
-            }
+        go : (o : Answer (List Rule)) → admit limits (limits .maxRules) [] 0 (s .rules) ≡ o
+            → andThen o (λ rules. done (record { terminals = length (s .terminals); nonterminals = length (s .nonterminals); rules = rules }))
+            ≡ andThen o (λ rules. done (grammarOf s))
+        go (refused c i) e = unfold andThen in refl
+        go (done rules) e =
+            unfold andThen in
+            ap (λ (rs : List Rule). done (record { terminals = length (s .terminals); nonterminals = length (s .nonterminals); rules = rs }))
+            (admit-same limits (limits .maxRules) [] 0 (s .rules) rules e)
+
+  -- where they pass all rules are among the first keptRules
+  rules-said : (G : Grammar) → ruleTests ≡ done G → (G ≡ grammarOf s) × (take keptRules (s .rules) ≡ s .rules)
+  rules-said G e = let a = then-done _ _ G e in (sym (done-inj (a .2)), few-first s (a .0) (a .1))
 
 -- ---- refusals before the last tests
 
 -- the rows of a text that does not pass need not have names
-pub refused-names : (text : List ℕ) (c i : ℕ) (starts lengths : List ℕ) → checkText limits text ≡ refused c i → NamesTold text starts lengths
-refused-names text c i starts lengths e = record { starts-front = λ s w. no-answer (sym e ∙ w); lengths-front = λ s w. no-answer (sym e ∙ w) }
+pub refused-names : (o : Answer Source) (c i : ℕ) (starts lengths : List ℕ) → o ≡ refused c i → NamesTold o starts lengths
+refused-names o c i starts lengths e = record { starts-front = λ s w. no-answer (sym e ∙ w); lengths-front = λ s w. no-answer (sym e ∙ w) }
 
-pub text-long : (text : List ℕ) → (limits .maxText) < length text → checkText limits text ≡ refused 16 0
-unfolding checkText readText
-text-long text h = then-stops _ _ 16 0 (unless-fails 16 0 (leb (length text) (limits .maxText)) (readLines limits (splitOn 10 text)) (lt-leb (length text) (limits .maxText) h))
+pub text-long : (text : List ℕ) → (limits .maxText) < length text → readText limits text ≡ refused 16 0
+unfolding readText
+text-long text h = unless-fails 16 0 (leb (length text) (limits .maxText)) (readLines limits (splitOn 10 text)) (lt-leb (length text) (limits .maxText) h)
 
 module _ (text : List ℕ) (short : length text ≤ (limits .maxText)) where
   read-lines : readText limits text ≡ readLines limits (splitOn 10 text)
   unfolding readText
   read-lines = unless-holds 16 0 (leb (length text) (limits .maxText)) (readLines limits (splitOn 10 text)) (le-leb (length text) (limits .maxText) short)
 
-  pub lines-refused : (c i : ℕ) → readLines limits (splitOn 10 text) ≡ refused c i → checkText limits text ≡ refused c i
-  unfolding checkText
-  lines-refused c i e = then-stops _ _ c i (read-lines ∙ e)
+  pub lines-refused : (c i : ℕ) → readLines limits (splitOn 10 text) ≡ refused c i → readText limits text ≡ refused c i
+  lines-refused c i e = read-lines ∙ e
 
   -- ---- the rule lines, after both declaring lines
 
   module _ (a e b f t n : ℕ) (h : HeadsAt text a e b f t n) where
     pub rules-refused : (c i : ℕ)
         → ruleLines limits 3 (length (namesOf (part a e text))) (namesOf (part a e text) ++ namesOf (part b f text)) (splitOn 10 (drop (f + 1) text)) ≡ refused c i
-        → checkText limits text ≡ refused c i
+        → readText limits text ≡ refused c i
     rules-refused c i q = lines-refused c i (h .lines ∙ then-stops _ _ c i q)
 
     pub rules-read : (rules : List Rule)
@@ -217,11 +255,11 @@ module _ (text : List ℕ) (short : length text ≤ (limits .maxText)) where
         → readText limits text ≡ done (record { terminals = namesOf (part a e text); nonterminals = namesOf (part b f text); rules = rules })
     rules-read rules q = read-lines ∙ h .lines ∙ then-goes _ _ rules q
 
-    -- the names of a text that passes
-    pub heads-names : (s : Source) → checkText limits text ≡ done s
+    -- the names of a text that is read
+    pub heads-names : (s : Source) → readText limits text ≡ done s
         → (s .terminals ≡ namesOf (part a e text)) × (s .nonterminals ≡ namesOf (part b f text))
     heads-names s q =
-        let r = then-done _ _ s (sym (h .lines) ∙ sym read-lines ∙ text-checked limits apart text s q .read) in
+        let r = then-done _ _ s (sym (h .lines) ∙ sym read-lines ∙ q) in
         let x = done-inj (r .2) in
         (sym (ap (λ (s : Source). s .terminals) x), sym (ap (λ (s : Source). s .nonterminals) x))
 
@@ -238,7 +276,7 @@ module _ (text : List ℕ) (short : length text ≤ (limits .maxText)) where
         let x : b ≡ length (key 0 ++ 61 ∷ join 44 (namesOf v)) + 1 + (length (key 1) + 1) = h .second ∙ ap (λ m. m + 1 + (length (key 1) + 1)) (sym m) in
         ap₂ (λ x y. startsFrom x (namesOf v) ++ startsFrom y (namesOf (part b f text))) (h .first) x
 
-    module _ (starts lengths : List ℕ) (s : Source) (q : checkText limits text ≡ done s) where
+    module _ (starts lengths : List ℕ) (s : Source) (q : readText limits text ≡ done s) where
       count-is : length (symbolNames s) ≡ t + length (namesOf (part b f text))
       count-is =
           let x = heads-names s q in
@@ -307,7 +345,7 @@ module _ (text : List ℕ) (from t n : ℕ) (starts lengths links row : List ℕ
 
   pub ready-refused : (c i : ℕ)
       → ruleLines limits 3 t (spelled text (take (t + n) starts) (take (t + n) lengths)) (splitOn 10 (drop from text)) ≡ refused c i
-      → checkText limits text ≡ refused c i
+      → readText limits text ≡ refused c i
   ready-refused c i q = rules-refused text (p .short) (p .a) (p .e) (p .b) (p .f) t n (p .heads) c i (sym ready-lines ∙ q)
 
   pub ready-told : (row′ : List ℕ) (end : ℕ)
@@ -364,7 +402,7 @@ module _ (text starts lengths links : List ℕ) (f t n : ℕ) (short : length te
     enough = z;
   }
 
-  pub names-told : NamesTold text starts lengths
+  pub names-told : NamesTold (readText limits text) starts lengths
   names-told = record {
     starts-front = λ s w. starts-told text short (h .a) (h .e) (h .b) f t n (h .heads) starts lengths s w
         (ap (λ m. take (t + m) starts) (sym (h .heads .nonterminals)) ∙ h .starts-front);
@@ -378,8 +416,29 @@ pub kept-within : (text row : List ℕ) (k : TextKept) → LinesTold text row k 
 kept-within text row (K.Fault c i) h = tt
 kept-within text row (K.Rules t n end) h = h .inside
 
-pub checks : (text row starts lengths : List ℕ) (k : TextKept) (r : TextRead) → LinesTold text row k → NamesTold text starts lengths → r ≡ keptRead k row
-    → ChecksText text r row starts lengths
-checks text row starts lengths (K.Fault c i) r h names e = record { answer = e ∙ sym (ap textRead h); table = λ s w. no-answer (sym h ∙ w); names = names }
-checks text row starts lengths (K.Rules t n end) r h names e =
-    last-told text (h .source) (h .read) t n end row r (h .terminals) (h .nonterminals) (h .used) (h .front) e starts lengths names
+-- a fault of the lines is one of every way of testing
+module _ (text row starts lengths : List ℕ) (names : NamesTold (readText limits text) starts lengths) where
+  fault-told : (o : Answer Source) (c i : ℕ) (r : TextRead) → o ≡ refused c i → r ≡ Refused c i → Checks o r row starts lengths
+  fault-told o c i r h e = record { answer = e ∙ sym (ap textRead h); table = λ s w. no-answer (sym h ∙ w); names = refused-names o c i starts lengths h }
+
+  -- a text that was read has these names
+  read-names : (s : Source) → readText limits text ≡ done s → NamesTold (done s) starts lengths
+  read-names s e = subst (λ (o : Answer Source). NamesTold o starts lengths) e names
+
+  pub checks : (k : TextKept) (r : TextRead) → LinesTold text row k → r ≡ keptRead k row → ChecksText text r row starts lengths
+  unfolding checkText
+  checks (K.Fault c i) r h e = fault-told _ c i r (then-stops _ _ c i h) e
+  checks (K.Rules t n end) r h e =
+      let s = h .source in
+      last-told s t n end row (h .terminals) (h .nonterminals) (h .used) (h .front) r (lastTests limits s)
+      (e ∙ ap (tableRead t n end) (table-is text s (h .read) t n end row (h .terminals) (h .nonterminals) (h .front)))
+      (λ G g. (passed-said limits s G g, passed-first s G g)) (checkText limits text) (check-on text s (h .read)) starts lengths (read-names s (h .read))
+
+  pub checks-module : (k : TextKept) (r : TextRead) → LinesTold text row k → r ≡ moduleRead k row → ChecksModule text r row starts lengths
+  unfolding checkModule
+  checks-module (K.Fault c i) r h e = fault-told _ c i r (then-stops _ _ c i h) e
+  checks-module (K.Rules t n end) r h e =
+      let s = h .source in
+      last-told s t n end row (h .terminals) (h .nonterminals) (h .used) (h .front) r (ruleTests text s (h .read))
+      (e ∙ ap (tableRead t n end) (stored-is text s (h .read) t n end row (h .terminals) (h .nonterminals) (h .front)))
+      (rules-said text s (h .read)) (checkModule limits text) (module-on text s (h .read)) starts lengths (read-names s (h .read))

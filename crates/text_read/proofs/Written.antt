@@ -12,9 +12,9 @@ use lib.Seq.{take-all}
 use Rattle.grammar.specs.Basics.{over}
 use Rattle.grammar.specs.Limits.{limits}
 use Rattle.grammar.specs.Table.{encode}
-use Rattle.grammar.specs.Refusal.{done, refused, refuseUnless}
+use Rattle.grammar.specs.Refusal.{Answer, done, refused, refuseUnless}
 use Rattle.grammar.proofs.Answers.{both-and, unless-holds, unless-fails, then-goes, then-stops, and-false}
-use Rattle.text.specs.Read.{symbolNames}
+use Rattle.text.specs.Read.{Source, symbolNames}
 use Rattle.text.specs.Rules.{checkText, readInto}
 use Rattle.text.specs.Promise.{nameStarts, nameLengths, textRead, afterwards, ReadsText}
 use Rattle.text.specs.declared.TextRead.{TextRead}
@@ -22,10 +22,10 @@ use Rattle.text.specs.declared.TextRead.the-variants.{Read, Refused}
 use Rattle.text.proofs.Spans.{length-lengths, length-name-starts}
 use Rattle.text.proofs.Promises.{ReadAs, read-as, refuses-as}
 use Rattle.text.proofs.Enough.{ReadRows, rows-read}
-use Rattle.text_read.specs.Texts.{ChecksText}
+use Rattle.text_read.specs.Texts.{Checks, ChecksText}
 
 -- a row that begins with a list is at least as long
-front-fits : (m : ℕ) (row xs : List ℕ) → take m row ≡ xs → length xs ≡ m → m ≤ length row
+pub front-fits : (m : ℕ) (row xs : List ℕ) → take m row ≡ xs → length xs ≡ m → m ≤ length row
 front-fits m row xs e n = go (ltb (length row) m) refl
   where
     go : (b : Bool) → ltb (length row) m ≡ b → m ≤ length row
@@ -36,9 +36,9 @@ front-fits m row xs e n = go (ltb (length row) m) refl
 
 -- ---- a text that passes all tests but 14
 
-module _ (text row ks kl : List ℕ) (r : TextRead) (h : ChecksText text r row ks kl) (t n e q : ℕ) (g : r ≡ Read t n e q) where
-  pub known : ReadAs (checkText limits text) t n e q
-  known = read-as (checkText limits text) t n e q (sym g ∙ h .answer)
+module _ (o : Answer Source) (row ks kl : List ℕ) (r : TextRead) (h : Checks o r row ks kl) (t n e q : ℕ) (g : r ≡ Read t n e q) where
+  pub known : ReadAs o t n e q
+  known = read-as o t n e q (sym g ∙ h .answer)
 
   pub count : length (symbolNames (known .source)) ≡ t + n
   count =
@@ -48,8 +48,8 @@ module _ (text row ks kl : List ℕ) (r : TextRead) (h : ChecksText text r row k
   -- the rows hold what is kept
   pub entries-kept : e ≤ length row
   entries-kept =
-      front-fits e row (encode (known .source .rules))
-      (ap (λ m. take m row) (sym (known .entries)) ∙ h .table (known .source) (known .whole)) (known .entries)
+      front-fits e row (encode (known .source .rules)) (ap (λ m. take m row) (sym (known .entries)) ∙ h .table (known .source) (known .whole))
+      (known .entries)
 
   pub starts-kept : t + n ≤ length ks
   starts-kept =
@@ -62,12 +62,23 @@ module _ (text row ks kl : List ℕ) (r : TextRead) (h : ChecksText text r row k
       (ap (λ m. take m kl) (sym count) ∙ h .names .lengths-front (known .source) (known .whole))
       (length-lengths (symbolNames (known .source)) ∙ count)
 
-  pub checked-rows : ReadRows text t n e q row ks kl
-  checked-rows =
-      rows-read text t n e q known row ks kl
-      (entries-kept, ap (λ m. take m row) (sym (known .entries)) ∙ h .table (known .source) (known .whole))
-      (starts-kept, ap (λ m. take m ks) (sym count) ∙ h .names .starts-front (known .source) (known .whole))
-      (lengths-kept, ap (λ m. take m kl) (sym count) ∙ h .names .lengths-front (known .source) (known .whole))
+  -- and begin with it
+  pub entries-front : take e row ≡ encode (known .source .rules)
+  entries-front = ap (λ m. take m row) (sym (known .entries)) ∙ h .table (known .source) (known .whole)
+
+  pub starts-front : take (t + n) ks ≡ nameStarts (known .source)
+  starts-front = ap (λ m. take m ks) (sym count) ∙ h .names .starts-front (known .source) (known .whole)
+
+  pub lengths-front : take (t + n) kl ≡ nameLengths (symbolNames (known .source))
+  lengths-front = ap (λ m. take m kl) (sym count) ∙ h .names .lengths-front (known .source) (known .whole)
+
+pub checked-rows : (text row ks kl : List ℕ) (r : TextRead) → ChecksText text r row ks kl → (t n e q : ℕ) → r ≡ Read t n e q → ReadRows text t n e q row ks kl
+checked-rows text row ks kl r h t n e q g =
+    let o = checkText limits text in
+    rows-read text t n e q (known o row ks kl r h t n e q g) row ks kl
+    (entries-kept o row ks kl r h t n e q g, entries-front o row ks kl r h t n e q g)
+    (starts-kept o row ks kl r h t n e q g, starts-front o row ks kl r h t n e q g)
+    (lengths-kept o row ks kl r h t n e q g, lengths-front o row ks kl r h t n e q g)
 
 -- ---- a refusal
 
@@ -91,10 +102,10 @@ module _ (text table starts lengths : List ℕ) where
 
     module _ (t n e q : ℕ) (g : r ≡ Read t n e q) where
       abbrev pub k : ReadAs (checkText limits text) t n e q
-      k = known text row ks kl r h t n e q g
+      k = known (checkText limits text) row ks kl r h t n e q g
 
       many : length (symbolNames (k .source)) ≡ t + n
-      many = count text row ks kl r h t n e q g
+      many = count (checkText limits text) row ks kl r h t n e q g
 
       abbrev room : Bool
       room = leb (length (encode (k .source .rules))) (length table)

@@ -8,11 +8,11 @@ use Rattle.grammar.specs.Limits.{limits}
 use Rattle.grammar.specs.Grammar.{Grammar, stateCount}
 use Rattle.grammar.specs.Table.{encode}
 use Rattle.grammar.specs.Refusal.{Answer, done, refused, andThen}
-use Rattle.grammar.specs.TableCheck.{checkTable}
+use Rattle.grammar.specs.TableCheck.{storedTable, checkTable}
 use Rattle.text.specs.Pieces.{splitOn}
 use Rattle.text.specs.Keys.{key}
 use Rattle.text.specs.Read.{Source, symbolNames, namesOf, declaration, ruleLines, wholeLine, readLines, readText}
-use Rattle.text.specs.Rules.{checkText}
+use Rattle.text.specs.Rules.{checkText, checkModule}
 use Rattle.text.specs.Promise.{startsFrom, nameStarts, nameLengths, textRead}
 use Rattle.text.specs.declared.TextRead.{TextRead}
 use Rattle.text.specs.declared.TextRead.the-variants.{Read, Refused}
@@ -127,19 +127,18 @@ pub record TextRules (text : List ℕ) (t n end : ℕ) (row : List ℕ) : Type 0
 
 -- the lines of a text
 abbrev pub LinesTold : List ℕ → List ℕ → TextKept → Type 0
-LinesTold text row (Fault cause place) = checkText limits text ≡ refused cause place
+LinesTold text row (Fault cause place) = readText limits text ≡ refused cause place
 LinesTold text row (Rules t n end) = TextRules text t n end row
 
--- the rows of a text that passes begin with the names' starts and lengths
-pub record NamesTold (text starts lengths : List ℕ) : Type 0 where
-  pub starts-front : (s : Source) → checkText limits text ≡ done s → take (length (symbolNames s)) starts ≡ nameStarts s
-  pub lengths-front : (s : Source) → checkText limits text ≡ done s
-      → take (length (symbolNames s)) lengths ≡ nameLengths (symbolNames s)
+-- where a text passes with this answer, the rows begin with the names' starts and lengths
+pub record NamesTold (o : Answer Source) (starts lengths : List ℕ) : Type 0 where
+  pub starts-front : (s : Source) → o ≡ done s → take (length (symbolNames s)) starts ≡ nameStarts s
+  pub lengths-front : (s : Source) → o ≡ done s → take (length (symbolNames s)) lengths ≡ nameLengths (symbolNames s)
 
 -- what the lines of a text gave, and the rows
 pub record TextIn (text : List ℕ) (k : TextKept) (row starts lengths : List ℕ) : Type 0 where
   pub lines : LinesTold text row k
-  pub names : NamesTold text starts lengths
+  pub names : NamesTold (readText limits text) starts lengths
 
 -- the entries in use are in the row
 abbrev pub KeptWithin : TextKept → List ℕ → Type 0
@@ -151,8 +150,20 @@ abbrev pub keptRead : TextKept → List ℕ → TextRead
 keptRead (Fault cause place) row = Refused cause place
 keptRead (Rules t n end) row = tableRead t n end (checkTable limits t n (take end row))
 
--- all tests but 14: the answer, and the rows of a text that passes begin with the table and the names' places
-pub record ChecksText (text : List ℕ) (r : TextRead) (row starts lengths : List ℕ) : Type 0 where
-  pub answer : r ≡ textRead (checkText limits text)
-  pub table : (s : Source) → checkText limits text ≡ done s → take (length (encode (s .rules))) row ≡ encode (s .rules)
-  pub names : NamesTold text starts lengths
+-- and for a module's text, which may lack sentences
+abbrev pub moduleRead : TextKept → List ℕ → TextRead
+moduleRead (Fault cause place) row = Refused cause place
+moduleRead (Rules t n end) row = tableRead t n end (storedTable limits t n (take end row))
+
+-- the answer, and the rows of a text that passes with it begin with the table and the names' places
+pub record Checks (o : Answer Source) (r : TextRead) (row starts lengths : List ℕ) : Type 0 where
+  pub answer : r ≡ textRead o
+  pub table : (s : Source) → o ≡ done s → take (length (encode (s .rules))) row ≡ encode (s .rules)
+  pub names : NamesTold o starts lengths
+
+-- all tests but 14, and those of a module's text
+abbrev pub ChecksText : List ℕ → TextRead → List ℕ → List ℕ → List ℕ → Type 0
+ChecksText text = Checks (checkText limits text)
+
+abbrev pub ChecksModule : List ℕ → TextRead → List ℕ → List ℕ → List ℕ → Type 0
+ChecksModule text = Checks (checkModule limits text)

@@ -6,8 +6,11 @@ mod rules;
 mod symbols;
 mod value;
 
-pub use keeping::check_kept;
-pub use keeping::keep_text;
+use keeping::check_kept;
+pub use keeping::check_module;
+pub use keeping::check_text;
+use keeping::keep_text;
+pub use keeping::last_tests;
 pub use symbols::code_of;
 ghost use mathlib.Core.Path.{_≡_};
 ghost use Prim.Native.Nat.{_≤_};
@@ -78,7 +81,7 @@ pub enum TextKept {
 }
 
 // Copies a row to the front of another.
-fn copy_codes(front: &[u16], out: &mut [u16])
+pub fn copy_codes(front: &[u16], out: &mut [u16])
     requires { ⌜ length (now front) ≤ length (now out) ⌝ }
     ensures { λ _. ⌜ now (out .exit) ≡ over (now (front .entry)) (now (out .entry)) ⌝ }
 {

@@ -128,7 +128,7 @@ impl Cases {
         &self.data[self.at - length..self.at]
     }
 
-    fn long(&mut self) -> usize {
+    pub fn long(&mut self) -> usize {
         u64::from_le_bytes(self.take(8).try_into().unwrap()) as usize
     }
 

@@ -36,6 +36,7 @@ read or written, 4 the grammar is refused. Of several pairs the worst: 2, then
     single: &[],
     bare: &[],
     files: 2,
+    once: false,
 };
 
 /// Refused: numbers for scripts, or a message.

@@ -3,6 +3,7 @@
 
 mod endless;
 pub mod foreign;
+mod joins;
 mod malformed;
 pub mod nearest;
 mod strings;
@@ -11,8 +12,10 @@ use std::collections::{HashMap, HashSet};
 
 use ambiguity::{Cause, Refusal, MAX_NONTERMINALS, MAX_RULES, MAX_STATES, MAX_TERMINALS, MAX_TEXT_BYTES};
 
+use crate::joins::Pair;
 use crate::words::{key, small, LISTS};
 
+pub use joins::of_join;
 pub use strings::of_strings;
 
 /// Symbols that a right side may have.
@@ -61,13 +64,32 @@ fn words(line: &[u8], key: usize, separator: impl Fn(&u8) -> bool) -> Vec<Word<'
 
 /// The finding for a refusal of this text.
 pub fn of(text: &[u8], refusal: Refusal) -> Finding {
+    found(text, None, refusal)
+}
+
+/// The findings for a refusal of a module's text, first the one that the library gives.
+pub fn of_module(pair: &Pair, refusal: Refusal) -> Vec<Finding> {
+    let robot = Some(Robot { file: pair.robot_file, text: pair.robot });
+    let mut findings = vec![found(pair.module, robot, refusal)];
+    findings.extend(found_beside(pair.module, robot, refusal));
+    findings
+}
+
+/// The text that a module is joined to, and its name in messages.
+#[derive(Clone, Copy)]
+struct Robot<'a> {
+    file: &'a str,
+    text: &'a [u8],
+}
+
+fn found(text: &[u8], robot: Option<Robot>, refusal: Refusal) -> Finding {
     let lines: Vec<&[u8]> = text.split(|byte| *byte == b'\n').collect();
     let at = refusal.at;
     let (line, (place, message)) = match refusal.cause {
         Cause::Malformed if at == 0 => return too_long(text),
         Cause::Malformed => (at, malformed::found(text, at)),
         Cause::NameUnknown => {
-            let lists = Lists::new(&lines);
+            let lists = Lists::new(&lines, robot);
             let unknown = lists.unknown(lines[at - 1]).map(|unknown| lists.told(&unknown));
             (at, unknown.unwrap_or_else(|| (0, "a name is not declared".to_string())))
         }
@@ -85,7 +107,11 @@ const MOST_BESIDE: usize = 19;
 
 /// What else is wrong with the text behind the line that was refused, line by line. A message that came before is not repeated.
 pub fn beside(text: &[u8], refusal: Refusal) -> Vec<Finding> {
-    let first = of(text, refusal);
+    found_beside(text, None, refusal)
+}
+
+fn found_beside(text: &[u8], robot: Option<Robot>, refusal: Refusal) -> Vec<Finding> {
+    let first = found(text, robot, refusal);
     let whole: Vec<&[u8]> = text.split_inclusive(|byte| *byte == b'\n').collect();
     let by_line = matches!(refusal.cause, Cause::Malformed | Cause::NameUnknown | Cause::NameRepeated | Cause::RuleTooLong);
     // Where the lists do not stand in their lines, every later line looks wrong.
@@ -96,7 +122,7 @@ pub fn beside(text: &[u8], refusal: Refusal) -> Vec<Finding> {
     let bare: Vec<&[u8]> = text.split(|byte| *byte == b'\n').collect();
     let fault = |number: usize| malformed::of_line(whole[number - 1], number, number == whole.len());
     let lists_hold = whole.len() >= LISTS && (1..=LISTS).all(|number| fault(number).is_none());
-    let lists = lists_hold.then(|| Lists::new(&bare));
+    let lists = lists_hold.then(|| Lists::new(&bare, robot));
     let mut messages = vec![first.message];
     // What was found unknown: a text may say the same of thousands of lines, also in another case.
     let mut unknown = HashSet::new();
@@ -156,6 +182,8 @@ struct Lists<'a> {
     nonterminals: Vec<Word<'a>>,
     /// The same as they are declared, to be looked up in small letters.
     known: [HashMap<Vec<u8>, &'a [u8]>; 2],
+    /// Of a module the names of the robot's lists in small letters, and the robot's file.
+    robot: Option<(&'a str, [HashSet<Vec<u8>>; 2])>,
 }
 
 /// How a name of a rule's line is unknown.
@@ -182,12 +210,17 @@ impl<'a> Unknown<'a> {
 }
 
 impl<'a> Lists<'a> {
-    fn new(lines: &[&'a [u8]]) -> Lists<'a> {
+    fn new(lines: &[&'a [u8]], robot: Option<Robot<'a>>) -> Lists<'a> {
         let [terminals, nonterminals] = [1, 2].map(|number| declared(lines, number));
         // Of a name that is declared twice the first counts.
         let spelled = |name: &Word<'a>| (small(name.bytes), name.bytes);
         let known = [&terminals, &nonterminals].map(|names| names.iter().rev().map(spelled).collect());
-        Lists { terminals, nonterminals, known }
+        let robot = robot.map(|robot| {
+            let lines = crate::joins::lines(robot.text);
+            let names = |number| declared(&lines, number).into_iter().map(|name| small(name.bytes)).collect();
+            (robot.file, [1, 2].map(names))
+        });
+        Lists { terminals, nonterminals, known, robot }
     }
 
     /// The first name of a rule's line that is not declared, or a left name that is a terminal's.
@@ -214,7 +247,23 @@ impl<'a> Lists<'a> {
         Some(Unknown { kind, word })
     }
 
+    /// What is said of a name that the robot declares and the module does not.
+    fn told_of_robot(&self, kind: &Kind, word: &Word) -> Option<Found> {
+        let (file, names) = self.robot.as_ref()?;
+        let list = names.iter().position(|names| names.contains(&small(word.bytes)))?;
+        let name = ["terminal", "nonterminal"][list];
+        let rest = match (kind, list) {
+            (Kind::Terminal, _) => return None,
+            (Kind::Left, 0) => "only a nonterminal has rules".to_string(),
+            _ => format!("a module declares each name that it uses: add it to the {name}s on line {}", list + 1),
+        };
+        Some((word.at, format!("{} is not declared here; in {file} it is a {name}, and {rest}", word.quoted())))
+    }
+
     fn told(&self, Unknown { kind, word }: &Unknown) -> Found {
+        if let Some(found) = self.told_of_robot(kind, word) {
+            return found;
+        }
         let (nearest, none) = match kind {
             Kind::Terminal => {
                 let message = format!("{} is a terminal, declared on line 1; only a nonterminal has rules", word.quoted());

@@ -1,12 +1,12 @@
 //! What the tools have in common: options, several files, standard input, exit statuses, lines for scripts.
 
-use crate::support::{certify, corpus, file, one_a, run, said, text, Ran, CERTIFY, CHECK};
+use crate::support::{certify, corpus, file, one_a, run, said, text, Ran, CERTIFY, CHECK, JOIN};
 
 const VERSION: &str = include_str!("../../../../VERSION");
 
 #[test]
 fn help_and_version() {
-    for (tool, name) in [(CERTIFY, "ambig-certify"), (CHECK, "ambig-check")] {
+    for (tool, name) in [(CERTIFY, "ambig-certify"), (CHECK, "ambig-check"), (JOIN, "ambig-join")] {
         for word in ["--help", "-h"] {
             let ran = run(tool, &[word], b"");
             assert!(ran.status == 0 && ran.out.starts_with(&format!("usage: {name} [OPTION]")) && ran.err.is_empty());
@@ -60,8 +60,27 @@ fn bad_use() {
         let usage = usage("ambig-check", "GRAMMAR CERTIFICATE [GRAMMAR CERTIFICATE]...");
         assert_eq!(ran.err, format!("ambig-check: {said}\n{usage}"));
     }
+    for (words, said) in [
+        (&[][..], "files are missing"),
+        (&[grammar], "files are missing"),
+        (&["-", "-"], "standard input can be read once only"),
+        (&[grammar, grammar, grammar], "there are too many files"),
+        (&[grammar, grammar, grammar, grammar], "there are too many files"),
+        (&["--certfy", grammar, grammar], "there is no option --certfy; is --certify meant?"),
+        (&["--html", grammar, grammar], "there is no option --html"),
+    ] {
+        let ran = run(JOIN, words, b"");
+        assert_eq!((ran.status, ran.out.as_str()), (2, ""));
+        assert_eq!(ran.err, format!("ambig-join: {said}\n{}", usage("ambig-join", "ROBOT MODULE")));
+    }
     let missing = format!("{grammar}-that-is-not-there");
-    for ran in [run(CERTIFY, &[&missing], b""), run(CHECK, &[&missing, "-"], b""), run(CHECK, &[grammar, &missing], b"")] {
+    for ran in [
+        run(CERTIFY, &[&missing], b""),
+        run(CHECK, &[&missing, "-"], b""),
+        run(CHECK, &[grammar, &missing], b""),
+        run(JOIN, &[&missing, "-"], b""),
+        run(JOIN, &[grammar, &missing], b""),
+    ] {
         assert_eq!((ran.status, ran.out.as_str()), (2, ""));
         assert!(ran.err.starts_with(&format!("{missing}: error: ")));
     }
@@ -163,8 +182,11 @@ fn names_with_line_breaks_and_escapes() {
 #[test]
 fn a_closed_standard_output() {
     let (good, wrong) = (file("closed", &one_a()), file("closed-wrong", "terminals\n"));
-    for (tool, grammar, status) in [(CERTIFY, &good, 2), (CERTIFY, &wrong, 4)] {
-        let command = format!("'{tool}' '{grammar}' >&-");
+    for (tool, grammars, status) in
+        [(CERTIFY, vec![&good], 2), (CERTIFY, vec![&wrong], 4), (JOIN, vec![&good, &good], 2), (JOIN, vec![&good, &wrong], 4)]
+    {
+        let files: String = grammars.iter().map(|file| format!(" '{file}'")).collect();
+        let command = format!("'{tool}'{files} >&-");
         let ran = run("/bin/sh", &["-c", &command], b"");
         assert_eq!((ran.status, ran.err.contains("standard output: it is closed\n")), (status, status == 2), "{command}");
     }
@@ -191,4 +213,7 @@ fn statuses() {
     assert_eq!(run(CERTIFY, &[&files[3], &missing], b"").status, 2);
     assert_eq!(run(CHECK, &[&files[3], &files[0]], b"").status, 4);
     assert_eq!(run(CHECK, &[&files[0], &files[0]], b"").status, 1);
+    let joined = |words: &[&str], other: usize| run(JOIN, &[words, &[&files[0], &files[other]]].concat(), b"").status;
+    assert_eq!([0, 1, 2, 3].map(|other| joined(&[], other)), [0, 0, 0, 4]);
+    assert_eq!([0, 1, 2, 3].map(|other| joined(&["--certify"], other)), [0, 1, 3, 4]);
 }

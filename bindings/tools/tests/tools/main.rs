@@ -4,6 +4,7 @@ mod certificates;
 mod commands;
 mod explanations;
 mod fixes;
+mod joins;
 mod messages;
 mod pages;
 mod parting_strings;

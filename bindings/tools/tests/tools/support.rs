@@ -6,6 +6,7 @@ use std::process::{Command, Stdio};
 
 pub const CERTIFY: &str = env!("CARGO_BIN_EXE_ambig-certify");
 pub const CHECK: &str = env!("CARGO_BIN_EXE_ambig-check");
+pub const JOIN: &str = env!("CARGO_BIN_EXE_ambig-join");
 
 /// What a tool answered.
 #[derive(Debug, PartialEq)]

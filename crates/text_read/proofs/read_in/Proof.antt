@@ -5,6 +5,8 @@ use mathlib.Core.Path.{sym}
 use Prim.Native.Nat.{ℕ, _+_, _≤_}
 use lib.ListN.{length}
 use lib.Seq.{length-take-le}
+use Rattle.grammar.specs.Limits.{limits}
+use Rattle.text.specs.Rules.{checkText}
 use Rattle.text_read.specs.Texts.{ChecksText}
 use Rattle.text_read.proofs.Whole.{kept-within, checks}
 use Rattle.text_read.proofs.Written.{read-refused, entries-kept, starts-kept, lengths-kept, short-table, short-starts, short-lengths, read-all}
@@ -40,7 +42,7 @@ coded c = codes (c .before .before .before)
 checked : (r : tie.After-check-kept) → let a = start r .args in ChecksText (a .text .now) (r .check-kept .result) (a .row .now) (a .begins .now) (a .sizes .now)
 checked r =
     let e = start r in let a = e .args in
-    checks (a .text .now) (a .row .now) (a .begins .now) (a .sizes .now) (a .kept) (r .check-kept .result) (e .pre .lines) (e .pre .names) (r .check-kept .ensures)
+    checks (a .text .now) (a .row .now) (a .begins .now) (a .sizes .now) (e .pre .names) (a .kept) (r .check-kept .result) (e .pre .lines) (r .check-kept .ensures)
 
 -- a text that passes: t, n, and how many entries there are
 abbrev t : tie.After-known-told → ℕ
@@ -58,13 +60,13 @@ states c = c .before .read .given .0 .1 .1 .1 .0
 -- what is kept has what is copied
 module _ (w : tie.After-known-told) where
   entries-fit : entries w ≤ length (start (answer w) .args .row .now)
-  entries-fit = let r = answer w in let a = start r .args in entries-kept (a .text .now) (a .row .now) (a .begins .now) (a .sizes .now) (r .check-kept .result) (checked r) (t w) (n w) (entries w) (states w) (w .before .read .given .1)
+  entries-fit = let r = answer w in let a = start r .args in entries-kept (checkText limits (a .text .now)) (a .row .now) (a .begins .now) (a .sizes .now) (r .check-kept .result) (checked r) (t w) (n w) (entries w) (states w) (w .before .read .given .1)
 
   begins-fit : t w + n w ≤ length (start (answer w) .args .begins .now)
-  begins-fit = let r = answer w in let a = start r .args in starts-kept (a .text .now) (a .row .now) (a .begins .now) (a .sizes .now) (r .check-kept .result) (checked r) (t w) (n w) (entries w) (states w) (w .before .read .given .1)
+  begins-fit = let r = answer w in let a = start r .args in starts-kept (checkText limits (a .text .now)) (a .row .now) (a .begins .now) (a .sizes .now) (r .check-kept .result) (checked r) (t w) (n w) (entries w) (states w) (w .before .read .given .1)
 
   sizes-fit : t w + n w ≤ length (start (answer w) .args .sizes .now)
-  sizes-fit = let r = answer w in let a = start r .args in lengths-kept (a .text .now) (a .row .now) (a .begins .now) (a .sizes .now) (r .check-kept .result) (checked r) (t w) (n w) (entries w) (states w) (w .before .read .given .1)
+  sizes-fit = let r = answer w in let a = start r .args in lengths-kept (checkText limits (a .text .now)) (a .row .now) (a .begins .now) (a .sizes .now) (r .check-kept .result) (checked r) (t w) (n w) (entries w) (states w) (w .before .read .given .1)
 
 check-kept-requires : tie.Need-check-kept-requires
 check-kept-requires c κs = let e = lent c in let a = e .args in kept-within (a .text .now) (a .row .now) (a .kept) (e .pre .lines)

@@ -61,7 +61,7 @@ returns c =
     let g = c .before .cause .given in
     let r = lines-refused (a .text .now) (e .pre .0) (g .0 .0) (g .0 .1 .0)
     (told-headless (a .text .now) (x .1 .0) (x .1 .1 .0) (x .1 .1 .1 .0) (w .check-heads .result) (g .0 .0) (g .0 .1 .0) (g .1) (w .check-heads .ensures)) in
-    (r, refused-names (a .text .now) (g .0 .0) (g .0 .1 .0) (x .1 .0) (x .1 .1 .0) r)
+    (r, refused-names _ (g .0 .0) (g .0 .1 .0) (x .1 .0) (x .1 .1 .0) r)
 
 same-length-4 : tie.Need-same-length-4
 same-length-4 c = search needs

@@ -20,7 +20,7 @@ returns : tie.Need-returns
 returns c =
     let a = c .before .before .before .before .before .args in
     let r = text-long (a .text .now) (c .if1 .taken) in
-    (r, refused-names (a .text .now) 16 0 (a .starts .now) (a .lengths .now) r)
+    (r, refused-names _ 16 0 (a .starts .now) (a .lengths .now) r)
 
 slice-aggregate-keep-lines : tie.Need-slice-aggregate-keep-lines
 slice-aggregate-keep-lines c = search needs

@@ -1,9 +1,9 @@
--- `readings_read::check_grammar` meets its contract: the lines, then the table. Assumes nothing.
+-- `text_read::keeping::check_text` meets its contract: the lines, then the table. Assumes nothing.
 use borrow.Author.Needs.{needs}
 use native.Mathlib.Omega.{arith}
 use Rattle.text_read.proofs.Whole.{kept-within, checks}
-use Rattle.readings_read.proofs.check_grammar.Statement.{statement}
-use Rattle.readings_read.proofs.check_grammar.Tie as tie
+use Rattle.text_read.proofs.keeping.check_text.Statement.{statement}
+use Rattle.text_read.proofs.keeping.check_text.Tie as tie
 
 -- from a place back to an earlier one
 abbrev lent : tie.After-keep-text-arg3 → tie.Start
@@ -30,11 +30,11 @@ same-length-3 c = search needs
 returns : tie.Need-returns
 returns c =
     let k = kept (c .before) in let x = k .keep-text .last .1 in
-    checks (lent (k .before) .args .text .now) (x .0) (x .1 .0) (x .1 .1 .0) (k .keep-text .result) (c .check-kept .result)
-    (k .keep-text .ensures .0) (k .keep-text .ensures .1) (c .check-kept .ensures)
+    checks (lent (k .before) .args .text .now) (x .0) (x .1 .0) (x .1 .1 .0) (k .keep-text .ensures .1) (k .keep-text .result)
+    (c .check-kept .result) (k .keep-text .ensures .0) (c .check-kept .ensures)
 
-pub check-grammar-spec : {M : Type 1} → statement M
-check-grammar-spec =
+pub check-text-spec : {M : Type 1} → statement M
+check-text-spec =
     tie.close
     (tie.spec
     keep-text-requires

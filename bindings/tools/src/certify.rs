@@ -1,0 +1,192 @@
+//! The verdict of a grammar's text, as `ambig-certify` tells it for a file and `ambig-join --certify` for two that are joined.
+
+use ambiguity::{Grammar, Refusal, Searched};
+
+use crate::command::{Answer, Request, Status};
+use crate::explanation::{self, Explanation, Found};
+use crate::lines::{self, Form, MOST_STATES};
+use crate::warnings::{self, Told};
+use crate::{diagnosis, json, page, readings, refusals, strings, words};
+
+/// A place in a file; line and column count from 1.
+pub struct Place {
+    pub file: String,
+    pub line: usize,
+    pub column: usize,
+}
+
+/// A text that is judged.
+#[derive(Clone, Copy)]
+pub struct Source<'a> {
+    /// Its name in messages.
+    pub file: &'a str,
+    pub text: &'a [u8],
+    /// Of a text that was made of files, where a place of it stands in them, by line and column.
+    pub origin: Option<&'a dyn Fn(usize, usize) -> Place>,
+}
+
+/// A grammar with its verdict.
+struct Judged<'a> {
+    source: Source<'a>,
+    grammar: &'a Grammar,
+    searched: &'a Searched,
+    warnings: &'a [Told],
+    /// Why the verdict is potential, unless few lines are asked for.
+    explanation: Option<Explanation>,
+}
+
+impl Judged<'_> {
+    /// The lines that the program `ambig` prints for a verdict.
+    fn lines(&self) -> String {
+        let states = self.grammar.states();
+        match self.searched {
+            Searched::Unambiguous { size, .. } => format!("states={states}\nverdict=unambiguous\nreached={size}\n"),
+            Searched::Potential { .. } => format!("states={states}\nverdict=potential\n{}", self.strings()),
+        }
+    }
+
+    /// The two lines of a potential verdict.
+    fn strings(&self) -> String {
+        match self.searched {
+            Searched::Unambiguous { .. } => String::new(),
+            Searched::Potential { witness, .. } => strings::printed(self.source.text, self.grammar, witness),
+        }
+    }
+
+    /// These lines, and how much the search looked at.
+    fn long_lines(&self) -> String {
+        format!("{}looked={}\n", self.lines(), self.searched.looked())
+    }
+
+    fn json(&self) -> String {
+        json::judged(self.source.file, self.grammar, self.searched, self.explanation.as_ref(), &self.strings(), self.warnings)
+    }
+
+    fn page(&self) -> String {
+        page::of(&page::Subject {
+            file: self.source.file,
+            text: self.source.text,
+            grammar: self.grammar,
+            searched: self.searched,
+            explanation: self.explanation.as_ref(),
+            warnings: self.warnings,
+        })
+    }
+
+    /// What standard output gets: the certificate, or the explanation. The certificate's form has no place for other lines.
+    fn printed(&self, request: &Request) -> String {
+        match (self.searched, &self.explanation) {
+            _ if request.has("--looked") => self.long_lines(),
+            _ if request.has("--quiet") => self.lines(),
+            _ if request.has("--json") => self.json(),
+            _ if request.has("--html") => self.page(),
+            (Searched::Unambiguous { certificate, size, .. }, _) => {
+                lines::written(self.grammar, *size, certificate, form_asked(request, self.grammar.states()))
+            }
+            (Searched::Potential { witness, .. }, explanation) => {
+                let steps = |explanation: &Explanation| match request.has("--steps") {
+                    true => format!("\n{}", readings::told(self.grammar, witness, &explanation.steps)),
+                    false => String::new(),
+                };
+                let told = explanation.as_ref().map_or(String::new(), |told| told.told(self.grammar) + &steps(told));
+                self.long_lines() + &told
+            }
+        }
+    }
+
+    /// The place of a potential verdict, and what is said there; of a text that was made of files, where both rules stand in them.
+    fn headline(&self) -> String {
+        let Some(explanation) = &self.explanation else { return String::new() };
+        let (word, said) = explanation.headline(self.grammar);
+        let (side, other) = explanation.parting.sides();
+        let place = |rule: usize| {
+            let line = words::line_of_rule(rule);
+            (line, words::key(line).len() + 1)
+        };
+        let (line, column) = place(side.rule);
+        let headline = refusals::message(self.source.file, line, column, word, &said.replace('`', "'"));
+        let Some(origin) = self.source.origin else { return headline };
+        let mut rules = vec![side.rule, other.rule];
+        rules.retain(|rule| *rule > 0);
+        rules.dedup();
+        let note = |rule: usize| {
+            let (line, column) = place(rule);
+            let said = format!("this is line {line} of the joined text");
+            let Place { file, line, column } = origin(line, column);
+            refusals::message(&file, line, column, "note", &said)
+        };
+        headline + &rules.into_iter().map(note).collect::<String>()
+    }
+
+    /// The warnings, at their places in files.
+    fn warned(&self) -> String {
+        let Some(origin) = self.source.origin else { return warnings::told(self.source.file, self.warnings) };
+        let said = |told: &Told| {
+            let Place { file, line, column } = origin(told.line, told.column);
+            refusals::message(&file, line, column, "warning", &told.message)
+        };
+        self.warnings.iter().map(said).collect()
+    }
+
+    fn status(&self) -> Status {
+        match (self.searched, &self.explanation) {
+            (Searched::Unambiguous { .. }, _) => Status::Yes,
+            (_, Some(Explanation { found: Found::Two(..), .. })) => Status::No,
+            _ => Status::Potential,
+        }
+    }
+}
+
+/// The form of a certificate that is asked for, or the usual one.
+fn form_asked(request: &Request, states: usize) -> Form {
+    let forms = [("--form=1", Form::Plain), ("--form=2", Form::Checked), ("--form=3", Form::Runs)];
+    forms.into_iter().find(|(option, _)| request.has(option)).map_or(Form::usual(states), |(_, form)| form)
+}
+
+/// Few lines are asked for, and no messages.
+fn is_quiet(request: &Request) -> bool {
+    request.has("--quiet") || request.has("--looked")
+}
+
+fn refused(request: &Request, Source { file, text, .. }: Source, refusal: Refusal) -> Answer {
+    let out = if is_quiet(request) {
+        refusals::numbers(refusal)
+    } else if request.has("--json") {
+        json::refused(file, refusal, &diagnosis::of(text, refusal))
+    } else {
+        String::new()
+    };
+    let err = if out.is_empty() { refusals::of_text(file, text, refusal) } else { String::new() };
+    Answer { status: Status::Refused, out, err }
+}
+
+/// What is said of a text, as the options ask for it.
+pub fn judged(request: &Request, source: Source) -> Answer {
+    let grammar = match Grammar::read(source.text) {
+        Ok(grammar) => grammar,
+        Err(refusal) => return refused(request, source, refusal),
+    };
+    let searched = grammar.search();
+    let form = form_asked(request, grammar.states());
+    if matches!(searched, Searched::Unambiguous { .. }) && !form.has(grammar.states()) {
+        let (file, form, states) = (source.file, form as usize, grammar.states());
+        return Answer::misuse(&format!(
+            "{file}: error: form {form} has at most {MOST_STATES} states; the grammar has {states}"
+        ));
+    }
+    let warnings = warnings::of(&grammar);
+    let explanation = match &searched {
+        Searched::Potential { witness, .. } if !is_quiet(request) => Some(explanation::of(&grammar, witness)),
+        _ => None,
+    };
+    let judged = Judged { source, grammar: &grammar, searched: &searched, warnings: &warnings, explanation };
+    let counts = request.has("-Werror") && !warnings.is_empty();
+    let silent = is_quiet(request) || request.has("--json");
+    let said = if counts || !silent { judged.warned() } else { String::new() };
+    let headline = if silent { String::new() } else { judged.headline() };
+    Answer {
+        status: if counts { Status::Refused } else { judged.status() },
+        out: judged.printed(request),
+        err: said + &headline,
+    }
+}

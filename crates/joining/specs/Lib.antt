@@ -1,0 +1,5 @@
+pub mod Numbers
+pub mod Naming
+pub mod RuleRows
+pub mod Joins
+pub mod Gathering
