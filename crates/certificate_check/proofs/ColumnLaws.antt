@@ -189,7 +189,7 @@ target-in R targets t m Q p k v h l =
     hb = omega arith
 
     P : Plan
-    P = planFor R t m Q (index Q 1 p b) 1 p b x (sideOf (R .member) (R .first) b)
+    P = planFor R t m Q 1 p b x (sideOf (R .member) (R .first) b)
 
     few : k < P .left
     few = omega (arith, l, alone-later (R .ahead) t m x b)
@@ -255,7 +255,7 @@ module _ (R : Rows) (targets : List ℕ) (t m Q : ℕ) (bytes : List ℕ) (f a b
   y = sideOf (R .member) (R .first) b
 
   abbrev plan : Plan
-  plan = planFor R t m Q (index Q f a b) f a b x y
+  plan = planFor R t m Q f a b x y
 
   left-block : (0 < aloneOf (R .ahead) t m f x b → LeftHeld R targets m Q bytes f a b) → (h : ℕ) → h < plan .left
       → isSet bytes (plan .«left_base» + getD targets (plan .«left_from» + h) 0 * Q) ≡ true
@@ -281,25 +281,24 @@ module _ (R : Rows) (targets : List ℕ) (t m Q : ℕ) (bytes : List ℕ) (f a b
   blocks-held : a < Q → b < Q
       → (0 < aloneOf (R .ahead) t m f x b → LeftHeld R targets m Q bytes f a b)
       → (0 < aloneOf (R .ahead) t m f y a → RowHeld (R .first) targets Q bytes (getD (R .member) b 0) (layerAfter m f y * Q + a))
-      → (0 < shiftOf (R .ahead) t f a b → isSet bytes (index Q f (a + 1) (b + 1)) ≡ true)
+      → (0 < shiftOf (R .ahead) t f a b → isSet bytes (index Q f (getD (R .after) a 0) (getD (R .after) b 0)) ≡ true)
       → (0 < pairsOf (R .number) m f a b x y → PairsHeld (R .first) targets Q bytes (getD (R .member) a 0) (getD (R .member) b 0))
       → ClosedAt R targets t m Q bytes (index Q f a b)
-  blocks-held ha hb l r s p =
-      let e : index Q f a b + Q + 1 ≡ index Q f (a + 1) (b + 1) = omega (arith, add-mul a 1 Q) in
-      record {
-        each = λ j h.
-            by-blocks plan targets Q (pairsOf (R .number) m f a b x y) refl (λ (j : ℕ). isSet bytes j ≡ true) (left-block l) (right-block r)
-            (λ k. ap (isSet bytes) e ∙ s k) (pair-block p) j (subst (λ (P : Plan). Has P targets Q j) (sym (plan-digits R t m Q f a b ha hb)) h);
-      }
+  blocks-held ha hb l r s p = record {
+    each = λ j h.
+        by-blocks plan targets Q (pairsOf (R .number) m f a b x y) refl (λ (j : ℕ). isSet bytes j ≡ true) (left-block l) (right-block r) s
+        (pair-block p) j (subst (λ (P : Plan). Has P targets Q j) (sym (plan-digits R t m Q f a b ha hb)) h);
+  }
 
   -- a shift leads to a triple
-  pub beside-in : Verified R targets t m Q → f ≤ 1 → a < Q → b < Q → 0 < shiftOf (R .ahead) t f a b → index Q f (a + 1) (b + 1) < tripleCount Q
+  pub beside-in : Verified R targets t m Q → f ≤ 1 → a < Q → b < Q → 0 < shiftOf (R .ahead) t f a b
+      → index Q f (getD (R .after) a 0) (getD (R .after) b 0) < tripleCount Q
   beside-in v hf ha hb h =
       let k = plan .left + plan .right in
       let n = next-shift plan targets Q k (omega arith) (omega arith) (omega arith) in
       let i = subst (λ (P : Plan). k < P .total → nextOf P targets Q k < tripleCount Q) (sym (plan-digits R t m Q f a b ha hb))
       (v .inside (index Q f a b) k (index-below Q f a b (omega arith) ha hb)) (omega arith) in
-      omega (arith, n, i, add-mul a 1 Q)
+      omega (arith, n, i)
 
   -- a column that the rows of all targets of a hold
   pub left-near : (base w c : ℕ) → a < Q → b + c < Q → c < wideBits → Verified R targets t m Q → tripleCount Q ≤ 8 * length bytes
@@ -322,19 +321,19 @@ module _ (R : Rows) (targets : List ℕ) (t m Q : ℕ) (bytes : List ℕ) (f a b
       omega (arith, h, q)
 
 -- the four blocks of numbers and sides that the calls give
-pub column-closed : (R : Rows) (targets : List ℕ) (t m Q : ℕ) (bytes : List ℕ) (f a b : ℕ) (x y : Side) (layer left right shift pairs beside : ℕ)
+pub column-closed : (R : Rows) (targets : List ℕ) (t m Q : ℕ) (bytes : List ℕ) (f a b : ℕ) (x y : Side) (layer left right shift pairs : ℕ)
     → a < Q → b < Q → x ≡ sideOf (R .member) (R .first) a → y ≡ sideOf (R .member) (R .first) b → layer ≡ layerAfter m f y
     → left ≡ aloneOf (R .ahead) t m f x b → right ≡ aloneOf (R .ahead) t m f y a → shift ≡ shiftOf (R .ahead) t f a b
-    → pairs ≡ pairsOf (R .number) m f a b x y → beside ≡ index Q f (a + 1) (b + 1)
+    → pairs ≡ pairsOf (R .number) m f a b x y
     → (0 < left → LeftHeld R targets m Q bytes f a b) → (0 < right → RowHeld (R .first) targets Q bytes (y .kind) (layer * Q + a))
-    → (0 < shift → isSet bytes beside ≡ true) → (0 < pairs → PairsHeld (R .first) targets Q bytes (x .kind) (y .kind))
+    → (0 < shift → isSet bytes (index Q f (getD (R .after) a 0) (getD (R .after) b 0)) ≡ true) → (0 < pairs → PairsHeld (R .first) targets Q bytes (x .kind) (y .kind))
     → ClosedAt R targets t m Q bytes (index Q f a b)
-column-closed R targets t m Q bytes f a b x y layer left right shift pairs beside ha hb ex ey el e1 e2 e3 e4 e5 l r s p =
+column-closed R targets t m Q bytes f a b x y layer left right shift pairs ha hb ex ey el e1 e2 e3 e4 l r s p =
     blocks-held R targets t m Q bytes f a b ha hb (λ h. l (subst (λ (n : ℕ). 0 < n) (sym (e1 ∙ ap (λ (s : Side). aloneOf (R .ahead) t m f s b) ex)) h))
     (λ h. subst (λ (n : ℕ). RowHeld (R .first) targets Q bytes (getD (R .member) b 0) (n * Q + a)) (el ∙ ap (layerAfter m f) ey)
     (subst (λ (c : ℕ). RowHeld (R .first) targets Q bytes c (layer * Q + a)) (ap (λ (s : Side). s .kind) ey)
     (r (subst (λ (n : ℕ). 0 < n) (sym (e2 ∙ ap (λ (s : Side). aloneOf (R .ahead) t m f s a) ey)) h))))
-    (λ h. ap (isSet bytes) (sym e5) ∙ s (subst (λ (n : ℕ). 0 < n) (sym e3) h))
+    (λ h. s (subst (λ (n : ℕ). 0 < n) (sym e3) h))
     (λ h. subst (λ (c : ℕ). PairsHeld (R .first) targets Q bytes c (getD (R .member) b 0)) (ap (λ (s : Side). s .kind) ex)
     (subst (λ (c : ℕ). PairsHeld (R .first) targets Q bytes (x .kind) c) (ap (λ (s : Side). s .kind) ey)
     (p (subst (λ (n : ℕ). 0 < n) (sym (e4 ∙ ap (λ (s : Side). pairsOf (R .number) m f a b s y) ex

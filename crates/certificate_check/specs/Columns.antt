@@ -8,6 +8,7 @@ use lib.ListN.{length, getD}
 use Rattle.grammar.specs.Limits.{limits}
 use Rattle.triples.specs.Certificate.{bit, isSet}
 use Rattle.bits.specs.Windows.{wideBits}
+use Rattle.moves.specs.Tables.{mostKinds}
 use Rattle.plans.specs.Plan.{Rows, sideOf, layerAfter, planOf}
 use Rattle.plans.specs.Contracts.{Has}
 
@@ -20,7 +21,7 @@ targetOf first targets c k = getD targets (getD first c 0 + k) 0
 
 -- the targets of class c are laid out, and are states
 pub record Placed (first targets : List ℕ) (Q c : ℕ) : Type 0 where
-  pub class : c ≤ 2 * (limits .maxNonterminals + 1)
+  pub class : c ≤ 2 * mostKinds
   pub order : getD first c 0 ≤ getD first (c + 1) 0
   pub inside : getD first (c + 1) 0 ≤ limits .maxStates
   pub each : (k : ℕ) → k < spanOf first c → targetOf first targets c k < Q

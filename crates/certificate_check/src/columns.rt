@@ -149,14 +149,26 @@ fn left_held(left: usize, near: bool) -> bool
     near
 }
 
-// Is the shift held, if there is one?
-fn shift_held(bytes: &[u8], shift: usize, beside: usize) -> bool
-    requires { ⌜ (0 < shift → beside < 8 * length (now bytes)) ⌝ }
-    ensures { λ r. ⌜ (r ≡ true → 0 < shift → isSet (now (bytes .entry)) beside ≡ true) ⌝ }
+// Is the shift of a and b held, if there is one? Where there is none, nothing of `after` is read.
+fn shift_held<'a>(
+    after: &'a [u16; MAX_STATES],
+    q: usize,
+    bytes: &'a [u8],
+    f: usize,
+    a: usize,
+    b: usize,
+    shift: usize,
+) -> bool
+    requires { ⌜ (q ≤ limits .maxStates) × (f ≤ 1) × (a < q) × (b < q) ⌝ }
+    requires { ⌜ (0 < shift → index q f (getD (now after) a 0) (getD (now after) b 0) < 8 * length (now bytes)) ⌝ }
+    ensures { λ r. ⌜ (r ≡ true → 0 < shift → isSet (now (bytes .entry)) (index q f (getD (now (after .entry)) a 0) (getD (now (after .entry)) b 0)) ≡ true) ⌝ }
 {
     if shift == 0 {
         return true;
     }
+    let u = plans::wide(after[a]);
+    let v = plans::wide(after[b]);
+    let beside = index_of(q, f, u, v);
     bits::is_set(bytes, beside)
 }
 
@@ -230,6 +242,7 @@ fn column_held<'a>(
     number: &'a [u16; MAX_STATES],
     member: &'a [u16; MAX_STATES],
     first: &'a [u16; CLASSES],
+    after: &'a [u16; MAX_STATES],
     targets: &'a [u16; MAX_STATES],
     t: u16,
     m: u16,
@@ -242,12 +255,12 @@ fn column_held<'a>(
     near: bool,
     seen: &mut [u16; CLASSES],
 ) -> bool
-    requires { ⌜ Verified (rows (now ahead) (now number) (now member) (now first)) (now targets) t m q ⌝ }
+    requires { ⌜ Verified (rows (now ahead) (now number) (now member) (now first) (now after)) (now targets) t m q ⌝ }
     requires { ⌜ (f ≤ 1) × (a < q) × (b < q) × (tripleCount q ≤ 8 * length (now bytes)) ⌝ }
     requires { ⌜ x ≡ sideOf (now member) (now first) a ⌝ }
-    requires { ⌜ (near ≡ true → LeftHeld (rows (now ahead) (now number) (now member) (now first)) (now targets) m q (now bytes) f a b) ⌝ }
+    requires { ⌜ (near ≡ true → LeftHeld (rows (now ahead) (now number) (now member) (now first) (now after)) (now targets) m q (now bytes) f a b) ⌝ }
     requires { ⌜ Noted (now first) (now targets) q (now bytes) (now seen) ⌝ }
-    ensures { λ r. ⌜ (r ≡ true → ClosedAt (rows (now (ahead .entry)) (now (number .entry)) (now (member .entry)) (now (first .entry))) (now (targets .entry)) t m q (now (bytes .entry)) (index q f a b)) ⌝ }
+    ensures { λ r. ⌜ (r ≡ true → ClosedAt (rows (now (ahead .entry)) (now (number .entry)) (now (member .entry)) (now (first .entry)) (now (after .entry))) (now (targets .entry)) t m q (now (bytes .entry)) (index q f a b)) ⌝ }
     ensures { λ _. ⌜ Noted (now (first .entry)) (now (targets .entry)) q (now (bytes .entry)) (now (seen .exit)) ⌝ }
 {
     let y = plans::side_of(member, first, b);
@@ -256,8 +269,7 @@ fn column_held<'a>(
         return false;
     }
     let shift = plans::shift_of(ahead, t, f, a, b);
-    let beside = index_of(q, f, a + 1, b + 1);
-    if !shift_held(bytes, shift, beside) {
+    if !shift_held(after, q, bytes, f, a, b, shift) {
         return false;
     }
     let right = plans::alone_of(ahead, t, m, f, y, a);
@@ -275,6 +287,7 @@ pub fn columns_closed<'a>(
     number: &'a [u16; MAX_STATES],
     member: &'a [u16; MAX_STATES],
     first: &'a [u16; CLASSES],
+    after: &'a [u16; MAX_STATES],
     targets: &'a [u16; MAX_STATES],
     t: u16,
     m: u16,
@@ -286,10 +299,10 @@ pub fn columns_closed<'a>(
     n: usize,
     seen: &mut [u16; CLASSES],
 ) -> bool
-    requires { ⌜ Verified (rows (now ahead) (now number) (now member) (now first)) (now targets) t m q ⌝ }
+    requires { ⌜ Verified (rows (now ahead) (now number) (now member) (now first) (now after)) (now targets) t m q ⌝ }
     requires { ⌜ (f ≤ 1) × (a < q) × (b < q) × (b + n ≤ q) × (n ≤ wideBits) × (tripleCount q ≤ 8 * length (now bytes)) ⌝ }
     requires { ⌜ Noted (now first) (now targets) q (now bytes) (now seen) ⌝ }
-    ensures { λ r. ⌜ (r ≡ true → ClosedFrom (rows (now (ahead .entry)) (now (number .entry)) (now (member .entry)) (now (first .entry))) (now (targets .entry)) t m q (now (bytes .entry)) (index q f a b) n) ⌝ }
+    ensures { λ r. ⌜ (r ≡ true → ClosedFrom (rows (now (ahead .entry)) (now (number .entry)) (now (member .entry)) (now (first .entry)) (now (after .entry))) (now (targets .entry)) t m q (now (bytes .entry)) (index q f a b) n) ⌝ }
     ensures { λ _. ⌜ Noted (now (first .entry)) (now (targets .entry)) q (now (bytes .entry)) (now (seen .exit)) ⌝ }
 {
     if bytes.len() < 8 {
@@ -310,6 +323,7 @@ pub fn columns_closed<'a>(
             number,
             member,
             first,
+            after,
             targets,
             t,
             m,

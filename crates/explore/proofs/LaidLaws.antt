@@ -49,7 +49,7 @@ module _ (M : Moves) (S : Regular M) (t m : ℕ) (new : Tables) (X : Shows M t m
   Q = M .states
 
   abbrev R : Rows
-  R = rows (new .ahead) (new .number) (new .member) (new .first)
+  R = rows (new .ahead) (new .number) (new .member) (new .first) (new .after)
 
   abbrev ts : List ℕ
   ts = new .targets
@@ -79,7 +79,7 @@ module _ (M : Moves) (S : Regular M) (t m : ℕ) (new : Tables) (X : Shows M t m
       (sym (head-facts p hp lp .1) ∙ ap (λ (u : ℕ). getD (new .target) u 0) e ∙ head-facts q hq lq .1)
 
   abbrev plan : ℕ → ℕ → ℕ → ℕ → Plan
-  plan i f p q = planFor R t m Q i f p q (side p) (side q)
+  plan i f p q = planFor R t m Q f p q (side p) (side q)
 
   -- left blocks with the same first index
   left-same : (i f p q j g r s : ℕ) → p < Q → q < Q → r < Q → s < Q → 0 < plan i f p q .left → 0 < plan j g r s .left
@@ -171,6 +171,6 @@ module _ (M : Moves) (S : Regular M) (t m : ℕ) (new : Tables) (X : Shows M t m
 -- the same with the number of states by itself
 pub laid-of : (M : Moves) (S : Regular M) (t m Q : ℕ) → Q ≡ M .states → (new : Tables) (X : Shows M t m new)
     (long : limits .maxStates ≤ length (new .targets))
-    → Laid (rows (new .ahead) (new .number) (new .member) (new .first)) (new .targets) t m Q
+    → Laid (rows (new .ahead) (new .number) (new .member) (new .first) (new .after)) (new .targets) t m Q
 laid-of M S t m Q e new X long =
-    subst (λ (Q : ℕ). Laid (rows (new .ahead) (new .number) (new .member) (new .first)) (new .targets) t m Q) (sym e) (laid M S t m new X long)
+    subst (λ (Q : ℕ). Laid (rows (new .ahead) (new .number) (new .member) (new .first) (new .after)) (new .targets) t m Q) (sym e) (laid M S t m new X long)

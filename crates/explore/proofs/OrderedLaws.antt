@@ -74,7 +74,7 @@ module _ (M : Moves) (S : Regular M) (t m : ℕ) (new : Tables) (X : Shows M t m
   Q = M .states
 
   abbrev R : Rows
-  R = rows (new .ahead) (new .number) (new .member) (new .first)
+  R = rows (new .ahead) (new .number) (new .member) (new .first) (new .after)
 
   abbrev ts : List ℕ
   ts = new .targets
@@ -109,9 +109,12 @@ module _ (M : Moves) (S : Regular M) (t m : ℕ) (new : Tables) (X : Shows M t m
   no-move q u (a, x, (r, s)) (inr c) = S .ahead-no-close (c .0) q u (omega (arith, s .0, s .1)) (c .1)
   no-move q u (a, x, (r, s)) (inl o) = S .terminal-no-open (o .0) q u (omega (arith, s .0, x .0), omega (arith, s .0, x .1)) (o .1)
 
-  -- the state past one that stands before a symbol
-  below-past : (p : ℕ) → p < Q → 1 ≤ M .ahead p → suc p < Q
-  below-past p l h = omega (arith, S .shifts-below p h, X .next p l h)
+  -- the state past one that stands before a symbol: a later one
+  abbrev past : ℕ → ℕ
+  past p = getD (new .after) p 0
+
+  later-past : (p : ℕ) → p < Q → 1 ≤ M .ahead p → (p < past p) × (past p < Q)
+  later-past p l h = let e = X .after p l h in (omega (arith, e, S .later p h), omega (arith, e, S .shifts-below p h))
 
   -- where both sides have moves alone, both stay in the layer
   layer-left : (f p q k l : ℕ) → f < 2 → p < Q → q < Q → side p .from ≤ k → k < side p .from + aloneOf (new .ahead) t m f (side p) q
@@ -124,7 +127,7 @@ module _ (M : Moves) (S : Regular M) (t m : ℕ) (new : Tables) (X : Shows M t m
   layer-left (suc (suc f)) p q k l hf hp hq a b c d = absurd (omega arith)
 
   abbrev plan : ℕ → ℕ → ℕ → ℕ → Plan
-  plan i f p q = planFor R t m Q i f p q (side p) (side q)
+  plan i f p q = planFor R t m Q f p q (side p) (side q)
 
   -- what a shift tells
   shift-ahead : (f p q : ℕ) → p < Q → q < Q → 0 < shiftOf (new .ahead) t f p q → (1 ≤ M .ahead p) × (1 ≤ M .ahead q)
@@ -166,15 +169,17 @@ module _ (M : Moves) (S : Regular M) (t m : ℕ) (new : Tables) (X : Shows M t m
             | inl h ↦ inl (omega (arith, h .1, xx, yy))
             | inr h ↦ inr (omega (arith, e, xx, ap (λ (z : ℕ). z * Q) h))
           ];
-      shift-past = λ s. let y = ap (λ (z : ℕ). z * (Q * Q)) (shift-layers s .1) in omega (arith, e, y);
+      shift-past = λ s.
+          let y = ap (λ (z : ℕ). z * (Q * Q)) (shift-layers s .1) in
+          let u = later-past p hp (shift-ahead f p q hp hq s .0) in omega (arith, y, mul-le-mul-right Q (u .0), suc-mul p Q);
       shift-past-right = λ s l c d.
           let v = target q l hq c (omega (arith, right-le)) in
-          let y = ap (λ (z : ℕ). z * (Q * Q)) (shift-layers s .1) in omega (arith, e, y, v .0);
+          let y = ap (λ (z : ℕ). z * (Q * Q)) (shift-layers s .1) in
+          let u = later-past p hp (shift-ahead f p q hp hq s .0) in omega (arith, y, v .0, mul-le-mul-right Q (u .0), suc-mul p Q);
       shift-apart = λ s k a b z.
-          let u = target p k hp a (omega (arith, left-le)) in
           let xx = ap (λ (z : ℕ). z * (Q * Q)) (shift-layers s .0) in
-          let c = shift-ahead f p q hp hq s in
-          row-apart Q (f * (Q * Q)) (getD ts k 0) (suc p) q (suc q) hq (below-past q hq (c .1)) (omega arith) (omega (arith, z, e, xx, suc-mul p Q));
+          let v = later-past q hq (shift-ahead f p q hp hq s .1) in
+          row-apart Q (f * (Q * Q)) (getD ts k 0) (past p) q (past q) hq (v .1) (v .0) (omega (arith, z, xx));
     }
 
     -- where there are pairs, both sides close

@@ -3,6 +3,7 @@ use Prim.Native.Nat.{ℕ, _*_, _≤_, _<_}
 use mathlib.Core.Path.{refl, sym, subst, _∙_}
 use mathlib.Core.Logic.{_⊎_, inl, inr}
 use native.Mathlib.Omega.{arith}
+use native.Mathlib.Numerals.{add-one}
 use Rattle.grammar.specs.Basics.{Mem}
 use Rattle.grammar.specs.Limits.{limits}
 use Rattle.grammar.specs.Grammar.{Grammar, WellFormed}
@@ -37,7 +38,7 @@ module _ (G : Grammar) (W : WellFormed limits G) (old new : Tables) (X : Built G
     few = W .size;
     kinds = omega (arith, W .nonterminals .1);
     ahead = ahead-at G old new X;
-    next = λ p h k. refl;
+    after = λ p h k. X .after p h ∙ add-one p;
     leads = λ p q hp hq.
         let l = member-target limits G (Live limits G) (isLive limits G) (says G W) W apart p q hp hq in
         let a = member-at G old new X p hp in

@@ -8,7 +8,7 @@ use lib.ListN.{getD}
 use Rattle.grammar.specs.Basics.{Mem}
 use Rattle.grammar.specs.Limits.{limits}
 use Rattle.automaton.specs.Moves.{Moves}
-use Rattle.moves.specs.Tables.{Ascends, segment, Tables}
+use Rattle.moves.specs.Tables.{mostKinds, Ascends, segment, Tables}
 
 module _ (M : Moves) where
   -- rule i is opened, or closed, from p to q
@@ -26,10 +26,10 @@ module _ (M : Moves) where
     -- t is the number of terminals; Q and m are within their limits
     pub terminals : t ≡ M .terminals
     pub few : M .states ≤ limits .maxStates
-    pub kinds : m ≤ limits .maxNonterminals + 1
-    -- of each state the code ahead; a shift leads to the next state
+    pub kinds : m ≤ mostKinds
+    -- of each state the code ahead, and the state after a shift of it
     pub ahead : (p : ℕ) → p < M .states → getD (T .ahead) p 0 ≡ M .ahead p
-    pub next : (p : ℕ) → p < M .states → 1 ≤ M .ahead p → M .after p ≡ suc p
+    pub after : (p : ℕ) → p < M .states → 1 ≤ M .ahead p → getD (T .after) p 0 ≡ M .after p
     -- a state moves alone to another exactly when its class leads there
     pub leads : (p q : ℕ) → p < M .states → q < M .states → (getD (T .member) p 0 ≡ getD (T .target) q 0) ↔ Alone p q
     -- classes go up to 2m, that of the states that move nowhere

@@ -39,7 +39,7 @@ module _ (M : Moves) (S : Regular M) (t m : ℕ) (new : Tables) (X : Shows M t m
   Q = M .states
 
   abbrev R : Rows
-  R = rows (new .ahead) (new .number) (new .member) (new .first)
+  R = rows (new .ahead) (new .number) (new .member) (new .first) (new .after)
 
   abbrev side : ℕ → Side
   side p = sideOf (new .member) (new .first) p
@@ -179,7 +179,7 @@ module _ (M : Moves) (S : Regular M) (t m : ℕ) (new : Tables) (X : Shows M t m
       go false b c e f g = sym (nothing (inl (opening-kind p hp (ltb-false (side p .kind) m e))))
 
   -- the plan of a triple has as many successors as the triple has choices
-  plan-total : (i f p q : ℕ) → f < 2 → p < Q → q < Q → planFor R t m Q i f p q (side p) (side q) .total ≡ length (choices M f p q)
+  plan-total : (i f p q : ℕ) → f < 2 → p < Q → q < Q → planFor R t m Q f p q (side p) (side q) .total ≡ length (choices M f p q)
   plan-total i zero p q hf hp hq =
       omega (arith, alone-zero p q hp hq, alone-zero q p hq hp, shift-zero p q hp hq, pairs-zero p q hp hq, zero-count M p q)
   plan-total i (suc zero) p q hf hp hq =

@@ -14,7 +14,7 @@ use Rattle.plans.proofs.Counted.{total-is}
 -- with the number of states by itself
 pub planned-of : (M : Moves) (R : Regular M) (t m Q : ℕ) (size : Q ≡ M .states) (new : Tables) (X : Shows M t m new)
     (long : limits .maxStates ≤ length (new .targets))
-    → Planned M (rows (new .ahead) (new .number) (new .member) (new .first)) (new .targets) t m Q
+    → Planned M (rows (new .ahead) (new .number) (new .member) (new .first) (new .after)) (new .targets) t m Q
 planned-of M R t m Q size new X long =
-    subst (λ (Q : ℕ). Planned M (rows (new .ahead) (new .number) (new .member) (new .first)) (new .targets) t m Q) (sym size)
+    subst (λ (Q : ℕ). Planned M (rows (new .ahead) (new .number) (new .member) (new .first) (new .after)) (new .targets) t m Q) (sym size)
     (record { size = refl; lists = lists M R t m new X long; counts = total-is M R t m new X long })

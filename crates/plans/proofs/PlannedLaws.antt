@@ -53,7 +53,7 @@ module _ (M : Moves) (R : Regular M) (t m : ℕ) (new : Tables) (X : Shows M t m
   Q = M .states
 
   abbrev N : Rows
-  N = rows (new .ahead) (new .number) (new .member) (new .first)
+  N = rows (new .ahead) (new .number) (new .member) (new .first) (new .after)
 
   abbrev ts : List ℕ
   ts = new .targets
@@ -115,12 +115,15 @@ module _ (M : Moves) (R : Regular M) (t m : ℕ) (new : Tables) (X : Shows M t m
   before-reads : (p : ℕ) → p < Q → BeforeTerminal (listed M) p → readsAt (new .ahead) t p ≡ true
   before-reads p h b = reads-is p h ∙ terminal-ahead M p .1 b
 
-  shift-at : (x p u : ℕ) → p < Q → ((M .ahead p ≡ x) × (1 ≤ x) × (u ≡ M .after p)) ↔ ((getD (new .ahead) p 0 ≡ x) × (1 ≤ x) × (u ≡ suc p))
+  abbrev past : ℕ → ℕ
+  past p = getD (new .after) p 0
+
+  shift-at : (x p u : ℕ) → p < Q → ((M .ahead p ≡ x) × (1 ≤ x) × (u ≡ M .after p)) ↔ ((getD (new .ahead) p 0 ≡ x) × (1 ≤ x) × (u ≡ past p))
   shift-at x p u h =
       let e = X .ahead p h in (
-        λ r. (e ∙ r .0, r .1, r .2 ∙ X .next p h (omega (arith, r .0, r .1))),
+        λ r. (e ∙ r .0, r .1, r .2 ∙ sym (X .after p h (omega (arith, r .0, r .1)))),
         λ r.
-            let a : M .ahead p ≡ x = sym e ∙ r .0 in (a, r .1, r .2 ∙ sym (X .next p h (omega (arith, a, r .1)))),
+            let a : M .ahead p ≡ x = sym e ∙ r .0 in (a, r .1, r .2 ∙ X .after p h (omega (arith, a, r .1))),
       )
 
   number-of : {i p u : ℕ} → p < Q → Closed M i p u → getD (new .number) p 0 ≡ i
@@ -194,21 +197,18 @@ module _ (M : Moves) (R : Regular M) (t m : ℕ) (new : Tables) (X : Shows M t m
       ]
   right-each (suc (suc f)) p q k hf hp hq l = absurd (omega arith)
 
-  beside-is : (i f p q : ℕ) → i ≡ index Q f p q → i + Q + 1 ≡ index Q f (suc p) (suc q)
-  beside-is i f p q e = omega (arith, e, suc-mul p Q)
-
-  shift-each : (i f p q : ℕ) → i ≡ index Q f p q → f < 2 → p < Q → q < Q → 0 < shiftOf (new .ahead) t f p q → Reaches f p q (i + Q + 1)
-  shift-each i zero p q e hf hp hq l =
+  shift-each : (f p q : ℕ) → f < 2 → p < Q → q < Q → 0 < shiftOf (new .ahead) t f p q → Reaches f p q (index Q f (past p) (past q))
+  shift-each zero p q hf hp hq l =
       let x = getD (new .ahead) p 0 in
       let s = shift-facts (new .ahead) t 0 p q l in
-      (0, suc p, suc q, beside-is i 0 p q e, (Symbol x, Symbol x, shift-both (shift-at x p (suc p) hp .1 (refl, s .0, refl)) (shift-at x q (suc q) hq .1 (sym (s .1), s .0, refl))))
-  shift-each i (suc zero) p q e hf hp hq l =
+      (0, past p, past q, refl, (Symbol x, Symbol x, shift-both (shift-at x p (past p) hp .1 (refl, s .0, refl)) (shift-at x q (past q) hq .1 (sym (s .1), s .0, refl))))
+  shift-each (suc zero) p q hf hp hq l =
       let x = getD (new .ahead) p 0 in
       let s = shift-facts (new .ahead) t 1 p q l in
       let b = reads-before p hp (a-terminal (readsAt (new .ahead) t p) (s .2)) in
       let y = shift-at (b .0) p (b .2 .0) hp .0 (b .2 .1) in
-      (1, suc p, suc q, beside-is i 1 p q e, (Symbol x, Symbol x, read-both (subst (Terminal (M .terminals)) (sym (y .0)) (b .1)) (shift-at x p (suc p) hp .1 (refl, s .0, refl)) (shift-at x q (suc q) hq .1 (sym (s .1), s .0, refl))))
-  shift-each i (suc (suc f)) p q e hf hp hq l = absurd (omega arith)
+      (1, past p, past q, refl, (Symbol x, Symbol x, read-both (subst (Terminal (M .terminals)) (sym (y .0)) (b .1)) (shift-at x p (past p) hp .1 (refl, s .0, refl)) (shift-at x q (past q) hq .1 (sym (s .1), s .0, refl))))
+  shift-each (suc (suc f)) p q hf hp hq l = absurd (omega arith)
 
   closing-cell : (p k : ℕ) → p < Q → k < side p .span → side p .kind < m → (i : ℕ) × Closed M i p (cell p k)
   closing-cell p k h l c = elim (cell-target p k h l) [
@@ -233,7 +233,7 @@ module _ (M : Moves) (R : Regular M) (t m : ℕ) (new : Tables) (X : Shows M t m
   pair-each (suc (suc f)) p q k hf hp hq l = absurd (omega arith)
 
   abbrev plan : ℕ → ℕ → ℕ → ℕ → Plan
-  plan i f p q = planFor N t m Q i f p q (side p) (side q)
+  plan i f p q = planFor N t m Q f p q (side p) (side q)
 
   each-reaches : (i f p q k : ℕ) → i ≡ index Q f p q → f < 2 → p < Q → q < Q → k < plan i f p q .total → Reaches f p q (nextOf (plan i f p q) ts Q k)
   each-reaches i f p q k e hf hp hq h = elim (decLt k (P .left)) [
@@ -241,7 +241,7 @@ module _ (M : Moves) (R : Regular M) (t m : ℕ) (new : Tables) (X : Shows M t m
     | no a ↦ elim (decLt (k - P .left) (P .right)) [
       | yes l ↦ subst (Reaches f p q) (next-right P ts Q k (cell q (k - P .left)) (omega arith) l refl) (right-each f p q (k - P .left) hf hp hq l)
       | no b ↦ elim (decLt (k - P .left - P .right) (P .shift)) [
-        | yes l ↦ subst (Reaches f p q) (next-shift P ts Q k (omega arith) (omega arith) l) (shift-each i f p q e hf hp hq (omega arith))
+        | yes l ↦ subst (Reaches f p q) (next-shift P ts Q k (omega arith) (omega arith) l) (shift-each f p q hf hp hq (omega arith))
         | no c ↦
             let o = k - P .left - P .right - P .shift in
             subst (Reaches f p q) (next-pair P ts Q k (cell p (o / side q .span)) (cell q (o % side q .span)) (omega arith) (omega arith) (omega arith) refl refl)
@@ -280,11 +280,11 @@ module _ (M : Moves) (R : Regular M) (t m : ℕ) (new : Tables) (X : Shows M t m
         sym (next-right (plan i f p q) ts Q (x + c .0) u (omega arith) (omega (arith, l, e)) (sym (ap (cell q) e ∙ c .2))) ∙ ap (λ (n : ℕ). n * (Q * Q) + p * Q + u) b,
       )
 
-  shift-listed : (i f p q : ℕ) → i ≡ index Q f p q → shiftOf (new .ahead) t f p q ≡ 1 → Listed (plan i f p q) (index Q f (suc p) (suc q))
+  shift-listed : (i f p q : ℕ) → i ≡ index Q f p q → shiftOf (new .ahead) t f p q ≡ 1 → Listed (plan i f p q) (index Q f (past p) (past q))
   shift-listed i f p q e s =
       let x = aloneOf (new .ahead) t m f (side p) q in
       let y = aloneOf (new .ahead) t m f (side q) p in
-      (x + y, omega (arith, s), sym (next-shift (plan i f p q) ts Q (x + y) (omega arith) (omega arith) (omega (arith, s))) ∙ beside-is i f p q e)
+      (x + y, omega (arith, s), sym (next-shift (plan i f p q) ts Q (x + y) (omega arith) (omega arith) (omega (arith, s))))
 
   pair-listed : (i p q u v : ℕ) → p < Q → q < Q → side p .kind < m → side q .kind < m → (getD (new .number) p 0 ≡ getD (new .number) q 0 → ⊥)
       → Alone M p u → Alone M q v → Listed (plan i 0 p q) (index Q 1 u v)
@@ -402,7 +402,7 @@ module _ (M : Moves) (R : Regular M) (t m : ℕ) (new : Tables) (X : Shows M t m
 -- the same with the number of states by itself
 module _ (M : Moves) (R : Regular M) (t m Q : ℕ) (size : Q ≡ M .states) (new : Tables) (X : Shows M t m new)
     (long : limits .maxStates ≤ length (new .targets)) where
-  pub verified-of : Verified (rows (new .ahead) (new .number) (new .member) (new .first)) (new .targets) t m Q
+  pub verified-of : Verified (rows (new .ahead) (new .number) (new .member) (new .first) (new .after)) (new .targets) t m Q
   verified-of =
-      subst (λ (Q : ℕ). Verified (rows (new .ahead) (new .number) (new .member) (new .first)) (new .targets) t m Q) (sym size)
+      subst (λ (Q : ℕ). Verified (rows (new .ahead) (new .number) (new .member) (new .first) (new .after)) (new .targets) t m Q) (sym size)
       (verified M R t m new X long)

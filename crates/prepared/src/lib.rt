@@ -24,9 +24,10 @@ pub fn prepare(
     target: &mut [u16; MAX_STATES],
     first: &mut [u16; CLASSES],
     targets: &mut [u16; MAX_STATES],
+    after: &mut [u16; MAX_STATES],
 ) -> Prepared
     ensures { λ w. ⌜ Prepares t n (now (table .entry)) w
-        (tables (now (ahead .exit)) (now (number .exit)) (now (member .exit)) (now (target .exit)) (now (first .exit)) (now (targets .exit))) ⌝ }
+        (tables (now (ahead .exit)) (now (number .exit)) (now (member .exit)) (now (target .exit)) (now (first .exit)) (now (targets .exit)) (now (after .exit))) ⌝ }
 {
     let checked = table_check::check_table(t, n, table);
     let verdict = checked.verdict;
@@ -41,7 +42,7 @@ pub fn prepare(
         }
         TableVerdict::Passed => {
             let g = checked.grammar;
-            moves::build(g, ahead, number, member, target, first, targets);
+            moves::build(g, ahead, number, member, target, first, targets, after);
             let terminals = g.terminals;
             let kinds = g.nonterminals + 1;
             let states = g.states;

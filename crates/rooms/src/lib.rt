@@ -67,6 +67,7 @@ pub fn search_room(t: usize, n: usize, table: &[u16]) -> SearchRoom
     let mut target = [0u16; MAX_STATES];
     let mut first = [0u16; CLASSES];
     let mut targets = [0u16; MAX_STATES];
+    let mut after = [0u16; MAX_STATES];
     let w = prepared::prepare(
         t,
         n,
@@ -77,6 +78,7 @@ pub fn search_room(t: usize, n: usize, table: &[u16]) -> SearchRoom
         &mut target,
         &mut first,
         &mut targets,
+        &mut after,
     );
     let verdict = w.verdict;
     match verdict {

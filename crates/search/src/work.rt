@@ -16,6 +16,7 @@ pub fn search_rows<'a>(
     number: &'a [u16; MAX_STATES],
     member: &'a [u16; MAX_STATES],
     first: &'a [u16; CLASSES],
+    after: &'a [u16; MAX_STATES],
     targets: &'a [u16; MAX_STATES],
     t: u16,
     m: u16,
@@ -25,9 +26,9 @@ pub fn search_rows<'a>(
     parents: &mut [u32],
     witness: &mut [u32],
 ) -> SearchVerdict
-    requires { ⌜ Laid (rows (now ahead) (now number) (now member) (now first)) (now targets) t m q ⌝ }
+    requires { ⌜ Laid (rows (now ahead) (now number) (now member) (now first) (now after)) (now targets) t m q ⌝ }
     requires { ⌜ Enough q (lent (now certificate) (now queue) (now parents) (now witness)) ⌝ }
-    ensures { λ r. ⌜ Searched (rows (now (ahead .entry)) (now (number .entry)) (now (member .entry)) (now (first .entry))) (now (targets .entry)) t m q
+    ensures { λ r. ⌜ Searched (rows (now (ahead .entry)) (now (number .entry)) (now (member .entry)) (now (first .entry)) (now (after .entry))) (now (targets .entry)) t m q
         (lent (now (certificate .entry)) (now (queue .entry)) (now (parents .entry)) (now (witness .entry))) r
         (lent (now (certificate .exit)) (now (queue .exit)) (now (parents .exit)) (now (witness .exit))) ⌝ }
 {
@@ -38,6 +39,7 @@ pub fn search_rows<'a>(
         number,
         member,
         first,
+        after,
         targets,
         t,
         m,

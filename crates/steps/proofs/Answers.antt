@@ -39,7 +39,7 @@ module _ (M : Moves) where
 
   -- and give its records
   pub shown-nth : Regular M → (t m : ℕ) (new : Tables) → Shows M t m new → (f p q k : ℕ) → p < M .states → q < M .states
-      → nth (planned (rowsOf (new .ahead) (new .number) (new .member) (new .first) (new .targets) t m) f p q) k ≡ nthRecord M f p q k
+      → nth (planned (rowsOf (new .ahead) (new .number) (new .member) (new .first) (new .after) (new .targets) t m) f p q) k ≡ nthRecord M f p q k
   shown-nth R t m new X f p q k hp hq = ap (λ (l : List Step). nth l k) (planned-is M _ (shown-says M R t m new X) p q hp hq f)
 
   -- a state out of range

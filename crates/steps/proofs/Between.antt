@@ -64,11 +64,3 @@ between-ascends a b (z ∷ l) c d x y s h k = between-cases (Ascends c d) a b z 
     on : (c ≤ x) ⊎ (c ≤ a) → (c ≤ z + 1) ⊎ (c ≤ a)
     on (inl h) = inl (omega (arith, s .0))
     on (inr h) = inr h
-
--- an ascending list without its lower bound
-pub ascends-past : (a b : ℕ) (l : List ℕ) → Ascends a b l → (Mem a l → ⊥) → Ascends (a + 1) b l
-ascends-past a b [] s n = tt
-ascends-past a b (x ∷ l) s n = elim (lt-or-le a x) [
-  | inl h ↦ (omega arith, s .1, s .2)
-  | inr h ↦ absurd (n (element-as (let e : a ≡ x = omega (arith, s .0) in e) here))
-]

@@ -6,9 +6,8 @@ use mathlib.Core.List.{List, [], _∷_, _++_, map}
 use mathlib.Core.Option.{Option, none, some}
 use native.Mathlib.Omega.{arith}
 use native.Mathlib.Nat.{suc-mul, mod-lt, div-add-mod'}
-use lib.Dec.{leb}
 use lib.ListN.{length, getD, drop, drop-of-length-le}
-use borrow.Author.Tests.{le-leb, eq-eqb, ne-eqb}
+use borrow.Author.Tests.{le-leb, lt-leb, eq-eqb, ne-eqb}
 use Rattle.grammar.specs.Basics.{choose, Mem, here, there, when, each}
 use Rattle.grammar.specs.Limits.{limits}
 use Rattle.grammar.proofs.Answers.{no-bool}
@@ -22,7 +21,7 @@ use Rattle.steps.specs.declared.StepAnswer.the-variants.{Record, NoMore}
 use Rattle.steps.specs.declared.Pick.{Pick}
 use Rattle.steps.specs.Steps.{nth, recordAnswer}
 use Rattle.steps.specs.declared.Sides.{Sides}
-use Rattle.steps.specs.Plan.{inside, between, hit, missed, pickOf, weight, Low, grid, pairs, shiftOf, above, shifted}
+use Rattle.steps.specs.Plan.{inside, between, hit, missed, pickOf, weight, Low, grid, pairs, lefts, shiftOf, above, fromShift, shifted}
 use Rattle.steps.proofs.Between.{of-between}
 
 -- ---- one turn of the search for a target
@@ -173,23 +172,30 @@ pairs-unequal i j ls rs k o n e =
 
 -- ---- the shift
 
-module _ (number ls : List ℕ) (s : Sides) (x k : ℕ) where
-  pub shift-none : x ≡ 0 → nth (above number ls s) k ≡ nth (shifted number ls s x) k
+module _ (number after ls : List ℕ) (s : Sides) (x k : ℕ) where
+  -- the state after the left one
+  abbrev n : ℕ
+  n = getD after (s .left) 0
+
+  abbrev near : List Step
+  near = lefts number ls s (s .left + 1) (n + 1) ++ fromShift number after ls s x
+
+  pub shift-none : x ≡ 0 → nth (above number ls s (s .left + 1)) k ≡ nth (shifted number after ls s x) k
   unfolding shifted
-  shift-none e = ap (λ (x : ℕ). nth (when (leb 1 x) (shiftOf s x ∷ []) ++ above number ls s) k) (sym e)
+  shift-none e = ap (λ b. nth (choose b near (above number ls s (s .left + 1))) k) (sym (lt-leb 1 x (omega arith)))
 
-  pub shift-first : (x ≡ 0 → ⊥) → k ≡ 0 → some (shiftOf s x) ≡ nth (shifted number ls s x) k
-  unfolding shifted nth
-  shift-first n e =
-      let h = le-leb 1 x (positive x n) in
-      ap (λ (k : ℕ). nth (shiftOf s x ∷ above number ls s) k) (sym e) ∙ ap (λ b. nth (when b (shiftOf s x ∷ []) ++ above number ls s) k) (sym h)
+  pub shift-some : (x ≡ 0 → ⊥) → nth near k ≡ nth (shifted number after ls s x) k
+  unfolding shifted
+  shift-some m = ap (λ b. nth (choose b near (above number ls s (s .left + 1))) k) (sym (le-leb 1 x (positive x m)))
 
-  pub shift-later : (x ≡ 0 → ⊥) → (k ≡ 0 → ⊥) → nth (above number ls s) (k - 1) ≡ nth (shifted number ls s x) k
-  unfolding shifted nth
-  shift-later n m =
-      let h = le-leb 1 x (positive x n) in
-      go k m ∙ ap (λ b. nth (when b (shiftOf s x ∷ []) ++ above number ls s) k) (sym h)
+  pub shift-first : k ≡ 0 → some (shiftOf after s x) ≡ nth (fromShift number after ls s x) k
+  unfolding fromShift nth
+  shift-first e = ap (λ (k : ℕ). nth (shiftOf after s x ∷ above number ls s (n + 1)) k) (sym e)
+
+  pub shift-later : (b : ℕ) → b ≡ n + 1 → (k ≡ 0 → ⊥) → nth (above number ls s b) (k - 1) ≡ nth (fromShift number after ls s x) k
+  unfolding fromShift nth
+  shift-later b e m = ap (λ (b : ℕ). nth (above number ls s b) (k - 1)) e ∙ go k m
     where
-      go : (k : ℕ) → (k ≡ 0 → ⊥) → nth (above number ls s) (k - 1) ≡ nth (shiftOf s x ∷ above number ls s) k
+      go : (k : ℕ) → (k ≡ 0 → ⊥) → nth (above number ls s (n + 1)) (k - 1) ≡ nth (shiftOf after s x ∷ above number ls s (n + 1)) k
       go zero m = absurd (m refl)
-      go (suc k) m = ap (nth (above number ls s)) (let z : suc k - 1 ≡ k = omega arith in z)
+      go (suc k) m = ap (nth (above number ls s (n + 1))) (let z : suc k - 1 ≡ k = omega arith in z)

@@ -23,11 +23,15 @@ use Rattle.moves.proofs.Places.{ascends-mem}
 use Rattle.steps.specs.Plan.{Rows, aheadOf, ends, targetsOf, isRead, leftTo, rightTo, sides, planZero, planOne, planAt, planned}
 use Rattle.steps.proofs.Ways.{Zero, open-l, open-r, shift-z, part-b, part-l, part-r, One, alone-l, alone-r, shift-o, Fits, plan-zero, plan-one}
 use Rattle.steps.proofs.Ranks.{zero-rises, one-rises}
+use Rattle.steps.proofs.Alone.{LeadsOn}
 use Rattle.steps.proofs.Says.{Say}
 
 module _ (M : Moves) (R : Rows) (S : Say M R) (p q : ℕ) (hp : p < M .states) (hq : q < M .states) where
   abbrev N : List ℕ
   N = R .number
+
+  abbrev E : List ℕ
+  E = R .after
 
   abbrev x : ℕ
   x = aheadOf R p
@@ -60,7 +64,7 @@ module _ (M : Moves) (R : Rows) (S : Say M R) (p q : ℕ) (hp : p < M .states) (
   low : (r : ℕ) → r < M .states → (u : ℕ) → Mem u (targetsOf R r) → u < limits .maxStates
   low r h u m = omega (arith, ascends-mem 0 (M .states) (targetsOf R r) u (S .ascends r h) m .1, S .few)
 
-  fits : Fits N (R .terminals) x y p q ls rs (ends R p) (ends R q)
+  fits : Fits N E (R .terminals) x y p q ls rs (ends R p) (ends R q)
   fits = record {
     end-l = end-none p;
     end-r = end-none q;
@@ -71,23 +75,25 @@ module _ (M : Moves) (R : Rows) (S : Say M R) (p q : ℕ) (hp : p < M .states) (
   }
 
   abbrev Z : Step → Type 0
-  Z s = Zero N (R .terminals) x y p q ls rs (ends R p) (ends R q) s
+  Z s = Zero N E (R .terminals) x y p q ls rs (ends R p) (ends R q) s
 
   abbrev O : Step → Type 0
-  O s = One N (R .terminals) x y p q ls rs (ends R p) (ends R q) s
+  O s = One N E (R .terminals) x y p q ls rs (ends R p) (ends R q) s
 
-  shift-of : (r : ℕ) → r < M .states → (a : ℕ) → aheadOf R r ≡ a → 1 ≤ a → (M .ahead r ≡ a) × (1 ≤ a) × (r + 1 ≡ M .after r)
-  shift-of r h a e k = S .shifts a r (r + 1) h .1 (e, k, refl)
+  shift-of : (r : ℕ) → r < M .states → (a : ℕ) → aheadOf R r ≡ a → 1 ≤ a → (M .ahead r ≡ a) × (1 ≤ a) × (getD E r 0 ≡ M .after r)
+  shift-of r h a e k = S .shifts a r (getD E r 0) h .1 (e, k, refl)
 
-  -- where a symbol is ahead no target is just past the state
-  none-next : 1 ≤ x → Mem (p + 1) ls → ⊥
-  none-next h m = go (ends R p) refl
-    where
-      go : (b : Bool) → ends R p ≡ b → ⊥
-      go true z = omega (arith, end-none p z)
-      go false z =
-          let k = shift-of p hp x refl h in
-          S .regular .opens-apart _ p (p + 1) (omega (arith, k .0)) (S .opens-out p (p + 1) hp z m) (k .2)
+  -- where a symbol is ahead, a shift leads on
+  leads-on : x ≡ y → 1 ≤ x → LeadsOn E p q (M .states)
+  leads-on e h =
+      let a = shift-of p hp x refl h in
+      let b = shift-of q hq x (sym e) h in
+      record {
+        left-on = omega (arith, a .2, S .regular .later p (omega (arith, a .0)));
+        left-in = omega (arith, a .2, S .regular .shifts-below p (omega (arith, a .0)));
+        right-on = omega (arith, b .2, S .regular .later q (omega (arith, b .0, h)));
+        right-in = omega (arith, b .2, S .regular .shifts-below q (omega (arith, b .0, h)));
+      }
 
   -- the ways on from layer 0 are steps
   zero-goes : (s : Step) → Z s → Goes 0 s
@@ -149,15 +155,15 @@ module _ (M : Moves) (R : Rows) (S : Say M R) (p q : ℕ) (hp : p < M .states) (
       let d = S .shifts a q v hq .0 r in
       shift-o (c .0 ∙ sym (d .0)) (omega (arith, c .0, c .1)) (omega (arith, c .0, t .1, S .same-terminals)) (cc (c .0, c .2, d .2))
 
-  plan-zero-is : planZero N (R .terminals) x y (ends R p) (ends R q) p q ls rs ≡ records M 0 p q
-  plan-zero-is = records-only M (S .regular) 0 p q (omega arith) hp hq (planZero N (R .terminals) x y (ends R p) (ends R q) p q ls rs)
-      (λ s. let w = plan-zero N (R .terminals) x y p q ls rs (ends R p) (ends R q) fits s in (λ m. zero-goes s (w .0 m), λ g. w .1 (goes-zero g)))
-      (zero-rises M N p q hp hq (omega (arith, S .regular .four)) (R .terminals) x y (ends R p) (ends R q) ls rs (S .ascends p hp) (S .ascends q hq) none-next)
+  plan-zero-is : planZero N E (R .terminals) x y (ends R p) (ends R q) p q ls rs ≡ records M 0 p q
+  plan-zero-is = records-only M (S .regular) 0 p q (omega arith) hp hq (planZero N E (R .terminals) x y (ends R p) (ends R q) p q ls rs)
+      (λ s. let w = plan-zero N E (R .terminals) x y p q ls rs (ends R p) (ends R q) fits s in (λ m. zero-goes s (w .0 m), λ g. w .1 (goes-zero g)))
+      (zero-rises M N E p q hp hq (R .terminals) x y (ends R p) (ends R q) ls rs (S .ascends p hp) (S .ascends q hq) leads-on)
 
-  plan-one-is : planOne N (R .terminals) x y (ends R p) (ends R q) p q ls rs ≡ records M 1 p q
-  plan-one-is = records-only M (S .regular) 1 p q (omega arith) hp hq (planOne N (R .terminals) x y (ends R p) (ends R q) p q ls rs)
-      (λ s. let w = plan-one N (R .terminals) x y p q ls rs (ends R p) (ends R q) fits s in (λ m. one-goes s (w .0 m), λ g. w .1 (goes-one g)))
-      (one-rises M N p q hp hq (omega (arith, S .regular .four)) (R .terminals) x y (ends R p) (ends R q) ls rs (S .ascends p hp) (S .ascends q hq) none-next)
+  plan-one-is : planOne N E (R .terminals) x y (ends R p) (ends R q) p q ls rs ≡ records M 1 p q
+  plan-one-is = records-only M (S .regular) 1 p q (omega arith) hp hq (planOne N E (R .terminals) x y (ends R p) (ends R q) p q ls rs)
+      (λ s. let w = plan-one N E (R .terminals) x y p q ls rs (ends R p) (ends R q) fits s in (λ m. one-goes s (w .0 m), λ g. w .1 (goes-one g)))
+      (one-rises M N E p q hp hq (R .terminals) x y (ends R p) (ends R q) ls rs (S .ascends p hp) (S .ascends q hq) leads-on)
 
   -- the list is that of the records
   pub planned-is : (f : ℕ) → planned R f p q ≡ records M f p q

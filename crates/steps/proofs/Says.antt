@@ -4,7 +4,6 @@ use mathlib.Core.Path.{_≡_, refl, sym, ap, subst, _∙_}
 use mathlib.Core.Bool.{Bool, true, false}
 use mathlib.Core.Logic.{inl, inr, _↔_}
 use native.Mathlib.Omega.{arith}
-use native.Mathlib.Numerals.{add-one}
 use lib.Dec.{eqb, ltb}
 use lib.ListN.{getD}
 use borrow.Author.Tests.{eq-eqb, ltb-true, lt-ltb}
@@ -27,7 +26,7 @@ pub record Say (M : Moves) (R : Rows) : Type 0 where
   pub opens-out : (p u : ℕ) → p < M .states → ends R p ≡ false → Mem u (targetsOf R p) → Opened M (getD (R .number) u 0) p u
   pub closes-in : (i p u : ℕ) → p < M .states → Closed M i p u → (ends R p ≡ true) × Mem u (targetsOf R p) × (getD (R .number) p 0 ≡ i)
   pub closes-out : (p u : ℕ) → p < M .states → ends R p ≡ true → Mem u (targetsOf R p) → Closed M (getD (R .number) p 0) p u
-  pub shifts : (x p u : ℕ) → p < M .states → ((M .ahead p ≡ x) × (1 ≤ x) × (u ≡ M .after p)) ↔ ((aheadOf R p ≡ x) × (1 ≤ x) × (u ≡ p + 1))
+  pub shifts : (x p u : ℕ) → p < M .states → ((M .ahead p ≡ x) × (1 ≤ x) × (u ≡ M .after p)) ↔ ((aheadOf R p ≡ x) × (1 ≤ x) × (u ≡ getD (R .after) p 0))
   pub terminal : (p : ℕ) → p < M .states → (isRead (R .terminals) (aheadOf R p) ≡ true) ↔ BeforeTerminal (listed M) p
   pub same-terminals : R .terminals ≡ M .terminals
   pub ascends : (p : ℕ) → p < M .states → Ascends 0 (M .states) (targetsOf R p)
@@ -39,7 +38,7 @@ false-unless false n = refl
 
 module _ (M : Moves) (S : Regular M) (t m : ℕ) (new : Tables) (X : Shows M t m new) where
   abbrev pub rowsIn : Rows
-  rowsIn = rowsOf (new .ahead) (new .number) (new .member) (new .first) (new .targets) t m
+  rowsIn = rowsOf (new .ahead) (new .number) (new .member) (new .first) (new .after) (new .targets) t m
 
   -- nothing is ahead of a state that closes
   nothing-ahead : (i p u : ℕ) → Closed M i p u → M .ahead p ≡ 0
@@ -87,8 +86,8 @@ module _ (M : Moves) (S : Regular M) (t m : ℕ) (new : Tables) (X : Shows M t m
       | inr o ↦ subst (λ i. Closed M i p u) (sym (closes-say (o .0) p u h (o .1) .2)) (o .1)
     ];
     shifts = λ x p u hp. let e = X .ahead p hp in (
-      λ r. (e ∙ r .0, r .1, r .2 ∙ X .next p hp (omega (arith, r .0, r .1)) ∙ sym (add-one p)),
-      λ r. let a : M .ahead p ≡ x = sym e ∙ r .0 in (a, r .1, r .2 ∙ add-one p ∙ sym (X .next p hp (omega (arith, a, r .1)))),
+      λ r. (e ∙ r .0, r .1, r .2 ∙ sym (X .after p hp (omega (arith, r .0, r .1)))),
+      λ r. let a : M .ahead p ≡ x = sym e ∙ r .0 in (a, r .1, r .2 ∙ X .after p hp (omega (arith, a, r .1))),
     );
     terminal = λ p hp. let s = terminal-ahead M p in (λ h. s .0 (sym (reads-is p hp) ∙ h), λ b. reads-is p hp ∙ s .1 b);
     same-terminals = X .terminals;

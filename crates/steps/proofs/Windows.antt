@@ -1,12 +1,11 @@
 -- Lists that rise by a number, with bounds, and such lists one after the other. Assumes nothing.
 use Prim.Native.Nat.{ℕ, _+_, _≤_, _<_}
-use mathlib.Core.Path.{_≡_, refl, ap}
-use mathlib.Core.Bool.{Bool, true, false}
+use mathlib.Core.Path.{_≡_, ap}
 use mathlib.Core.List.{List, [], _∷_, _++_, map}
 use mathlib.Core.Logic.{inl, inr}
 use native.Mathlib.Omega.{arith}
-use Rattle.grammar.specs.Basics.{Mem, when, each}
-use Rattle.triple_laws.proofs.Members.{no-element, only-one, mem-either, of-map}
+use Rattle.grammar.specs.Basics.{Mem, each}
+use Rattle.triple_laws.proofs.Members.{no-element, first-or, mem-either, of-map}
 use Rattle.triple_laws.proofs.Pairs.{Rising, pairs-none, pairs-more, pairs-append}
 use Rattle.moves.specs.Tables.{Ascends}
 use Rattle.moves.proofs.Places.{ascends-mem}
@@ -30,13 +29,15 @@ window-append {A} {P} {a} {b} {c} l m h k u v = record {
   ];
 }
 
--- under a test
-pub window-when : {A : Type 0} (P : A → ℕ) (a b : ℕ) (t : Bool) (s : A) → (t ≡ true → (a ≤ P s) × (P s < b)) → Window P a b (when t (s ∷ []))
-window-when P a b true s h = record {
-  rises = pairs-more (λ t m. absurd (no-element m)) pairs-none;
-  within = λ t m. let e = ap P (only-one m) in (omega (arith, h refl .0), omega (arith, h refl .1));
+-- one more before
+pub window-more : {A : Type 0} {P : A → ℕ} {a b c : ℕ} (s : A) (l : List A) → a ≤ P s → P s < b → Window P b c l → b ≤ c → Window P a c (s ∷ l)
+window-more {A} {P} {a} {b} {c} s l h k w n = record {
+  rises = pairs-more {a = s} {l = l} (λ t m. omega (arith, w .within t m .0)) (w .rises);
+  within = λ t m. elim (first-or m) [
+    | inl e ↦ let z = ap P e in (omega arith, omega arith)
+    | inr m ↦ (omega (arith, w .within t m .0), w .within t m .1)
+  ];
 }
-window-when P a b false s h = window-none P a b
 
 -- what ascending numbers give
 pub window-map : {A : Type 0} (P : A → ℕ) (g : ℕ → A) (lo hi a b : ℕ) (l : List ℕ) → Ascends a b l

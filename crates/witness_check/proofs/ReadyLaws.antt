@@ -4,7 +4,6 @@ use mathlib.Core.Path.{_≡_, ap, sym, _∙_}
 use mathlib.Core.Logic.{_↔_, _⊎_, inl, inr}
 use mathlib.Core.Bool.{true, _&&_}
 use native.Mathlib.Omega.{arith}
-use native.Mathlib.Numerals.{add-one}
 use lib.Dec.{leb, ltb}
 use lib.ListN.{getD}
 use borrow.Author.Tests.{eqb-true, eq-eqb, leb-true, le-leb, ltb-true, lt-ltb}
@@ -63,20 +62,20 @@ module _ (M : Moves) (t m : ℕ) (new : Tables) (X : Shows M t m new) where
   reads-is p h = ap (λ (x : ℕ). leb 1 x && leb x t) (X .ahead p h) ∙ ap (λ (t : ℕ). leb 1 (M .ahead p) && leb (M .ahead p) t) (X .terminals)
 
   -- rows that show an automaton say what the step test reads off them
-  pub rows-say : RowsSay M (new .ahead) (new .number) (new .member) (new .target) t m
+  pub rows-say : RowsSay M (new .ahead) (new .after) (new .number) (new .member) (new .target) t m
   rows-say = record {
     opens = opening;
     closes = closing;
     moves = leads;
     closing = X .closes-number;
     shifts = λ x p u hp. let e = X .ahead p hp in (
-      λ r. (e ∙ r .0, r .1, r .2 ∙ X .next p hp (omega (arith, r .0, r .1)) ∙ sym (add-one p)),
-      λ r. let a : M .ahead p ≡ x = sym e ∙ r .0 in (a, r .1, r .2 ∙ add-one p ∙ sym (X .next p hp (omega (arith, a, r .1)))),
+      λ r. (e ∙ r .0, r .1, r .2 ∙ sym (X .after p hp (omega (arith, r .0, r .1)))),
+      λ r. let a : M .ahead p ≡ x = sym e ∙ r .0 in (a, r .1, r .2 ∙ X .after p hp (omega (arith, a, r .1))),
     );
     terminal = λ p hp. let s = terminal-ahead M p in (λ h. s .0 (sym (reads-is p hp) ∙ h), λ b. reads-is p hp ∙ s .1 b);
   }
 
 -- so they are ready for the walk
 pub ready-of : (M : Moves) → Regular M → (t m Q : ℕ) → Q ≡ M .states → (new : Tables) → Shows M t m new
-    → Ready M (new .ahead) (new .number) (new .member) (new .target) t m Q
+    → Ready M (new .ahead) (new .after) (new .number) (new .member) (new .target) t m Q
 ready-of M R t m Q e new X = record { regular = R; size = e; rows = rows-say M t m new X }

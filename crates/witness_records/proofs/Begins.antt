@@ -30,7 +30,7 @@ module _ (t n : ℕ) (table : List ℕ) (w : Prepared) (rows : Tables) (P : Prep
 
   -- one that passes has the rows of its grammar
   abbrev ReadyRows : Grammar → Type 0
-  ReadyRows G = Ready (movesOf limits G) (rows .ahead) (rows .number) (rows .member) (rows .target) (w .terminals) (w .kinds) (w .states)
+  ReadyRows G = Ready (movesOf limits G) (rows .ahead) (rows .after) (rows .number) (rows .member) (rows .target) (w .terminals) (w .kinds) (w .states)
 
   pub goes-as : (G : Grammar) → checkTable limits t n table ≡ done G → (w .verdict ≡ Passed) × ReadyRows G
   goes-as G e = go (w .verdict) refl

@@ -38,7 +38,7 @@ use Rattle.witness_records.proofs.Entries.{index-end}
 
 -- the test of a step on a board's rows
 abbrev pub follows : Board → ℕ → ℕ → Bool
-follows w at j = stepAt (w .ahead) (w .number) (w .member) (w .target) (w .terminals) (w .opening) (w .states) at j
+follows w at j = stepAt (w .ahead) (w .after) (w .number) (w .member) (w .target) (w .terminals) (w .opening) (w .states) at j
 
 module _ (w : Board) (at place j : ℕ) where
   -- the ways out of one turn
@@ -132,10 +132,10 @@ module _ (M : Moves) (w : Board) (s : Sized (w .states)) (R : ReadyFor M w) wher
       ∙ ap checkVerdict (sym (unless-holds 15 place (isElement j (successors M at)) (checkOn M j (suc place) is) e))
 
   element : (at j : ℕ) → at < tripleCount (w .states) → j < tripleCount (w .states) → follows w at j ≡ isElement j (successors M at)
-  element at j = step-element M (w .ahead) (w .number) (w .member) (w .target) (w .terminals) (w .opening) (w .states) R at j
+  element at j = step-element M (w .ahead) (w .after) (w .number) (w .member) (w .target) (w .terminals) (w .opening) (w .states) R at j
 
   outside : (at j : ℕ) → at < tripleCount (w .states) → tripleCount (w .states) ≤ j → isElement j (successors M at) ≡ false
-  outside at j = beyond M (w .ahead) (w .number) (w .member) (w .target) (w .terminals) (w .opening) (w .states) R at j
+  outside at j = beyond M (w .ahead) (w .after) (w .number) (w .member) (w .target) (w .terminals) (w .opening) (w .states) R at j
 
   -- from an entry in range on
   on : (es : List TripleRecord) (at place n : ℕ) → at < tripleCount (w .states) → 1 ≤ place → n ≡ place + length es

@@ -15,7 +15,7 @@ use Rattle.witness_records.specs.declared.Board.{Board}
 
 -- the rows are an automaton's
 abbrev pub ReadyFor : Moves → Board → Type 0
-ReadyFor M w = Ready M (w .ahead) (w .number) (w .member) (w .target) (w .terminals) (w .opening) (w .states)
+ReadyFor M w = Ready M (w .ahead) (w .after) (w .number) (w .member) (w .target) (w .terminals) (w .opening) (w .states)
 
 -- the table's refusal, or the rows of its grammar
 pub record Begun (t n : ℕ) (table : List ℕ) (w : Board) : Type 0 where

@@ -22,5 +22,5 @@ module _ (M : Moves) (S : Regular M) (t m Q : ℕ) (size : Q ≡ M .states) (new
     short = omega (arith, long);
   }
 
-  pub gives-of : GivesRecords M (rowsOf (new .ahead) (new .number) (new .member) (new .first) (new .targets) t m) Q
+  pub gives-of : GivesRecords M (rowsOf (new .ahead) (new .number) (new .member) (new .first) (new .after) (new .targets) t m) Q
   gives-of = record { size = size; same = λ f p q hp hq. planned-is M _ (shown-says M S t m new X) p q hp hq f }

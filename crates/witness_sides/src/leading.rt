@@ -42,6 +42,7 @@ pub fn step_to<'a>(
     number: &'a [u16; MAX_STATES],
     member: &'a [u16; MAX_STATES],
     first: &'a [u16; CLASSES],
+    after: &'a [u16; MAX_STATES],
     targets: &'a [u16],
     t: u16,
     m: u16,
@@ -50,7 +51,7 @@ pub fn step_to<'a>(
     j: usize,
 ) -> Step
     requires { ⌜ Searchable q (now member) (now first) (now targets) ⌝ }
-    ensures { λ r. ⌜ r ≡ stepFound (rowsOf (now (ahead .entry)) (now (number .entry)) (now (member .entry)) (now (first .entry)) (now (targets .entry)) t m) q i j ⌝ }
+    ensures { λ r. ⌜ r ≡ stepFound (rowsOf (now (ahead .entry)) (now (number .entry)) (now (member .entry)) (now (first .entry)) (now (after .entry)) (now (targets .entry)) t m) q i j ⌝ }
 {
     let layer = i / (q * q);
     let left = i / q % q;
@@ -62,6 +63,7 @@ pub fn step_to<'a>(
             number,
             member,
             first,
+            after,
             targets,
             t,
             m,

@@ -32,6 +32,7 @@ fn walk<'a>(
     number: &'a [u16; MAX_STATES],
     member: &'a [u16; MAX_STATES],
     first: &'a [u16; CLASSES],
+    after: &'a [u16; MAX_STATES],
     targets: &'a [u16],
     t: u16,
     m: u16,
@@ -42,7 +43,7 @@ fn walk<'a>(
 ) -> Lengths
     requires { ⌜ Searchable q (now member) (now first) (now targets) ⌝ }
     requires { ⌜ (length (now row) ≤ length (now left)) × (length (now row) ≤ length (now right)) ⌝ }
-    ensures { λ r. ⌜ SidesStand (rowsOf (now (ahead .entry)) (now (number .entry)) (now (member .entry)) (now (first .entry)) (now (targets .entry)) t m) q (now (row .entry)) r (now (left .exit)) (now (right .exit)) ⌝ }
+    ensures { λ r. ⌜ SidesStand (rowsOf (now (ahead .entry)) (now (number .entry)) (now (member .entry)) (now (first .entry)) (now (after .entry)) (now (targets .entry)) t m) q (now (row .entry)) r (now (left .exit)) (now (right .exit)) ⌝ }
 {
     let mut lefts = 0;
     let mut rights = 0;
@@ -50,7 +51,7 @@ fn walk<'a>(
     while x + 1 < row.len() {
         let i = wide(row[x]);
         let j = wide(row[x + 1]);
-        let s = step_to(ahead, number, member, first, targets, t, m, q, i, j);
+        let s = step_to(ahead, number, member, first, after, targets, t, m, q, i, j);
         let on_left = s.on_left;
         let on_right = s.on_right;
         lefts = put_letter(left, lefts, on_left);
@@ -81,6 +82,7 @@ pub fn two_sides(
     let mut target = [0u16; MAX_STATES];
     let mut first = [0u16; CLASSES];
     let mut targets = [0u16; MAX_STATES];
+    let mut after = [0u16; MAX_STATES];
     let w = prepared::prepare(
         t,
         n,
@@ -91,6 +93,7 @@ pub fn two_sides(
         &mut target,
         &mut first,
         &mut targets,
+        &mut after,
     );
     let verdict = w.verdict;
     match verdict {
@@ -106,6 +109,7 @@ pub fn two_sides(
                 &number,
                 &member,
                 &first,
+                &after,
                 &targets,
                 t,
                 m,

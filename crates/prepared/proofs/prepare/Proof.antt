@@ -21,8 +21,8 @@ checkedAt c = c .before .before .before
 abbrev entry : tie.After-check-table → tie.Start
 entry c = c .before .before
 
-abbrev lent : tie.After-build-arg6 → tie.After-g
-lent c = c .before .before .before .before .before .before
+abbrev lent : tie.After-build-arg7 → tie.After-g
+lent c = c .before .before .before .before .before .before .before
 
 abbrev built : tie.After-struct-known → tie.After-g
 built c = lent (c .before .before)
@@ -61,7 +61,7 @@ enum-told c = search needs
 build-requires : tie.Need-build-requires
 build-requires c κs =
     let r = is-record (lent c) in
-    (r, room-of _ _ r (search needs) (search needs) (search needs) (search needs) (search needs) (search needs))
+    (r, room-of _ _ r (search needs) (search needs) (search needs) (search needs) (search needs) (search needs) (search needs))
 
 add-kinds : tie.Need-add-kinds
 add-kinds c = omega (arith, few-nonterminals _ (is-record (built c)))

@@ -18,13 +18,13 @@ use Rattle.steps.proofs.nth_step.Tie as tie
 
 -- from the prepared rows back to the function's entry; from a table that passed to its rows, and from their being lent on to there
 abbrev start : tie.After-prepare → tie.Start
-start c = c .before .before .before .before .before .before .before .before
+start c = c .before .before .before .before .before .before .before .before .before
 
 abbrev rowsAt : tie.After-enum-told → tie.After-prepare
 rowsAt c = c .before .before
 
 abbrev lentAt : tie.After-targets2 → tie.Else2
-lentAt c = c .before .before .before .before .before
+lentAt c = c .before .before .before .before .before .before
 
 -- what follows the table check
 abbrev then : ℕ → ℕ → ℕ → ℕ → Grammar → Answer (Option Step)

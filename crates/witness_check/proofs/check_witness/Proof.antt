@@ -12,10 +12,10 @@ use Rattle.witness_check.proofs.check_witness.Tie as tie
 
 -- from the prepared rows back to the function's entry, and from their being lent on to where they were prepared
 abbrev start : tie.After-prepare → tie.Start
-start c = c .before .before .before .before .before .before .before .before .before
+start c = c .before .before .before .before .before .before .before .before .before .before
 
 abbrev passedAt : tie.After-target2 → tie.After-enum-told
-passedAt c = c .before .before .before .before
+passedAt c = c .before .before .before .before .before
 
 abbrev rowsAt : tie.After-enum-told → tie.After-prepare
 rowsAt c = c .before .before

@@ -16,13 +16,13 @@ use Rattle.witness_sides.proofs.two_sides.Tie as tie
 
 -- from the prepared rows back to the function's entry; from a table that passed to its rows, and from their being lent on to there
 abbrev start : tie.After-prepare → tie.Start
-start c = c .before .before .before .before .before .before .before .before .before .before .before
+start c = c .before .before .before .before .before .before .before .before .before .before .before .before
 
 abbrev rowsAt : tie.After-enum-told2 → tie.After-prepare
 rowsAt c = c .before .before
 
 abbrev passedAt : tie.After-targets2 → tie.After-enum-told2
-passedAt c = c .before .before .before .before .before
+passedAt c = c .before .before .before .before .before .before
 
 abbrev lentAt : tie.After-walk-arg2 → tie.After-targets2
 lentAt c = c .before .before

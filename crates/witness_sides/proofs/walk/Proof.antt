@@ -19,12 +19,12 @@ Fronts R Q row x lefts left rights right = (M : Moves) → GivesRecords M R Q �
     → FrontLetters (leftSide M (take (x + 1) row)) lefts left × FrontLetters (rightSide M (take (x + 1) row)) rights right
 
 abbrev Inv-loop : tie.InvT-loop
-Inv-loop ahead number member first targets t m q row left₀ right₀ lefts₀ rights₀ x₀ left right lefts rights x =
+Inv-loop ahead number member first after targets t m q row left₀ right₀ lefts₀ rights₀ x₀ left right lefts rights x =
     (x ≤ length row) × (length left ≡ length left₀) × (length right ≡ length right₀) × (lefts ≤ x) × (rights ≤ x)
-    × Fronts (rowsOf ahead number member first targets t m) q row x lefts left rights right
+    × Fronts (rowsOf ahead number member first after targets t m) q row x lefts left rights right
 
 abbrev μ-loop : tie.MeasureT-loop
-μ-loop ahead number member first targets t m q row left₀ right₀ lefts₀ rights₀ x₀ left right lefts rights x = length row - x
+μ-loop ahead number member first after targets t m q row left₀ right₀ lefts₀ rights₀ x₀ left right lefts rights x = length row - x
 
 -- from a turn of the loop back to the function's entry, to the turn from the step that was found, and to that step from the letters put
 abbrev start : tie.At-loop Inv-loop μ-loop → tie.Start Inv-loop μ-loop
@@ -41,7 +41,7 @@ leftPut c = c .before .before .before .before
 
 -- the rows
 abbrev rows : tie.Start Inv-loop μ-loop → Rows
-rows e = let a = e .args in rowsOf (a .ahead .now) (a .number .now) (a .member .now) (a .first .now) (a .targets .now) (a .t) (a .m)
+rows e = let a = e .args in rowsOf (a .ahead .now) (a .number .now) (a .member .now) (a .first .now) (a .after .now) (a .targets .now) (a .t) (a .m)
 
 -- the step that was found leads from one entry to the next
 leads : (c : tie.After-step-to Inv-loop μ-loop) → let l = turn c .before in let a = start l .args in

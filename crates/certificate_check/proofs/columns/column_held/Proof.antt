@@ -14,7 +14,7 @@ use Rattle.certificate_check.proofs.columns.column_held.Tie as tie
 
 -- the rows at hand, and the way back to the function's entry from each block
 abbrev R : tie.Start → Rows
-R e = let a = e .args in rows (a .ahead .now) (a .number .now) (a .member .now) (a .first .now)
+R e = let a = e .args in rows (a .ahead .now) (a .number .now) (a .member .now) (a .first .now) (a .after .now)
 
 abbrev start : tie.After-side-of → tie.Start
 start c = c .before .before
@@ -23,7 +23,7 @@ abbrev side : tie.After-left-held → tie.After-side-of
 side c = c .before .before
 
 abbrev after-left : tie.After-shift-held → tie.After-left-held
-after-left c = c .before .before .before .before
+after-left c = c .before .before .before
 
 abbrev after-shift : tie.After-layer-after → tie.After-shift-held
 after-shift c = c .before .before .before
@@ -49,21 +49,15 @@ returns c = (λ q. no-bool (sym q), start (side (c .before)) .pre .1 .1 .1 .1)
 shift-of-requires : tie.Need-shift-of-requires
 shift-of-requires c κs = search needs
 
-add-index-of : tie.Need-add-index-of
-add-index-of c = search needs
-
-add-index-of-2 : tie.Need-add-index-of-2
-add-index-of-2 c = search needs
-
-index-of-requires : tie.Need-index-of-requires
-index-of-requires c κs = search needs
-
 shift-held-requires : tie.Need-shift-held-requires
-shift-held-requires c κs = λ h.
-    let e = start (side (c .before .before .before)) in let a = e .args in
-    let l = beside-in (R e) (a .targets .now) (a .t) (a .m) (a .q) (a .bytes .now) (a .f) (a .a) (a .b) (e .pre .0) (e .pre .1 .0 .0) (e .pre .1 .0 .1) (e .pre .1 .0 .2)
-    (subst (λ (n : ℕ). 0 < n) (c .before .shift-of .ensures) h) in
-    omega (arith, l, c .index-of .ensures, e .pre .1 .0 .3)
+shift-held-requires c κs =
+    let e = start (side (c .before .before)) in let a = e .args in let p = e .pre .1 .0 in (
+      (e .pre .0 .fits .few, p .0, p .1, p .2),
+      λ h.
+          let l = beside-in (R e) (a .targets .now) (a .t) (a .m) (a .q) (a .bytes .now) (a .f) (a .a) (a .b) (e .pre .0) (p .0) (p .1) (p .2)
+          (subst (λ (n : ℕ). 0 < n) (c .shift-of .ensures) h) in
+          omega (arith, l, p .3),
+    )
 
 returns-2 : tie.Need-returns-2
 returns-2 c = (λ q. no-bool (sym q), start (side (after-left (c .before))) .pre .1 .1 .1 .1)
@@ -124,10 +118,10 @@ returns-4 c =
     let r = c .before .before .before .before in let k = layer r in let s = entry k in let e = start s in let a = e .args in
     let h = after-shift k in let l = after-left h in (
       λ q. column-closed (R e) (a .targets .now) (a .t) (a .m) (a .q) (a .bytes .now) (a .f) (a .a) (a .b) (a .x) (s .side-of .result) (k .layer-after .result)
-          (l .before .alone-of .result) (k .before .alone-of2 .result) (h .before .before .shift-of .result) (c .before .before .pairs-of .result) (h .before .index-of .result)
+          (l .before .alone-of .result) (k .before .alone-of2 .result) (h .before .shift-of .result) (c .before .before .pairs-of .result)
           (e .pre .1 .0 .1) (e .pre .1 .0 .2) (e .pre .1 .1 .0) (s .side-of .ensures) (k .layer-after .ensures)
-          (l .before .alone-of .ensures) (k .before .alone-of2 .ensures) (h .before .before .shift-of .ensures) (c .before .before .pairs-of .ensures) (h .before .index-of .ensures)
-          (λ z. e .pre .1 .1 .1 .0 (l .left-held .ensures (not-false (l .left-held .result) (h .before .before .before .if1 .left)) z))
+          (l .before .alone-of .ensures) (k .before .alone-of2 .ensures) (h .before .shift-of .ensures) (c .before .before .pairs-of .ensures)
+          (λ z. e .pre .1 .1 .1 .0 (l .left-held .ensures (not-false (l .left-held .result) (h .before .before .if1 .left)) z))
           (r .right-held .ensures .0 (not-false (r .right-held .result) (c .before .before .before .if3 .left)))
           (h .shift-held .ensures (not-false (h .shift-held .result) (k .before .before .if2 .left)))
           (c .parts-held .ensures .0 q),
@@ -143,9 +137,6 @@ column-held-spec =
     left-held-requires
     returns
     shift-of-requires
-    add-index-of
-    add-index-of-2
-    index-of-requires
     shift-held-requires
     returns-2
     alone-of-requires-2

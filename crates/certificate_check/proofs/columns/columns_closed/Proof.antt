@@ -27,11 +27,11 @@ use Rattle.plans.proofs.layer_after.Reads as layer-after-reads
 use Rattle.plans.proofs.side_of.Reads as side-of-reads
 
 abbrev Inv-loop : tie.InvT-loop
-Inv-loop ahead number member first targets t m q bytes f a b n seen₀ x base near window w₀ c₀ seen w c =
-    (c ≤ n) × Window bytes (index q f a b + c) (index q f a b + n) w × ClosedFrom (rows ahead number member first) targets t m q bytes (index q f a b) c × Noted first targets q bytes seen
+Inv-loop ahead number member first after targets t m q bytes f a b n seen₀ x base near window w₀ c₀ seen w c =
+    (c ≤ n) × Window bytes (index q f a b + c) (index q f a b + n) w × ClosedFrom (rows ahead number member first after) targets t m q bytes (index q f a b) c × Noted first targets q bytes seen
 
 abbrev μ-loop : tie.MeasureT-loop
-μ-loop ahead number member first targets t m q bytes f a b n seen₀ x base near window w₀ c₀ seen w c = n - c
+μ-loop ahead number member first after targets t m q bytes f a b n seen₀ x base near window w₀ c₀ seen w c = n - c
 
 -- the way back to the function's entry
 abbrev start : tie.After-index-of Inv-loop μ-loop → tie.Start Inv-loop μ-loop
@@ -49,7 +49,7 @@ begun c = c .before .before .before
 
 -- the rows at hand
 abbrev R : tie.Start Inv-loop μ-loop → Rows
-R e = let a = e .args in rows (a .ahead .now) (a .number .now) (a .member .now) (a .first .now)
+R e = let a = e .args in rows (a .ahead .now) (a .number .now) (a .member .now) (a .first .now) (a .after .now)
 
 returns : tie.Need-returns Inv-loop μ-loop
 returns c = (λ q. no-bool (sym q), c .before .before .pre .1 .1)

@@ -38,7 +38,7 @@ abbrev answer-place : tie.After-slice-known11 → tie.After-answer
 answer-place c = c .before .before .before .before .before .before .before .before .before .before .before .before
 
 table : tie.Start → Rows
-table e = rows (e .args .ahead .now) (e .args .number .now) (e .args .member .now) (e .args .first .now)
+table e = rows (e .args .ahead .now) (e .args .number .now) (e .args .member .now) (e .args .first .now) (e .args .after .now)
 
 small : (e : tie.Start) → (16 ≤ e .args .q * e .args .q) × (e .args .q * e .args .q ≤ mostSquare)
 small e = square-of (e .args .q) (e .pre .0 .verified .fits .four) (e .pre .0 .verified .fits .few)
@@ -92,7 +92,7 @@ clear-requires-3 : tie.Need-clear-requires-3
 clear-requires-3 c κs =
     let w = explore-place (c .before .before .before .before .before .before .before .before .before .before) in
     let e = explore-start w in
-    omega (arith, e .pre .1 .parents, clear-place w .clear .kept, w .explore .kept .1 .1 .1 .1 .1 .1 .1 .1 .1 .0)
+    omega (arith, e .pre .1 .parents, clear-place w .clear .kept, w .explore .kept .1 .1 .1 .1 .1 .1 .1 .1 .1 .1 .0)
 
 same-length : tie.Need-same-length
 same-length c = search needs
@@ -116,7 +116,7 @@ returns c = λ G W p.
     let a = e .args in
     let x = w .explore .ensures in
     let n = tripleCount (a .q) in
-    let row = w .explore .last .1 .1 .1 .1 .1 .1 .1 .1 .1 .0 in
+    let row = w .explore .last .1 .1 .1 .1 .1 .1 .1 .1 .1 .1 .0 in
     let rest : drop n row ≡ drop n (a .parents .now)
     = rest-is n row (d .clear .last .0) (x .0 .parents-rest) (x .0 .marks-rest) ∙ ap (drop n) (d .clear .ensures)
     ∙ cleared-rest (a .q * a .q + 1) n (a .parents .now) (omega (arith, small e .0)) in

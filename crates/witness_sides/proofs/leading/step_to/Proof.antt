@@ -16,12 +16,12 @@ use Rattle.witness_sides.proofs.leading.step_to.Statement.{statement}
 use Rattle.witness_sides.proofs.leading.step_to.Tie as tie
 
 abbrev Inv-loop : tie.InvT-loop
-Inv-loop ahead number member first targets t m q i j layer left right k₀ k =
-    let l = recordsAt (rowsOf ahead number member first targets t m) q i in
+Inv-loop ahead number member first after targets t m q i j layer left right k₀ k =
+    let l = recordsAt (rowsOf ahead number member first after targets t m) q i in
     (k ≤ limits .maxStates * limits .maxStates) × (stepsTo q (drop k l) j ≡ stepsTo q l j)
 
 abbrev μ-loop : tie.MeasureT-loop
-μ-loop ahead number member first targets t m q i j layer left right k₀ k = limits .maxStates * limits .maxStates - k
+μ-loop ahead number member first after targets t m q i j layer left right k₀ k = limits .maxStates * limits .maxStates - k
 
 -- from a turn of the loop back to the function's entry, and to the turn from the record that was answered
 abbrev start : tie.At-loop Inv-loop μ-loop → tie.Start Inv-loop μ-loop
@@ -35,7 +35,7 @@ asked c = c .before .before .before .before
 
 -- the records that are searched
 abbrev all : tie.Start Inv-loop μ-loop → List Step
-all e = let a = e .args in recordsAt (rowsOf (a .ahead .now) (a .number .now) (a .member .now) (a .first .now) (a .targets .now) (a .t) (a .m)) (a .q) (a .i)
+all e = let a = e .args in recordsAt (rowsOf (a .ahead .now) (a .number .now) (a .member .now) (a .first .now) (a .after .now) (a .targets .now) (a .t) (a .m)) (a .q) (a .i)
 
 mul-layer : tie.Need-mul-layer Inv-loop μ-loop
 mul-layer c =
@@ -133,7 +133,7 @@ returns-4 c =
     let l = c .before .before in
     let e = start l in
     let a = e .args in
-    let few = few-planned (rowsOf (a .ahead .now) (a .number .now) (a .member .now) (a .first .now) (a .targets .now) (a .t) (a .m)) (a .i / (a .q * a .q)) (a .i / a .q % a .q) (a .i % a .q) (e .pre .short) in
+    let few = few-planned (rowsOf (a .ahead .now) (a .number .now) (a .member .now) (a .first .now) (a .after .now) (a .targets .now) (a .t) (a .m)) (a .i / (a .q * a .q)) (a .i / a .q % a .q) (a .i % a .q) (e .pre .short) in
     c .no-step3 .ensures ∙ past-none (a .q) (a .j) (all e) (l .loop .k) (omega (arith, few, c .before .loop-test .left)) (l .loop .inv .1)
 
 pub step-to-spec : {M : Type 1} → statement M
