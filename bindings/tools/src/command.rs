@@ -112,10 +112,12 @@ fn option(tool: &Tool, word: &str) -> Result<&'static str, String> {
     let long = SHORT.iter().find(|(short, _)| *short == word).map_or(word, |(_, long)| long);
     let known = COMMON.iter().chain(tool.options).find(|known| **known == long);
     let name = word.split('=').next().unwrap_or(word);
-    let takes = tool.numbered.iter().find(|(numbered, _)| *numbered == name);
-    known
-        .copied()
-        .ok_or_else(|| takes.map_or_else(|| no_option(tool, word), |(option, takes)| format!("{option} takes {takes}")))
+    let numbered = tool.numbered.iter().find(|(option, _)| *option == name);
+    match (known, numbered) {
+        (Some(known), _) => Ok(known),
+        (None, Some((option, takes))) => Err(format!("{option} takes {takes}")),
+        (None, None) => Err(no_option(tool, word)),
+    }
 }
 
 /// The request in these words; an error says what is wrong with them.
