@@ -18,7 +18,7 @@ ROOT = os.path.dirname(os.path.dirname(os.path.abspath(__file__)))
 sys.path.insert(0, os.path.join(ROOT, "second"))
 sys.dont_write_bytecode = True
 
-from corpus import AMBIGUOUS, EMPTY, POTENTIAL, coded, entries, found_in, text_in  # noqa: E402
+from corpus import AMBIGUOUS, EMPTY, POTENTIAL, WITHOUT, coded, entries, found_in, text_in  # noqa: E402
 from joining import join_written, read_alone  # noqa: E402
 from judge import certified, checked, verdict  # noqa: E402
 from printed import RUNS, certificate_in, lines_of  # noqa: E402
@@ -34,6 +34,7 @@ MESSAGES = sorted(glob.glob(os.path.join(ROOT, "bindings/tools/tests/messages/*.
 JOINS = sorted(glob.glob(os.path.join(ROOT, "bindings/tools/tests/joins/*.[mr]o*")))
 FORMS = "--form=1", "--form=2", "--form=3"
 SMALL = 60                # states up to which the second program is quick
+LARGE = 300               # states up to which every number of callers is tried
 SLIPS = 450
 LETTER_SLIPS = 1500       # of which most do not part
 RANDOM = 400              # grammars
@@ -68,14 +69,40 @@ class Tools:
 
 
 def as_ambig(tools):
-    """With --quiet ambig-certify prints what ambig prints, where ambig takes the text."""
+    """With --quiet and 0 callers ambig-certify prints what ambig prints, where ambig takes the text."""
     texts = [text_in(entry.name) for entry in entries() if entry.states <= MAX_STATES]
     texts += [contents(path) for path in MESSAGES]
     for text in texts:
         if len(text) <= MAX_BYTES:
-            quiet = ran([tools.certify, "--quiet", "-"], text)[0]
+            quiet = ran([tools.certify, "--quiet", "--callers=0", "-"], text)[0]
             assert quiet == ran([tools.ambig], text)[0], text
     return "%d texts" % len(texts)
+
+
+def with_callers(tools):
+    """With callers the verdicts are those of the corpus' index, and what is tried in turn ends as the second program ends."""
+    ended = dict.fromkeys(range(3), 0)
+    for entry in entries():
+        if entry.truth == WITHOUT or entry.states > LARGE:
+            continue
+        path = os.path.join(ROOT, "corpus", entry.name + ".grammar")
+        said = [(entry.states, entry.verdict, entry.size), entry[-6:-3], entry[-3:]]
+        for callers, (states, verdict_there, size) in enumerate(said):
+            out, _, status = ran([tools.certify, "--quiet", "--callers", str(callers), path], b"")
+            front = "" if states is None else "states=%d\n%sverdict=%s\n" % (
+                states, "callers=%d\n" % callers if callers else "", verdict_there)
+            right = "refused=8\nat=0\n" if states is None else front + "reached=%d\n" % size if size is not None else None
+            assert out == right or right is None and out.startswith(front + "left=(0 "), (entry.name, callers, out)
+            assert status == (4 if states is None else 0 if size is not None else 3), (entry.name, callers, status)
+        out, _, status = ran([tools.certify, "--quiet", path], b"")
+        first = next((callers for callers, row in enumerate(said) if row[2] is not None), 0)
+        assert out == ran([tools.certify, "--quiet", "--callers", str(first), path], b"")[0], entry.name
+        ended[first] += status == 0
+        if entry.states <= SMALL:
+            answer = verdict(text_in(entry.name))
+            assert (answer.printed, answer.status) == (out, status), entry.name
+    assert min(ended[0], ended[1]) > 0, ended
+    return "unambiguous first with 0 callers %d, with 1 %d, with 2 %d" % tuple(ended.values())
 
 
 def messages(tools):
@@ -93,9 +120,11 @@ def certificates(tools):
     rng = random.Random(1)
     printed = []
     for entry in entries():
-        if entry.size is not None and entry.states <= SMALL:
-            text = text_in(entry.name)
-            printed += [(entry.name, text, ran([tools.certify, form, "-"], text)[0].encode()) for form in FORMS]
+        text = text_in(entry.name)
+        for callers, (states, size) in enumerate([(entry.states, entry.size), entry[-6:-3:2], entry[-3::2]]):
+            if size is not None and states <= SMALL:
+                words = [tools.certify, "--callers", str(callers)]
+                printed += [(entry.name, text, ran(words + [form, "-"], text)[0].encode()) for form in FORMS]
     for _, text, lines in printed:
         assert checked(text, lines).printed == "accepted\n", text
     for _ in range(SLIPS):
@@ -106,7 +135,8 @@ def certificates(tools):
             damaged[place:place + rng.randrange(2)] = rng.choice([b"", b"0", b"f", b" ", b"\n", b"*", b"z", b"\xb2"])
         path = os.path.join(ROOT, "corpus", name + ".grammar")
         answer = checked(text, bytes(damaged))
-        assert answer.printed == ran([tools.check, "--quiet", path, "-"], damaged)[0], bytes(damaged)
+        quiet = ran([tools.check, "--quiet", path, "-"], damaged)[0]
+        assert answer.printed == re.sub(r"\ncallers=[12]\n$", "\n", quiet), bytes(damaged)
         if answer.certificate_fault is not None:
             said = ran([tools.check, path, "-"], damaged)[1]
             assert answer.certificate_fault.line == line_of(said), (said, answer, bytes(damaged))
@@ -117,13 +147,15 @@ def same_certificates(tools):
     """The second program prints every certificate of the corpus as ambig-certify does, byte by byte."""
     count = 0
     for entry in entries():
-        if entry.size is not None:
-            text = text_in(entry.name)
-            answer = certified(text)
-            assert (answer.printed, "", answer.status) == ran([tools.certify, "-"], text)[:1] + ("", 0), entry.name
+        for callers, size in enumerate([entry.size, entry.size_1, entry.size_2]):
+            if size is None or callers > 0 and entry.states > SMALL:
+                continue
+            text, words = text_in(entry.name), [tools.certify, "--callers", str(callers)]
+            answer = certified(text, callers)
+            assert (answer.printed, answer.status) == ran(words + ["-"], text)[::2], entry.name
             found = found_in(text)
-            runs = lines_of(found, certificate_in(found, answer.printed.encode()), RUNS)
-            assert runs.decode() == ran([tools.certify, "--form=3", "-"], text)[0], entry.name
+            runs = lines_of(found, certificate_in(found, answer.printed.encode()), RUNS, callers)
+            assert runs.decode() == ran(words + ["--form=3", "-"], text)[0], entry.name
             count += 1
     return "%d certificates" % count
 
@@ -144,6 +176,8 @@ def json_lines(tools):
             assert told["line"] >= 1 and told["column"] >= 1 and told["message"]
         elif told["verdict"] == "unambiguous":
             assert told["certificate"] == certified(text).printed and "size=%d\n" % told["size"] in told["certificate"]
+            assert told["tried"] == list(range(told["callers"] + 1)) and told["too-many-states"] == []
+            assert ("callers=%d\n" % told["callers"] in told["certificate"]) == (told["callers"] > 0)
         else:
             count += check_potential(text, told)
     return "%d lines, %d with two trees" % (len(lines), count)
@@ -153,6 +187,7 @@ def check_potential(text, told):
     """A line of a potential verdict; 1 if it has two trees."""
     lines = "left=%s\nright=%s\n" % (told["left"], told["right"])
     assert lines.encode() == reading_lines(named_in(text))
+    assert told["callers"] == 0 and told["tried"] + told["too-many-states"] == [0, 1, 2]
     text_lines = text.decode().split("\n")
     for side in told["parting"]["left"], told["parting"]["right"]:
         assert side["rule"] == 0 or text_lines[side["line"] - 1].startswith("rule=") and side["column"] == len("rule=") + 1
@@ -215,8 +250,9 @@ def spelling(tools):
         if entry.states > SMALL or len(text) > SHORT_TEXT:
             continue
         other = rules_in_case(rng, text)
-        quiet = ran([tools.certify, "--looked", "-"], text)
-        assert quiet == ran([tools.certify, "--looked", "-"], other) and verdict(text).printed == verdict(other).printed, other
+        quiet = ran([tools.certify, "--looked", "--callers=0", "-"], text)
+        assert quiet == ran([tools.certify, "--looked", "--callers=0", "-"], other), other
+        assert verdict(text).printed == verdict(other).printed, other
         assert entry.states > MAX_STATES or ran([tools.ambig], text)[0] == ran([tools.ambig], other)[0], other
         if entry.verdict == POTENTIAL:
             lines = quiet[0].encode().split(b"\n")[2:4]
@@ -267,7 +303,7 @@ def strings(tools):
     for entry in entries():
         if entry.verdict == POTENTIAL and entry.states <= SMALL:
             text = text_in(entry.name)
-            lines = ran([tools.certify, "--quiet", "-"], text)[0].encode().split(b"\n", 2)[2]
+            lines = ran([tools.certify, "--quiet", "--callers=0", "-"], text)[0].encode().split(b"\n", 2)[2]
             assert lines == reading_lines(named_in(text)) and said_of_strings(text, lines) == "accepted\n", entry.name
             printed.append((entry.name, text, lines))
     found = dict.fromkeys(["accepted", "not-parting", "refused=16", "refused=17"], 0)
@@ -375,8 +411,8 @@ def random_grammars(tools):
 def main(folder, ambig):
     tools = Tools(folder, ambig)
     failed = 0
-    for test in (as_ambig, messages, certificates, same_certificates, json_lines, strings, spelling, joins, sentences,
-                 random_grammars):
+    for test in (as_ambig, messages, with_callers, certificates, same_certificates, json_lines, strings, spelling, joins,
+                 sentences, random_grammars):
         try:
             print("%s: %s" % (test(tools), test.__doc__.strip()))
         except AssertionError as error:

@@ -84,17 +84,19 @@ static void print_looked(uint64_t looked)
         printf(" looked=%lu", (unsigned long)looked);
 }
 
-static void answer_search(search_function *search, size_t t, size_t n, const uint16_t *table, size_t len, FILE *found)
+static void answer_search(search_function *search, size_t t, size_t n, const uint16_t *table, size_t len, size_t callers,
+                          FILE *found)
 {
     size_t c_len = next_number(4), q_len = next_number(4), p_len = next_number(4), w_len = next_number(4);
     int fill = (int)next_number(1);
     uint8_t *c = filled(c_len, fill);
     uint32_t *q = filled(4 * q_len, fill), *p = filled(4 * p_len, fill), *w = filled(4 * w_len, fill);
-    search_reply r = search(t, n, table, len, c, c_len, q, q_len, p, p_len, w, w_len);
+    search_reply r = search(t, n, table, len, callers, c, c_len, q, q_len, p, p_len, w, w_len);
     struct grammar g;
+    struct chains chains;
     size_t cleared = 0, certificate = 0, entries = 0;
-    if (r.cause == 0 && check_table(t, n, table, len, &g).cause == 0) {
-        cleared = 2 * (size_t)g.states * g.states;
+    if (r.cause == 0 && check_table(t, n, table, len, &g).cause == 0 && check_callers(&g, callers, &chains).cause == 0) {
+        cleared = 2 * chains.states * chains.states;
         certificate = r.verdict == UNAMBIGUOUS ? (cleared + 7) / 8 : 0;
         entries = r.verdict == POTENTIAL ? r.count : 0;
     }
@@ -127,11 +129,11 @@ static void answer_search(search_function *search, size_t t, size_t n, const uin
     free(w);
 }
 
-static void answer_check(check_function *check, size_t t, size_t n, const uint16_t *table, size_t len)
+static void answer_check(check_function *check, size_t t, size_t n, const uint16_t *table, size_t len, size_t callers)
 {
     size_t c_len = next_number(4);
     uint8_t *c = next_entries(c_len, sizeof *c);
-    check_reply r = check(t, n, table, len, c, c_len);
+    check_reply r = check(t, n, table, len, callers, c, c_len);
     if (r.cause != 0)
         printf("refused=%lu at=%lu\n", (unsigned long)r.cause, (unsigned long)r.at);
     else
@@ -154,10 +156,11 @@ int main(int argc, char **argv)
     while (read_number(8, &t)) {
         size_t n = next_number(8), len = next_number(4);
         uint16_t *table = next_entries(len, sizeof *table);
+        size_t callers = next_number(8);
         if (searches)
-            answer_search(parties[who].search, t, n, table, len, found);
+            answer_search(parties[who].search, t, n, table, len, callers, found);
         else
-            answer_check(parties[who].check, t, n, table, len);
+            answer_check(parties[who].check, t, n, table, len, callers);
         free(table);
         number_of_case++;
     }

@@ -87,7 +87,7 @@ static void hold_layer_1(size_t q)
 static size_t hold_chequered(const struct input *in, size_t rules)
 {
     size_t q = in->g.states, entries = 2 * q * q, pairs = 0;
-    search_reply r = plain_search_whole(in->t, in->n, in->table, in->len, certificate, (entries + 7) / 8, queue, entries, parents,
+    search_reply r = plain_search_whole(in->t, in->n, in->table, in->len, 0, certificate, (entries + 7) / 8, queue, entries, parents,
                                         entries, witness, entries);
     if (r.verdict != UNAMBIGUOUS)
         stop(in->name, "plain C", "not unambiguous");
@@ -106,7 +106,7 @@ static double time_check(const struct input *in, size_t who, double budget)
     double begin = now(), least = 1e18;
     do {
         double start = now();
-        check_reply r = checks[who](in->t, in->n, in->table, in->len, certificate, bytes);
+        check_reply r = checks[who](in->t, in->n, in->table, in->len, 0, certificate, bytes);
         double spent = now() - start;
         if (r.cause != 13 || r.at != place)
             stop(in->name, names[who], "another answer than 13 at (1,1,3)");

@@ -13,10 +13,12 @@ struct state {
     uint16_t from, to, ahead, rule, kind;
 };
 
-/* A state is a target of at most one class, so the row has at most one entry for each. */
+/* A state is a target of at most one class, so the row has at most one entry for each. after: the state past the symbol ahead, where
+ * callers are remembered; else it is the next one. */
 struct moves {
     struct state state[MAX_STATES];
     uint16_t targets[MAX_STATES];
+    uint16_t after[MAX_STATES];
 };
 
 /* Counting sort: the openings of each nonterminal, its dot-0 items; then its closings, the items just past it. Rules that no
@@ -83,6 +85,110 @@ static void build(const struct grammar *g, struct moves *m)
     m->state[3] = (struct state){1, 2, 0, 0, CLOSES};
 }
 
+/* Where callers are remembered: of each rule its first state; of each nonterminal its rules, ascending, by their numbers and 0 at the
+ * end; and how many chains of callers begin with each chain that has one caller less, in its order. */
+struct layout {
+    uint16_t begin[MAX_RULES + 1], first[MAX_NONTERMINALS], next[MAX_RULES + 1];
+    uint16_t shares[MAX_NONTERMINALS + MAX_STATES], shares_at[MAX_NONTERMINALS];
+};
+
+static void lay(const struct grammar *g, size_t callers, const struct chains *c, struct layout *l)
+{
+    uint16_t filled[MAX_NONTERMINALS];
+    unsigned at = 0;
+    memset(l->first, 0, g->n * sizeof *l->first);
+    for (unsigned i = g->rules; i > 0; i--)
+        if (c->live[i]) {
+            l->next[i] = l->first[g->rule[i - 1][0] - START];
+            l->first[g->rule[i - 1][0] - START] = (uint16_t)i;
+        }
+    unsigned b = 0;
+    do {
+        l->shares_at[b] = filled[b] = (uint16_t)at;
+        if (callers == 1)
+            l->shares[at] = (uint16_t)c->wide[b];
+        at += (unsigned)c->narrow[b];
+    } while (++b < g->n);
+    if (callers == 2)
+        l->shares[filled[0]++] = 1; /* S' -> S */
+    l->begin[0] = 2;
+    at = 4;
+    for (unsigned i = 1; i <= g->rules; i++) {
+        const uint16_t *rule = g->rule[i - 1];
+        if (!c->live[i])
+            continue;
+        l->begin[i] = (uint16_t)at;
+        at += (rule[1] + 1u) * (unsigned)c->wide[rule[0] - START];
+        for (unsigned d = 0; d < rule[1] && callers == 2; d++)
+            if (rule[2 + d] >= START)
+                l->shares[filled[rule[2 + d] - START]++] = (uint16_t)c->narrow[rule[0] - START];
+    }
+}
+
+/* The states of a rule lie dot by dot, at each dot one for each chain of its callers, in the order of the calling items. What leads
+ * where goes by places: an item before a nonterminal, with one caller less than a state has. States that have it in front open one
+ * state of each rule of the nonterminal, since it is the nearest caller there; these rules' ends close past the nonterminal, to all
+ * chains that begin with the place's callers. */
+static void build_chains(const struct grammar *g, size_t callers, const struct chains *c, struct moves *m)
+{
+    static const uint16_t rule_0[] = {START, 1, START}, one = 1;
+    struct layout l;
+    uint16_t ranks[MAX_NONTERMINALS];
+    unsigned next = 2;
+    lay(g, callers, c, &l);
+    memset(ranks, 0, g->n * sizeof *ranks);
+    m->targets[0] = 2;
+    m->targets[1] = 1;
+    m->state[0] = (struct state){0, 1, 0, 0, OPENS};
+    m->state[1] = (struct state){0, 0, 0, 0, STAYS};
+    m->state[3] = (struct state){1, 2, 0, 0, CLOSES};
+    for (unsigned i = 0; i <= g->rules; i++) {
+        if (!c->live[i])
+            continue;
+        const uint16_t *rule = i == 0 ? rule_0 : g->rule[i - 1], *shares = i == 0 ? &one : l.shares + l.shares_at[rule[0] - START];
+        unsigned narrow = i == 0 ? 1 : (unsigned)c->narrow[rule[0] - START], wide = i == 0 ? 1 : (unsigned)c->wide[rule[0] - START];
+        unsigned p = l.begin[i];
+        for (unsigned d = 0; d < rule[1]; d++) {
+            unsigned x = rule[2 + d], end = p + wide;
+            for (unsigned s = p; s < end; s++)
+                m->after[s] = (uint16_t)(s + wide);
+            if (x < START) {
+                for (; p < end; p++)
+                    m->state[p] = (struct state){0, 0, (uint16_t)x, (uint16_t)i, READS};
+                continue;
+            }
+            for (unsigned r = 0; r < narrow; r++) {
+                unsigned opens = next, rank = ranks[x - START]++, share = shares[r];
+                for (unsigned j = l.first[x - START]; j != 0; j = l.next[j])
+                    m->targets[next++] = (uint16_t)(l.begin[j] + rank);
+                unsigned closes = next;
+                for (unsigned s = 0; s < share; s++, p++) {
+                    m->targets[next++] = (uint16_t)(p + wide);
+                    m->state[p] = (struct state){(uint16_t)opens, (uint16_t)closes, (uint16_t)x, (uint16_t)i, OPENS};
+                }
+                for (unsigned j = l.first[x - START]; j != 0; j = l.next[j]) {
+                    unsigned last = l.begin[j] + g->rule[j - 1][1] * (unsigned)c->wide[x - START] + rank;
+                    m->state[last] = (struct state){(uint16_t)closes, (uint16_t)next, 0, (uint16_t)j, CLOSES};
+                }
+            }
+        }
+    }
+}
+
+/* With callers: 21, 8, or the moves and how many states there are. Apart, so that what is timed without callers is what it was. */
+static __attribute__((noinline)) check_reply remember(const struct grammar *g, size_t callers, struct moves *m, size_t *states)
+{
+    struct chains c;
+    check_reply checked = check_callers(g, callers, &c);
+    *states = c.states;
+    if (checked.cause == 0)
+        build_chains(g, callers, &c, m);
+    return checked;
+}
+
+/* For functions that are compiled twice, with callers and without: `far` is constant in each. */
+#define TWICE static inline __attribute__((always_inline))
+
 static inline int is_seen(const uint64_t *seen, size_t index)
 {
     return seen[index / 64] >> (index % 64) & 1;
@@ -107,9 +213,9 @@ static inline size_t find(uint64_t *restrict seen, uint32_t *restrict queue, uin
 }
 
 /* Explores until nothing is left, or, if `stops`, until (1,1,1) is seen; the number of triples that are seen then. Unless it stops, the
- * successors are counted. */
-static inline size_t explore(const struct moves *restrict m, size_t states, uint64_t *restrict seen, uint32_t *restrict queue,
-                             uint32_t *restrict parents, int stops, uint64_t *restrict looked)
+ * successors are counted. far: callers are remembered, so that the state past a symbol is not the next one. */
+TWICE size_t explore(const struct moves *restrict m, size_t states, uint64_t *restrict seen, uint32_t *restrict queue,
+                     uint32_t *restrict parents, int stops, int far, uint64_t *restrict looked)
 {
     uint64_t tried = 0;
     const uint16_t *targets = m->targets;
@@ -149,8 +255,9 @@ static inline size_t explore(const struct moves *restrict m, size_t states, uint
                 tail = find(seen, queue, parents, tail, right_f * square + p * states + targets[j],
                             packed(right_f, p, targets[j]), from);
         if (a->ahead != 0 && a->ahead == b->ahead && (f == 0 || a->kind == READS)) {
+            unsigned r = far ? m->after[p] : p + 1, s = far ? m->after[q] : q + 1;
             tried++;
-            tail = find(seen, queue, parents, tail, from + states + 1, packed(f, p + 1, q + 1), from);
+            tail = find(seen, queue, parents, tail, far ? f * square + r * states + s : from + states + 1, packed(f, r, s), from);
         }
         if (stops && is_seen(seen, goal))
             break;
@@ -159,24 +266,27 @@ static inline size_t explore(const struct moves *restrict m, size_t states, uint
     return tail;
 }
 
-static inline search_reply search(size_t t, size_t n, const uint16_t *table, size_t table_len, uint8_t *certificate,
-                                  size_t certificate_len, uint32_t *queue, size_t queue_len, uint32_t *parents,
-                                  size_t parents_len, uint32_t *witness, size_t witness_len, int stops)
+TWICE search_reply search(size_t t, size_t n, const uint16_t *table, size_t table_len, size_t callers, uint8_t *certificate,
+                          size_t certificate_len, uint32_t *queue, size_t queue_len, uint32_t *parents, size_t parents_len,
+                          uint32_t *witness, size_t witness_len, int stops, int far)
 {
     struct grammar g;
+    struct moves m;
     check_reply checked = check_table(t, n, table, table_len, &g);
+    size_t states = g.states;
+    if (far && checked.cause == 0)
+        checked = remember(&g, callers, &m, &states);
     if (checked.cause != 0)
         return search_refused(checked.cause, checked.at);
-    size_t states = g.states, square = states * states, count = 2 * square, bytes = (count + 7) / 8;
+    size_t square = states * states, count = 2 * square, bytes = (count + 7) / 8;
     if (certificate_len < bytes || queue_len < count || parents_len < count || witness_len < count)
         return search_refused(14, 0);
-
-    struct moves m;
-    build(&g, &m);
+    if (!far)
+        build(&g, &m);
     uint64_t seen[2 * MAX_STATES * MAX_STATES / 64];
     memset(seen, 0, (count + 63) / 64 * 8);
     search_reply reply = {0, 0, UNAMBIGUOUS, 0, 0};
-    reply.count = explore(&m, states, seen, queue, parents, stops, &reply.looked);
+    reply.count = explore(&m, states, seen, queue, parents, stops, far, &reply.looked);
     size_t goal = square + states + 1;
     if (is_seen(seen, goal)) {
         size_t entries = 1;
@@ -195,29 +305,54 @@ static inline search_reply search(size_t t, size_t n, const uint16_t *table, siz
     return reply;
 }
 
-search_reply plain_search(size_t t, size_t n, const uint16_t *table, size_t table_len, uint8_t *certificate,
+/* One function for each pair of constants. */
+#define SEARCH(name, stops, far)                                                                                                       \
+    static __attribute__((noinline)) search_reply name(size_t t, size_t n, const uint16_t *table, size_t table_len, size_t callers,    \
+                                                       uint8_t *certificate, size_t certificate_len, uint32_t *queue,                  \
+                                                       size_t queue_len, uint32_t *parents, size_t parents_len, uint32_t *witness,     \
+                                                       size_t witness_len)                                                             \
+    {                                                                                                                                  \
+        return search(t, n, table, table_len, callers, certificate, certificate_len, queue, queue_len, parents, parents_len, witness,  \
+                      witness_len, stops, far);                                                                                        \
+    }
+
+SEARCH(search_near, 1, 0)
+SEARCH(search_far, 1, 1)
+SEARCH(search_near_whole, 0, 0)
+SEARCH(search_far_whole, 0, 1)
+
+search_reply plain_search(size_t t, size_t n, const uint16_t *table, size_t table_len, size_t callers, uint8_t *certificate,
                           size_t certificate_len, uint32_t *queue, size_t queue_len, uint32_t *parents, size_t parents_len,
                           uint32_t *witness, size_t witness_len)
 {
-    return search(t, n, table, table_len, certificate, certificate_len, queue, queue_len, parents, parents_len, witness,
-                  witness_len, 1);
+    search_function *asked = callers == 0 ? search_near : search_far;
+    return asked(t, n, table, table_len, callers, certificate, certificate_len, queue, queue_len, parents, parents_len, witness,
+                 witness_len);
 }
 
-search_reply plain_search_whole(size_t t, size_t n, const uint16_t *table, size_t table_len, uint8_t *certificate,
-                                size_t certificate_len, uint32_t *queue, size_t queue_len, uint32_t *parents,
-                                size_t parents_len, uint32_t *witness, size_t witness_len)
+search_reply plain_search_whole(size_t t, size_t n, const uint16_t *table, size_t table_len, size_t callers,
+                                uint8_t *certificate, size_t certificate_len, uint32_t *queue, size_t queue_len,
+                                uint32_t *parents, size_t parents_len, uint32_t *witness, size_t witness_len)
 {
-    return search(t, n, table, table_len, certificate, certificate_len, queue, queue_len, parents, parents_len, witness,
-                  witness_len, 0);
+    search_function *asked = callers == 0 ? search_near_whole : search_far_whole;
+    return asked(t, n, table, table_len, callers, certificate, certificate_len, queue, queue_len, parents, parents_len, witness,
+                 witness_len);
 }
 
-size_t plain_reached(const struct grammar *g, uint32_t *queue, uint32_t *parents)
+/* 0 where the states do not fit. */
+size_t plain_reached(const struct grammar *g, size_t callers, uint32_t *queue, uint32_t *parents)
 {
     struct moves m;
-    build(g, &m);
+    size_t states = g->states;
     uint64_t seen[2 * MAX_STATES * MAX_STATES / 64] = {0};
     uint64_t looked;
-    return explore(&m, g->states, seen, queue, parents, 0, &looked);
+    if (callers == 0) {
+        build(g, &m);
+        return explore(&m, states, seen, queue, parents, 0, 0, &looked);
+    }
+    if (remember(g, callers, &m, &states).cause != 0)
+        return 0;
+    return explore(&m, states, seen, queue, parents, 0, 1, &looked);
 }
 
 static inline int is_held(const uint8_t *certificate, size_t index)
@@ -237,8 +372,8 @@ static inline uint64_t word_at(const uint8_t *certificate, size_t bytes, size_t 
 }
 
 /* Are all successors of a triple held? */
-static inline int is_closed_at(const struct moves *m, size_t states, const uint8_t *certificate, unsigned f, unsigned p,
-                               unsigned q, size_t index)
+TWICE int is_closed_at(const struct moves *m, size_t states, const uint8_t *certificate, unsigned f, unsigned p, unsigned q,
+                       size_t index, int far)
 {
     const uint16_t *targets = m->targets;
     size_t square = states * states;
@@ -267,19 +402,23 @@ static inline int is_closed_at(const struct moves *m, size_t states, const uint8
             if (!is_held(certificate, right_f * square + p * states + targets[j]))
                 return 0;
     if (a->ahead != 0 && a->ahead == b->ahead && (f == 0 || a->kind == READS))
-        return is_held(certificate, index + states + 1);
+        return is_held(certificate, far ? f * square + m->after[p] * states + m->after[q] : index + states + 1);
     return 1;
 }
 
 /* The held triples, upwards, eight bytes at a time; each successor of each is tested. */
-check_reply plain_check(size_t t, size_t n, const uint16_t *table, size_t table_len, const uint8_t *certificate,
-                        size_t certificate_len)
+TWICE check_reply check(size_t t, size_t n, const uint16_t *table, size_t table_len, size_t callers, const uint8_t *certificate,
+                        size_t certificate_len, int far)
 {
     struct grammar g;
+    struct moves m;
     check_reply checked = check_table(t, n, table, table_len, &g);
+    size_t states = g.states;
+    if (far && checked.cause == 0)
+        checked = remember(&g, callers, &m, &states);
     if (checked.cause != 0)
         return checked;
-    size_t states = g.states, square = states * states, count = 2 * square, bytes = (count + 7) / 8;
+    size_t square = states * states, count = 2 * square, bytes = (count + 7) / 8;
     if (certificate_len != bytes)
         return (check_reply){9, 0};
     for (size_t index = count; index < 8 * bytes; index++)
@@ -290,17 +429,36 @@ check_reply plain_check(size_t t, size_t n, const uint16_t *table, size_t table_
     if (is_held(certificate, square + states + 1))
         return (check_reply){12, square + states + 1};
 
-    struct moves m;
-    build(&g, &m);
+    if (!far)
+        build(&g, &m);
     for (size_t at = 0; at < bytes; at += 8) {
         for (uint64_t word = word_at(certificate, bytes, at); word != 0; word &= word - 1) {
             size_t index = 8 * at + (size_t)__builtin_ctzll(word);
             unsigned f = index >= square;
             unsigned rest = (unsigned)(index - f * square);
             unsigned p = rest / (unsigned)states, q = rest - p * (unsigned)states;
-            if (!is_closed_at(&m, states, certificate, f, p, q, index))
+            if (!is_closed_at(&m, states, certificate, f, p, q, index, far))
                 return (check_reply){13, index};
         }
     }
     return (check_reply){0, 0};
+}
+
+static __attribute__((noinline)) check_reply check_near(size_t t, size_t n, const uint16_t *table, size_t table_len, size_t callers,
+                                                        const uint8_t *certificate, size_t certificate_len)
+{
+    return check(t, n, table, table_len, callers, certificate, certificate_len, 0);
+}
+
+static __attribute__((noinline)) check_reply check_far(size_t t, size_t n, const uint16_t *table, size_t table_len, size_t callers,
+                                                       const uint8_t *certificate, size_t certificate_len)
+{
+    return check(t, n, table, table_len, callers, certificate, certificate_len, 1);
+}
+
+check_reply plain_check(size_t t, size_t n, const uint16_t *table, size_t table_len, size_t callers, const uint8_t *certificate,
+                        size_t certificate_len)
+{
+    check_function *asked = callers == 0 ? check_near : check_far;
+    return asked(t, n, table, table_len, callers, certificate, certificate_len);
 }

@@ -138,7 +138,7 @@ static struct told told_length(ambiguity_length_reply r) { return (struct told){
 
 static struct told library_asked_room(const struct input *in)
 {
-    return told_room(ambiguity_search_room(in->t, in->n, in->table, in->len));
+    return told_room(ambiguity_search_room(in->t, in->n, in->table, in->len, 0));
 }
 
 static struct told plain_asked_room(const struct input *in) { return told_room(plain_room(in)); }

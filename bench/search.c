@@ -2,8 +2,8 @@
  *
  *     search GRAMMARS SECONDS
  *
- * GRAMMARS has a line for each grammar: name, t, n, the table in hexadecimal digits, four for an entry. SECONDS is spent on each,
- * about. For each grammar a line is printed: name, Q, verdict, count, size of the reached set; medians in nanoseconds of the search
+ * GRAMMARS has a line for each grammar: name, t, n, the table in hexadecimal digits, four for an entry. All are searched at 0 callers;
+ * callers.c has the others. SECONDS is spent on each, about. For each grammar a line is printed: name, Q, verdict, count, size of the reached set; medians in nanoseconds of the search
  * by the library, plain C, plain C that finishes the set, the same algorithm in C; of the certificate check by the library, plain C,
  * the same algorithm in C, or 0 0 0 where there is no certificate. It stops at the first disagreement, with status 1. */
 #include "library.h"
@@ -34,7 +34,7 @@ static void refill(size_t entries, size_t turn)
 static search_reply call(search_function *search, const struct input *in)
 {
     size_t q = in->g.states, entries = 2 * q * q;
-    return search(in->t, in->n, in->table, in->len, certificate, (entries + 7) / 8, queue, entries, parents, entries, witness,
+    return search(in->t, in->n, in->table, in->len, 0, certificate, (entries + 7) / 8, queue, entries, parents, entries, witness,
                   entries);
 }
 
@@ -99,7 +99,7 @@ static void time_checks(const struct input *in, double budget, double *medians)
         for (size_t k = 0; k < CHECKS; k++) {
             size_t who = (k + turns) % CHECKS;
             double start = now();
-            check_reply r = checks[who](in->t, in->n, in->table, in->len, right, bytes);
+            check_reply r = checks[who](in->t, in->n, in->table, in->len, 0, right, bytes);
             spent[who][turns] = now() - start - cost;
             if (r.cause != 0)
                 stop(in->name, who_is[who], "the certificate is refused");
@@ -117,9 +117,9 @@ static void damage(const struct input *in)
     size_t step = entries / (q < 300 ? 200 : 20) + 1;
     for (size_t i = 0; i < entries; i += step) {
         right[i / 8] ^= (uint8_t)(1 << i % 8);
-        check_reply expected = plain_check(in->t, in->n, in->table, in->len, right, bytes);
+        check_reply expected = plain_check(in->t, in->n, in->table, in->len, 0, right, bytes);
         for (size_t who = 0; who < CHECKS; who++) {
-            check_reply r = checks[who](in->t, in->n, in->table, in->len, right, bytes);
+            check_reply r = checks[who](in->t, in->n, in->table, in->len, 0, right, bytes);
             if (r.cause != expected.cause || r.at != expected.at)
                 stop(in->name, "certificate check", "another refusal of a damaged certificate");
         }
@@ -146,7 +146,7 @@ int main(int argc, char **argv)
     while (read_input(file, &in)) {
         size_t q = in.g.states, entries = 2 * q * q;
         double search_times[SEARCHES], check_times[CHECKS] = {0, 0, 0};
-        size_t reached = plain_reached(&in.g, queue, parents);
+        size_t reached = plain_reached(&in.g, 0, queue, parents);
         refill(entries, 0);
         search_reply expected = call(plain_search_whole, &in);
         memcpy(right, certificate, (entries + 7) / 8);

@@ -8,6 +8,7 @@
 #include <string.h>
 
 enum { MAX_TERMINALS = 2000, MAX_NONTERMINALS = 2000, START = 32768, MAX_LENGTH = 12, MAX_RULES = 400, MAX_STATES = 1024 };
+enum { MAX_CALLERS = 2 };
 
 enum { REFUSED = 0, UNAMBIGUOUS = 1, POTENTIAL = 2 };
 
@@ -22,19 +23,20 @@ typedef struct {
     uint64_t cause, at;
 } check_reply;
 
-typedef search_reply search_function(size_t t, size_t n, const uint16_t *table, size_t table_len, uint8_t *certificate,
-                                     size_t certificate_len, uint32_t *queue, size_t queue_len, uint32_t *parents,
-                                     size_t parents_len, uint32_t *witness, size_t witness_len);
+/* callers: how many callers a state remembers. */
+typedef search_reply search_function(size_t t, size_t n, const uint16_t *table, size_t table_len, size_t callers,
+                                     uint8_t *certificate, size_t certificate_len, uint32_t *queue, size_t queue_len,
+                                     uint32_t *parents, size_t parents_len, uint32_t *witness, size_t witness_len);
 
-typedef check_reply check_function(size_t t, size_t n, const uint16_t *table, size_t table_len, const uint8_t *certificate,
-                                   size_t certificate_len);
+typedef check_reply check_function(size_t t, size_t n, const uint16_t *table, size_t table_len, size_t callers,
+                                   const uint8_t *certificate, size_t certificate_len);
 
 struct grammar;
 
 /* plain.c: plain_search stops when it finds (1,1,1), plain_search_whole finishes the set first; plain_reached is the set's size. */
 search_function plain_search, plain_search_whole;
 check_function plain_check;
-size_t plain_reached(const struct grammar *g, uint32_t *queue, uint32_t *parents);
+size_t plain_reached(const struct grammar *g, size_t callers, uint32_t *queue, uint32_t *parents);
 
 /* same.c */
 search_function same_search;
@@ -148,6 +150,49 @@ static inline void find_live(const struct grammar *g, uint8_t *live)
     live[0] = 1;
     for (unsigned i = 0; i < g->rules; i++)
         live[i + 1] = is_reached[g->rule[i][0] - START] && all_marked(g->has_tree, g->rule[i]);
+}
+
+/* Of a grammar whose states remember callers: the rules that some sentence uses, by nonterminal how many chains of callers its rules
+ * have, with so many callers and with one less, and Q. Rule 0 has one chain, the empty one. */
+struct chains {
+    uint8_t live[MAX_RULES + 1];
+    size_t narrow[MAX_NONTERMINALS], wide[MAX_NONTERMINALS], states;
+};
+
+/* The chains with one caller more: one for each place before the nonterminal and each chain of the rule that has this place. */
+static inline void add_caller(const struct grammar *g, struct chains *c, const size_t *fewer, size_t *more)
+{
+    memset(more, 0, g->n * sizeof *more);
+    more[0] = 1;
+    for (unsigned i = 0; i < g->rules; i++) {
+        const uint16_t *rule = g->rule[i];
+        for (unsigned d = 0; d < rule[1] && c->live[i + 1]; d++)
+            if (rule[2 + d] >= START)
+                more[rule[2 + d] - START] += fewer[rule[0] - START];
+    }
+}
+
+/* What comes between 19 and the causes of certificates and rows: 21 at 0 for too many callers, 8 at 0 for too many chains. At 0 callers
+ * nothing is counted but Q. */
+static inline check_reply check_callers(const struct grammar *g, size_t callers, struct chains *c)
+{
+    c->states = g->states;
+    if (callers > MAX_CALLERS)
+        return (check_reply){21, 0};
+    if (callers == 0)
+        return (check_reply){0, 0};
+    find_live(g, c->live);
+    for (unsigned b = 0; b < g->n; b++)
+        c->wide[b] = 1;
+    for (size_t level = 0; level < callers; level++) {
+        memcpy(c->narrow, c->wide, g->n * sizeof *c->wide);
+        add_caller(g, c, c->narrow, c->wide);
+    }
+    c->states = 4;
+    for (unsigned i = 0; i < g->rules; i++)
+        if (c->live[i + 1])
+            c->states += (g->rule[i][1] + 1u) * c->wide[g->rule[i][0] - START];
+    return (check_reply){c->states > MAX_STATES ? 8 : 0, 0};
 }
 
 #endif

@@ -4,7 +4,8 @@
     answers CASES OUT COUNTS  answers them and counts the reasons
 
 All numbers are little endian. A table is its number of entries, 4 bytes, followed by
-2 bytes for each entry. A file depends on the seed alone.
+2 bytes for each entry, and where an entry takes m by that, 8 bytes. A file depends on
+the seed alone.
 """
 
 import hashlib
@@ -24,7 +25,8 @@ LARGEST = 2 ** (8 * SHORT) - 1
 ENTRY = 2                      # bytes of an entry of a table
 MAX_TABLE = 65536              # entries of one table
 CASE_HEADER = struct.Struct("<QQI")
-LAST = 2 ** 64 - 1             # largest t or n
+LONG = 8                       # bytes of t, n or m
+LAST = 2 ** 64 - 1             # largest t, n or m
 
 # The reasons of a refused table, in every file of cases.
 TABLE_REASONS = [str(cause) for cause in (*range(1, 9), 19)]
@@ -76,6 +78,11 @@ def encode_table(t: int, n: int, table: Codes) -> bytes:
     return CASE_HEADER.pack(t, n, len(table)) + struct.pack("<%dH" % len(table), *table)
 
 
+def encode_table_at(t: int, n: int, table: Codes, m: int) -> bytes:
+    """The front of a case of an entry that takes m."""
+    return encode_table(t, n, table) + m.to_bytes(LONG, "little")
+
+
 class Reader:
     """Takes parts from the front of a file; ValueError if it is cut or wrong."""
 
@@ -109,6 +116,10 @@ class Reader:
         if size > MAX_TABLE:
             raise ValueError("a table is too long")
         return t, n, struct.unpack("<%dH" % size, self.take(ENTRY * size))
+
+    def table_at(self) -> Tuple[int, int, Codes, int]:
+        """t, n, the table and m in front of a case."""
+        return (*self.table(), int.from_bytes(self.take(LONG), "little"))
 
     def entries(self, most: int = LARGEST) -> Tuple[int, ...]:
         """A number of entries, then the entries."""

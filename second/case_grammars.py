@@ -258,9 +258,9 @@ def states_of(table: Table) -> int:
     return grammar_of(table).states
 
 
-def triples_in(table: Table) -> Triples:
+def triples_in(table: Table, m: int = 0) -> Triples:
     """The triples of a table without faults 1 to 8; without a sentence none has a successor."""
-    return triples_of(grammar_of(table))
+    return triples_of(grammar_of(table), m)
 
 
 def some(rng: Rng, count: int, wanted: Callable[[Triples], bool], most: int) -> List[Table]:

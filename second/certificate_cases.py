@@ -9,8 +9,14 @@ README.md beside this file has the layout of a case.
 import sys
 from typing import Dict, Iterator, List, NamedTuple, Optional, Sequence, Tuple
 
+from caller_grammars import (
+    BY_HAND, SMALL, Pair, alike_in_states, answered_pairs, edge_pairs, faulty_pairs, fits, larger_pairs,
+    refused_pairs, too_many_pairs,
+)
+from caller_reasons import ENOUGH as ENOUGH_CALLERS
+from callers import MOST_CALLERS
 from case_files import (
-    Kind, Reader, Rng, accepted_or_refused, cases_of, encode_bytes, encode_table, main,
+    Kind, Reader, Rng, accepted_or_refused, cases_of, encode_bytes, encode_table_at, main,
 )
 from case_grammars import (
     CLASSICS, LEFT_LIST, MANY_STATES, NESTED, ONE_A, ROWS, STATEMENTS, Table, faulty_tables, good,
@@ -41,13 +47,14 @@ class Case(NamedTuple):
     n: int
     table: Codes
     certificate: bytes
+    m: int = 0
 
 
 # Building blocks.
 
-def smallest(table: Table) -> bytes:
+def smallest(table: Table, m: int = 0) -> bytes:
     """The smallest closed set from (0,0,0); right unless it holds (1,1,1)."""
-    triples = triples_in(table)
+    triples = triples_in(table, m)
     return certificate_of(triples.states, reached(triples))
 
 
@@ -529,12 +536,94 @@ def faulty_without(rng: Rng) -> Iterator[Case]:
         yield Case(*table, rng.choice([b"", b"\1" + bytes(3), smallest(ONE_A), b"\xff" * 9]))
 
 
+# With callers.
+
+def with_callers(rng: Rng) -> Iterator[Case]:
+    """Small grammars at m=1 and m=2: smallest and larger closed sets, bits flipped, every other fault."""
+    for table, m in answered_pairs(rng, 12):
+        triples = triples_in(table, m)
+        right, held, size = smallest(table, m), sorted(reached(triples)), certificate_length(triples.states)
+        found = [right, flipped(right, rng.choice(held)), flipped(right, rng.choice(held)),
+                 flipped(right, rng.randrange(triples.count)), flipped(right, triples.last)]
+        found += [closed_superset(rng, triples, 3) or flipped(right, triples.last, rng.choice(held))]
+        found.append(rng.choice([b"", right[:-1], right + b"\0", right + right, right[:size // 2]]))
+        found.append(rng.choice([right[:-1], right + b"\0"]))
+        found.append(rng.choice([bytes(size), b"\xff" * size, b"\1" + bytes(size - 1), flipped(right, 0)]))
+        found.append(flipped(right, triples.first, *[triples.last] * rng.randrange(2)))
+        spare = range(triples.count, BYTE * size)
+        if spare:
+            found += [flipped(right, spare[0]), flipped(right, *spare[rng.randrange(5):]),
+                      flipped(right, spare[-1], rng.choice([triples.first, triples.last, rng.choice(held)]))]
+        if triples.states < 30:
+            found.append(certificate_of(triples.states, largest_set(triples) | {triples.first}))
+        for certificate in found:
+            yield Case(*table, certificate, m)
+
+
+def larger_with_callers(rng: Rng) -> Iterator[Case]:
+    """From 61 to 120 states at m: the smallest set, with a bit flipped, of a wrong length."""
+    for table, m in larger_pairs(rng, 48):
+        right = smallest(table, m)
+        yield Case(*table, right, m)
+        yield Case(*table, flipped(right, rng.choice(held_indices(right))), m)
+        yield Case(*table, flipped(right, rng.randrange(triples_in(table, m).count)), m)
+        yield Case(*table, right[1:], m)
+
+
+def of_another_m(rng: Rng) -> Iterator[Case]:
+    """The smallest set at one m, handed in at another, 0 among them."""
+    tables = [table for table, _ in answered_pairs(rng, 14)] + alike_in_states(rng, 60)
+    for table in dict.fromkeys(tables):
+        fitting = [m for m in range(MOST_CALLERS + 1) if fits(table, m)]
+        for one in fitting:
+            right = smallest(table, one)
+            for m in fitting:
+                if m != one and unambiguous(triples_in(table, one)):
+                    yield Case(*table, right, m)
+
+
+def most_states_with_callers(rng: Rng) -> Iterator[Case]:
+    """Q at m of 1,024: few of them whole."""
+    for table, m in edge_pairs(rng, 1024, 2):
+        right = smallest(table, m)
+        yield Case(*table, right[:rng.choice([0, 1, 16384, 65535])], m)
+        yield Case(*table, smallest(table), m)
+    for table, m in edge_pairs(rng, 1024, 1):
+        right = smallest(table, m)
+        yield Case(*table, right, m)
+        yield Case(*table, flipped(right, rng.choice(held_indices(right))), m)
+
+
+def wrong_or_right_at_0(rng: Rng, table: Table) -> List[bytes]:
+    """Certificates that are accepted at m=0, and with each of causes 9 to 13 there, where they are short."""
+    if states_of(table) > SMALL:
+        return [b"", rng.choice([b"\1", b"\0" * 9])]
+    right, count = smallest(table), triples_in(table).count
+    found = [right, right[:-1], bytes(len(right)), b"\xff" * len(right), b"\1" + bytes(len(right) - 1)]
+    found.append(flipped(right, triples_in(table).last))
+    return found + ([flipped(right, count)] if count % BYTE else [b""])
+
+
+def refused_callers(rng: Rng) -> Iterator[Case]:
+    """An m above 2, chains too many, tables at fault with an m: certificates accepted at m=0, or not."""
+    many = too_many_pairs(rng, 10)
+    few = [table for table, _ in many if states_of(table) <= SMALL] + list(BY_HAND.values())
+    pairs: List[Pair] = many + refused_pairs(rng, few + alike_in_states(rng, 40))
+    pairs += refused_pairs(rng, [table for table, _ in many])
+    for table, m in pairs:
+        for certificate in wrong_or_right_at_0(rng, table):
+            yield Case(*table, certificate, m)
+    for table, m in faulty_pairs(rng, 8):
+        yield Case(*table, rng.choice([b"", b"\1" + bytes(3), smallest(ONE_A), b"\xff" * 9]), m)
+
+
 GROUPS = [
     document, every_bit, every_bit_of_larger_sets, some_bits, lengths, spare_bits,
     closed_sets, extremes, potential, of_other_grammars, faulty, larger, largest_grammar,
     most_states, chequered, chequered_and_closed,
     former, dead, unambiguous_since, dead_and_larger, without_a_sentence, large_without,
     nearly_without, faulty_without,
+    with_callers, larger_with_callers, of_another_m, most_states_with_callers, refused_callers,
 ]
 
 
@@ -549,17 +638,18 @@ def answer(case: Case) -> str:
 
 def encode_case(case: Case) -> bytes:
     """One case of the file of inputs."""
-    return encode_table(*case[:3]) + encode_bytes(case.certificate)
+    return encode_table_at(*case[:3], case.m) + encode_bytes(case.certificate)
 
 
 def decode_case(reader: Reader) -> Case:
     """The next case of a file of inputs."""
-    t, n, table = reader.table()
-    return Case(t, n, table, reader.take(reader.number()))
+    t, n, table, m = reader.table_at()
+    return Case(t, n, table, reader.take(reader.number()), m)
 
 
 KIND = Kind(lambda: cases_of(GROUPS), encode_case, decode_case, answer,
-            REASONS, lambda case: reasons_of(*case), enough={**ENOUGH_DEAD, **ENOUGH_NONE, **ENOUGH_LARGEST})
+            REASONS, lambda case: reasons_of(*case),
+            enough={**ENOUGH_DEAD, **ENOUGH_NONE, **ENOUGH_LARGEST, **ENOUGH_CALLERS})
 
 if __name__ == "__main__":
     sys.exit(main(__doc__, sys.argv[1:], KIND))

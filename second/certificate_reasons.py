@@ -7,8 +7,11 @@ way in which a successor is missing, and every place where the order shows.
 from functools import lru_cache
 from typing import List, Optional, Set, Tuple
 
+import caller_reasons
 import dead_rules
 import sentence_reasons
+from caller_grammars import SMALL
+from callers import MOST_CALLERS, states_at
 from case_files import TABLE_REASONS
 from case_grammars import MANY_STATES, Table, good, grammar_of
 from certificates import (
@@ -17,21 +20,23 @@ from certificates import (
 )
 from dead_rules import KINDS, dead_states, kind_of
 from live_misreadings import MISREAD, TOLD, former_triples, told
-from tables import FIXED_STATES, MAX_STATES, NO_SENTENCE, Codes, Grammar, Refusal
+from tables import (
+    FIXED_STATES, MAX_STATES, NO_SENTENCE, TOO_MANY_STATES, Codes, Grammar, Refusal,
+)
 from triples import (
     BYTE, Triples, certificate_length, certificate_of, held_indices, is_potential, reached, triple_at,
     triples_of,
 )
 from ways import largest_set
 
-REASONS = [
+OF_ACCEPTED = [
     "accepted-smallest",
     "accepted-larger",
     "accepted-largest-possible",
     "accepted-with-spare-bits-there",
     "accepted-over-60-states",
-] + TABLE_REASONS + [
-    "1-to-8-with-an-empty-certificate",
+]
+OF_REFUSED = [
     "9-empty",
     "9-one-byte-short",
     "9-shorter",
@@ -57,6 +62,8 @@ REASONS = [
     "order-11-before-12",
     "order-11-before-13",
     "order-12-before-13",
+]
+REASONS = OF_ACCEPTED + TABLE_REASONS + ["1-to-8-with-an-empty-certificate"] + OF_REFUSED + [
     "chequered-ends-accepted",
     "chequered-ends-13-at-such-a-pair",
     "chequered-ends-13-elsewhere-in-layer-0",
@@ -78,16 +85,84 @@ REASONS = [
 ] + ["order-19-before-%d" % cause for cause in range(WRONG_LENGTH, SUCCESSOR_MISSING + 1)] + [
     "19-256-states",
     "19-1024-states",
-] + sentence_reasons.REASONS
+] + sentence_reasons.REASONS + caller_reasons.REASONS + caller_reasons.prefixed(OF_ACCEPTED + OF_REFUSED) + [
+    "%s-before-%d" % (name, cause) for name in ("order-21", "order-too-many-chains")
+    for cause in range(WRONG_LENGTH, SUCCESSOR_MISSING + 1)
+] + [
+    "21-though-accepted-at-0",
+    "8-of-chains-though-accepted-at-0",
+    "of-another-m-accepted",
+    "of-another-m-refused-9",
+    "of-another-m-refused-13",
+    "of-m-0-accepted-above",
+    "of-m-0-refused-13-above",
+    "of-an-m-above-0-accepted-at-0",
+    "of-an-m-above-0-refused-13-at-0",
+]
 
 
 CHEQUERED = 8             # pairs of ends that are some
-# Cases of the most states: they are long.
-ENOUGH_LARGEST = {"1024-states": 12, "19-1024-states": 3}
+# Cases of the most states: they are long. Most grammars of 61 to 120 states at m=2 are potential.
+ENOUGH_LARGEST = {"1024-states": 12, "19-1024-states": 3, "callers-2-accepted-over-60-states": 5}
 
 
-def reasons_of(t: int, n: int, table: Codes, certificate: bytes) -> List[str]:
+def reasons_of(t: int, n: int, table: Codes, certificate: bytes, m: int = 0) -> List[str]:
     """Every reason of REASONS that this case meets."""
+    names = caller_reasons.of_case(t, n, table, m) + other_m_reasons(t, n, table, certificate, m)
+    if m:
+        return names + remembered_reasons(t, n, table, certificate, m)
+    return names + forgotten_reasons(t, n, table, certificate)
+
+
+def remembered_reasons(t: int, n: int, table: Codes, certificate: bytes, m: int) -> List[str]:
+    """What a certificate at an m above 0 is, or would be at m=0 where m or the chains are refused."""
+    former, triples = checked_triples(t, n, table), checked_triples(t, n, table, m)
+    if isinstance(former, Refusal):
+        return []
+    if isinstance(triples, Refusal):
+        many = triples.cause == TOO_MANY_STATES
+        fault = certificate_fault(former, certificate)
+        if fault is None:
+            return ["8-of-chains-though-accepted-at-0" if many else "21-though-accepted-at-0"]
+        return ["order-%s-before-%d" % ("too-many-chains" if many else "21", fault.cause)]
+    return caller_reasons.at(m, certificate_reasons(triples, certificate, certificate_fault(triples, certificate)))
+
+
+def other_m_reasons(t: int, n: int, table: Codes, certificate: bytes, m: int) -> List[str]:
+    """What is said of the smallest certificate of another m."""
+    triples = checked_triples(t, n, table, m)
+    if isinstance(triples, Refusal) or triples.states > SMALL:
+        return []
+    grammar = good((t, n, table))
+    others = [other for other in range(MOST_CALLERS + 1)
+              if other != m and len(certificate) == certificate_length(states_at(grammar, other))
+              and states_at(grammar, other) <= SMALL and is_smallest(triples_of(grammar, other), certificate)]
+    if not others:
+        return []
+    fault = certificate_fault(triples, certificate)
+    said = "accepted" if fault is None else "refused-%d" % fault.cause
+    names = ["of-another-m-" + said]
+    if said != "refused-9":
+        names += ["of-an-m-above-0-%s-at-0" % said] if m == 0 else ["of-m-0-%s-above" % said] * (0 in others)
+    return names
+
+
+def is_smallest(triples: Triples, certificate: bytes) -> bool:
+    """Whether it is the smallest certificate of an unambiguous grammar."""
+    return not is_potential(triples) and certificate == certificate_of(triples.states, reached(triples))
+
+
+def certificate_reasons(triples: Triples, certificate: bytes, fault: Optional[Refusal]) -> List[str]:
+    """How a certificate is accepted or refused."""
+    if fault is None:
+        return accepted_reasons(triples, certificate)
+    if fault.cause == WRONG_LENGTH:
+        return length_reasons(triples, certificate)
+    return later_reasons(triples, certificate, fault)
+
+
+def forgotten_reasons(t: int, n: int, table: Codes, certificate: bytes) -> List[str]:
+    """Every reason that a case at m=0 meets."""
     triples = checked_triples(t, n, table)
     names = list(sentence_reasons.of_table(t, n, table))
     if isinstance(triples, Refusal):
@@ -104,11 +179,7 @@ def reasons_of(t: int, n: int, table: Codes, certificate: bytes) -> List[str]:
     names += told(grammar, MISREAD, lambda other: certificate_fault(other, certificate))
     if fault is None or fault.cause == SUCCESSOR_MISSING:
         names += chequered_reasons(grammar, triples, certificate, fault)
-    if fault is None:
-        return names + accepted_reasons(triples, certificate)
-    if fault.cause == WRONG_LENGTH:
-        return names + length_reasons(triples, certificate)
-    return names + later_reasons(triples, certificate, fault)
+    return names + certificate_reasons(triples, certificate, fault)
 
 
 def none_reasons(table: Table, certificate: bytes) -> List[str]:

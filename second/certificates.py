@@ -1,13 +1,14 @@
 """The certificate check and the witness check of document 01.
 
-Each takes t, n and a table first, and answers a Refusal, or None when it
-accepts. "Table faults precede 9 to 15."
+Each takes t, n and a table first and m last, and answers a Refusal, or None when it
+accepts. "Table faults precede 9 to 15", and so do those of m.
 """
 
 from functools import lru_cache
 from typing import Optional, Sequence, Tuple, Union
 
-from tables import Codes, Refusal, check_table
+from callers import check_at
+from tables import Codes, Refusal
 from triples import (
     FIRST, LAST, Triple, Triples, certificate_length, held_indices, in_range,
     steps, triples_of,
@@ -25,19 +26,23 @@ Record = Tuple[int, int, int]   # layer, left, right
 
 
 @lru_cache(maxsize=256)
-def checked_triples(t: int, n: int, table: Codes) -> Union[Triples, Refusal]:
-    """The triples of a table that passes its check, or the table's fault."""
-    grammar = check_table(t, n, table)
-    return grammar if isinstance(grammar, Refusal) else triples_of(grammar)
+def known_triples(t: int, n: int, table: Codes, m: int) -> Union[Triples, Refusal]:
+    grammar = check_at(t, n, table, m)
+    return grammar if isinstance(grammar, Refusal) else triples_of(grammar, m)
+
+
+def checked_triples(t: int, n: int, table: Codes, m: int = 0) -> Union[Triples, Refusal]:
+    """The triples at m of a table that passes its check, or the fault of the table or of m."""
+    return known_triples(t, n, table, m)
 
 
 # The certificate check.
 
 def check_certificate(
-    t: int, n: int, table: Codes, certificate: bytes
+    t: int, n: int, table: Codes, certificate: bytes, m: int = 0
 ) -> Optional[Refusal]:
     """Table faults, then "The certificate check goes 9 to 13"."""
-    triples = checked_triples(t, n, table)
+    triples = checked_triples(t, n, table, m)
     if isinstance(triples, Refusal):
         return triples
     return certificate_fault(triples, certificate)
@@ -72,10 +77,10 @@ def successor_fault(triples: Triples, held: Sequence[int]) -> Optional[Refusal]:
 # The witness check.
 
 def check_witness(
-    t: int, n: int, table: Codes, entries: Sequence[int]
+    t: int, n: int, table: Codes, entries: Sequence[int], m: int = 0
 ) -> Optional[Refusal]:
     """Table faults, then cause 15."""
-    triples = checked_triples(t, n, table)
+    triples = checked_triples(t, n, table, m)
     if isinstance(triples, Refusal):
         return triples
     return witness_fault(triples, entries)
@@ -99,10 +104,10 @@ def witness_fault(triples: Triples, entries: Sequence[int]) -> Optional[Refusal]
 
 
 def check_records(
-    t: int, n: int, table: Codes, records: Sequence[Record]
+    t: int, n: int, table: Codes, records: Sequence[Record], m: int = 0
 ) -> Optional[Refusal]:
     """The witness check on "a lent list of records (layer, left, right)"."""
-    triples = checked_triples(t, n, table)
+    triples = checked_triples(t, n, table, m)
     if isinstance(triples, Refusal):
         return triples
     return records_fault(triples, [Triple(*record) for record in records])

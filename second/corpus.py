@@ -8,17 +8,20 @@ import os
 import random
 from typing import Iterator, List, NamedTuple, Optional, Tuple
 
+from callers import refusal_at
 from readings import named_of
 from searches import Potential, needed, search
 from tables import NO_SENTENCE, Codes, Grammar, Refusal
 from text import AMPLE, Text, read_lines, read_text, without_case, write_text
 from trees import MOST, some_sentences, tree_count
+from triples import is_potential, reached, triples_of
 
 FOLDER = os.path.join(os.path.dirname(os.path.dirname(os.path.abspath(__file__))), "corpus")
 INDEX = "INDEX.tsv"
 ENDING = ".grammar"
 NOTHING = "-"             # in a column that says nothing of a grammar
 EMPTY = "(empty)"         # the sentence without symbols
+NOT_SAID = None, NOTHING, None     # of an m above 0 whose states do not fit
 
 UNAMBIGUOUS, POTENTIAL, REFUSED = "unambiguous", "potential", "refused"
 AMBIGUOUS, FALSE_ALARM, WITHOUT = "ambiguous", "false-alarm", "no-sentence"
@@ -42,6 +45,12 @@ class Entry(NamedTuple):
     truth: str
     sentence: str
     reason: str
+    states_1: Optional[int]
+    verdict_1: str
+    size_1: Optional[int]
+    states_2: Optional[int]
+    verdict_2: str
+    size_2: Optional[int]
 
 
 class Found(NamedTuple):
@@ -61,8 +70,9 @@ def entry_of(line: str) -> Entry:
     if len(words) != len(Entry._fields) or not all(words):
         raise ValueError("a line of the index has other columns: %s" % line)
     entry = Entry(*words)
-    size = None if entry.size == NOTHING else int(entry.size)
-    return entry._replace(states=int(entry.states), size=size)
+    numbers = {name: None if getattr(entry, name) == NOTHING else int(getattr(entry, name))
+               for name in Entry._fields if name.startswith(("states", "size"))}
+    return entry._replace(**numbers)
 
 
 def entries(folder: str = FOLDER) -> List[Entry]:
@@ -114,6 +124,34 @@ def verdict_of(found: Found) -> Tuple[str, Optional[int]]:
     return UNAMBIGUOUS, result.size
 
 
+Remembered = Tuple[Optional[int], str, Optional[int]]    # states, verdict and size at an m above 0
+
+
+def remembered(found: Found, m: int) -> Remembered:
+    """What the index says of an m above 0; nothing where the states do not fit."""
+    if refusal_at(found.grammar, m) is not None:
+        return NOT_SAID
+    triples = triples_of(found.grammar, m)
+    if is_potential(triples):
+        return triples.states, POTENTIAL, None
+    return triples.states, UNAMBIGUOUS, len(reached(triples))
+
+
+def remembered_faults(entry: Entry, found: Found) -> Iterator[str]:
+    """What speaks against the columns of m=1 and m=2."""
+    verdict = entry.verdict
+    for m, said in ((1, entry[-6:-3]), (2, entry[-3:])):
+        right = remembered(found, m)
+        if said != right:
+            yield "at m=%d states=%s verdict=%s size=%s" % (
+                m, *(NOTHING if value is None else value for value in right))
+        if right[1] == UNAMBIGUOUS and entry.truth == AMBIGUOUS and entry.sentence != NOTHING:
+            yield "unambiguous at m=%d, though a sentence has two trees" % m
+        if right[1] == POTENTIAL and verdict == UNAMBIGUOUS:
+            yield "potential at m=%d, though unambiguous before" % m
+        verdict = right[1]
+
+
 def coded(found: Found, sentence: str) -> Optional[Codes]:
     """The codes of a sentence's names, in any case; None if one is no terminal's."""
     words = [] if sentence == EMPTY else sentence.split(" ")
@@ -157,6 +195,8 @@ def refused_faults(entry: Entry, text: bytes) -> Iterator[str]:
         yield "states=%d" % lines.states
     if (entry.size, entry.truth, entry.sentence) != (None, WITHOUT, NOTHING):
         yield "size, truth and sentence do not fit"
+    if entry[-6:] != NOT_SAID * 2:
+        yield "something is said of m above 0"
 
 
 def faults_of(entry: Entry, text: bytes) -> Iterator[str]:
@@ -180,6 +220,7 @@ def faults_of(entry: Entry, text: bytes) -> Iterator[str]:
     if (entry.verdict, entry.size) != (verdict, size):
         yield "verdict=%s size=%s" % (verdict, NOTHING if size is None else size)
     yield from truth_faults(entry, found)
+    yield from remembered_faults(entry, found)
 
 
 def faults(folder: str = FOLDER) -> Iterator[str]:

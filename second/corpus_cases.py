@@ -65,23 +65,34 @@ def grown_large(rng: Rng) -> Iterator[Case]:
     yield from grown_cases(rng, 30, 24, 256)
 
 
-GROUPS = [of_the_corpus, grown_small, grown_large]
+def of_the_corpus_with_callers(rng: Rng) -> Iterator[Case]:
+    """Every grammar of the corpus at m=1 and m=2, where it has at most 256 states there, lent exactly enough."""
+    for entry in entries():
+        table = table_in(entry.name)
+        for m, states in ((1, entry.states_1), (2, entry.states_2)):
+            if states is not None and states <= 256:
+                yield Case(*table, needed(states), 0, m)
+
+
+GROUPS = [of_the_corpus, grown_small, grown_large, of_the_corpus_with_callers]
 
 OF_19 = "19-of-the-corpus"
 REASONS = ["%s-%s" % (verdict, how) for verdict in ("unambiguous", "potential")
            for how in ("of-the-corpus", "grown", "up-to-48-states", "over-48-states",
-                       "exactly-enough", "longer")] + [OF_19]
+                       "exactly-enough", "longer", "of-the-corpus-at-1", "of-the-corpus-at-2")] + [OF_19]
 
 
 def reasons_of(case: Case) -> List[str]:
     """Every reason of REASONS that this case meets."""
     table = case.t, case.n, case.table
     states = states_of(table)
-    result = search(*table, case.lent)
+    result = search(*table, case.lent, case.m)
     if isinstance(result, Refusal):
         assert result.cause == NO_SENTENCE and table in corpus_tables()
         return [OF_19]
     verdict = "potential-" if isinstance(result, Potential) else "unambiguous-"
+    if case.m:
+        return [verdict + "of-the-corpus-at-%d" % case.m]
     return [verdict + how for how in (
         "of-the-corpus" if table in corpus_tables() else "grown",
         "over-48-states" if states > MAX_STATES else "up-to-48-states",

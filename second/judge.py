@@ -7,17 +7,17 @@ against the proved library, and not proved itself.
 import argparse
 import os
 import sys
-from typing import NamedTuple, Optional, Sequence
+from typing import List, NamedTuple, Optional, Sequence, Union
 
+from callers import MOST_CALLERS, TOO_MANY_CALLERS, refusal_at, states_at
 from certificates import check_certificate
-from corpus import found_in
+from corpus import Found, found_in
 from explained import explanation
 from places import Place, place_of
-from printed import CHECKED, MOST_BYTES, RUNS, Malformed, certificate_in, has_form, lines_of
-from program import judged
-from readings import named_of, sides
-from searches import Potential, needed, search
-from tables import Refusal
+from printed import CHECKED, MOST_BYTES, RUNS, Malformed, has_form, lines_of, read_in
+from readings import named_of, sides, witness_lines
+from searches import Potential, Unambiguous, needed, search
+from tables import MAX_STATES, Refusal
 from text import AMPLE, MAX_TEXT, read_text
 from triples import triples_of
 from two_trees import two_trees
@@ -27,8 +27,11 @@ VERSION_FILE = os.path.join(os.path.dirname(os.path.dirname(os.path.abspath(__fi
 STATUS = """GRAMMAR is a file of grammar text, CERTIFICATE one of the lines that
 ambig-certify prints; one of them may be -, standard input. For a grammar alone
 the lines of the program ambig are printed, without its limits; with a
-certificate 'accepted', or 'refused=' and 'at=', or 'malformed'. What is wrong,
-and where, goes to standard error. Exit status: 0 unambiguous or accepted, 1
+certificate 'accepted', or 'refused=' and 'at=', or 'malformed'. Without --callers
+a grammar is judged remembering 0, 1 and 2 callers in turn, as far as its states
+fit, until it is unambiguous; a line 'callers=' behind that of the states says
+how many it took, if any. A certificate says its own. What is wrong, and where,
+and how many callers were tried in vain, goes to standard error. Exit status: 0 unambiguous or accepted, 1
 ambiguous (two trees were found) or a certificate that is not accepted, 2 bad
 use, or a file that cannot be read or written, 3 potential, 4 a grammar that is
 refused."""
@@ -36,54 +39,133 @@ YES, NO, MISUSE, POTENTIAL, REFUSED = range(5)
 
 
 class Answer(NamedTuple):
-    """What is printed, the exit status, and where the fault is: in the grammar, or in the certificate."""
+    """What is printed, the exit status, and where the fault is: in the grammar, or in the certificate; a note."""
 
     printed: str
     status: int
     grammar_fault: Optional[Place] = None
     certificate_fault: Optional[Malformed] = None
+    note: Optional[str] = None
 
 
 def refused(refusal: Refusal) -> str:
     return "refused=%d\nat=%d\n" % refusal
 
 
-def verdict(text: bytes) -> Answer:
-    """What is said of a grammar."""
+class Judged(NamedTuple):
+    """What the search finds at m, and the m that were tried before in vain."""
+
+    m: int
+    result: Union[Unambiguous, Potential]
+    tried: List[int]
+
+
+def unread(text: bytes) -> Answer:
+    """What is said of a text that is refused."""
     result = read_text(text, AMPLE)
-    lines = judged(text, result).decode("ascii")
-    if isinstance(result, Refusal):
-        return Answer(lines, REFUSED, place_of(text, result))
-    return Answer(lines, YES if "\nverdict=unambiguous\n" in lines else POTENTIAL)
+    assert isinstance(result, Refusal)
+    return Answer(refused(result), REFUSED, place_of(text, result))
 
 
-def certified(text: bytes) -> Answer:
+def not_at(refusal: Refusal, found: Found, m: int) -> Answer:
+    """What is said of an m that the grammar cannot be judged with."""
+    why = "0, 1 or 2 callers are remembered" if refusal.cause == TOO_MANY_CALLERS else (
+        "with %d callers there are %d states, and at most %d fit" % (m, states_at(found.grammar, m), MAX_STATES))
+    return Answer(refused(refusal), REFUSED, Place(1, 1, why))
+
+
+def judged_at(found: Found, m: int) -> Union[Unambiguous, Potential]:
+    """The search at an m that no refusal stops."""
+    result = search(*found.table, needed(states_at(found.grammar, m)), m)
+    assert not isinstance(result, Refusal), "a text that is read has no table faults"
+    return result
+
+
+def judged_in_turn(found: Found) -> Judged:
+    """The first m with an unambiguous verdict; m=0 if there is none."""
+    fitting = [m for m in range(MOST_CALLERS + 1) if refusal_at(found.grammar, m) is None]
+    first = judged_at(found, 0)
+    if not isinstance(first, Potential):
+        return Judged(0, first, [])
+    for m in fitting[1:]:
+        result = judged_at(found, m)
+        if not isinstance(result, Potential):
+            return Judged(m, result, [])
+    return Judged(0, first, fitting)
+
+
+def judged(found: Found, m: Optional[int]) -> Judged:
+    """The search at this m, or at each in turn."""
+    return judged_in_turn(found) if m is None else Judged(m, judged_at(found, m), [])
+
+
+def lines_at(text: bytes, found: Found, answer: Judged) -> str:
+    """The lines of the program, with that of m behind the states if it is above 0."""
+    m, result, _ = answer
+    front = b"states=%d\n" % states_at(found.grammar, m) + (b"callers=%d\n" % m if m else b"")
+    if isinstance(result, Potential):
+        lines = b"verdict=potential\n" + witness_lines(named_of(text, found.text), result.witness, m)
+    else:
+        lines = b"verdict=unambiguous\nreached=%d\n" % result.size
+    return (front + lines).decode("ascii")
+
+
+def note_of(answer: Judged) -> Optional[str]:
+    """What is said of a verdict that is potential at each m that fits."""
+    if not answer.tried:
+        return None
+    return "potential with each number of callers remembered that fits: %s" % ", ".join(map(str, answer.tried))
+
+
+def verdict(text: bytes, m: Optional[int] = None) -> Answer:
+    """What is said of a grammar, at m or at the first m that is enough."""
+    return answered(text, m, certify=False)
+
+
+def certified(text: bytes, m: Optional[int] = None) -> Answer:
     """The certificate of a grammar, as ambig-certify prints it; else its verdict, and two trees if they are found."""
+    return answered(text, m, certify=True)
+
+
+def answered(text: bytes, m: Optional[int], certify: bool) -> Answer:
+    """The verdict, or the certificate in its place."""
     found = found_in(text)
     if found is None:
-        return verdict(text)
-    result = search(*found.table, needed(found.grammar.states))
-    assert not isinstance(result, Refusal), "a text that is read has no table faults"
-    if not isinstance(result, Potential):
-        form = CHECKED if has_form(found.grammar.states, CHECKED) else RUNS
-        return Answer(lines_of(found, result.certificate, form).decode("ascii"), YES)
-    answer = verdict(text)
+        return unread(text)
+    refusal = None if m is None else refusal_at(found.grammar, m)
+    if refusal is not None:
+        return not_at(refusal, found, m)
+    answer = judged(found, m)
+    lines = lines_at(text, found, answer)
+    if not isinstance(answer.result, Potential):
+        if not certify:
+            return Answer(lines, YES)
+        form = CHECKED if has_form(states_at(found.grammar, answer.m), CHECKED) else RUNS
+        return Answer(lines_of(found, answer.result.certificate, form, answer.m).decode("ascii"), YES)
+    if certify:
+        return explained(text, found, answer, lines)
+    return Answer(lines, POTENTIAL, note=note_of(answer))
+
+
+def explained(text: bytes, found: Found, answer: Judged, lines: str) -> Answer:
+    """A potential verdict, with two trees if they are found."""
     trees = two_trees(found.grammar)
     if trees is None:
-        return answer._replace(printed=answer.printed + "no sentence with two trees was found: the alarm may be false\n")
-    strings = sides(triples_of(found.grammar), result.witness)
-    return Answer(answer.printed + explanation(named_of(text, found.text), trees, strings), NO)
+        lines += "no sentence with two trees was found: the alarm may be false\n"
+        return Answer(lines, POTENTIAL, note=note_of(answer))
+    strings = sides(triples_of(found.grammar, answer.m), answer.result.witness)
+    return Answer(lines + explanation(named_of(text, found.text), trees, strings), NO)
 
 
 def checked(text: bytes, lines: bytes) -> Answer:
     """What is said of a printed certificate."""
     found = found_in(text)
     if found is None:
-        return verdict(text)
-    certificate = certificate_in(found, lines)
-    if isinstance(certificate, Malformed):
-        return Answer("malformed\n", NO, None, certificate)
-    result = check_certificate(*found.table, certificate)
+        return unread(text)
+    read = read_in(found, lines)
+    if isinstance(read, Malformed):
+        return Answer("malformed\n", NO, None, read)
+    result = check_certificate(*found.table, read.certificate, read.m)
     return Answer(refused(result), NO) if isinstance(result, Refusal) else Answer("accepted\n", YES)
 
 
@@ -106,6 +188,13 @@ def version() -> str:
         return file.read().strip()
 
 
+def callers_of(word: str) -> int:
+    """A number of callers; ValueError if it is none."""
+    if not word.isascii() or not word.isdigit() or len(word) > 20:
+        raise ValueError(word)
+    return int(word)
+
+
 def parser() -> argparse.ArgumentParser:
     words = argparse.ArgumentParser(
         prog="judge.py", description=__doc__, epilog=STATUS,
@@ -114,6 +203,8 @@ def parser() -> argparse.ArgumentParser:
     words.add_argument("certificate", metavar="CERTIFICATE", nargs="?", default=None)
     words.add_argument("-c", "--certificate", action="store_true", dest="certify",
                        help="print the certificate, as ambig-certify does; for a potential verdict look for two trees")
+    words.add_argument("-m", "--callers", metavar="M", type=callers_of, default=None,
+                       help="judge remembering M callers, 0, 1 or 2, alone")
     words.add_argument("-q", "--quiet", action="store_true", help="say nothing on standard error")
     words.add_argument("-V", "--version", action="version", version="judge.py " + version())
     return words
@@ -126,6 +217,8 @@ def asked_for(words: Sequence[str]) -> argparse.Namespace:
         parser().error("standard input can be read once only")
     if asked.certify and asked.certificate is not None:
         parser().error("--certificate prints one, and checks none")
+    if asked.callers is not None and asked.certificate is not None:
+        parser().error("a certificate says its own number of callers")
     return asked
 
 
@@ -159,10 +252,12 @@ def run(words: Sequence[str]) -> int:
         except (OSError, ValueError) as error:
             print("%s: error: %s" % (shown(path), getattr(error, "strerror", None) or error), file=sys.stderr)
             return MISUSE
-    answer = checked(*data) if len(data) == 2 else certified(*data) if asked.certify else verdict(*data)
+    answer = checked(*data) if len(data) == 2 else answered(*data, asked.callers, asked.certify)
     for path, fault in [(asked.grammar, answer.grammar_fault), (asked.certificate, answer.certificate_fault)]:
         if fault is not None and not asked.quiet:
             print("%s:%d:%d: error: %s" % (shown(path), fault.line, fault.column, fault.message), file=sys.stderr)
+    if answer.note is not None and not asked.quiet:
+        print("%s: %s" % (shown(asked.grammar), answer.note), file=sys.stderr)
     return answer.status if said(answer.printed) else MISUSE
 
 

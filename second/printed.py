@@ -1,19 +1,24 @@
 """Certificates as lines: bindings/README.md has the three forms.
 
-`lines_of` prints a certificate, `certificate_in` reads one back and answers its
-bytes or what is Malformed.
+`lines_of` prints a certificate, `read_in` reads one back and answers its m and its
+bytes or what is Malformed, `certificate_in` the bytes alone. That of an m above 0,
+document 02's [11], has `callers=` and m as a line of its own behind that of its states.
 """
 
 import re
 from typing import Iterator, List, NamedTuple, Optional, Tuple, Union
 
+from callers import MOST_CALLERS, states_at
 from corpus import Found
+from tables import MAX_STATES
 from triples import held_indices
 
 FORMS = PLAIN, CHECKED, RUNS = (1, 2, 3)
 ON_A_LINE = {PLAIN: 32, CHECKED: 16, RUNS: 16}    # bytes of the certificate; in form 3 bytes and runs
 CHECK = 251               # the check digits are a remainder of this prime
 KEYS = "certificate-form=", "states=", "rules=", "size="
+CALLERS = "callers="      # behind the line of states, only where m is above 0
+CALLERS_LINE = 3          # its number
 HEX = "0123456789abcdefABCDEF"
 DIGIT = "h"               # stands for a hexadecimal digit in a template
 RUN = "z"                 # before the length of a run of zeros, in form 3; as a digit it is 16
@@ -21,6 +26,13 @@ LONGEST_RUN = 255
 MOST_STATES = 512         # of forms 1 and 2: their offsets have four digits, so the bytes are at most 65,536
 MOST_BYTES = 1 << 20      # of the lines of a certificate, in each form
 RUNS_LINE = re.compile(r"([0-9a-f]{5}):((?: z?[0-9a-f]{2})+) \*([0-9a-f]{2})")
+
+
+class Read(NamedTuple):
+    """What a printed certificate says: its m and its bytes."""
+
+    m: int
+    certificate: bytes
 
 
 class Malformed(NamedTuple):
@@ -70,11 +82,17 @@ def run_lines(certificate: bytes) -> List[str]:
     return ["%s *%s\n" % (line, run_digits(line)) for line in lines if line]
 
 
-def lines_of(found: Found, certificate: bytes, form: int) -> bytes:
-    """A certificate as it is printed."""
-    assert has_form(found.grammar.states, form), "offsets of four digits"
-    numbers = form, found.grammar.states, len(found.grammar.rules), len(held_indices(certificate))
-    lines = ["%s%d\n" % pair for pair in zip(KEYS, numbers)]
+def keys_at(m: int) -> Tuple[str, ...]:
+    """The keys in front of a certificate."""
+    return KEYS if m == 0 else KEYS[:CALLERS_LINE - 1] + (CALLERS,) + KEYS[CALLERS_LINE - 1:]
+
+
+def lines_of(found: Found, certificate: bytes, form: int, m: int = 0) -> bytes:
+    """A certificate at m as it is printed."""
+    states = states_at(found.grammar, m)
+    assert has_form(states, form), "offsets of four digits"
+    numbers = [form, states] + [m] * (m > 0) + [len(found.grammar.rules), len(held_indices(certificate))]
+    lines = ["%s%d\n" % pair for pair in zip(keys_at(m), numbers)]
     if form == RUNS:
         return "".join(lines + run_lines(certificate)).encode("ascii")
     for offset in range(0, len(certificate), ON_A_LINE[form]):
@@ -111,11 +129,28 @@ def number_on(line: str, number: int, key: str) -> Union[int, Malformed]:
     return int(digits)
 
 
-def head_of(lines: List[str], found: Found) -> Union[Tuple[int, int], Malformed]:
-    """Form and size; the other two numbers are the grammar's."""
-    known = None, found.grammar.states, len(found.grammar.rules), None
+def callers_in(lines: List[str], found: Found) -> Union[int, Malformed]:
+    """m, which is 0 without a line that says it; "callers=0" is not printed."""
+    line = lines[CALLERS_LINE - 1] if len(lines) >= CALLERS_LINE else ""
+    if not line.startswith(CALLERS):
+        return 0
+    m = number_on(line, CALLERS_LINE, CALLERS)
+    if isinstance(m, Malformed):
+        return m
+    if not 1 <= m <= MOST_CALLERS:
+        return Malformed(CALLERS_LINE, len(CALLERS) + 1, "1 or 2 is expected")
+    if states_at(found.grammar, m) > MAX_STATES:
+        return Malformed(CALLERS_LINE, len(CALLERS) + 1, "with so many callers the grammar has %d states, and at most %d fit"
+                         % (states_at(found.grammar, m), MAX_STATES))
+    return m
+
+
+def head_of(lines: List[str], found: Found, m: int) -> Union[Tuple[int, int], Malformed]:
+    """Form and size; the other numbers are those of the grammar at m."""
+    states = states_at(found.grammar, m)
+    known = [None, states] + [m] * (m > 0) + [len(found.grammar.rules), None]
     numbers = []
-    for place, (key, expected) in enumerate(zip(KEYS, known)):
+    for place, (key, expected) in enumerate(zip(keys_at(m), known)):
         value = number_on(lines[place] if place < len(lines) else "", place + 1, key)
         if isinstance(value, Malformed):
             return value
@@ -123,11 +158,11 @@ def head_of(lines: List[str], found: Found) -> Union[Tuple[int, int], Malformed]
             return Malformed(place + 1, len(key) + 1, "by the grammar this number is %d" % expected)
         if place == 0 and value not in FORMS:
             return Malformed(1, len(key) + 1, "this program reads the forms 1, 2 and 3")
-        if place == 0 and not has_form(found.grammar.states, value):
+        if place == 0 and not has_form(states, value):
             return Malformed(1, len(key) + 1, "form %d has at most %d states; the grammar has %d"
-                             % (value, MOST_STATES, found.grammar.states))
+                             % (value, MOST_STATES, states))
         numbers.append(value)
-    return numbers[0], numbers[3]
+    return numbers[0], numbers[-1]
 
 
 def misfit(line: str, template: str) -> Optional[int]:
@@ -185,12 +220,14 @@ def has_other_form(line: str, number: int, form: int, length: int) -> bool:
     return any(not isinstance(part_on(line, number, other, length), Malformed) for other in others)
 
 
-def parts_in(lines: List[str], form: int, length: int) -> Iterator[Union[Tuple[int, bytes], Malformed]]:
-    """The parts on the lines behind the head, up to the first fault."""
+def parts_in(
+    lines: List[str], head: int, form: int, length: int
+) -> Iterator[Union[Tuple[int, bytes], Malformed]]:
+    """The parts on the lines behind the head, which has so many, up to the first fault."""
     due = 0
     first = True
-    for place, line in enumerate(lines[len(KEYS):]):
-        number = place + len(KEYS) + 1
+    for place, line in enumerate(lines[head:]):
+        number = place + head + 1
         if not line and form != PLAIN:
             continue
         part = part_on(line, number, form, length)
@@ -209,17 +246,27 @@ def parts_in(lines: List[str], form: int, length: int) -> Iterator[Union[Tuple[i
 
 def certificate_in(found: Found, printed: bytes) -> Union[bytes, Malformed]:
     """The bytes of a printed certificate of this grammar."""
+    read = read_in(found, printed)
+    return read.certificate if isinstance(read, Read) else read
+
+
+def read_in(found: Found, printed: bytes) -> Union[Read, Malformed]:
+    """m and the bytes of a printed certificate of this grammar."""
     lines = lines_in(printed)
-    head = head_of(lines, found)
+    m = callers_in(lines, found)
+    if isinstance(m, Malformed):
+        return m
+    head = head_of(lines, found, m)
     if isinstance(head, Malformed):
         return head
     form, size = head
-    certificate = bytearray(bytes_needed(found.grammar.states))
-    for part in parts_in(lines, form, len(certificate)):
+    above = len(keys_at(m))
+    certificate = bytearray(bytes_needed(states_at(found.grammar, m)))
+    for part in parts_in(lines, above, form, len(certificate)):
         if isinstance(part, Malformed):
             return part
         certificate[part[0]:part[0] + len(part[1])] = part[1]
     held = len(held_indices(bytes(certificate)))
     if held != size:
-        return Malformed(len(KEYS), len(KEYS[3]) + 1, "the number of bits that are set below is %d" % held)
-    return bytes(certificate)
+        return Malformed(above, len(KEYS[3]) + 1, "the number of bits that are set below is %d" % held)
+    return Read(m, bytes(certificate))

@@ -131,9 +131,9 @@ def named_in(text: bytes) -> Union[NamedGrammar, Refusal]:
     return result if isinstance(result, Refusal) else named_of(text, result)
 
 
-def witness_lines(named: NamedGrammar, entries: Sequence[int]) -> bytes:
-    """What the program adds "After a potential verdict" with this witness."""
-    return pair_lines(named, sides(triples_of(named.grammar), entries))
+def witness_lines(named: NamedGrammar, entries: Sequence[int], m: int = 0) -> bytes:
+    """What the program adds "After a potential verdict" with this witness, which is one at m."""
+    return pair_lines(named, sides(triples_of(named.grammar, m), entries))
 
 
 def reading_lines(named: NamedGrammar) -> bytes:

@@ -7,10 +7,14 @@ README.md beside this file has the layout of a case.
 """
 
 import sys
-from typing import Iterator, List
+from typing import Iterator, List, NamedTuple
 
 import table_cases
-from case_files import Group, Kind, Reader, Rng, cases_of, encode_table, main, refused
+from caller_grammars import (
+    BY_HAND, Pair, answered_pairs, edge_pairs, faulty_pairs, larger_pairs, refused_pairs, too_many_pairs,
+)
+from callers import MOST_CALLERS
+from case_files import Group, Kind, Reader, Rng, cases_of, encode_table_at, main, refused
 from case_grammars import (
     CLASSICS, EIGHT_CHANNELS, MANY_STATES, ROWS, STATEMENTS, Table, exact_random, faulty_tables,
     keywords, larger_random, most_keywords, operators, small_random,
@@ -28,7 +32,14 @@ from rooms import room_of
 from sentence_grammars import (
     faulty_sentenceless, large_sentenceless, nearly_sentenceless, sentenceless,
 )
-from tables import FIXED_STATES, MAX_RULES, MAX_STATES, START, Refusal
+from tables import FIXED_STATES, MAX_RULES, MAX_STATES, START, Codes, Refusal
+
+
+class Case(NamedTuple):
+    t: int
+    n: int
+    table: Codes
+    m: int = 0
 
 
 # Good grammars.
@@ -170,16 +181,42 @@ def faulty_without(rng: Rng) -> Iterator[Table]:
     yield from faulty_sentenceless(rng, 24)
 
 
-GROUPS: List[Group] = [
+# With callers.
+
+def with_callers(rng: Rng) -> Iterator[Case]:
+    """Grammars at m=1 and m=2, small ones and up to 1,024 states; the corpus at each m."""
+    pairs: List[Pair] = answered_pairs(rng, 20) + larger_pairs(rng, 60, MANY_STATES)
+    for states in (MAX_STATES - 1, MAX_STATES):
+        pairs += edge_pairs(rng, states, 5)
+    pairs += [(table_in(entry.name), m) for entry in entries() for m in range(1, MOST_CALLERS + 1)]
+    for table, m in pairs:
+        yield Case(*table, m)
+
+
+def refused_callers(rng: Rng) -> Iterator[Case]:
+    """An m above 2, chains too many, tables at fault with an m."""
+    many = too_many_pairs(rng, 8)
+    tables = [table for table, _ in many] + list(BY_HAND.values())
+    for table, m in many + refused_pairs(rng, tables) + faulty_pairs(rng, 8):
+        yield Case(*table, m)
+
+
+def at_0(group: Group) -> Group:
+    """The cases at m=0 of a group of tables."""
+    return lambda rng: (Case(*table) for table in group(rng))
+
+
+TABLES: List[Group] = [
     rows_and_classics, of_the_corpus, named, random_small, random_large, many_moves, dead,
     faulty, of_the_table_check, damaged_corpus, without_a_sentence, nearly_without,
     faulty_without,
 ]
+GROUPS: List[Group] = [at_0(group) for group in TABLES] + [with_callers, refused_callers]
 
 
 # Answers.
 
-def answer(case: Table) -> str:
+def answer(case: Case) -> str:
     """The line of one case, without its byte 10."""
     result = room_of(*case)
     if isinstance(result, Refusal):
@@ -187,7 +224,12 @@ def answer(case: Table) -> str:
     return "room states=%d certificate=%d entries=%d moves=%d" % result
 
 
-KIND = Kind(lambda: cases_of(GROUPS), lambda case: encode_table(*case), Reader.table, answer,
+def decode_case(reader: Reader) -> Case:
+    """The next case of a file of inputs."""
+    return Case(*reader.table_at())
+
+
+KIND = Kind(lambda: cases_of(GROUPS), lambda case: encode_table_at(*case), decode_case, answer,
             REASONS, reasons_of, enough=ENOUGH)
 
 if __name__ == "__main__":

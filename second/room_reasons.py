@@ -7,6 +7,7 @@ counted for that.
 
 from typing import Callable, Dict, List, Tuple
 
+import caller_reasons
 import dead_rules
 import sentence_reasons
 from automaton import Automaton, move_count
@@ -90,6 +91,7 @@ MOVES = [name for name in MISREAD if name != "dead-items-stand-before-terminals"
 
 # Reasons.
 
+OF_ROOMS = ["odd-states", "even-states", "over-255-moves", "as-many-moves-as-at-0", "more-moves-than-at-0"]
 REASONS = TABLE_REASONS + [
     "room",
     "room-of-the-corpus",
@@ -106,13 +108,38 @@ REASONS = TABLE_REASONS + [
     "room-every-rule-used",
 ] + dead_rules.REASONS + list(TOLD_ROOMS.values()) + [
     TOLD[name] for name in MOVES
-] + sentence_reasons.REASONS
+] + sentence_reasons.REASONS + caller_reasons.REASONS + caller_reasons.prefixed(OF_ROOMS)
 
-ENOUGH = {**{name: FEWEST for name in TABLE_REASONS + ["room"]}, **dead_rules.ENOUGH}
+ENOUGH = {
+    **{name: FEWEST for name in TABLE_REASONS + ["room"]}, **dead_rules.ENOUGH, **caller_reasons.ENOUGH}
 
 
-def reasons_of(case: Tuple[int, int, Codes]) -> List[str]:
+def reasons_of(case: Tuple[int, int, Codes, int]) -> List[str]:
     """Every reason of REASONS that this case meets."""
+    *table, m = case
+    names = caller_reasons.of_case(*table, m)
+    return names + (remembered_reasons(*table, m) if m else forgotten_reasons(tuple(table)))
+
+
+def remembered_reasons(t: int, n: int, table: Codes, m: int) -> List[str]:
+    """What the room at an m above 0 is like."""
+    room, former = room_of(t, n, table, m), room_of(t, n, table)
+    if isinstance(room, Refusal) or isinstance(former, Refusal):
+        return []
+    grammar = check_table(t, n, table)
+    assert room.states == caller_reasons.counted_states(grammar, m), "chains counted one by one"
+    met = [
+        ("odd-states", room.states % 2 == 1),
+        ("even-states", room.states % 2 == 0),
+        ("over-255-moves", room.moves > 255),
+        ("as-many-moves-as-at-0", room.moves == former.moves),
+        ("more-moves-than-at-0", room.moves > former.moves),
+    ]
+    return caller_reasons.at(m, [name for name, holds in met if holds])
+
+
+def forgotten_reasons(case: Tuple[int, int, Codes]) -> List[str]:
+    """Every reason that a case at m=0 meets."""
     sentences = list(sentence_reasons.of_table(*case))
     grammar = check_table(*case)
     room = room_of(*case)

@@ -2,13 +2,14 @@
 
 `room_of` answers "From the tables alone, without a search", `text_length` for the
 text writer. As reading 29 has it, M counts each (state, letter, target) once, rule
-0's opening and closing among them. The automaton is that of automaton.py, so of
-live rules alone; Q counts the items of every rule.
+0's opening and closing among them. The automaton is that of callers.py, so of live
+rules alone; at m=0 Q counts the items of every rule.
 """
 
 from typing import FrozenSet, NamedTuple, Sequence, Tuple, Union
 
-from automaton import Automaton, automaton_of
+from automaton import Automaton
+from callers import automaton_at, check_at, states_at
 from tables import START, Codes, Grammar, Refusal, check_table
 from text import COLON, COMMA, END, EQUALS, NONTERMINALS, RULE, SPACE, TERMINALS, lent_names
 from triples import BYTE, CLOSING, LAYERS, OPENING, SYMBOL, Move
@@ -41,15 +42,19 @@ def letter_moves(automaton: Automaton) -> FrozenSet[LetterMove]:
     return frozenset(found)
 
 
-def room_of(t: int, n: int, table: Codes) -> Union[Room, Refusal]:
-    """What a search of these tables must be lent, and M; or the table's fault."""
-    grammar = check_table(t, n, table)
+def room_of(t: int, n: int, table: Codes, m: int = 0) -> Union[Room, Refusal]:
+    """What a search of these tables at m must be lent, and M; or the fault of the table or of m.
+
+    "The figures told beforehand take m too."
+    """
+    grammar = check_at(t, n, table, m)
     if isinstance(grammar, Refusal):
         return grammar
-    row = LAYERS * grammar.states ** 2
+    states = states_at(grammar, m)
+    row = LAYERS * states ** 2
     whole, over = divmod(row, BYTE)
-    moves = len(letter_moves(automaton_of(grammar)))
-    return Room(grammar.states, whole + (over > 0), row, moves)
+    moves = len(letter_moves(automaton_at(grammar, m)))
+    return Room(states, whole + (over > 0), row, moves)
 
 
 # The text writer.

@@ -8,12 +8,19 @@ README.md beside this file has the layout of a case and of FOUND.
 """
 
 import sys
+from functools import lru_cache
 from typing import Iterator, List, NamedTuple, Optional, Sequence, Tuple
 
+import caller_reasons
 import dead_rules
 import sentence_reasons
+from caller_grammars import (
+    BY_HAND, answered_pairs, edge_pairs, faulty_pairs, fits, larger_pairs, parted_by_callers, refused_pairs,
+    too_many_pairs,
+)
+from callers import MOST_CALLERS, states_at
 from case_files import (
-    TABLE_REASONS, Kind, Reader, Rng, cases_of, encode_number, encode_table, main,
+    TABLE_REASONS, Kind, Reader, Rng, cases_of, encode_number, encode_table_at, main,
     numbers, read_cases, refused,
 )
 from case_grammars import (
@@ -31,13 +38,16 @@ from live_misreadings import (
 from looked_misreadings import TOLD as TOLD_LOOKED
 from looked_misreadings import told_by_figure
 from random_tables import A, B, S, encode, large_grammar
-from searches import Lent, Potential, Unambiguous, needed, search
+from searches import ROW_TOO_SHORT, Lent, Potential, Unambiguous, needed, search
 from sentence_grammars import (
     faulty_sentenceless, large_sentenceless, many_sentenceless, nearly_sentenceless, sentenceless,
 )
 from sentence_misreadings import AFTER_14
 from sentence_misreadings import TOLD as TOLD_SENTENCES
-from tables import MAX_RULES, MAX_STATES, NO_SENTENCE, Codes, Grammar, Refusal, check_table
+from shortest import shortest_witness
+from tables import (
+    MAX_RULES, MAX_STATES, NO_SENTENCE, TOO_MANY_STATES, Codes, Grammar, Refusal, check_rules, check_table,
+)
 from triples import is_potential, reached, triples_of
 
 NAMES = Lent._fields      # certificate, queue, parents, witness
@@ -49,6 +59,7 @@ class Case(NamedTuple):
     table: Codes
     lent: Lent
     fill: int
+    m: int = 0
 
 
 # Groups of cases.
@@ -63,29 +74,34 @@ def more(rng: Rng, lent: Lent, most: int) -> Lent:
     return Lent(*(length + rng.choice([0, 1, rng.randrange(most)]) for length in lent))
 
 
-def exact_and_longer(rng: Rng, table: Table) -> Iterator[Case]:
+def needed_at(table: Table, m: int) -> Lent:
+    """What is enough at m for a table without faults 1 to 8."""
+    return needed(states_at(grammar_of(table), m))
+
+
+def exact_and_longer(rng: Rng, table: Table, m: int = 0) -> Iterator[Case]:
     """Lent exactly enough, and more."""
-    need = needed(states_of(table))
-    yield Case(*table, need, fill(rng))
-    yield Case(*table, more(rng, need, 40), fill(rng))
+    need = needed_at(table, m)
+    yield Case(*table, need, fill(rng), m)
+    yield Case(*table, more(rng, need, 40), fill(rng), m)
 
 
-def too_short(rng: Rng, table: Table) -> Iterator[Case]:
+def too_short(rng: Rng, table: Table, m: int = 0) -> Iterator[Case]:
     """One entry too short in each of the four in turn, the others enough."""
-    need = needed(states_of(table))
+    need = needed_at(table, m)
     for place in range(len(need)):
         lent = list(more(rng, need, 40))
         lent[place] = need[place] - 1
-        yield Case(*table, Lent(*lent), fill(rng))
+        yield Case(*table, Lent(*lent), fill(rng), m)
 
 
-def short_and_empty(rng: Rng, table: Table) -> Iterator[Case]:
+def short_and_empty(rng: Rng, table: Table, m: int = 0) -> Iterator[Case]:
     """Nothing lent, one of the four empty, several too short, each four times Q."""
-    need = needed(states_of(table))
-    yield Case(*table, Lent(0, 0, 0, 0), fill(rng))
-    yield Case(*table, need._replace(**{rng.choice(NAMES): 0}), fill(rng))
-    yield Case(*table, Lent(*(rng.randrange(length + 1) for length in need)), fill(rng))
-    yield Case(*table, Lent(need.certificate, *[need.certificate] * 3), fill(rng))
+    need = needed_at(table, m)
+    yield Case(*table, Lent(0, 0, 0, 0), fill(rng), m)
+    yield Case(*table, need._replace(**{rng.choice(NAMES): 0}), fill(rng), m)
+    yield Case(*table, Lent(*(rng.randrange(length + 1) for length in need)), fill(rng), m)
+    yield Case(*table, Lent(need.certificate, *[need.certificate] * 3), fill(rng), m)
 
 
 def rows_and_classics(rng: Rng) -> Iterator[Case]:
@@ -229,10 +245,57 @@ def much_looked_at(rng: Rng) -> Iterator[Case]:
         yield from exact_and_longer(rng, table)
 
 
+# With callers.
+
+def with_callers(rng: Rng) -> Iterator[Case]:
+    """Small grammars at m=1 and m=2, lent enough, too little, or what is enough at another m."""
+    for table, m in answered_pairs(rng, 16):
+        yield rng.choice(list(exact_and_longer(rng, table, m)))
+        if rng.randrange(3) == 0:
+            yield rng.choice(list(too_short(rng, table, m)))
+            yield rng.choice(list(short_and_empty(rng, table, m)))
+        other = rng.choice([other for other in range(MOST_CALLERS + 1) if other != m])
+        yield Case(*table, needed_at(table, other), fill(rng), m)
+
+
+def by_hand_with_callers(rng: Rng) -> Iterator[Case]:
+    """Grammars by hand and those that callers part, at each m, 0 among them, lent in every way."""
+    tables = list(BY_HAND.values()) + [parted_by_callers(rng, 1 + place % 3) for place in range(60)]
+    for table in dict.fromkeys(tables):
+        for m in range(MOST_CALLERS + 1):
+            if fits(table, m, MANY_STATES):
+                yield from exact_and_longer(rng, table, m)
+                yield rng.choice(list(too_short(rng, table, m)))
+                yield rng.choice(list(short_and_empty(rng, table, m)))
+
+
+def larger_with_callers(rng: Rng) -> Iterator[Case]:
+    """From 61 to 120 states at m, and 1,023 and 1,024."""
+    for table, m in larger_pairs(rng, 56):
+        yield rng.choice(list(exact_and_longer(rng, table, m)))
+        if rng.randrange(5) == 0:
+            yield rng.choice(list(too_short(rng, table, m)))
+    for states in (MAX_STATES - 1, MAX_STATES, MAX_STATES):
+        for table, m in edge_pairs(rng, states, 1):
+            yield rng.choice(list(exact_and_longer(rng, table, m)))
+            yield rng.choice(list(too_short(rng, table, m)))
+
+
+def refused_callers(rng: Rng) -> Iterator[Case]:
+    """An m above 2, chains too many, tables at fault with an m: lent enough at m=0, nothing, or some."""
+    many = too_many_pairs(rng, 7)
+    pairs = many + refused_pairs(rng, [table for table, _ in many] + list(BY_HAND.values()))
+    for table, m in pairs + faulty_pairs(rng, 8):
+        grammar = check_rules(*table)
+        need = needed(4 if isinstance(grammar, Refusal) else min(MANY_STATES, grammar.states))
+        yield Case(*table, rng.choice([need, Lent(0, 0, 0, 0)]), fill(rng), m)
+
+
 GROUPS = [
     rows_and_classics, random_grammars, random_short, much_longer, larger, largest, faulty,
     many_ways, dead, telling, dead_short, dead_and_larger, without_a_sentence, nearly_without,
     faulty_without, much_looked_at,
+    with_callers, by_hand_with_callers, larger_with_callers, refused_callers,
 ]
 
 
@@ -240,7 +303,7 @@ GROUPS = [
 
 def answer(case: Case) -> str:
     """The line of one case, without its byte 10."""
-    result = search(*case[:4])
+    result = search(*case[:4], case.m)
     if isinstance(result, Refusal):
         return refused(result)
     if isinstance(result, Potential):
@@ -251,9 +314,7 @@ def answer(case: Case) -> str:
 
 # Reasons.
 
-REASONS = TABLE_REASONS + [
-    "1-to-8-with-nothing-lent",
-] + ["14-%s-one-too-short" % name for name in NAMES] + [
+OF_SEARCHES = ["14-%s-one-too-short" % name for name in NAMES] + [
     "14-one-empty",
     "14-several",
     "14-nothing-lent",
@@ -265,6 +326,8 @@ REASONS = TABLE_REASONS + [
                  "odd-states", "even-states", "over-60-states")
 ] + [
     "unambiguous-with-layer-1",
+]
+REASONS = TABLE_REASONS + ["1-to-8-with-nothing-lent"] + OF_SEARCHES + [
     "256-states",
     "1024-states",
     "unambiguous-1024-states",
@@ -286,7 +349,19 @@ REASONS = TABLE_REASONS + [
     "19-with-nothing-lent",
     "order-19-before-14",
     TOLD_SENTENCES[AFTER_14],
-] + sentence_reasons.REASONS
+] + sentence_reasons.REASONS + caller_reasons.REASONS + caller_reasons.prefixed(OF_SEARCHES) + [
+    "order-21-before-14",
+    "21-lent-enough-at-0",
+    "order-too-many-chains-before-14",
+    "14-though-enough-at-another-m",
+    "enough-though-not-at-another-m",
+    "unambiguous-at-1-though-potential-at-0",
+    "unambiguous-at-2-though-potential-at-1",
+    "potential-at-1-with-another-witness",
+    "potential-at-2-with-another-witness",
+    "potential-at-each-m",
+    "unambiguous-at-each-m",
+]
 
 
 # Cases of the most states are few.
@@ -295,6 +370,51 @@ ENOUGH_LARGEST = {"1024-states": 12, "unambiguous-1024-states": 2, "potential-10
 
 def reasons_of(case: Case) -> List[str]:
     """Every reason of REASONS that this case meets."""
+    names = caller_reasons.of_case(*case[:3], case.m)
+    return names + (remembered_reasons(case) if case.m else forgotten_reasons(case))
+
+
+def remembered_reasons(case: Case) -> List[str]:
+    """What a search at an m above 0 is lent and finds, or would be lent at m=0 where m or the chains are refused."""
+    grammar = check_table(*case[:3])
+    if isinstance(grammar, Refusal):
+        return []
+    enough = [all(given >= need for given, need in zip(case.lent, needed_at(case[:3], m)))
+              for m in range(MOST_CALLERS + 1)]
+    result = search(*case[:4], case.m)
+    if isinstance(result, Refusal) and result.cause != ROW_TOO_SHORT:
+        if result.cause == TOO_MANY_STATES:
+            return ["order-too-many-chains-before-14"]
+        return ["21-lent-enough-at-0" if enough[0] else "order-21-before-14"]
+    if isinstance(result, Refusal):
+        met = short_reasons(case, grammar)
+    else:
+        met = found_reasons(case, grammar, result)
+    found = caller_reasons.at(case.m, [name for name, holds in met if holds])
+    found += ["14-though-enough-at-another-m"] * (not enough[case.m] and any(enough))
+    found += ["enough-though-not-at-another-m"] * (enough[case.m] and not all(enough))
+    return found + ([] if isinstance(result, Refusal) else list(verdict_reasons(grammar, case.m)))
+
+
+@lru_cache(maxsize=1024)
+def verdict_reasons(grammar: Grammar, m: int) -> Tuple[str, ...]:
+    """How the verdict at an m above 0 stands to that at m-1; only for small grammars."""
+    if states_at(grammar, m) > MANY_STATES:
+        return ()
+    below, here, start = (triples_of(grammar, other) for other in (m - 1, m, 0))
+    before, now = is_potential(below), is_potential(here)
+    assert before or not now, "Whoever has an unambiguous verdict at m keeps it at m+1"
+    met = [
+        ("unambiguous-at-%d-though-potential-at-%d" % (m, m - 1), before and not now),
+        ("potential-at-%d-with-another-witness" % m, now and shortest_witness(here) != shortest_witness(below)),
+        ("potential-at-each-m", now and m == MOST_CALLERS),
+        ("unambiguous-at-each-m", not is_potential(start)),
+    ]
+    return tuple(name for name, holds in met if holds)
+
+
+def forgotten_reasons(case: Case) -> List[str]:
+    """Every reason that a case at m=0 meets."""
     sentences = list(sentence_reasons.of_table(*case[:3]))
     grammar = check_table(*case[:3])
     if isinstance(grammar, Refusal):
@@ -330,10 +450,10 @@ def none_reasons(case: Case) -> List[str]:
 
 def short_reasons(case: Case, grammar: Grammar) -> List[Tuple[str, bool]]:
     """What was lent too short."""
-    need = needed(grammar.states)
+    need = needed_at(case[:3], case.m)
     short = [name for name, given, length in zip(NAMES, case.lent, need) if given < length]
     by_one = [name for name in short if getattr(case.lent, name) == getattr(need, name) - 1]
-    triples = checked_triples(*case[:3])
+    triples = checked_triples(*case[:3], case.m)
     assert not isinstance(triples, Refusal)
     potential = is_potential(triples)
     met = [("14-%s-one-too-short" % name, len(short) == 1) for name in by_one]
@@ -348,7 +468,8 @@ def short_reasons(case: Case, grammar: Grammar) -> List[Tuple[str, bool]]:
 
 def found_reasons(case: Case, grammar: Grammar, result) -> List[Tuple[str, bool]]:
     """The verdict and what kind of grammar and rows it is about."""
-    used, exact = used_rules(grammar), case.lent == needed(grammar.states)
+    states = states_at(grammar, case.m)
+    used, exact = used_rules(grammar), case.lent == needed(states)
     unambiguous = isinstance(result, Unambiguous)
     verdict = "unambiguous-" if unambiguous else "potential-"
     met = [
@@ -356,12 +477,12 @@ def found_reasons(case: Case, grammar: Grammar, result) -> List[Tuple[str, bool]
         ("longer", not exact),
         ("every-rule-used", all(used)),
         ("a-rule-no-sentence-uses", not all(used)),
-        ("odd-states", grammar.states % 2 == 1),
-        ("even-states", grammar.states % 2 == 0),
-        ("over-60-states", grammar.states > 60),
+        ("odd-states", states % 2 == 1),
+        ("even-states", states % 2 == 0),
+        ("over-60-states", states > 60),
     ]
     return [(verdict + name, holds) for name, holds in met] + [
-        ("unambiguous-with-layer-1", unambiguous and has_layer_1(grammar, result)),
+        ("unambiguous-with-layer-1", unambiguous and has_layer_1(states, result)),
     ]
 
 
@@ -395,10 +516,9 @@ def former_reasons(grammar: Grammar, unambiguous: bool) -> List[Tuple[str, bool]
     ]
 
 
-def has_layer_1(grammar: Grammar, result: Unambiguous) -> bool:
+def has_layer_1(states: int, result: Unambiguous) -> bool:
     """Whether the certificate holds a triple of layer 1."""
-    bits = int.from_bytes(result.certificate, "little")
-    return bits >> grammar.states * grammar.states != 0
+    return int.from_bytes(result.certificate, "little") >> states * states != 0
 
 
 # Witnesses that another program found, the shortest or not.
@@ -413,11 +533,11 @@ def witness_faults(
     """
     reader = Reader(found)
     for number, case in enumerate(cases):
-        if isinstance(search(*case[:4]), Potential):
+        if isinstance(search(*case[:4], case.m), Potential):
             entries = reader.numbers(reader.number())
             if len(entries) > case.lent.witness:
                 raise ValueError("case %d: more entries than were lent" % number)
-            yield number, check_witness(*case[:3], entries)
+            yield number, check_witness(*case[:3], entries, case.m)
     if not reader.at_end():
         raise ValueError("bytes are left over after the last witness")
 
@@ -446,17 +566,17 @@ def witness_ok(cases_path: str, found_path: str) -> int:
 def encode_case(case: Case) -> bytes:
     """One case of the file of inputs."""
     lengths = b"".join(map(encode_number, case.lent))
-    return encode_table(*case[:3]) + lengths + bytes([case.fill])
+    return encode_table_at(*case[:3], case.m) + lengths + bytes([case.fill])
 
 
 def decode_case(reader: Reader) -> Case:
     """The next case of a file of inputs."""
-    t, n, table = reader.table()
-    return Case(t, n, table, Lent(*reader.numbers(len(NAMES))), reader.take(1)[0])
+    t, n, table, m = reader.table_at()
+    return Case(t, n, table, Lent(*reader.numbers(len(NAMES))), reader.take(1)[0], m)
 
 
 KIND = Kind(lambda: cases_of(GROUPS), encode_case, decode_case, answer, REASONS, reasons_of,
-            enough={**dead_rules.ENOUGH, **sentence_reasons.ENOUGH, **ENOUGH_LARGEST})
+            enough={**dead_rules.ENOUGH, **sentence_reasons.ENOUGH, **ENOUGH_LARGEST, **caller_reasons.ENOUGH})
 
 
 def run(words: Sequence[str]) -> int:

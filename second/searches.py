@@ -46,10 +46,10 @@ def needed(states: int) -> Lent:
 
 
 def search(
-    t: int, n: int, table: Codes, lent: Lent
+    t: int, n: int, table: Codes, lent: Lent, m: int = 0
 ) -> Union[Refusal, Unambiguous, Potential]:
-    """Table faults, then 14 at 0 if anything lent is too short, then the verdict."""
-    triples = checked_triples(t, n, table)
+    """Faults of the table and of m, then 14 at 0 if anything lent is too short, then the verdict."""
+    triples = checked_triples(t, n, table, m)
     if isinstance(triples, Refusal):
         return triples
     if any(given < need for given, need in zip(lent, needed(triples.states))):

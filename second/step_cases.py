@@ -9,16 +9,22 @@ README.md beside this file has the layout of a case.
 import sys
 from typing import Iterator, List, NamedTuple, Sequence, Tuple
 
+import caller_reasons
 import dead_rules
 import sentence_reasons
+from caller_grammars import (
+    BY_HAND, answered_pairs, edge_pairs, faulty_pairs, fits, refused_pairs, too_many_pairs,
+)
+from caller_reasons import REMEMBERED
 from case_files import (
-    LARGEST, TABLE_REASONS, Kind, Reader, Rng, cases_of, encode_number, encode_table,
+    LARGEST, TABLE_REASONS, Kind, Reader, Rng, cases_of, encode_number, encode_table_at,
     main, refused,
 )
 from case_grammars import (
     CLASSICS, MANY_STATES, ONE_A, ROWS, STATEMENTS, Table, faulty_tables, good, grammar_of,
-    keywords, larger_random, most_keywords, operators, some, triples_in,
+    keywords, larger_random, most_keywords, operators, some, spelled, triples_in,
 )
+from callers import MOST_CALLERS, states_at
 from certificates import checked_triples
 from dead_grammars import chains, dead_larger, dead_tables
 from dead_rules import KINDS, dead_states
@@ -42,6 +48,7 @@ class Case(NamedTuple):
     n: int
     table: Codes
     triple: Triple
+    m: int = 0
 
 
 # Groups of cases.
@@ -196,9 +203,64 @@ def faulty_without(rng: Rng) -> Iterator[Case]:
         yield Case(*table, Triple(rng.randrange(3), rng.randrange(6), rng.randrange(6)))
 
 
+# With callers.
+
+FILLED_IN_AT_1 = spelled("S: a S S S S S S S S S S S |")
+FILLED_IN_AT_2 = spelled("S: " + "X " * 11, "X: " + "A " * 11, "A: B", "B: b |")
+
+
+def every_with_callers(rng: Rng) -> Iterator[Case]:
+    """Every triple of small grammars at m=1 and m=2."""
+    for table in BY_HAND.values():
+        for m in REMEMBERED:
+            if fits(table, m, 16):
+                triples = triples_in(table, m)
+                for index in range(triples.count):
+                    yield Case(*table, triple_at(triples.states, index), m)
+
+
+def with_callers(rng: Rng) -> Iterator[Case]:
+    """Reached triples, busy ones, any, and ones out of range, also those that are in range at another m."""
+    for table, m in answered_pairs(rng, 14) + list(edge_pairs(rng, MAX_STATES, 2)):
+        triples = triples_in(table, m)
+        states = triples.states
+        held = sorted(reached(triples)) if states < MANY_STATES else [0]
+        for _ in range(5):
+            yield Case(*table, triple_at(states, rng.choice(held)), m)
+            yield Case(*table, busy_triple(rng, triples), m)
+        yield Case(*table, triple_at(states, rng.randrange(triples.count)), m)
+        inside = rng.randrange(states)
+        yield Case(*table, Triple(rng.randrange(2), inside, states), m)
+        yield Case(*table, Triple(rng.randrange(2), states + rng.randrange(9), inside), m)
+        yield Case(*table, Triple(rng.choice([2, LARGEST]), inside, inside), m)
+
+
+def many_callers(rng: Rng) -> Iterator[Case]:
+    """Ends that close to many chains, one for each farther caller that is filled in."""
+    for table, m in ((FILLED_IN_AT_1, 1), (FILLED_IN_AT_2, 2)):
+        automaton = triples_in(table, m).automaton
+        many = [state for state, arrows in enumerate(automaton.closings) if len(arrows) > 9]
+        for _ in range(90):
+            yield Case(*table, Triple(rng.randrange(3) // 2, rng.choice(many), rng.choice(many)), m)
+
+
+def refused_callers(rng: Rng) -> Iterator[Case]:
+    """An m above 2, chains too many, tables at fault with an m: triples in range at m=0 or not."""
+    many = too_many_pairs(rng, 6)
+    tables = [table for table, _ in many] + list(BY_HAND.values())
+    for table, m in many + refused_pairs(rng, tables):
+        states = good(table).states
+        yield Case(*table, Triple(0, 0, 0), m)
+        yield Case(*table, Triple(rng.randrange(2), rng.randrange(states), rng.randrange(states)), m)
+        yield Case(*table, Triple(rng.randrange(4), states, rng.choice([0, LARGEST])), m)
+    for table, m in faulty_pairs(rng, 8):
+        yield Case(*table, Triple(rng.randrange(3), rng.randrange(6), rng.randrange(6)), m)
+
+
 GROUPS = [
     rows, small, larger, many_closings, out_of_range, faulty, dead_small, dead,
     without_a_sentence, nearly_without, faulty_without,
+    every_with_callers, with_callers, many_callers, refused_callers,
 ]
 
 
@@ -217,7 +279,7 @@ def spelled_step(step: Step) -> str:
 
 def answer(case: Case) -> str:
     """The line of one case, without its byte 10."""
-    triples = checked_triples(case.t, case.n, case.table)
+    triples = checked_triples(case.t, case.n, case.table, case.m)
     if isinstance(triples, Refusal):
         return refused(triples)
     records = steps(triples.automaton, case.triple)
@@ -240,7 +302,7 @@ SHOWN = {
     (1, 1, SYMBOL, SYMBOL): "layer-1-terminal",
 }
 
-REASONS = TABLE_REASONS + sorted(SHOWN.values()) + [
+OF_TRIPLES = sorted(SHOWN.values()) + [
     "layer-0-terminal",
     "layer-0-nonterminal",
     "rule-0-opens",
@@ -255,12 +317,14 @@ REASONS = TABLE_REASONS + sorted(SHOWN.values()) + [
     "closing-beside-a-nonterminal-does-not-part",
     "layer-1-equal-nonterminals-do-not-shift",
     "unequal-symbols-do-not-shift",
-    "256-states",
-    "1024-states",
     "out-of-range-layer",
     "out-of-range-left",
     "out-of-range-right",
     "out-of-range-though-its-index-is-below-2QQ",
+]
+REASONS = TABLE_REASONS + OF_TRIPLES + [
+    "256-states",
+    "1024-states",
 ] + dead_rules.REASONS + ["no-" + name for name in WRONG_STEPS] + [
     "dead-item-left-only",
     "dead-item-right-only",
@@ -273,11 +337,49 @@ REASONS = TABLE_REASONS + sorted(SHOWN.values()) + [
 ] + list(TOLD.values()) + [
     "19-though-it-had-records-before",
     "19-out-of-range",
-] + sentence_reasons.REASONS
+] + sentence_reasons.REASONS + caller_reasons.REASONS + caller_reasons.prefixed(OF_TRIPLES) + [
+    "21-out-of-range",
+    "21-though-it-has-records-at-0",
+    "8-of-chains-out-of-range",
+    "8-of-chains-though-it-has-records-at-0",
+    "out-of-range-though-in-range-at-another-m",
+    "in-range-though-not-at-0",
+]
 
 
 def reasons_of(case: Case) -> List[str]:
     """Every reason of REASONS that this case meets."""
+    table = case.t, case.n, case.table
+    callers = caller_reasons.of_case(*table, case.m)
+    if case.m:
+        return callers + remembered_reasons(case)
+    return callers + forgotten_reasons(case)
+
+
+def remembered_reasons(case: Case) -> List[str]:
+    """What a triple at an m above 0 shows, or would at m=0 where m or the chains are refused."""
+    table = case.t, case.n, case.table
+    former, triples = checked_triples(*table), checked_triples(*table, case.m)
+    if isinstance(former, Refusal):
+        return []
+    inside = in_range(former.states, case.triple)
+    if isinstance(triples, Refusal):
+        name = "8-of-chains" if case.m in REMEMBERED else "21"
+        return [name + "-though-it-has-records-at-0"] * bool(steps(former.automaton, case.triple)) + [
+            name + "-out-of-range"] * (not inside)
+    met = [pair for pair in range_reasons(triples, case.triple) if pair[0] in OF_TRIPLES]
+    if in_range(triples.states, case.triple):
+        met += record_reasons(triples, case.triple) + quiet_reasons(triples, case.triple)
+    found = caller_reasons.at(case.m, [name for name, holds in met if holds])
+    others = [states_at(good(table), m) for m in range(MOST_CALLERS + 1) if m != case.m]
+    if in_range(triples.states, case.triple):
+        return found + ["in-range-though-not-at-0"] * (not inside)
+    return found + ["out-of-range-though-in-range-at-another-m"] * any(
+        in_range(states, case.triple) for states in others)
+
+
+def forgotten_reasons(case: Case) -> List[str]:
+    """Every reason that a case at m=0 meets."""
     table = case.t, case.n, case.table
     triples = checked_triples(*table)
     sentences = list(sentence_reasons.of_table(*table))
@@ -396,16 +498,17 @@ def dead_reasons(grammar: Grammar, triple: Triple) -> List[Tuple[str, bool]]:
 
 def encode_case(case: Case) -> bytes:
     """One case of the file of inputs."""
-    return encode_table(*case[:3]) + b"".join(map(encode_number, case.triple))
+    return encode_table_at(*case[:3], case.m) + b"".join(map(encode_number, case.triple))
 
 
 def decode_case(reader: Reader) -> Case:
     """The next case of a file of inputs."""
-    return Case(*reader.table(), Triple(*reader.numbers(3)))
+    t, n, table, m = reader.table_at()
+    return Case(t, n, table, Triple(*reader.numbers(3)), m)
 
 
 KIND = Kind(lambda: cases_of(GROUPS), encode_case, decode_case, answer, REASONS, reasons_of,
-            enough={**dead_rules.ENOUGH, **sentence_reasons.ENOUGH})
+            enough={**dead_rules.ENOUGH, **sentence_reasons.ENOUGH, **caller_reasons.ENOUGH})
 
 if __name__ == "__main__":
     sys.exit(main(__doc__, sys.argv[1:], KIND))

@@ -10,7 +10,7 @@ from certificate_cases import (
 )
 from certificate_reasons import REASONS, reasons_of
 from certificates import check_certificate
-from file_tests import TABLE, TABLE_BYTES, FileTests, without_sentences
+from file_tests import M, M_BYTES, TABLE, TABLE_BYTES, FileTests, without_sentences
 from random_tables import S
 from triples import certificate_of, closure, held_indices, reached
 from ways import largest_set
@@ -20,9 +20,9 @@ EMPTY = ROWS[1]           # S→, Q = 5: bits 50 to 55 are spare
 
 class FileTest(FileTests, unittest.TestCase):
     KIND = KIND
-    DIGEST = "aecd707f480e71f699247abd1643e7b6a5d0be0f02453c81560f6ff650a92687"
-    CASE = Case(*TABLE, b"\x15\x50\x21")
-    BYTES = TABLE_BYTES + b"\x03\0\0\0" + b"\x15\x50\x21"
+    DIGEST = "eb9318e8e9976fe4cc51e1c8b122e8a0d4b8f007984a346519fd54f180688233"
+    CASE = Case(*TABLE, b"\x15\x50\x21", M)
+    BYTES = TABLE_BYTES + M_BYTES + b"\x03\0\0\0" + b"\x15\x50\x21"
 
     def test_answer_lines(self):
         right = smallest(ONE_A)

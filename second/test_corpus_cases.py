@@ -31,7 +31,7 @@ from text import AMPLE, read_lines, read_text, write_text
 from text_read_inputs import EXAMPLE
 
 # SHA-256 of the file of cases, and of the program's texts, each after its length.
-DIGEST = "39399af0523c8224a2b048b70e4dd0d2e975c2c31c23e6a47b2aaec378ff02ea"
+DIGEST = "18a17ee03eebbf39a109b582c0d03c8f60557d74ae5d88ef0205ee6434685db5"
 TEXTS = "efaf84d782cb4eeb4b332b5ecece80f3c1d07d989302c07322323af3cbe4860c"
 
 WITHOUT_LINES = b"refused=19\nat=0\n"
@@ -90,6 +90,12 @@ class IndexTest(unittest.TestCase):
                          ["the kind is none of row, classic, robot"])
         self.assertEqual(self.faults("row-a", verdict="potential", size=None, truth="false-alarm"),
                          ["verdict=unambiguous size=11"])
+        self.assertEqual(self.faults("row-a", states_1=7), ["at m=1 states=6 verdict=unambiguous size=11"])
+        self.assertEqual(self.faults("row-a", size_2=None), ["at m=2 states=6 verdict=unambiguous size=11"])
+        self.assertEqual(self.faults("row-cycle-a", verdict_1="unambiguous"),
+                         ["at m=1 states=12 verdict=potential size=-"])
+        self.assertEqual(self.faults("row-cycle", states_1=6), ["something is said of m above 0"])
+        self.assertEqual(self.faults("chemistry-300", states_1=2963), ["at m=1 states=- verdict=- size=-"])
         self.assertEqual(self.faults("row-a", truth="ambiguous"),
                          ["truth and verdict do not fit", "a sentence is given, or missing"])
         self.assertEqual(self.faults("palin-even", sentence="a a"),
@@ -150,9 +156,11 @@ class IndexTest(unittest.TestCase):
         self.assertEqual(list(faults_of(entry, EXAMPLE[:-1])), ["the text is refused"])
 
     def test_lines(self):
-        line = "x\trobot\there\t6\tunambiguous\t11\tunambiguous\t-\tone tree"
+        line = ("x\trobot\there\t6\tunambiguous\t11\tunambiguous\t-\tone tree"
+                "\t6\tpotential\t-\t-\t-\t-")
         self.assertEqual(entry_of(line), Entry(
-            "x", "robot", "here", 6, "unambiguous", 11, "unambiguous", "-", "one tree"))
+            "x", "robot", "here", 6, "unambiguous", 11, "unambiguous", "-", "one tree",
+            6, "potential", None, None, "-", None))
         for wrong in (line + "\tmore", line.replace("\there", ""), line.replace("11", "")):
             with self.assertRaises(ValueError):
                 entry_of(wrong)
@@ -163,7 +171,8 @@ class IndexTest(unittest.TestCase):
                 with open(os.path.join(folder, name + ".grammar"), "wb") as file:
                     file.write(text_in(name))
             lines = ["\t".join(Entry._fields),
-                     "row-a\trow\there\t6\tunambiguous\t11\tunambiguous\t-\tone tree"]
+                     "row-a\trow\there\t6\tunambiguous\t11\tunambiguous\t-\tone tree"
+                     + "\t6\tunambiguous\t11" * 2]
             with open(os.path.join(folder, "INDEX.tsv"), "w") as file:
                 file.write("\n".join(lines) + "\n")
             self.assertEqual(names_in(folder), ["row-a", "row-empty"])

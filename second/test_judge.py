@@ -17,8 +17,8 @@ from live_misreadings import former_triples
 from named_grammars import join_lines
 from places import place_of
 from printed import (
-    CHECKED, FORMS, MOST_BYTES, MOST_STATES, PLAIN, RUNS, Malformed, bytes_needed, certificate_in,
-    has_form, lines_of,
+    CHECKED, FORMS, MOST_BYTES, MOST_STATES, PLAIN, RUNS, Malformed, Read, bytes_needed, certificate_in,
+    has_form, lines_of, read_in,
 )
 from program import printed
 from searches import Unambiguous, needed, search
@@ -54,7 +54,7 @@ class CertificateTest(unittest.TestCase):
         for form, lines in [(PLAIN, LINES), (CHECKED, LINES_CHECKED)]:
             self.assertEqual(lines_of(found, ONE_A_BYTES, form), lines)
             self.assertEqual(certificate_in(found, lines), ONE_A_BYTES)
-            self.assertEqual(checked(EXAMPLE, lines), ("accepted\n", 0, None, None))
+            self.assertEqual(checked(EXAMPLE, lines), ("accepted\n", 0, None, None, None))
             self.assertEqual(checked(EXAMPLE[:-1], lines)[0], "refused=16\nat=3\n")
 
     def test_the_corpus(self):
@@ -83,10 +83,10 @@ class CertificateTest(unittest.TestCase):
             self.assertEqual(checked(text, lines)[0], "accepted\n")
             lines = lines.replace(b"states=512", b"states=513")
             if form != RUNS:
-                printed_, _, _, fault = checked(longer, lines)
+                printed_, _, _, fault, _ = checked(longer, lines)
                 self.assertEqual((printed_, fault[:2]), ("malformed\n", (1, 18)))
                 self.assertIn("form %d has at most 512 states; the grammar has 513" % form, fault.message)
-        printed_, status, _, _ = judge_certified(longer)
+        printed_, status, _, _, _ = judge_certified(longer)
         self.assertTrue(printed_.startswith("certificate-form=3\nstates=513\n"))
         self.assertEqual((status, checked(longer, printed_.encode())[0]), (0, "accepted\n"))
 
@@ -143,7 +143,7 @@ class CertificateTest(unittest.TestCase):
                 (b"0000:", b"00\xb20:", 5, 1), (b"=11", b"=\xb2", 4, 6), (b"=11", b"=" + b"1" * 9999, 4, 6), (LINES, b"", 1, 1)]:
             lines = LINES.replace(old, new, 1)
             self.assertNotEqual(lines, LINES)
-            printed_, _, _, fault = checked(EXAMPLE, lines)
+            printed_, _, _, fault, _ = checked(EXAMPLE, lines)
             self.assertEqual((printed_, fault[:2]), ("malformed\n", (line, column)), lines)
         wrong = certificate_in(found_in(EXAMPLE), LINES_CHECKED.replace(b"form=2", b"form=1"))
         self.assertEqual(wrong[:2], (1, 18))
@@ -216,6 +216,42 @@ class PlaceTest(unittest.TestCase):
                     self.assertEqual(place.line, refusal.position)
 
 
+BIOLOGY = (b"terminals=b,c,e,d\nnonterminals=S,W\nrule=S: b W c\nrule=S: b e d\nrule=S: W d\nrule=W: e\n")
+
+
+class CallersTest(unittest.TestCase):
+    """Document 02, [11]: the biology group's grammar."""
+
+    LINES = "states=19\ncallers=%d\nverdict=unambiguous\nreached=58\n"
+
+    def test_verdicts(self):
+        self.assertEqual(verdict(BIOLOGY)[:2], (self.LINES % 1, 0))
+        self.assertEqual(verdict(BIOLOGY, 2)[:2], (self.LINES % 2, 0))
+        self.assertEqual(verdict(BIOLOGY, 0)[:2], (printed(BIOLOGY).decode(), 3))
+        self.assertEqual(verdict(BIOLOGY, 3)[:2], ("refused=21\nat=0\n", 4))
+        self.assertEqual(verdict(text_in("chemistry-300"), 1)[:2], ("refused=8\nat=0\n", 4))
+        self.assertEqual(verdict(text_in("row-none"), 3)[:2], ("refused=19\nat=0\n", 4))
+        self.assertEqual(verdict(EXAMPLE)[0], printed(EXAMPLE).decode())
+
+    def test_certificates(self):
+        lines = judge_certified(BIOLOGY).printed
+        self.assertEqual(lines.splitlines()[:5],
+                         ["certificate-form=2", "states=19", "callers=1", "rules=4", "size=58"])
+        self.assertEqual(checked(BIOLOGY, lines.encode())[0], "accepted\n")
+        self.assertEqual(checked(BIOLOGY, lines.replace("callers=1", "callers=2").encode())[0], "accepted\n")
+        self.assertEqual(checked(BIOLOGY, lines.replace(" 15 11 01 00 40 45 44 10 00 50", " 15 11 01 00 40 45 44 10 00 51")
+                                 .encode())[0], "malformed\n")
+        for wrong in ("callers=0", "callers=3", "callers=", "callers=01", "callers=1 "):
+            self.assertEqual(checked(BIOLOGY, lines.replace("callers=1", wrong).encode()).certificate_fault.line, 3)
+        for other in ("", "Callers=1\n"):
+            self.assertEqual(checked(BIOLOGY, lines.replace("callers=1\n", other).encode()).certificate_fault.line, 2)
+        for form in FORMS:
+            found = found_in(BIOLOGY)
+            certificate = certificate_in(found, lines.encode())
+            self.assertEqual(read_in(found, lines_of(found, certificate, form, 2)), Read(2, certificate))
+        self.assertNotIn("callers", judge_certified(EXAMPLE).printed)
+
+
 class RunTest(unittest.TestCase):
     def run_with(self, *files, words=()):
         """Exit status, output and messages for files with these contents."""
@@ -231,7 +267,8 @@ class RunTest(unittest.TestCase):
     def test_verdicts(self):
         self.assertEqual(self.run_with(EXAMPLE), (0, printed(EXAMPLE).decode(), ""))
         cycle = text_in("row-cycle-a")
-        self.assertEqual(self.run_with(cycle), (3, printed(cycle).decode(), ""))
+        note = "0: potential with each number of callers remembered that fits: 0, 1, 2\n"
+        self.assertEqual(self.run_with(cycle), (3, printed(cycle).decode(), note))
         endless = text_in("row-cycle")
         self.assertEqual(self.run_with(endless), (
             4, "refused=19\nat=0\n", "0:2:14: error: 'S' has no finite tree, so there is no sentence\n"))

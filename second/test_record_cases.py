@@ -5,7 +5,7 @@ import unittest
 import file_tests
 from case_files import LARGEST
 from case_grammars import CYCLE, ENDLESS
-from file_tests import TABLE, TABLE_BYTES, FileTests, without_sentences
+from file_tests import M, M_BYTES, TABLE, TABLE_BYTES, FileTests, without_sentences
 from record_cases import KIND, REASONS, Case, answer, reasons_of, records_of
 
 WAY = records_of(8, file_tests.WAY)
@@ -13,9 +13,9 @@ WAY = records_of(8, file_tests.WAY)
 
 class FileTest(FileTests, unittest.TestCase):
     KIND = KIND
-    DIGEST = "cc8dad4b865f8eaf48bcd1a18214a4e9d4b7530b6db8d9033d20393c7d33f8af"
-    CASE = Case(*TABLE, ((2, 258, LARGEST),))
-    BYTES = TABLE_BYTES + b"\x01\0\0\0" + b"\x02\0\0\0" + b"\x02\x01\0\0" + b"\xff" * 4
+    DIGEST = "63e10368dbcadb8c5dd476c5b57f5be65bd837d00e32cd03dc03484a662a4a1d"
+    CASE = Case(*TABLE, ((2, 258, LARGEST),), M)
+    BYTES = TABLE_BYTES + M_BYTES + b"\x01\0\0\0" + b"\x02\0\0\0" + b"\x02\x01\0\0" + b"\xff" * 4
 
     def test_answer_lines(self):
         self.assertEqual(answer(Case(*CYCLE, WAY)), "accepted")

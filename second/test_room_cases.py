@@ -3,9 +3,9 @@
 import unittest
 
 from case_grammars import COURSE, EIGHT_CHANNELS, ENDLESS, ONE_A, spelled
-from file_tests import TABLE, TABLE_BYTES, FileTests, without_sentences
+from file_tests import M, M_BYTES, TABLE, TABLE_BYTES, FileTests, without_sentences
 from random_tables import S, a, encode
-from room_cases import KIND, answer
+from room_cases import KIND, Case, answer
 from room_reasons import REASONS, reasons_of
 
 ALWAYS = "room", "told-from-nonterminal-shifts-are-left-out"
@@ -17,9 +17,9 @@ OPENINGS = "told-from-openings-before-a-nonterminal-are-counted-once"
 
 class FileTest(FileTests, unittest.TestCase):
     KIND = KIND
-    DIGEST = "3735d286e28bbd57595ff0eda0b6530d176340d36e33def56dfd366a8d7d9d42"
-    CASE = TABLE
-    BYTES = TABLE_BYTES
+    DIGEST = "f149afb4272a4849edbaba4ab022fd46070edcfb01f3e6b8a81ff4593ec50122"
+    CASE = Case(*TABLE, M)
+    BYTES = TABLE_BYTES + M_BYTES
 
 
 class AnswerTest(unittest.TestCase):
@@ -37,7 +37,7 @@ class AnswerTest(unittest.TestCase):
 
 class ReasonsTest(unittest.TestCase):
     def reasons(self, table, *names):
-        found = reasons_of(table)
+        found = reasons_of(Case(*table))
         self.assertEqual(without_sentences(found), sorted(names))
         self.assertLessEqual(set(found), set(REASONS))
 

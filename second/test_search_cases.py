@@ -8,7 +8,7 @@ from io import StringIO
 
 from case_files import encode_entries
 from case_grammars import COURSE, CYCLE, ENDLESS, NO_RULES, ONE_A, ROWS, good, spelled
-from file_tests import TABLE, TABLE_BYTES, WAY, FileTests, without_sentences
+from file_tests import M, M_BYTES, TABLE, TABLE_BYTES, WAY, FileTests, without_sentences
 from looked_misreadings import TOLD, told_by_figure
 from random_tables import A
 from search_cases import KIND, REASONS, Case, answer, encode_case, reasons_of, run
@@ -20,9 +20,9 @@ CYCLE_ENOUGH = Lent(16, 128, 128, 128)
 
 class FileTest(FileTests, unittest.TestCase):
     KIND = KIND
-    DIGEST = "892dcb0345dada04427f0ea2a1fa83b0ec00bbef5033c1990e7d127e30ad6784"
-    CASE = Case(*TABLE, Lent(258, 3, 4, 5), 255)
-    BYTES = (TABLE_BYTES + b"\x02\x01\0\0" + b"\x03\0\0\0" + b"\x04\0\0\0" + b"\x05\0\0\0"
+    DIGEST = "d686f350e4a51770f9e755a1552d071ab67f86063ad3179a4277010e14a90dfa"
+    CASE = Case(*TABLE, Lent(258, 3, 4, 5), 255, M)
+    BYTES = (TABLE_BYTES + M_BYTES + b"\x02\x01\0\0" + b"\x03\0\0\0" + b"\x04\0\0\0" + b"\x05\0\0\0"
              + b"\xff")
 
     def test_answer_lines(self):

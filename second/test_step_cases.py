@@ -3,16 +3,16 @@
 import unittest
 
 from case_grammars import COURSE, CYCLE, ENDLESS, NO_RULES, ONE_A, spelled
-from file_tests import TABLE, TABLE_BYTES, FileTests, without_sentences
+from file_tests import M, M_BYTES, TABLE, TABLE_BYTES, FileTests, without_sentences
 from step_cases import KIND, REASONS, Case, answer, reasons_of
 from triples import Triple
 
 
 class FileTest(FileTests, unittest.TestCase):
     KIND = KIND
-    DIGEST = "5361f7f684c97389cbbba45d20e2466515988adde4b80db2f9936b17f06bc0f3"
-    CASE = Case(*TABLE, Triple(1, 2, 258))
-    BYTES = TABLE_BYTES + b"\x01\0\0\0" + b"\x02\0\0\0" + b"\x02\x01\0\0"
+    DIGEST = "061b033846083c1ecb1c62e3411de3ece7f70e2c0c7e63a6fac8e3b421925b13"
+    CASE = Case(*TABLE, Triple(1, 2, 258), M)
+    BYTES = TABLE_BYTES + M_BYTES + b"\x01\0\0\0" + b"\x02\0\0\0" + b"\x02\x01\0\0"
 
 
 class AnswerTest(unittest.TestCase):

@@ -5,7 +5,7 @@ import unittest
 from case_files import LARGEST, Rng
 from case_grammars import COURSE, CYCLE, ENDLESS, ONE_A, ROWS, triples_in
 from certificates import witness_fault
-from file_tests import TABLE, TABLE_BYTES, WAY, FileTests, without_sentences
+from file_tests import M, M_BYTES, TABLE, TABLE_BYTES, WAY, FileTests, without_sentences
 from random_tables import S
 from ways import longer, shortest, wander
 from witness_cases import KIND, Case, answer
@@ -17,9 +17,9 @@ FORMER_WAY = 0, 2, 4, 16, 23, 45, 43      # the shortest witness of S→S before
 
 class FileTest(FileTests, unittest.TestCase):
     KIND = KIND
-    DIGEST = "5944439707798e901e577c30ee8c98a2dfc053a2f892dbf5a9b962a949632512"
-    CASE = Case(*TABLE, (258, LARGEST))
-    BYTES = TABLE_BYTES + b"\x02\0\0\0" + b"\x02\x01\0\0" + b"\xff" * 4
+    DIGEST = "a9b53aa028542b9cc543b4060556c7c91f4c94f9c205ba594261a3cae8710d64"
+    CASE = Case(*TABLE, (258, LARGEST), M)
+    BYTES = TABLE_BYTES + M_BYTES + b"\x02\0\0\0" + b"\x02\x01\0\0" + b"\xff" * 4
 
     def test_answer_lines(self):
         self.assertEqual(answer(Case(*CYCLE, WAY)), "accepted")

@@ -1,6 +1,7 @@
 """Triples, their steps and the smallest closed set: document 01, "Triples".
 
-They are those of automaton.py, so of live rules alone. `steps` gives a triple's
+They are those of an automaton, so of live rules alone: by `triples_of` that of
+callers.py at m, document 02's [11]. `steps` gives a triple's
 step records in order, `Triples` the successors by index, `reached` the smallest
 set that holds (0,0,0) and every successor of what it holds.
 """
@@ -8,7 +9,8 @@ set that holds (0,0,0) and every successor of what it holds.
 from functools import lru_cache
 from typing import Dict, FrozenSet, Iterable, List, NamedTuple, Sequence, Tuple
 
-from automaton import BEGIN, END, Arrow, Automaton, automaton_of
+from automaton import BEGIN, END, Arrow, Automaton
+from callers import automaton_at
 from tables import START, Grammar
 
 LAYERS = 2                # "f being 0 or 1"
@@ -154,9 +156,13 @@ class Triples:
 
 
 @lru_cache(maxsize=256)
-def triples_of(grammar: Grammar) -> Triples:
-    """The triples of a checked grammar."""
-    return Triples(automaton_of(grammar))
+def known_triples(grammar: Grammar, m: int) -> Triples:
+    return Triples(automaton_at(grammar, m))
+
+
+def triples_of(grammar: Grammar, m: int = 0) -> Triples:
+    """The triples of a checked grammar at m, which no refusal stops."""
+    return known_triples(grammar, m)
 
 
 def closure(

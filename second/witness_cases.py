@@ -9,9 +9,15 @@ README.md beside this file has the layout of a case.
 import sys
 from typing import Dict, Iterator, List, NamedTuple, Tuple
 
+from caller_grammars import (
+    BY_HAND, alike_and_potential, answered_pairs, edge_pairs, faulty_pairs, fits, larger_pairs, parted_by_callers,
+    refused_pairs, too_many_pairs,
+)
+from caller_reasons import ENOUGH as ENOUGH_CALLERS
+from callers import MOST_CALLERS
 from case_files import (
     LARGEST, Kind, Reader, Rng, accepted_or_refused, cases_of, encode_entries,
-    encode_table, main,
+    encode_table_at, main,
 )
 from case_grammars import (
     CLASSICS, CYCLE, GOOD_ROWS, MANY_STATES, ONE_A, ROWS, STATEMENTS, Table, faulty_tables, good,
@@ -28,7 +34,7 @@ from sentence_grammars import (
     faulty_sentenceless, many_sentenceless, nearly_sentenceless, sentenceless,
 )
 from sentence_reasons import ENOUGH as ENOUGH_NONE
-from tables import MAX_TERMINALS, Codes
+from tables import MAX_STATES, MAX_TERMINALS, Codes
 from triples import Triples, is_potential, reached
 from ways import longer, shortest, wander, way_from, way_to
 from witness_reasons import ENOUGH_LARGEST, REASONS, reasons_of
@@ -39,6 +45,7 @@ class Case(NamedTuple):
     n: int
     table: Codes
     entries: Tuple[int, ...]
+    m: int = 0
 
 
 # Groups of cases.
@@ -241,10 +248,84 @@ def faulty_without(rng: Rng) -> Iterator[Case]:
         yield Case(*table, rng.choice([(), (0,), (0, LARGEST), (1, 2, 3)]))
 
 
+# With callers.
+
+def with_callers(rng: Rng) -> Iterator[Case]:
+    """Witnesses and ways at m=1 and m=2: right, cut, with wrong entries, going on past the end."""
+    for table, m in answered_pairs(rng, 12) + larger_pairs(rng, 40):
+        triples = triples_in(table, m)
+        walk = longer if is_potential(triples) else wander
+        for more in (0, 12):
+            way = walk(rng, triples, more)
+            place = rng.randrange(len(way))
+            found = [way, way[:place], way + [rng.choice([triples.last, triples.first, LARGEST])]]
+            for entry in (rng.choice(sorted(reached(triples))), rng.randrange(triples.count),
+                          rng.choice([triples.count, triples.count + 1, LARGEST])):
+                found.append(way[:place] + [entry] + way[place + 1:])
+            found.append([rng.choice([1, triples.count, LARGEST])] + way[1:])
+            for entries in found:
+                yield Case(*table, tuple(entries), m)
+        yield Case(*table, tuple(walk(rng, triples, 30)), m)
+        yield from misread_with_callers(rng, table, m)
+
+
+def misread_with_callers(rng: Rng, table: Table, m: int) -> Iterator[Case]:
+    """An entry that would be right in a misreading of document 01."""
+    triples = triples_in(table, m)
+    held = sorted(reached(triples))
+    named: Dict[str, Tuple[int, int]] = {}
+    for index in rng.sample(held, min(80, len(held))):
+        for other, name in misread_indices(triples, index).items():
+            named[name] = index, other
+    for index, other in named.values():
+        yield Case(*table, tuple(way_to(triples, index) + [other]), m)
+
+
+def of_another_m(rng: Rng) -> Iterator[Case]:
+    """The shortest witness at one m, handed in at another, 0 among them."""
+    tables = [table for table, _ in answered_pairs(rng, 10)]
+    tables += [parted_by_callers(rng, 1 + rng.randrange(3)) for _ in range(40)]
+    tables += alike_and_potential(rng, 24)
+    for table in dict.fromkeys(tables):
+        fitting = [m for m in range(MOST_CALLERS + 1) if fits(table, m)]
+        for one in fitting:
+            for m in fitting:
+                if m != one and is_potential(triples_in(table, one)):
+                    yield Case(*table, tuple(shortest(triples_in(table, one))), m)
+
+
+def refused_callers(rng: Rng) -> Iterator[Case]:
+    """An m above 2, chains too many, tables at fault with an m: witnesses at m=0, or not."""
+    many = too_many_pairs(rng, 7)
+    few = potential_tables(rng, 60) + list(BY_HAND.values())
+    for table, m in many + refused_pairs(rng, [table for table, _ in many]):
+        yield Case(*table, rng.choice([(), (0,), (0, 2), (LARGEST,)]), m)
+    pairs = refused_pairs(rng, few) + [(table, m) for table in few for m in (1, 2)
+                                       if not fits(table, m, MAX_STATES)]
+    for table, m in pairs:
+        triples = triples_in(table)
+        walk = longer if is_potential(triples) else wander
+        yield Case(*table, tuple(walk(rng, triples, 3)), m)
+        yield Case(*table, tuple(walk(rng, triples, 3)[:-1]), m)
+    for table, m in faulty_pairs(rng, 8):
+        yield Case(*table, rng.choice([(), (0,), (0, LARGEST), (1, 2, 3)]), m)
+
+
+def most_states_with_callers(rng: Rng) -> Iterator[Case]:
+    """Q at m of 1,024."""
+    for table, m in edge_pairs(rng, MAX_STATES, 2):
+        triples = triples_in(table, m)
+        for more in (1, 6, 30):
+            way = wander(rng, triples, more)
+            yield Case(*table, tuple(way), m)
+            yield Case(*table, tuple(way + [rng.choice([triples.count, triples.last, LARGEST])]), m)
+
+
+CALLER_GROUPS = [with_callers, of_another_m, refused_callers, most_states_with_callers]
 GROUPS = [
     right, cut, extended, wrong_entries, first_entries, misread_entries, unambiguous,
     larger, faulty, dead, dead_and_larger, without_a_sentence, nearly_without, faulty_without,
-]
+] + CALLER_GROUPS
 
 
 # Answers.
@@ -258,17 +339,18 @@ def answer(case: Case) -> str:
 
 def encode_case(case: Case) -> bytes:
     """One case of the file of inputs."""
-    return encode_table(*case[:3]) + encode_entries(case.entries)
+    return encode_table_at(*case[:3], case.m) + encode_entries(case.entries)
 
 
 def decode_case(reader: Reader) -> Case:
     """The next case of a file of inputs."""
-    return Case(*reader.table(), reader.entries())
+    t, n, table, m = reader.table_at()
+    return Case(t, n, table, reader.entries(), m)
 
 
 KIND = Kind(lambda: cases_of(GROUPS), encode_case, decode_case, answer,
             REASONS, lambda case: reasons_of(*case),
-            enough={**ENOUGH_DEAD, **ENOUGH_NONE, **ENOUGH_LARGEST})
+            enough={**ENOUGH_DEAD, **ENOUGH_NONE, **ENOUGH_LARGEST, **ENOUGH_CALLERS})
 
 if __name__ == "__main__":
     sys.exit(main(__doc__, sys.argv[1:], KIND))

@@ -6,8 +6,11 @@ a row is wrong, also as a misreading would have it.
 
 from typing import List, Optional, Sequence, Tuple
 
+import caller_reasons
 import dead_rules
 import sentence_reasons
+from caller_grammars import SMALL
+from callers import MOST_CALLERS, states_at
 from case_files import LARGEST, TABLE_REASONS
 from case_grammars import good, grammar_of
 from certificates import checked_triples, witness_fault
@@ -16,18 +19,16 @@ from live_misreadings import (
     REACHED, TOLD_BY_SEARCH, WRONG_STEPS, former_triples, told, wrong_steps,
 )
 from misreadings import NAMES, misread_indices
-from tables import MAX_STATES, NO_SENTENCE, Codes, Grammar, Refusal
-from triples import Triples, is_potential, reached
+from tables import MAX_STATES, NO_SENTENCE, TOO_MANY_STATES, Codes, Grammar, Refusal
+from triples import Triples, is_potential, reached, triples_of
 from ways import shortest
 
-REASONS = [
+OF_ROWS = [
     "accepted-shortest",
     "accepted-longer",
     "accepted-with-a-triple-repeated",
     "accepted-with-a-triple-repeated-at-once",
     "accepted-over-60-states",
-] + TABLE_REASONS + [
-    "1-to-8-with-an-empty-row",
     "15-empty-row",
     "15-first-entry",
     "15-first-entry-though-the-rest-is-right",
@@ -43,9 +44,11 @@ REASONS = [
     "15-first-of-several",
     "15-of-an-unambiguous-grammar",
     "15-over-60-states",
+] + ["15-" + name for name in NAMES]
+REASONS = TABLE_REASONS + ["1-to-8-with-an-empty-row"] + OF_ROWS + [
     "accepted-1024-states",
     "15-1024-states",
-] + ["15-" + name for name in NAMES] + dead_rules.REASONS + [
+] + dead_rules.REASONS + [
     "accepted-dead-" + kind for kind in KINDS
 ] + [
     "15-though-formerly-accepted",
@@ -54,14 +57,64 @@ REASONS = [
     "19-though-accepted-by-document-01",
     "19-with-an-empty-row",
     "order-19-before-15",
-] + sentence_reasons.REASONS
+] + sentence_reasons.REASONS + caller_reasons.REASONS + caller_reasons.prefixed(OF_ROWS) + [
+    "order-21-before-15",
+    "order-too-many-chains-before-15",
+    "21-though-accepted-at-0",
+    "of-another-m-accepted",
+    "of-another-m-refused-15",
+    "of-m-0-accepted-above",
+    "of-an-m-above-0-accepted-at-0",
+    "of-an-m-above-0-refused-15-at-0",
+]
 
 # Cases of the most states are few.
 ENOUGH_LARGEST = {"accepted-1024-states": 5}
 
 
-def reasons_of(t: int, n: int, table: Codes, entries: Sequence[int]) -> List[str]:
+def reasons_of(t: int, n: int, table: Codes, entries: Sequence[int], m: int = 0) -> List[str]:
     """Every reason of REASONS that this case meets."""
+    names = caller_reasons.of_case(t, n, table, m) + other_m_reasons(t, n, table, entries, m)
+    if m:
+        return names + remembered_reasons(t, n, table, entries, m)
+    return names + forgotten_reasons(t, n, table, entries)
+
+
+def remembered_reasons(t: int, n: int, table: Codes, entries: Sequence[int], m: int) -> List[str]:
+    """What a row at an m above 0 is, or would be at m=0 where m or the chains are refused."""
+    former, triples = checked_triples(t, n, table), checked_triples(t, n, table, m)
+    if isinstance(former, Refusal):
+        return []
+    if isinstance(triples, Refusal):
+        accepted = witness_fault(former, entries) is None
+        if triples.cause == TOO_MANY_STATES:
+            return ["order-too-many-chains-before-15"] * (not accepted)
+        return ["21-though-accepted-at-0" if accepted else "order-21-before-15"]
+    fault = witness_fault(triples, entries)
+    met = accepted_reasons(triples, entries) if fault is None else refused_reasons(
+        triples, entries, fault.position)
+    return caller_reasons.at(m, [name for name, holds in met if holds])
+
+
+def other_m_reasons(t: int, n: int, table: Codes, entries: Sequence[int], m: int) -> List[str]:
+    """What is said of a witness of another m."""
+    triples = checked_triples(t, n, table, m)
+    if isinstance(triples, Refusal) or triples.states > SMALL:
+        return []
+    grammar = good((t, n, table))
+    others = [other for other in range(MOST_CALLERS + 1)
+              if other != m and states_at(grammar, other) <= SMALL
+              and witness_fault(triples_of(grammar, other), entries) is None]
+    if not others:
+        return []
+    said = "accepted" if witness_fault(triples, entries) is None else "refused-15"
+    above = ["of-an-m-above-0-%s-at-0" % said] if m == 0 else []
+    return ["of-another-m-" + said] + above + ["of-m-0-accepted-above"] * (
+        m > 0 and 0 in others and said == "accepted")
+
+
+def forgotten_reasons(t: int, n: int, table: Codes, entries: Sequence[int]) -> List[str]:
+    """Every reason that a case at m=0 meets."""
     triples = checked_triples(t, n, table)
     sentences = list(sentence_reasons.of_table(t, n, table))
     if isinstance(triples, Refusal):

@@ -2,11 +2,11 @@
  * search, the reader and the writer of grammar text, what search and writer are to be lent, told beforehand, the report that the program
  * prints, reading back of the two strings that it prints, and the join of a module's text to the robot's. Each function answers as its
  * entry promises; crates/ambiguity_c/src/lib.rt has the promises, proved.
- * "Document 01" is the paper that the library follows: it has the tables, the certificates and the causes of refusal. Causes 19 and 20,
- * the codes of 16 bits, the limits, names in any case and modules are document 02's, which has the requests after it.
+ * "Document 01" is the paper that the library follows: it has the tables, the certificates and the causes of refusal. Causes 19 to 21,
+ * the codes of 16 bits, the limits, names in any case, modules and remembered callers are document 02's, which has the requests after it.
  *
  * What holds of every function:
- * - Every input is taken: what is wrong is refused, with a cause from 1 to 20 and a position. `cause` 0 says that nothing is
+ * - Every input is taken: what is wrong is refused, with a cause from 1 to 21 and a position. `cause` 0 says that nothing is
  *   refused. A refusal changes no lent row. A field that an answer does not have is 0.
  * - A row is lent as a pointer and its number of entries. The pointer is never NULL, also at 0 entries, and is aligned as its
  *   type is. A row that is written overlaps no other row of the call. Nothing is kept after the return.
@@ -14,6 +14,8 @@
  * - Names that differ only in the case of ASCII letters are the same name wherever names are compared: in lists, rules, two texts that
  *   are joined, what the writer is given and lines that are read back. The spelling of the declaration is written out. Keys, as
  *   `rule=`, are no names.
+ * - Six functions take `callers`, how many callers a state of the automaton remembers: 0, 1 or 2. A paragraph before them says what
+ *   that costs, and when to try 1 or 2; 0 is the usual number.
  * - There is no state, no allocation and no lock: every function is re-entrant, and calls may run at the same time.
  * - The archive needs memcpy and memset and nothing else. It is for x86-64 with the System V calling convention.
  */
@@ -28,14 +30,15 @@
 #endif
 
 /* The version of the whole: library, header, wrapper, tools. The first number changes when a caller has to. */
-#define AMBIGUITY_VERSION "4.1.0"
-#define AMBIGUITY_VERSION_MAJOR 4
+#define AMBIGUITY_VERSION "5.0.0"
+#define AMBIGUITY_VERSION_MAJOR 5
 
 /* The limits of document 02. A right side has at most 12 codes. */
 #define AMBIGUITY_MAX_TERMINALS 2000
 #define AMBIGUITY_MAX_NONTERMINALS 2000
 #define AMBIGUITY_MAX_RULES 400
 #define AMBIGUITY_MAX_STATES 1024
+#define AMBIGUITY_MAX_CALLERS 2
 #define AMBIGUITY_MAX_TEXT_BYTES 262144
 
 /* The code of the first nonterminal, the start. Terminals have the codes 1 to t, nonterminals the n codes from this one on; all others
@@ -66,10 +69,10 @@
  * not proved: where there is less, a call crashes. bindings/c/stack.c measures it, and prints the figure of each function.
  * The reader, the search, the report, which lends both of them their rows, reading back, which calls the reader, and the join, whose
  * second figure is for writing the joined text, have figures of their own; the first figure is for all others. */
-#define AMBIGUITY_STACK_BYTES 61440
+#define AMBIGUITY_STACK_BYTES 83968
 #define AMBIGUITY_READ_TEXT_STACK_BYTES 65536
-#define AMBIGUITY_SEARCH_STACK_BYTES 55296
-#define AMBIGUITY_REPORT_STACK_BYTES 360448
+#define AMBIGUITY_SEARCH_STACK_BYTES 72704
+#define AMBIGUITY_REPORT_STACK_BYTES 372736
 #define AMBIGUITY_READ_BACK_STACK_BYTES 65536
 #define AMBIGUITY_JOIN_STACK_BYTES 126976
 #define AMBIGUITY_WRITE_JOINED_STACK_BYTES 233472
@@ -84,7 +87,7 @@ enum ambiguity_cause {
     AMBIGUITY_CODE_UNDECLARED = 5,    /* right code undeclared: at the code's offset */
     AMBIGUITY_RULE_REPEATED = 6,      /* rule equals an earlier one: at the later rule's offset */
     AMBIGUITY_TOO_MANY_RULES = 7,     /* a 401st rule: at its offset */
-    AMBIGUITY_TOO_MANY_STATES = 8,    /* Q would pass 1024: at the rule's offset */
+    AMBIGUITY_TOO_MANY_STATES = 8,    /* Q would pass 1024: at the rule's offset; at 0 if it does so only with these callers */
     AMBIGUITY_CERTIFICATE_LENGTH = 9, /* certificate length wrong: at 0 */
     AMBIGUITY_SPARE_BIT = 10,         /* bit past 2Q^2 set: at the lowest such index */
     AMBIGUITY_START_MISSING = 11,     /* (0,0,0) missing: at 0 */
@@ -96,7 +99,8 @@ enum ambiguity_cause {
     AMBIGUITY_NAME_UNKNOWN = 17,      /* name unknown or of the wrong kind: at the line; one declared in another case is known */
     AMBIGUITY_NAME_REPEATED = 18,     /* name declared twice, in whatever case: at the line, or at the symbol number */
     AMBIGUITY_NO_SENTENCE = 19,       /* the start, the first nonterminal, has no finite tree: at 0 */
-    AMBIGUITY_KINDS_CLASH = 20        /* name a terminal in one text and a nonterminal in the other: at the module's line */
+    AMBIGUITY_KINDS_CLASH = 20,       /* name a terminal in one text and a nonterminal in the other: at the module's line */
+    AMBIGUITY_TOO_MANY_CALLERS = 21   /* more than 2 callers are to be remembered: at 0 */
 };
 
 enum ambiguity_moved { AMBIGUITY_STILL = 0, AMBIGUITY_OPENING = 1, AMBIGUITY_CLOSING = 2, AMBIGUITY_SYMBOL = 3 };
@@ -114,7 +118,7 @@ enum ambiguity_text { AMBIGUITY_NO_TEXT = 0, AMBIGUITY_ROBOT = 1, AMBIGUITY_MODU
 typedef struct {
     uint64_t cause;
     uint64_t at;
-    uint64_t states; /* Q */
+    uint64_t states; /* Q at 0 callers */
 } ambiguity_table_reply;
 
 typedef struct {
@@ -156,7 +160,7 @@ typedef struct {
 typedef struct {
     uint64_t cause;
     uint64_t at;
-    uint64_t states;      /* Q */
+    uint64_t states;      /* Q, with these callers */
     uint64_t certificate; /* bytes of the certificate */
     uint64_t entries;     /* of each of the rows queue, parents and witness */
     uint64_t moves;       /* M, the moves of the automaton */
@@ -168,7 +172,7 @@ typedef struct {
     uint64_t terminals;    /* t */
     uint64_t nonterminals; /* n */
     uint64_t entries;      /* of the table */
-    uint64_t states;       /* Q */
+    uint64_t states;       /* Q at 0 callers */
 } ambiguity_read_reply;
 
 typedef struct {
@@ -209,57 +213,79 @@ extern "C" {
 #endif
 
 /* Checks a grammar's table: t terminals, n nonterminals, the rules end to end, each as its left code, the length of its right side and
- * the codes of that, an entry of 16 bits for each. Offsets count entries. Back comes Q. Refuses with 1 to 8, then with 19 a grammar
- * without a sentence; so do all functions that take a table, before their own causes. */
+ * the codes of that, an entry of 16 bits for each. Offsets count entries. Back comes Q at 0 callers. Refuses with 1 to 8, then with 19 a
+ * grammar without a sentence; so do all functions that take a table, before their own causes. */
 ambiguity_table_reply ambiguity_check_table(size_t t, size_t n, const uint16_t *table, size_t table_entries);
+
+/* Remembered callers. The six functions below take `callers`, right behind the table: 0, 1 or 2.
+ *
+ * At 0 a state is an item, a place in a rule, and a rule that ends returns to every place that may have called it. At 1 or 2 a state is
+ * an item together with its nearest calling items, fewer only if these begin in rule 0, and a rule that ends returns to its nearest
+ * caller. So fewer alarms are false. S -> b A c; S -> b e d; S -> A d; A -> e is potential at 0 and unambiguous at 1.
+ *
+ * What it costs: a rule has its states once for each chain of its callers. ambiguity_search_room tells Q with these callers; the rows of
+ * a search grow with Q squared, its automaton is built in time that grows with Q. Items of rules that no sentence uses have no states at
+ * 1 and 2, so Q may be smaller there too.
+ *
+ * When to try it: begin with 0. Where the verdict is potential and you believe it to be a false alarm, try 1, then 2. Unambiguous at some
+ * number stays unambiguous at the next, where the states fit. Whatever the number, an accepted certificate says that no sentence has two
+ * derivation trees. States, indices, certificate and witness are those of their number of callers: a certificate holds with the number
+ * that it was made with, and is checked with it. With another Q is mostly another, and it is refused with 9.
+ *
+ * Refused are, after the causes of the table: callers above AMBIGUITY_MAX_CALLERS with 21 at 0; then more than AMBIGUITY_MAX_STATES
+ * states with these callers, with 8 at 0. All other causes come behind. */
 
 /* The step record of the triple (layer, left, right) at place nth, counted from 0: those back to the triple itself first, left
  * before right, then ascending by the next triple's index. AMBIGUITY_NO_MORE past the last, and for a triple out of range. An item
  * of a rule that no sentence uses has no moves, and no move leads to it. */
-ambiguity_step_reply ambiguity_nth_step(size_t t, size_t n, const uint16_t *table, size_t table_entries, size_t layer, size_t left,
-                                        size_t right, size_t nth);
+ambiguity_step_reply ambiguity_nth_step(size_t t, size_t n, const uint16_t *table, size_t table_entries, size_t callers, size_t layer,
+                                        size_t left, size_t right, size_t nth);
 
-/* Checks a certificate of AMBIGUITY_CERTIFICATE_BYTES(Q) bytes: accepted exactly if it is acceptable, and then no sentence of the
- * grammar has two derivation trees. Refuses with 9 to 13. Whatever certificate comes with a grammar without a sentence, it is 19. */
-ambiguity_check_reply ambiguity_check_certificate(size_t t, size_t n, const uint16_t *table, size_t table_entries,
+/* Checks a certificate of AMBIGUITY_CERTIFICATE_BYTES(Q) bytes, Q being that of these callers: accepted exactly if it is acceptable,
+ * and then no sentence of the grammar has two derivation trees. Refuses with 9 to 13. Whatever certificate comes with a grammar without
+ * a sentence, it is 19. */
+ambiguity_check_reply ambiguity_check_certificate(size_t t, size_t n, const uint16_t *table, size_t table_entries, size_t callers,
                                                   const uint8_t *certificate, size_t certificate_bytes);
 
 /* Checks a witness, a row of triples' indices: accepted exactly if it leads from (0,0,0) to (1,1,1) by successors, and then two
  * strings part. Refuses with 15. */
-ambiguity_check_reply ambiguity_check_witness(size_t t, size_t n, const uint16_t *table, size_t table_entries, const uint32_t *row,
-                                              size_t row_entries);
+ambiguity_check_reply ambiguity_check_witness(size_t t, size_t n, const uint16_t *table, size_t table_entries, size_t callers,
+                                              const uint32_t *row, size_t row_entries);
 
 /* The witness check over a row of records, which answers alike: a layer above 1 or a state of Q or more is a wrong entry. */
 ambiguity_check_reply ambiguity_check_witness_records(size_t t, size_t n, const uint16_t *table, size_t table_entries,
-                                                      const ambiguity_triple_record *records, size_t records_entries);
+                                                      size_t callers, const ambiguity_triple_record *records,
+                                                      size_t records_entries);
 
-/* What a search of this table is to be lent, from the table alone: no search is made. Back come Q, the bytes of the certificate, the
- * entries of each of the rows queue, parents and witness, 4 bytes each, and M, the number of moves of the automaton: from each state
- * by each letter to each state that it leads to, the shifts of terminals and of nonterminals among them. Refuses with the causes of
- * the table alone. ambiguity_search, lent so much, is never refused with 14; lent less for the certificate or in any row it always
- * is. So a caller lends as follows, and looks at `room.cause` first:
+/* What a search of this table with these callers is to be lent, from the table alone: no search is made. Back come Q, the bytes of the
+ * certificate, the entries of each of the rows queue, parents and witness, 4 bytes each, and M, the number of moves of the automaton:
+ * from each state by each letter to each state that it leads to, the shifts of terminals and of nonterminals among them. Refuses with
+ * the causes of the table, then with 21 and 8, and no others: so it tells, too, whether the states fit. ambiguity_search, lent so much,
+ * is never refused with 14; lent less for the certificate or in any row it always is. So a caller lends as follows, and looks at
+ * `room.cause` first:
  *
- *     ambiguity_room_reply room = ambiguity_search_room(t, n, table, table_entries);
+ *     ambiguity_room_reply room = ambiguity_search_room(t, n, table, table_entries, 0);
  *     uint8_t *certificate = malloc(room.certificate);
  *     uint32_t *queue = malloc(room.entries * sizeof *queue);     ... and so parents and witness
  *
  * That is room.certificate + 12 * room.entries bytes in all. */
-ambiguity_room_reply ambiguity_search_room(size_t t, size_t n, const uint16_t *table, size_t table_entries);
+ambiguity_room_reply ambiguity_search_room(size_t t, size_t n, const uint16_t *table, size_t table_entries, size_t callers);
 
 /* Searches: the smallest acceptable certificate, or the shortest witness, which has the fewest entries and, among those, the smaller
  * index where two first differ. Lent are AMBIGUITY_CERTIFICATE_BYTES(Q) bytes of certificate, and
- * AMBIGUITY_ROW_ENTRIES(Q) entries of each row, as ambiguity_search_room tells them; Q comes from ambiguity_check_table or
- * ambiguity_read_text too. What they hold before does not matter. Unambiguous writes the certificate and keeps the witness row.
+ * AMBIGUITY_ROW_ENTRIES(Q) entries of each row, as ambiguity_search_room tells them with these callers; Q at 0 callers comes from
+ * ambiguity_check_table or ambiguity_read_text too. What they hold before does not matter. Unambiguous writes the certificate and keeps
+ * the witness row.
  * Potential writes `count` entries of the witness row, and keeps the certificate and the rest of that row. The first
  * AMBIGUITY_ROW_ENTRIES(Q) entries of queue and parents are then 0. Refuses with 14.
  *
  * `looked` says how many successors there are to look at, with either verdict: how many choices of moves give one, each choice
  * counted, over all triples that are reached from (0,0,0). Each such triple is taken up once; of its successors the code may try
- * fewer, since it leaves out blocks that were had. The figure depends on the table alone, and is at most M * M + 2 * Q * M, with
- * `moves` and `states` of ambiguity_search_room, which needs no search. */
-ambiguity_search_reply ambiguity_search(size_t t, size_t n, const uint16_t *table, size_t table_entries, uint8_t *certificate,
-                                        size_t certificate_bytes, uint32_t *queue, size_t queue_entries, uint32_t *parents,
-                                        size_t parents_entries, uint32_t *witness, size_t witness_entries);
+ * fewer, since it leaves out blocks that were had. The figure depends on the table and the callers alone, and is at most
+ * M * M + 2 * Q * M, with `moves` and `states` of ambiguity_search_room, which needs no search. */
+ambiguity_search_reply ambiguity_search(size_t t, size_t n, const uint16_t *table, size_t table_entries, size_t callers,
+                                        uint8_t *certificate, size_t certificate_bytes, uint32_t *queue, size_t queue_entries,
+                                        uint32_t *parents, size_t parents_entries, uint32_t *witness, size_t witness_entries);
 
 /* Reads grammar text. Written are the table, and the start in the text and the length of each symbol's name as it is declared,
  * terminals first. Names that differ only in the case of ASCII letters are the same: `rule=take: Vol` uses `Take` and `vol`, and a
@@ -286,10 +312,10 @@ ambiguity_write_reply ambiguity_write_text(size_t t, size_t n, const uint16_t *t
                                            const uint32_t *lengths, size_t lengths_entries, uint8_t *out, size_t out_bytes);
 
 /* Writes what the program prints for a text, each line ended by byte 10: `states=` and `verdict=`, then with unambiguous `reached=`,
- * with potential `left=` and `right=`, the two strings of the shortest witness; or `refused=` and `at=`. In a string `(i` opens rule
- * i, `)i` closes it, a symbol stands by its name as declared, and one space stands between two letters. A text that has more than
- * AMBIGUITY_MAX_REPORT_TEXT_BYTES, is at fault, 19 among its faults, or has more than AMBIGUITY_MAX_REPORT_STATES states is answered
- * by a report of its refusal, the first in this order, and `cause` is 0. Refuses with 14 alone, if the output is too short;
+ * with potential `left=` and `right=`, the two strings of the shortest witness, all at 0 callers; or `refused=` and `at=`. In a string
+ * `(i` opens rule i, `)i` closes it, a symbol stands by its name as declared, and one space stands between two letters. A text that has
+ * more than AMBIGUITY_MAX_REPORT_TEXT_BYTES, is at fault, 19 among its faults, or has more than AMBIGUITY_MAX_REPORT_STATES states is
+ * answered by a report of its refusal, the first in this order, and `cause` is 0. Refuses with 14 alone, if the output is too short;
  * AMBIGUITY_MAX_REPORT_BYTES are always enough. */
 ambiguity_report_reply ambiguity_report(const uint8_t *text, size_t text_bytes, uint8_t *out, size_t out_bytes);
 

@@ -29,6 +29,7 @@ static inline const char *ambiguity_cause_text(uint64_t cause)
     case AMBIGUITY_NAME_REPEATED: return "a name is declared twice";
     case AMBIGUITY_NO_SENTENCE: return "the start has no finite tree, so there is no sentence";
     case AMBIGUITY_KINDS_CLASH: return "a name is a terminal in one text and a nonterminal in the other";
+    case AMBIGUITY_TOO_MANY_CALLERS: return "more callers are to be remembered than two";
     default: return "a cause that this header does not know";
     }
 }

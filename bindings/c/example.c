@@ -6,6 +6,11 @@
 
 #include "ambiguity.h"
 
+/* How many callers a state remembers; with 1 or 2 there are more states, and fewer false alarms. */
+#ifndef CALLERS
+#define CALLERS 0
+#endif
+
 static uint8_t text[AMBIGUITY_MAX_TEXT_BYTES + 1];
 static uint16_t table[AMBIGUITY_MAX_TABLE_ENTRIES];
 static uint32_t starts[AMBIGUITY_MAX_NAMES];
@@ -17,18 +22,19 @@ static int refused(uint64_t cause, uint64_t at)
     return 2;
 }
 
-/* The rows of the search. */
+/* The rows of the search, and Q. */
 struct rows {
+    size_t states;
     size_t bytes;
     size_t entries;
     uint8_t *certificate;
     uint32_t *queue, *parents, *witness;
 };
 
-/* As much as the search of this grammar is to be lent, and no more. */
-static int lend(struct rows *rows, ambiguity_read_reply grammar)
+/* As much as a search is to be lent, and no more. */
+static int lend(struct rows *rows, ambiguity_room_reply room)
 {
-    ambiguity_room_reply room = ambiguity_search_room(grammar.terminals, grammar.nonterminals, table, grammar.entries);
+    rows->states = room.states;
     rows->bytes = room.certificate;
     rows->entries = room.entries;
     rows->certificate = malloc(rows->bytes);
@@ -47,11 +53,10 @@ static void give_back(struct rows *rows)
 }
 
 /* The step record that leads from an entry of the witness to the next one. */
-static ambiguity_step_reply step_between(ambiguity_read_reply grammar, uint32_t from, uint32_t to)
+static ambiguity_step_reply step_between(ambiguity_read_reply grammar, size_t q, uint32_t from, uint32_t to)
 {
-    size_t q = grammar.states;
     for (size_t nth = 0;; nth++) {
-        ambiguity_step_reply step = ambiguity_nth_step(grammar.terminals, grammar.nonterminals, table, grammar.entries,
+        ambiguity_step_reply step = ambiguity_nth_step(grammar.terminals, grammar.nonterminals, table, grammar.entries, CALLERS,
                                                        from / q / q, from / q % q, from % q, nth);
         if (step.kind != AMBIGUITY_RECORD || (step.layer * q + step.left) * q + step.right == to)
             return step;
@@ -70,12 +75,12 @@ static void print_letter(ambiguity_read_reply grammar, ambiguity_move move)
 }
 
 /* The string of one side: its letters in order, and nothing where it stays. */
-static void print_string(ambiguity_read_reply grammar, const uint32_t *witness, size_t entries, int on_left)
+static void print_string(ambiguity_read_reply grammar, const struct rows *rows, size_t entries, int on_left)
 {
     const char *between = "";
     printf(on_left ? "left=" : "right=");
     for (size_t i = 0; i + 1 < entries; i++) {
-        ambiguity_step_reply step = step_between(grammar, witness[i], witness[i + 1]);
+        ambiguity_step_reply step = step_between(grammar, rows->states, rows->witness[i], rows->witness[i + 1]);
         ambiguity_move move = on_left ? step.on_left : step.on_right;
         if (move.moved != AMBIGUITY_STILL) {
             printf("%s", between);
@@ -90,22 +95,22 @@ static int judge(ambiguity_read_reply grammar, struct rows *rows)
 {
     size_t t = grammar.terminals, n = grammar.nonterminals, entries = grammar.entries;
     ambiguity_search_reply found =
-        ambiguity_search(t, n, table, entries, rows->certificate, rows->bytes, rows->queue, rows->entries, rows->parents,
+        ambiguity_search(t, n, table, entries, CALLERS, rows->certificate, rows->bytes, rows->queue, rows->entries, rows->parents,
                          rows->entries, rows->witness, rows->entries);
     if (found.cause != AMBIGUITY_NOT_REFUSED)
         return refused(found.cause, found.at);
-    printf("states=%llu\n", (unsigned long long)grammar.states);
+    printf("states=%llu\n", (unsigned long long)rows->states);
     if (found.verdict == AMBIGUITY_POTENTIAL) {
         printf("verdict=potential\n");
-        print_string(grammar, rows->witness, found.count, 1);
-        print_string(grammar, rows->witness, found.count, 0);
+        print_string(grammar, rows, found.count, 1);
+        print_string(grammar, rows, found.count, 0);
         return 1;
     }
     printf("verdict=unambiguous\nreached=%llu\ncertificate=", (unsigned long long)found.count);
     for (size_t i = 0; i < rows->bytes; i++)
         printf("%02x", rows->certificate[i]);
     printf("\n");
-    ambiguity_check_reply checked = ambiguity_check_certificate(t, n, table, entries, rows->certificate, rows->bytes);
+    ambiguity_check_reply checked = ambiguity_check_certificate(t, n, table, entries, CALLERS, rows->certificate, rows->bytes);
     return checked.cause == AMBIGUITY_NOT_REFUSED ? 0 : refused(checked.cause, checked.at);
 }
 
@@ -120,8 +125,11 @@ int main(void)
                                                        AMBIGUITY_MAX_NAMES, lengths, AMBIGUITY_MAX_NAMES);
     if (grammar.cause != AMBIGUITY_NOT_REFUSED)
         return refused(grammar.cause, grammar.at);
+    ambiguity_room_reply room = ambiguity_search_room(grammar.terminals, grammar.nonterminals, table, grammar.entries, CALLERS);
+    if (room.cause != AMBIGUITY_NOT_REFUSED)
+        return refused(room.cause, room.at);
     struct rows rows;
-    int status = lend(&rows, grammar) ? judge(grammar, &rows) : refused(AMBIGUITY_BUFFER_TOO_SHORT, 0);
+    int status = lend(&rows, room) ? judge(grammar, &rows) : refused(AMBIGUITY_BUFFER_TOO_SHORT, 0);
     give_back(&rows);
     return status;
 }

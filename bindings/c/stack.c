@@ -1,8 +1,8 @@
 /* The stack that each function uses, in bytes. A thread runs on a stack that was painted; after the call the paint tells how deep
  * the stack went below the caller. Exits with 0 if none went deeper than ambiguity.h says. The frames are of fixed size and no
- * function calls itself, so the largest grammar, with the most names, has the deepest calls that there are. A line with more names
- * than the limit is read another way, which is measured too, in the robot's text and in a module's. The report takes no more than 48
- * states; its two strings are read back. */
+ * function calls itself, so the largest grammar, with the most names, has the deepest calls that there are. Functions that take callers
+ * are measured with 0, 1 and 2. A line with more names than the limit is read another way, which is measured too, in the robot's text and
+ * in a module's. The report takes no more than 48 states; its two strings are read back. */
 #define _XOPEN_SOURCE 700
 #include <pthread.h>
 #include <stdio.h>
@@ -41,9 +41,11 @@ static ambiguity_read_reply grammar;
 static ambiguity_read_reply joined;
 static ambiguity_part_reply name;
 static ambiguity_check_reply checked;
+static ambiguity_room_reply room;
 static ambiguity_write_reply written;
 static uint64_t verdict;
-static uint8_t *caller;
+static size_t callers;
+static uint8_t *below;
 
 static void run_table(void) { ambiguity_check_table(grammar.terminals, grammar.nonterminals, table, grammar.entries); }
 
@@ -52,31 +54,37 @@ static void run_step(void)
     size_t p, k;
     for (p = 0; p < grammar.states; p++)
         for (k = 0; k < 4; k++)
-            ambiguity_nth_step(grammar.terminals, grammar.nonterminals, table, grammar.entries, k % 2, p, p, k);
+            ambiguity_nth_step(grammar.terminals, grammar.nonterminals, table, grammar.entries, callers, k % 2, p, p, k);
 }
 
 static void run_certificate(void)
 {
-    checked = ambiguity_check_certificate(grammar.terminals, grammar.nonterminals, table, grammar.entries, certificate,
+    checked = ambiguity_check_certificate(grammar.terminals, grammar.nonterminals, table, grammar.entries, callers, certificate,
                                           sizeof certificate);
 }
 
-static void run_witness(void) { ambiguity_check_witness(grammar.terminals, grammar.nonterminals, table, grammar.entries, row, 3); }
+static void run_witness(void)
+{
+    ambiguity_check_witness(grammar.terminals, grammar.nonterminals, table, grammar.entries, callers, row, 3);
+}
 
 static void run_records(void)
 {
-    ambiguity_check_witness_records(grammar.terminals, grammar.nonterminals, table, grammar.entries, records, 3);
+    ambiguity_check_witness_records(grammar.terminals, grammar.nonterminals, table, grammar.entries, callers, records, 3);
 }
 
 static void run_search(void)
 {
     ambiguity_search_reply reply =
-        ambiguity_search(grammar.terminals, grammar.nonterminals, table, grammar.entries, certificate, sizeof certificate, queue,
-                         ROW, parents, ROW, witness, ROW);
+        ambiguity_search(grammar.terminals, grammar.nonterminals, table, grammar.entries, callers, certificate, sizeof certificate,
+                         queue, ROW, parents, ROW, witness, ROW);
     verdict = reply.verdict;
 }
 
-static void run_room(void) { ambiguity_search_room(grammar.terminals, grammar.nonterminals, table, grammar.entries); }
+static void run_room(void)
+{
+    room = ambiguity_search_room(grammar.terminals, grammar.nonterminals, table, grammar.entries, callers);
+}
 
 static void run_read(void)
 {
@@ -122,13 +130,13 @@ static void run_report(void) { ambiguity_report(text, strlen((char *)text), out,
 static void *on_thread(void *run)
 {
     uint8_t here;
-    caller = &here;
+    below = &here;
     ((void (*)(void))(size_t)run)();
     return NULL;
 }
 
 /* 1 if the function went deeper than it may. */
-static int measure(const char *name, void (*run)(void), size_t most)
+static int measure(const char *what, void (*run)(void), size_t most)
 {
     uint8_t *stack = aligned_alloc(4096, STACK);
     size_t low = 0;
@@ -140,8 +148,8 @@ static int measure(const char *name, void (*run)(void), size_t most)
         return 1;
     while (stack[low] == PAINT)
         low++;
-    size_t depth = (size_t)(caller - (stack + low));
-    printf("%s: %s uses %zu bytes of stack, may use %zu\n", depth <= most ? "ok" : "WRONG", name, depth, most);
+    size_t depth = (size_t)(below - (stack + low));
+    printf("%s: %s uses %zu bytes of stack, may use %zu\n", depth <= most ? "ok" : "WRONG", what, depth, most);
     free(stack);
     return depth > most;
 }
@@ -253,39 +261,63 @@ static int measure_joins(void)
     return wrong;
 }
 
-/* The search of the largest grammar that ends so and has this verdict. */
-static int measure_search(const char *name, const char *last, uint64_t right)
+/* The same with the number of callers. */
+static int measure_with_callers(const char *what, void (*run)(void), size_t most)
 {
-    make_text(MOST, AMBIGUITY_MAX_TERMINALS, last);
+    static char words[64];
+    sprintf(words, "%s, %zu callers", what, callers);
+    return measure(words, run, most);
+}
+
+/* The search of a grammar of so many items that ends so and has this verdict. */
+static int measure_search(const char *what, int states, const char *last, uint64_t right)
+{
+    make_text(states, AMBIGUITY_MAX_TERMINALS, last);
     run_read();
-    if (grammar.cause != AMBIGUITY_NOT_REFUSED || grammar.states != MOST)
+    if (grammar.cause != AMBIGUITY_NOT_REFUSED || grammar.states != (uint64_t)states)
         return 1;
-    return measure(name, run_search, AMBIGUITY_SEARCH_STACK_BYTES) + (verdict != right);
+    return measure_with_callers(what, run_search, AMBIGUITY_SEARCH_STACK_BYTES) + (verdict != right);
+}
+
+/* With LAST_POTENTIAL the start has one caller more: two chains of one caller, three of two. So these have 1024, 1024 and 1021 states. */
+static int measure_searches(void)
+{
+    static const int most[] = {MOST, 514, 343};
+    int wrong = measure_search("ambiguity_search, potential", most[callers], LAST_POTENTIAL, AMBIGUITY_POTENTIAL);
+    wrong += measure_search("ambiguity_search, unambiguous", MOST, LAST, AMBIGUITY_UNAMBIGUOUS);
+    wrong += measure_with_callers("ambiguity_check_certificate, accepted", run_certificate, AMBIGUITY_STACK_BYTES);
+    return wrong + (checked.cause != AMBIGUITY_NOT_REFUSED);
 }
 
 /* The report of a grammar that ends so; it begins with these lines. */
-static int measure_report(const char *name, const char *last, const char *right)
+static int measure_report(const char *what, const char *last, const char *right)
 {
     make_text(REPORT_STATES, REPORT_NAMES, last);
-    return measure(name, run_report, AMBIGUITY_REPORT_STACK_BYTES) + (memcmp(out, right, strlen(right)) != 0);
+    return measure(what, run_report, AMBIGUITY_REPORT_STACK_BYTES) + (memcmp(out, right, strlen(right)) != 0);
 }
 
-/* Of the largest grammar, all but searches and reports. */
-static int measure_grammar(void)
+/* Of the largest grammar, all that takes a text or names. */
+static int measure_names(void)
 {
     int wrong = measure("ambiguity_read_back", run_read_back, AMBIGUITY_READ_BACK_STACK_BYTES);
     wrong += read_back.cause != AMBIGUITY_NOT_REFUSED || read_back.left != LETTERS;
     wrong += measure("ambiguity_write_text", run_write, AMBIGUITY_STACK_BYTES);
     wrong += written.cause != AMBIGUITY_NOT_REFUSED || written.length != strlen((char *)text);
     wrong += measure("ambiguity_written_length", run_length, AMBIGUITY_STACK_BYTES);
-    wrong += measure("ambiguity_search_room", run_room, AMBIGUITY_STACK_BYTES);
-    wrong += measure("ambiguity_check_table", run_table, AMBIGUITY_STACK_BYTES);
-    wrong += measure("ambiguity_nth_step", run_step, AMBIGUITY_STACK_BYTES);
-    wrong += measure("ambiguity_check_witness", run_witness, AMBIGUITY_STACK_BYTES);
-    wrong += measure("ambiguity_check_witness_records", run_records, AMBIGUITY_STACK_BYTES);
+    return wrong + measure("ambiguity_check_table", run_table, AMBIGUITY_STACK_BYTES);
+}
+
+/* Of the largest grammar, whose start has one caller, so that it has as many states whatever the callers, all that takes them. */
+static int measure_callers(void)
+{
+    int wrong = measure_with_callers("ambiguity_search_room", run_room, AMBIGUITY_STACK_BYTES);
+    wrong += room.cause != AMBIGUITY_NOT_REFUSED || room.states != MOST;
+    wrong += measure_with_callers("ambiguity_nth_step", run_step, AMBIGUITY_STACK_BYTES);
+    wrong += measure_with_callers("ambiguity_check_witness", run_witness, AMBIGUITY_STACK_BYTES);
+    wrong += measure_with_callers("ambiguity_check_witness_records", run_records, AMBIGUITY_STACK_BYTES);
     make_certificate();
-    wrong += measure("ambiguity_check_certificate, refused", run_certificate, AMBIGUITY_STACK_BYTES);
-    return wrong + (checked.cause != AMBIGUITY_SUCCESSOR_MISSING);
+    wrong += measure_with_callers("ambiguity_check_certificate, refused", run_certificate, AMBIGUITY_STACK_BYTES);
+    return wrong + (checked.cause != AMBIGUITY_SUCCESSOR_MISSING) + measure_searches();
 }
 
 int main(void)
@@ -296,11 +328,9 @@ int main(void)
     if (grammar.cause != AMBIGUITY_NOT_REFUSED || grammar.states != MOST
         || grammar.terminals + grammar.nonterminals != AMBIGUITY_MAX_NAMES)
         return 1;
-    wrong += measure_grammar();
-    wrong += measure_search("ambiguity_search, potential", LAST_POTENTIAL, AMBIGUITY_POTENTIAL);
-    wrong += measure_search("ambiguity_search, unambiguous", LAST, AMBIGUITY_UNAMBIGUOUS);
-    wrong += measure("ambiguity_check_certificate, accepted", run_certificate, AMBIGUITY_STACK_BYTES);
-    wrong += checked.cause != AMBIGUITY_NOT_REFUSED;
+    wrong += measure_names();
+    for (callers = 0; callers <= AMBIGUITY_MAX_CALLERS; callers++)
+        wrong += measure_callers();
     wrong += measure_report("ambiguity_report, unambiguous", LAST, "states=46\nverdict=unambiguous\n");
     wrong += measure_report("ambiguity_report, potential", LAST_POTENTIAL, "states=46\nverdict=potential\nleft=(0 ");
     wrong += measure_long_texts();

@@ -1,7 +1,8 @@
 /* The certificate check on document 01's cases of S -> a, the witness check over records on those of S -> S; S -> a, the report,
- * and reading its two strings back; searches and texts lent just what is told beforehand, and one less; names in any case; a heating
- * module joined to the robot's text, with each kind of refusal; all fifteen functions on grammars without a sentence; and tables and
- * texts at the limits and just past them. Exits with 0 if every answer is document 01's and document 02's. */
+ * and reading its two strings back; searches and texts lent just what is told beforehand, and one less, with 0, 1 and 2 callers; names in
+ * any case; a heating module joined to the robot's text, with each kind of refusal; all fifteen functions on grammars without a sentence;
+ * too many callers and too many chains of them, and certificates of another number of callers; and tables and texts at the limits and
+ * just past them. Exits with 0 if every answer is document 01's and document 02's. */
 #include <stdio.h>
 #include <string.h>
 
@@ -44,7 +45,7 @@ static void expect(const char *what, ambiguity_check_reply reply, uint64_t cause
 
 static ambiguity_check_reply check(const uint8_t *certificate, size_t bytes)
 {
-    return ambiguity_check_certificate(1, 1, TABLE, ENTRIES(TABLE), certificate, bytes);
+    return ambiguity_check_certificate(1, 1, TABLE, ENTRIES(TABLE), 0, certificate, bytes);
 }
 
 static ambiguity_check_reply check_filled(uint8_t first, uint8_t others)
@@ -57,7 +58,7 @@ static ambiguity_check_reply check_filled(uint8_t first, uint8_t others)
 
 static ambiguity_check_reply check_records(size_t records_entries)
 {
-    return ambiguity_check_witness_records(1, 1, CYCLE, ENTRIES(CYCLE), WITNESS, records_entries);
+    return ambiguity_check_witness_records(1, 1, CYCLE, ENTRIES(CYCLE), 0, WITNESS, records_entries);
 }
 
 /* The witness with another record at a place. */
@@ -66,7 +67,7 @@ static ambiguity_check_reply check_other(size_t place, uint32_t layer, uint32_t 
     ambiguity_triple_record records[WITNESS_ENTRIES];
     memcpy(records, WITNESS, sizeof WITNESS);
     records[place] = (ambiguity_triple_record){layer, left, right};
-    return ambiguity_check_witness_records(1, 1, CYCLE, ENTRIES(CYCLE), records, WITNESS_ENTRIES);
+    return ambiguity_check_witness_records(1, 1, CYCLE, ENTRIES(CYCLE), 0, records, WITNESS_ENTRIES);
 }
 
 /* The report of a text is these lines, at the front of what is lent; one byte less is refused and stays as it was. */
@@ -143,8 +144,8 @@ static const uint8_t NO_NAMES[] = {0};
 /* So with no rules; and what is acceptable of them in document 01's automaton, where every rule has moves, rule 0 too. */
 static const uint8_t NONE_CERTIFICATES[][4] = {{0x01}, {0x05, 0x85}};
 
-/* Rows for grammars of up to 27 states. */
-#define LENT AMBIGUITY_ROW_ENTRIES(27)
+/* Rows for grammars of up to 93 states. */
+#define LENT AMBIGUITY_ROW_ENTRIES(93)
 
 static uint8_t lent_bytes[LENT];
 static uint16_t lent_table[LENT];
@@ -180,31 +181,53 @@ static void expect_no_sentence(const char *what, uint64_t cause, uint64_t at, ui
     wrong += !right;
 }
 
-/* All functions that take a table, with rows of so many entries: certificate, witness and names are at fault too. */
+/* A table, with how many callers are remembered. */
+struct asked {
+    size_t t, n;
+    const uint16_t *table;
+    size_t entries, callers;
+};
+
+/* All six functions that take callers refuse this, with rows of so many entries: certificate, witness and rows are at fault too. No other
+ * field of a reply is set, and nothing that is lent has changed. */
+static void expect_refused(const char *what, struct asked in, size_t lent, uint64_t cause, uint64_t at)
+{
+    ambiguity_step_reply step = ambiguity_nth_step(in.t, in.n, in.table, in.entries, in.callers, lent, 0, 0, 0);
+    ambiguity_check_reply certificate = ambiguity_check_certificate(in.t, in.n, in.table, in.entries, in.callers, lent_bytes, lent);
+    ambiguity_check_reply witness = ambiguity_check_witness(in.t, in.n, in.table, in.entries, in.callers, lent_rows[0], lent);
+    ambiguity_check_reply records =
+        ambiguity_check_witness_records(in.t, in.n, in.table, in.entries, in.callers, WITNESS, lent == 0 ? 0 : WITNESS_ENTRIES);
+    ambiguity_search_reply search = ambiguity_search(in.t, in.n, in.table, in.entries, in.callers, lent_bytes, lent, lent_rows[0], lent,
+                                                     lent_rows[1], lent, lent_rows[2], lent);
+    ambiguity_room_reply room = ambiguity_search_room(in.t, in.n, in.table, in.entries, in.callers);
+    uint64_t others = step.kind | step.layer | step.left | step.right | step.on_left.moved | step.on_left.number | step.on_right.moved
+        | step.on_right.number | search.verdict | search.count | search.looked | room.states | room.certificate | room.entries | room.moves;
+    uint64_t causes[] = {step.cause, certificate.cause, witness.cause, records.cause, search.cause, room.cause};
+    uint64_t places[] = {step.at, certificate.at, witness.at, records.at, search.at, room.at};
+    int right = others == 0 && is_kept(0, 0, 0, 0);
+    size_t i;
+    for (i = 0; i < ENTRIES(causes); i++)
+        right = right && causes[i] == cause && places[i] == at;
+    printf("%s: %s, %zu callers, lent %zu, cause %llu at %llu\n", right ? "ok" : "WRONG", what, in.callers, lent,
+           (unsigned long long)search.cause, (unsigned long long)search.at);
+    wrong += !right;
+}
+
+/* All functions that take a table, with rows of so many entries: certificate, witness, names and callers are at fault too. */
 static void expect_table_without_sentence(size_t lent)
 {
     ambiguity_table_reply table = ambiguity_check_table(0, 1, ENDLESS, ENTRIES(ENDLESS));
-    ambiguity_step_reply step = ambiguity_nth_step(0, 1, ENDLESS, ENTRIES(ENDLESS), 0, 0, 0, 0);
-    ambiguity_check_reply certificate = ambiguity_check_certificate(0, 1, ENDLESS, ENTRIES(ENDLESS), lent_bytes, lent);
-    ambiguity_check_reply witness = ambiguity_check_witness(0, 1, ENDLESS, ENTRIES(ENDLESS), lent_rows[0], lent);
-    ambiguity_check_reply records = ambiguity_check_witness_records(0, 1, ENDLESS, ENTRIES(ENDLESS), WITNESS, lent == 0 ? 0 : 1);
-    ambiguity_search_reply search = ambiguity_search(0, 1, ENDLESS, ENTRIES(ENDLESS), lent_bytes, lent, lent_rows[0], lent,
-                                                     lent_rows[1], lent, lent_rows[2], lent);
     ambiguity_write_reply written = ambiguity_write_text(0, 1, ENDLESS, ENTRIES(ENDLESS), NO_NAMES, 0, lent_rows[0], lent,
                                                          lent_rows[1], lent, lent_bytes, lent);
-    ambiguity_room_reply room = ambiguity_search_room(0, 1, ENDLESS, ENTRIES(ENDLESS));
     ambiguity_length_reply length = ambiguity_written_length(0, 1, ENDLESS, ENTRIES(ENDLESS), NO_NAMES, 0, lent_rows[0], lent,
                                                              lent_rows[1], lent);
+    size_t callers;
     expect_no_sentence("table check", table.cause, table.at, table.states);
-    expect_no_sentence("step record", step.cause, step.at,
-                       step.kind | step.layer | step.left | step.right | step.on_left.moved | step.on_right.moved);
-    expect_no_sentence("certificate check", certificate.cause, certificate.at, 0);
-    expect_no_sentence("witness check", witness.cause, witness.at, 0);
-    expect_no_sentence("witness check over records", records.cause, records.at, 0);
-    expect_no_sentence("search", search.cause, search.at, search.verdict | search.count | search.looked);
     expect_no_sentence("writer", written.cause, written.at, written.length);
-    expect_no_sentence("room of a search", room.cause, room.at, room.states | room.certificate | room.entries | room.moves);
     expect_no_sentence("written length", length.cause, length.at, length.length);
+    for (callers = 0; callers <= AMBIGUITY_MAX_CALLERS + 1; callers++)
+        expect_refused("no sentence", (struct asked){0, 1, ENDLESS, ENTRIES(ENDLESS), callers}, lent, AMBIGUITY_NO_SENTENCE, 0);
+    expect_refused("no sentence", (struct asked){0, 1, ENDLESS, ENTRIES(ENDLESS), SIZE_MAX}, lent, AMBIGUITY_NO_SENTENCE, 0);
 }
 
 /* The functions that take a text and refuse it, with rows of so many entries; the two lines, and the module, are at fault too. */
@@ -234,10 +257,10 @@ static void expect_without_sentence(void)
     expect_text_without_sentence(0);
     expect_text_without_sentence(LENT);
     expect("a certificate of S -> S",
-           ambiguity_check_certificate(0, 1, ENDLESS, ENTRIES(ENDLESS), ENDLESS_CERTIFICATE, sizeof ENDLESS_CERTIFICATE),
+           ambiguity_check_certificate(0, 1, ENDLESS, ENTRIES(ENDLESS), 0, ENDLESS_CERTIFICATE, sizeof ENDLESS_CERTIFICATE),
            AMBIGUITY_NO_SENTENCE, 0);
     for (i = 0; i < 2; i++)
-        expect("a certificate of no rules", ambiguity_check_certificate(0, 1, ENDLESS, 0, NONE_CERTIFICATES[i], 4),
+        expect("a certificate of no rules", ambiguity_check_certificate(0, 1, ENDLESS, 0, 0, NONE_CERTIFICATES[i], 4),
                AMBIGUITY_NO_SENTENCE, 0);
 }
 
@@ -330,10 +353,10 @@ static void expect_limits(void)
     expect("262145 bytes of a text", (ambiguity_check_reply){over.cause, over.at}, AMBIGUITY_MALFORMED, 0);
 }
 
-/* A table, with what a search of it is to be lent, its verdict, and how much it looks at. */
+/* A table and callers, with what a search of it is to be lent, its verdict, and how much it looks at. */
 struct told {
     const char *name;
-    size_t t, n, entries;
+    size_t t, n, entries, callers;
     const uint16_t *table;
     ambiguity_room_reply room;
     uint64_t verdict, looked;
@@ -349,12 +372,24 @@ static const uint16_t DEAD[] = {S, 1, 1, S, 1, S + 1, S + 1, 1, S + 1};
 static const uint16_t CHANNELS[] = {S, 0, S, 2, S, S + 1, S + 1, 3, 1, S + 2, 2, S + 1, 3, 3, S + 2, 2, S + 1, 4, 4, 5, S, 6,
                                     S + 2, 1, 7, S + 2, 3, S + 2, 8, 7};
 
+/* Document 02's grammar of a biology group, S -> b A c; S -> b e d; S -> A d; A -> e, and a rule B -> B that no sentence uses. The items of
+ * that rule are states at 0 callers alone: with it Q is 19 whatever the callers. */
+static const uint16_t BIOLOGY[] = {S, 3, 1, S + 1, 2, S, 3, 1, 3, 4, S, 2, S + 1, 4, S + 1, 1, 3, S + 2, 1, S + 2};
+
+#define BIOLOGY_ENTRIES (ENTRIES(BIOLOGY) - 3)
+
 static const struct told TOLD[] = {
-    {"room of S -> a", 1, 1, ENTRIES(TABLE), TABLE, {0, 0, 6, 9, 72, 6}, AMBIGUITY_UNAMBIGUOUS, 14},
-    {"room of S -> S; S -> a", 1, 1, ENTRIES(CYCLE), CYCLE, {0, 0, 8, 16, 128, 13}, AMBIGUITY_POTENTIAL, 55},
-    {"room of S -> ; S -> S S", 0, 1, ENTRIES(PAIRS), PAIRS, {0, 0, 8, 16, 128, 17}, AMBIGUITY_POTENTIAL, 235},
-    {"room of S -> a; S -> A; A -> A", 1, 2, ENTRIES(DEAD), DEAD, {0, 0, 10, 25, 200, 6}, AMBIGUITY_UNAMBIGUOUS, 14},
-    {"room of the eight-channel command set", 8, 3, ENTRIES(CHANNELS), CHANNELS, {0, 0, 27, 183, 1458, 49}, AMBIGUITY_UNAMBIGUOUS, 163},
+    {"room of S -> a", 1, 1, ENTRIES(TABLE), 0, TABLE, {0, 0, 6, 9, 72, 6}, AMBIGUITY_UNAMBIGUOUS, 14},
+    {"room of S -> S; S -> a", 1, 1, ENTRIES(CYCLE), 0, CYCLE, {0, 0, 8, 16, 128, 13}, AMBIGUITY_POTENTIAL, 55},
+    {"room of S -> ; S -> S S", 0, 1, ENTRIES(PAIRS), 0, PAIRS, {0, 0, 8, 16, 128, 17}, AMBIGUITY_POTENTIAL, 235},
+    {"room of S -> a; S -> A; A -> A", 1, 2, ENTRIES(DEAD), 0, DEAD, {0, 0, 10, 25, 200, 6}, AMBIGUITY_UNAMBIGUOUS, 14},
+    {"room of S -> a; S -> A; A -> A, one caller", 1, 2, ENTRIES(DEAD), 1, DEAD, {0, 0, 6, 9, 72, 6}, AMBIGUITY_UNAMBIGUOUS, 14},
+    {"room of the biology group's grammar", 4, 2, BIOLOGY_ENTRIES, 0, BIOLOGY, {0, 0, 17, 73, 578, 22}, AMBIGUITY_POTENTIAL, 106},
+    {"room of it, one caller", 4, 2, BIOLOGY_ENTRIES, 1, BIOLOGY, {0, 0, 19, 91, 722, 23}, AMBIGUITY_UNAMBIGUOUS, 83},
+    {"room of it, two callers", 4, 2, BIOLOGY_ENTRIES, 2, BIOLOGY, {0, 0, 19, 91, 722, 23}, AMBIGUITY_UNAMBIGUOUS, 83},
+    {"room of the eight-channel command set", 8, 3, ENTRIES(CHANNELS), 0, CHANNELS, {0, 0, 27, 183, 1458, 49}, AMBIGUITY_UNAMBIGUOUS, 163},
+    {"room of it, one caller", 8, 3, ENTRIES(CHANNELS), 1, CHANNELS, {0, 0, 47, 553, 4418, 89}, AMBIGUITY_UNAMBIGUOUS, 443},
+    {"room of it, two callers", 8, 3, ENTRIES(CHANNELS), 2, CHANNELS, {0, 0, 93, 2163, 17298, 173}, AMBIGUITY_UNAMBIGUOUS, 1369},
 };
 
 static int expect_room(const char *what, ambiguity_room_reply room, ambiguity_room_reply expected)
@@ -375,8 +410,8 @@ static void expect_search(const struct told *told, ambiguity_room_reply room, in
     size_t bytes = room.certificate - (less == 1), queue = room.entries - (less == 2), parents = room.entries - (less == 3),
            witness = room.entries - (less == 4);
     fill_lent();
-    ambiguity_search_reply reply = ambiguity_search(told->t, told->n, told->table, told->entries, lent_bytes, bytes, lent_rows[0],
-                                                    queue, lent_rows[1], parents, lent_rows[2], witness);
+    ambiguity_search_reply reply = ambiguity_search(told->t, told->n, told->table, told->entries, told->callers, lent_bytes, bytes,
+                                                    lent_rows[0], queue, lent_rows[1], parents, lent_rows[2], witness);
     int refused = reply.cause == AMBIGUITY_BUFFER_TOO_SHORT && reply.at == 0 && reply.verdict == AMBIGUITY_NO_VERDICT
         && reply.count == 0 && reply.looked == 0 && is_kept(0, 0, 0, 0);
     int found = reply.cause == AMBIGUITY_NOT_REFUSED && reply.verdict == told->verdict && reply.looked == told->looked
@@ -393,13 +428,97 @@ static void expect_rooms(void)
     int less;
     for (i = 0; i < ENTRIES(TOLD); i++) {
         const struct told *told = &TOLD[i];
-        ambiguity_room_reply room = ambiguity_search_room(told->t, told->n, told->table, told->entries);
+        ambiguity_room_reply room = ambiguity_search_room(told->t, told->n, told->table, told->entries, told->callers);
         if (expect_room(told->name, room, told->room))
             for (less = 0; less <= 4; less++)
                 expect_search(told, room, less);
     }
-    expect_room("the room of a table cut", ambiguity_search_room(1, 1, CYCLE, 5), (ambiguity_room_reply){2, 3, 0, 0, 0, 0});
-    expect_room("the room with 2001 terminals", ambiguity_search_room(2001, 1, CYCLE, 5), (ambiguity_room_reply){1, 0, 0, 0, 0, 0});
+    expect_room("the room of a table cut", ambiguity_search_room(1, 1, CYCLE, 5, 0), (ambiguity_room_reply){2, 3, 0, 0, 0, 0});
+    expect_room("the room with 2001 terminals", ambiguity_search_room(2001, 1, CYCLE, 5, 0), (ambiguity_room_reply){1, 0, 0, 0, 0, 0});
+}
+
+/* The certificate that a search of the biology group's grammar with one caller writes, checked with others. With one caller S -> . A d,
+ * state 12, opens state 16, since 15 is for the earlier caller; at 0 callers it opens 15. */
+static void expect_other_callers(void)
+{
+    size_t bytes = AMBIGUITY_CERTIFICATE_BYTES(19), entries = AMBIGUITY_ROW_ENTRIES(19);
+    fill_lent();
+    ambiguity_search_reply found = ambiguity_search(4, 2, BIOLOGY, BIOLOGY_ENTRIES, 1, lent_bytes, bytes, lent_rows[0], entries,
+                                                    lent_rows[1], entries, lent_rows[2], entries);
+    expect("a search with one caller", (ambiguity_check_reply){found.cause, found.at}, AMBIGUITY_NOT_REFUSED, 0);
+    expect("its certificate with one caller", ambiguity_check_certificate(4, 2, BIOLOGY, BIOLOGY_ENTRIES, 1, lent_bytes, bytes), 0, 0);
+    expect("its certificate at 0 callers", ambiguity_check_certificate(4, 2, BIOLOGY, BIOLOGY_ENTRIES, 0, lent_bytes, bytes),
+           AMBIGUITY_CERTIFICATE_LENGTH, 0);
+    expect("its certificate at 0 callers, with as many states",
+           ambiguity_check_certificate(4, 3, BIOLOGY, ENTRIES(BIOLOGY), 0, lent_bytes, bytes), AMBIGUITY_SUCCESSOR_MISSING, 12);
+    expect("its certificate with two callers, where the states are the same",
+           ambiguity_check_certificate(4, 2, BIOLOGY, BIOLOGY_ENTRIES, 2, lent_bytes, bytes), 0, 0);
+    expect("its certificate with three callers", ambiguity_check_certificate(4, 2, BIOLOGY, BIOLOGY_ENTRIES, 3, lent_bytes, bytes),
+           AMBIGUITY_TOO_MANY_CALLERS, 0);
+}
+
+/* S -> A .. A, twelve times, and rules of terminals: 47 items of S and `more`, 80 of A. A has 12 callers, so that with one caller, and with
+ * two, there are 1024 states and as many more. Back comes the number of entries. */
+static size_t put_chains(uint16_t *table, unsigned more)
+{
+    static const unsigned of_start[] = {12, 12, 12, 7}, of_called[] = {12, 12, 12, 12, 12, 12, 1};
+    uint16_t *end = put_rule(table, S, 12, S + 1);
+    unsigned i;
+    for (i = 0; i < ENTRIES(of_start); i++)
+        end = put_rule(end, S, of_start[i] + (i == 3 ? more : 0), i + 1);
+    for (i = 0; i < ENTRIES(of_called); i++)
+        end = put_rule(end, S + 1, of_called[i], i + 1);
+    return (size_t)(end - table);
+}
+
+/* S -> A .. A, A -> B .. B, B -> b .. b, twelve times each: B has 12 callers, and 144 chains of two. */
+static size_t put_deep_chains(uint16_t *table)
+{
+    return (size_t)(put_rule(put_rule(put_rule(table, S, 12, S + 1), S + 1, 12, S + 2), S + 2, 12, 1) - table);
+}
+
+/* What callers alone are refused for, behind the causes of the table and before all others. */
+static void expect_callers(void)
+{
+    static const size_t too_many[] = {3, 4, 255, 256, 65536, (size_t)1 << 32, SIZE_MAX};
+    uint16_t table[200];
+    size_t i, lent, entries;
+    fill_lent();
+    for (lent = 0; lent <= LENT; lent += LENT) {
+        for (i = 0; i < ENTRIES(too_many); i++) {
+            expect_refused("too many callers", (struct asked){4, 2, BIOLOGY, BIOLOGY_ENTRIES, too_many[i]}, lent,
+                           AMBIGUITY_TOO_MANY_CALLERS, 0);
+            expect_refused("a table cut", (struct asked){4, 2, BIOLOGY, BIOLOGY_ENTRIES - 1, too_many[i]}, lent, AMBIGUITY_TRUNCATED, 14);
+        }
+        entries = put_chains(table, 1);
+        for (i = 1; i <= 2; i++)
+            expect_refused("1025 states", (struct asked){7, 2, table, entries, i}, lent, AMBIGUITY_TOO_MANY_STATES, 0);
+        expect_refused("1025 states", (struct asked){7, 2, table, entries, 3}, lent, AMBIGUITY_TOO_MANY_CALLERS, 0);
+        entries = put_deep_chains(table);
+        expect_refused("144 chains", (struct asked){1, 3, table, entries, 2}, lent, AMBIGUITY_TOO_MANY_STATES, 0);
+    }
+    expect_other_callers();
+}
+
+static void expect_states(const char *what, ambiguity_room_reply room, uint64_t states)
+{
+    int right = room.cause == AMBIGUITY_NOT_REFUSED && room.states == states && room.entries == AMBIGUITY_ROW_ENTRIES(states)
+        && room.certificate == AMBIGUITY_CERTIFICATE_BYTES(states);
+    printf("%s: %s, %llu states\n", right ? "ok" : "WRONG", what, (unsigned long long)room.states);
+    wrong += !right;
+}
+
+/* The most states that there are with callers. */
+static void expect_chains(void)
+{
+    uint16_t table[200];
+    size_t entries = put_chains(table, 0);
+    expect_states("chains without callers", ambiguity_search_room(7, 2, table, entries, 0), 144);
+    expect_states("chains of one caller", ambiguity_search_room(7, 2, table, entries, 1), 1024);
+    expect_states("chains of two callers", ambiguity_search_room(7, 2, table, entries, 2), 1024);
+    entries = put_deep_chains(table);
+    expect_states("deep chains without callers", ambiguity_search_room(1, 3, table, entries, 0), 43);
+    expect_states("deep chains of one caller", ambiguity_search_room(1, 3, table, entries, 1), 329);
 }
 
 /* The names of S -> S; S -> a in CYCLE_TEXT, and such as are malformed or doubled. */
@@ -644,7 +763,7 @@ int main(void)
     expect("all zero", check_filled(0x00, 0x00), AMBIGUITY_START_MISSING, 0);
     expect("all 0xFF", check_filled(0xFF, 0xFF), AMBIGUITY_END_PRESENT, 43);
     expect("only bit 0", check_filled(0x01, 0x00), AMBIGUITY_SUCCESSOR_MISSING, 0);
-    expect("the table cut", ambiguity_check_certificate(1, 1, TABLE, 2, CERTIFICATE, sizeof CERTIFICATE), AMBIGUITY_TRUNCATED, 0);
+    expect("the table cut", ambiguity_check_certificate(1, 1, TABLE, 2, 0, CERTIFICATE, sizeof CERTIFICATE), AMBIGUITY_TRUNCATED, 0);
     expect("a witness as records", check_records(WITNESS_ENTRIES), AMBIGUITY_NOT_REFUSED, 0);
     expect("its first four records", check_records(4), AMBIGUITY_WITNESS_WRONG, 4);
     expect("no record", check_records(0), AMBIGUITY_WITNESS_WRONG, 0);
@@ -665,6 +784,8 @@ int main(void)
                      (ambiguity_read_back_reply){17, 2, AMBIGUITY_LINES, 0, 0});
     expect_read_back("a fault of the grammar", "", CYCLE_LINES, 0, (ambiguity_read_back_reply){16, 1, AMBIGUITY_GRAMMAR, 0, 0});
     expect_rooms();
+    expect_callers();
+    expect_chains();
     expect_lengths();
     expect_case();
     expect_joins();

@@ -1,13 +1,17 @@
 """The proved library for Python, over the shared library that bindings/shared.sh makes.
 
     grammar = ambiguity.Grammar(b"terminals=a\\nnonterminals=S\\nrule=S: a\\n")
-    found = grammar.search()
+    found = grammar.search(0)
     if found.unambiguous:
-        grammar.check(found.certificate)
+        grammar.check(0, found.certificate)
     joined = ambiguity.join(robot, module)
 
 Every verdict is the library's. What it refuses is raised as Refused, with the
-cause's number and the position. The shared library is looked for in the file
+cause's number and the position. `search` and `check` take `callers`, how many
+callers a state of the automaton remembers: 0, or 1 and then 2 where a potential
+verdict may be a false alarm. Each number has its own states and certificates,
+and a certificate is checked with the number that it was made with; `states_with`
+tells how many states there are. The shared library is looked for in the file
 that the variable AMBIGUITY_SO names, in ../lib and in ../../target/shared beside
 this file, and then where the loader looks.
 """
@@ -19,9 +23,10 @@ from typing import List, NamedTuple, Optional
 MAX_TABLE_ENTRIES = 1420  # enough for any grammar
 MAX_NAMES = 4000
 MAX_TEXT_BYTES = 262144
+MAX_CALLERS = 2           # that a state remembers
 UNAMBIGUOUS = 1
 MODULE = 2                # of two texts that are joined; the robot's is 1
-BUFFER_TOO_SHORT, NO_SENTENCE = 14, 19
+BUFFER_TOO_SHORT, NO_SENTENCE, TOO_MANY_CALLERS = 14, 19, 21
 HERE = os.path.dirname(os.path.abspath(__file__))
 
 Numbers = ctypes.c_uint64
@@ -42,6 +47,7 @@ SEARCH = reply("verdict", "count", "looked")
 CHECK = reply()
 WRITE = reply("length")
 TABLE = [Size, Size, Codes, Size]
+CALLERS = TABLE + [Size]
 TEXTS = [Bytes, Size, Bytes, Size]
 
 
@@ -59,9 +65,9 @@ def opened() -> ctypes.CDLL:
     library = ctypes.CDLL(found)
     types = {
         "ambiguity_read_text": (READ, [Bytes, Size, Codes, Size, Row, Size, Row, Size]),
-        "ambiguity_search_room": (ROOM, TABLE),
-        "ambiguity_search": (SEARCH, TABLE + [Bytes, Size, Row, Size, Row, Size, Row, Size]),
-        "ambiguity_check_certificate": (CHECK, TABLE + [Bytes, Size]),
+        "ambiguity_search_room": (ROOM, CALLERS),
+        "ambiguity_search": (SEARCH, CALLERS + [Bytes, Size, Row, Size, Row, Size, Row, Size]),
+        "ambiguity_check_certificate": (CHECK, CALLERS + [Bytes, Size]),
         "ambiguity_join_texts": (READ, TEXTS + [Codes, Size]),
         "ambiguity_joined_name": (PART, TEXTS + [Size]),
         "ambiguity_write_joined": (WRITE, TEXTS + [Bytes, Size]),
@@ -83,7 +89,7 @@ def version() -> str:
 
 
 class Refused(ValueError):
-    """What the library refuses: `cause` is a number from 1 to 20, `at` a position. Where two texts are joined, `part` says what is
+    """What the library refuses: `cause` is a number from 1 to 21, `at` a position. Where two texts are joined, `part` says what is
     refused: "robot", "module" or "join"."""
 
     def __init__(self, cause: int, at: int, part: Optional[str] = None) -> None:
@@ -110,14 +116,19 @@ def taken(answer):
     return answer
 
 
+def small(callers: int) -> int:
+    """A number of callers that ctypes does not cut: too large or too small a one is refused as three are."""
+    return callers if 0 <= callers <= MAX_CALLERS else MAX_CALLERS + 1
+
+
 def lent(data: bytes):
     """Bytes as a row; a row of none has a place too."""
     return (ctypes.c_uint8 * max(1, len(data))).from_buffer_copy(data or b"\0")
 
 
 class Grammar:
-    """A grammar that was read from its text: `states` is Q, `names` are terminals, then nonterminals, as they are declared. Names that
-    differ only in the case of ASCII letters are the same."""
+    """A grammar that was read from its text: `states` is Q at 0 callers, `names` are terminals, then nonterminals, as they are declared.
+    Names that differ only in the case of ASCII letters are the same."""
 
     def __init__(self, text: bytes) -> None:
         table = (ctypes.c_uint16 * MAX_TABLE_ENTRIES)()
@@ -130,20 +141,24 @@ class Grammar:
         self.names = [text[start:start + length].decode("ascii") for start, length in places]
         self._table = self.terminals, self.nonterminals, table, read.entries
 
-    def search(self) -> Searched:
-        """The verdict, lent just what the library says beforehand."""
-        room = taken(LIBRARY.ambiguity_search_room(*self._table))
+    def states_with(self, callers: int) -> int:
+        """Q with so many callers. Raises Refused with 21 for more than two, with 8 if the states do not fit."""
+        return taken(LIBRARY.ambiguity_search_room(*self._table, small(callers))).states
+
+    def search(self, callers: int) -> Searched:
+        """The verdict with so many callers, lent just what the library says beforehand. Raises Refused as states_with does."""
+        room = taken(LIBRARY.ambiguity_search_room(*self._table, small(callers)))
         certificate = (ctypes.c_uint8 * room.certificate)()
         queue, parents, witness = ((ctypes.c_uint32 * room.entries)() for _ in range(3))
         rows = [part for row in (queue, parents, witness) for part in (row, room.entries)]
-        found = taken(LIBRARY.ambiguity_search(*self._table, certificate, room.certificate, *rows))
+        found = taken(LIBRARY.ambiguity_search(*self._table, callers, certificate, room.certificate, *rows))
         if found.verdict == UNAMBIGUOUS:
             return Searched(True, found.looked, found.count, bytes(certificate), None)
         return Searched(False, found.looked, None, None, witness[:found.count])
 
-    def check(self, certificate: bytes) -> None:
-        """Raises Refused unless the certificate is acceptable: then no sentence has two derivation trees."""
-        taken(LIBRARY.ambiguity_check_certificate(*self._table, lent(certificate), len(certificate)))
+    def check(self, callers: int, certificate: bytes) -> None:
+        """Raises Refused unless the certificate is acceptable with so many callers: then no sentence has two derivation trees."""
+        taken(LIBRARY.ambiguity_check_certificate(*self._table, small(callers), lent(certificate), len(certificate)))
 
 
 class Joined(NamedTuple):

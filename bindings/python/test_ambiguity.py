@@ -1,4 +1,4 @@
-"""Compares the module ambiguity with the second program on the corpus, alone and joined.
+"""Compares the module ambiguity with the second program on the corpus, alone and joined, and with figures of remembered callers.
 
     test_ambiguity.py FOLDER REPOSITORY     FOLDER holds the module that is tried
 """
@@ -38,13 +38,59 @@ def compare(entry):
         return
     grammar, found = ambiguity.Grammar(text), found_in(text)
     assert (grammar.states, grammar.names) == (entry.states, found.names), entry.name
-    searched, expected = grammar.search(), search(*found.table, needed(grammar.states))
-    if isinstance(expected, Potential):
-        assert not searched.unambiguous and searched.witness == list(expected.witness), entry.name
+    for callers in range(3):
+        compare_with(grammar, found.table, callers)
+
+
+def compare_with(grammar, table, callers):
+    """One grammar with so many callers; what both refuse is 8, where the states do not fit."""
+    refused = refusal(grammar.states_with, callers)
+    if refused is not None:
+        assert refused == search(*table, needed(0), callers) == (8, 0), table
         return
-    assert (searched.size, searched.certificate) == (expected.size, expected.certificate), entry.name
-    grammar.check(searched.certificate)
-    assert refusal(grammar.check, bytes(len(searched.certificate))) == (11, 0), entry.name
+    states = grammar.states_with(callers)
+    if states > SMALL:
+        return
+    searched, expected = grammar.search(callers), search(*table, needed(states), callers)
+    if isinstance(expected, Potential):
+        assert not searched.unambiguous and searched.witness == list(expected.witness), table
+        return
+    assert (searched.size, searched.certificate) == (expected.size, expected.certificate), table
+    grammar.check(callers, searched.certificate)
+    assert refusal(grammar.check, callers, bytes(len(searched.certificate))) == (11, 0), table
+
+
+def callers_in(grammar):
+    """Q and size with 0, 1 and 2 callers; None where the verdict is potential. Certificates hold with the callers of their own."""
+    figures = []
+    for callers in range(3):
+        found = grammar.search(callers)
+        figures.append((grammar.states_with(callers), found.size))
+        if found.unambiguous:
+            grammar.check(callers, found.certificate)
+            for other in range(3):
+                same = grammar.states_with(other) == grammar.states_with(callers)
+                assert refusal(grammar.check, other, found.certificate) == (None if same else (9, 0))
+    for callers in 3, -1, 2 ** 64 - 1, 2 ** 64, 2 ** 64 + 1:
+        for call in grammar.states_with, grammar.search, lambda callers: grammar.check(callers, b""):
+            assert refusal(call, callers) == (21, 0), callers
+    return figures
+
+
+def compare_callers():
+    """Document 02's figures, and a grammar whose chains of callers are too many."""
+    biology = ambiguity.Grammar(
+        b"terminals=b,c,d,e\nnonterminals=S,A\nrule=S: b A c\nrule=S: b e d\nrule=S: A d\nrule=A: e\n")
+    assert callers_in(biology) == [(17, None), (19, 58), (19, 58)] and biology.states == 17
+    assert biology.search(1).certificate == biology.search(2).certificate
+    channels = ambiguity.Grammar(
+        b"terminals=take,vol,give,repeat,num,close,ch,sep\nnonterminals=P,K,L\nrule=P:\nrule=P: P K\nrule=K: take L vol\n"
+        b"rule=K: give L vol\nrule=K: repeat num P close\nrule=L: ch\nrule=L: L sep ch\n")
+    assert callers_in(channels) == [(27, 90), (47, 214), (93, 694)]
+    rules = b"".join(b"rule=S:%s\n" % (b" S" * length) for length in range(13))
+    many = ambiguity.Grammar(b"terminals=\nnonterminals=S\n" + rules)
+    assert [refusal(many.search, callers) for callers in range(4)] == [None, (8, 0), (8, 0), (21, 0)]
+    assert refusal(many.check, 1, b"") == refusal(many.states_with, 2) == (8, 0)
 
 
 def compare_joined(robot, module):
@@ -107,17 +153,18 @@ def main():
     largest = max(entries(), key=lambda entry: entry.states)
     grammar = ambiguity.Grammar(text_in(largest.name))
     assert grammar.states == largest.states and len(grammar.names) == grammar.terminals + grammar.nonterminals
-    found = grammar.search()
+    found = grammar.search(0)
     assert (found.unambiguous, found.size) == (largest.size is not None, largest.size)
     names = b",".join(b"t%d" % place for place in range(2000))
     most = ambiguity.Grammar(b"terminals=" + names + b"\nnonterminals=" + names.replace(b"t", b"N") + b"\nrule=N0:\n")
-    assert (len(most.names), most.names[-1], most.search().size) == (4000, "N1999", 10)
+    assert (len(most.names), most.names[-1], most.search(0).size) == (4000, "N1999", 10)
     mixed = b"terminals=take,Vol\nnonterminals=Step\nrule=STEP: Take vol step\nrule=step:\n"
     assert ambiguity.Grammar(mixed).names == ["take", "Vol", "Step"]
     declared = b"terminals=take,Vol\nnonterminals=Step\nrule=Step: take Vol Step\nrule=Step:\n"
-    assert ambiguity.Grammar(mixed).search() == ambiguity.Grammar(declared).search()
+    assert ambiguity.Grammar(mixed).search(0) == ambiguity.Grammar(declared).search(0)
     assert refusal(ambiguity.Grammar, mixed.replace(b"Step", b"Step,TAKE", 1)) == (18, 2)
     assert refusal(ambiguity.Grammar, b"") == (16, 1) and refusal(ambiguity.Grammar, b"\xff" * 262_145) == (16, 0)
+    compare_callers()
     print("%d grammars, %d pairs of them joined or refused (%d)" % (len(small), *compare_joins(small)))
 
 

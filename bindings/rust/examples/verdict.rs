@@ -8,13 +8,13 @@ fn main() -> Result<(), Box<dyn Error>> {
     let path = std::env::args_os().nth(1).ok_or("usage: verdict FILE")?;
     let grammar = Grammar::read(&std::fs::read(path)?).map_err(|refusal| format!("{refusal:#}"))?;
     println!("states={}", grammar.states());
-    match grammar.search() {
+    match grammar.search(0)? {
         Searched::Unambiguous { certificate, size, .. } => {
-            grammar.check(&certificate)?;
+            grammar.check(0, &certificate)?;
             println!("verdict=unambiguous\nreached={size}");
         }
         Searched::Potential { witness, .. } => {
-            let strings = grammar.strings(&witness).ok_or("the witness is none of this grammar")?;
+            let strings = grammar.strings(0, &witness).ok_or("the witness is none of this grammar")?;
             print!("verdict=potential\n{}", grammar.lines(&strings).ok_or("a letter is none of this grammar")?);
         }
     }

@@ -29,6 +29,7 @@ impl Cause {
             Cause::NameRepeated => "a name is declared twice",
             Cause::NoSentence => "the start has no finite tree, so there is no sentence",
             Cause::KindsClash => "a name is a terminal in one text and a nonterminal in the other",
+            Cause::TooManyCallers => "more callers are to be remembered than two",
         }
     }
 }

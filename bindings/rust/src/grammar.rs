@@ -55,9 +55,24 @@ impl Searched {
 /// use ambiguity::{Grammar, Searched};
 ///
 /// let grammar = Grammar::read(b"terminals=a\nnonterminals=S\nrule=S: a\n")?;
-/// let Searched::Unambiguous { certificate, size, looked } = grammar.search() else { panic!("S: a has one tree") };
+/// let Searched::Unambiguous { certificate, size, looked } = grammar.search(0)? else { panic!("S: a has one tree") };
 /// assert_eq!((grammar.states(), size, looked), (6, 11, 14));
-/// grammar.check(&certificate)?;
+/// grammar.check(0, &certificate)?;
+/// # Ok::<(), ambiguity::Refusal>(())
+/// ```
+///
+/// The number says how many callers a state remembers. With one, document 02's grammar of a biology group has a certificate:
+///
+/// ```
+/// use ambiguity::{Grammar, Searched};
+///
+/// let text = b"terminals=b,c,d,e\nnonterminals=S,A\nrule=S: b A c\nrule=S: b e d\nrule=S: A d\nrule=A: e\n";
+/// let grammar = Grammar::read(text)?;
+/// assert!(matches!(grammar.search(0)?, Searched::Potential { .. }));
+/// let Searched::Unambiguous { certificate, .. } = grammar.search(1)? else { panic!("A: e remembers who called it") };
+/// grammar.check(1, &certificate)?;
+/// assert_eq!(grammar.check(0, &certificate).unwrap_err().to_string(), "refused=9 at=0");
+/// assert_eq!((grammar.states(), grammar.room(1)?.states), (17, 19));
 /// # Ok::<(), ambiguity::Refusal>(())
 /// ```
 #[derive(Clone, Debug, PartialEq, Eq)]
@@ -140,45 +155,51 @@ impl Grammar {
         String::from_utf8(text).expect("grammar text is ASCII")
     }
 
-    /// What a search of the grammar is lent, and how many moves its automaton has. [`search`](Grammar::search) lends that itself: four
-    /// bytes for each entry of three rows, and the certificate.
+    /// What a search of the grammar with so many callers is lent, and how many moves its automaton has. [`search`](Grammar::search) lends
+    /// that itself: four bytes for each entry of three rows, and the certificate.
+    ///
+    /// # Errors
+    ///
+    /// 21, then 8, at 0: too many callers, or too many states with these callers. At 0 callers there are none.
     ///
     /// ```
     /// let grammar = ambiguity::Grammar::read(b"terminals=a\nnonterminals=S\nrule=S: S a\nrule=S: a\n")?;
-    /// let room = grammar.room();
+    /// let room = grammar.room(0)?;
     /// assert_eq!((room.states, room.moves), (9, 14));
     /// assert_eq!(room.certificate + 3 * 4 * room.entries, 1965);
     /// # Ok::<(), ambiguity::Refusal>(())
     /// ```
-    #[must_use]
-    pub fn room(&self) -> Room {
-        search_room(self.table()).expect("a grammar that was read has a room")
+    pub fn room(&self, callers: usize) -> Result<Room, Refusal> {
+        search_room(self.table(), callers)
     }
 
-    /// Searches the grammar; the rows are lent here, just as long as they must be.
-    #[must_use]
-    pub fn search(&self) -> Searched {
-        let room = self.room();
+    /// Searches the grammar with so many callers; the rows are lent here, just as long as they must be.
+    ///
+    /// # Errors
+    ///
+    /// Those of [`room`](Grammar::room); at 0 callers there are none.
+    pub fn search(&self, callers: usize) -> Result<Searched, Refusal> {
+        let room = self.room(callers)?;
         let mut certificate = vec![0; room.certificate];
         let row = || vec![0; room.entries];
         let (mut queue, mut parents, mut witness) = (row(), row(), row());
-        let verdict = search(self.table(), &mut certificate, &mut queue, &mut parents, &mut witness);
-        match verdict.expect("a search that is lent enough is not refused") {
+        let verdict = search(self.table(), callers, &mut certificate, &mut queue, &mut parents, &mut witness)?;
+        Ok(match verdict {
             Verdict::Unambiguous { size, looked } => Searched::Unambiguous { certificate, size, looked },
             Verdict::Potential { entries, looked } => {
                 witness.truncate(entries);
                 Searched::Potential { witness, looked }
             }
-        }
+        })
     }
 
-    /// Checks a certificate. If it is accepted, no sentence has two derivation trees.
+    /// Checks a certificate that was made with so many callers. If it is accepted, no sentence has two derivation trees.
     ///
     /// # Errors
     ///
-    /// Causes 9 to 13, with their positions.
-    pub fn check(&self, certificate: &[u8]) -> Result<(), Refusal> {
-        check_certificate(self.table(), certificate)
+    /// 21, 8, then causes 9 to 13, with their positions.
+    pub fn check(&self, callers: usize, certificate: &[u8]) -> Result<(), Refusal> {
+        check_certificate(self.table(), callers, certificate)
     }
 
     /// The table, for the functions that take one.
@@ -187,7 +208,7 @@ impl Grammar {
         Table { terminals: self.terminals, nonterminals: self.names.len() - self.terminals, rules: &self.entries }
     }
 
-    /// Q, the number of states.
+    /// Q, the number of states, at 0 callers; [`room`](Grammar::room) tells it with more.
     #[must_use]
     pub fn states(&self) -> usize {
         self.states
@@ -236,8 +257,12 @@ mod tests {
     #[test]
     fn a_witness_is_accepted() {
         let grammar = Grammar::read(b"terminals=a\nnonterminals=S\nrule=S: S\nrule=S: a\n").unwrap();
-        let Searched::Potential { witness, .. } = grammar.search() else { panic!("S: S is taken any number of times") };
-        assert_eq!(crate::check_witness(grammar.table(), &witness), Ok(()));
-        assert_eq!(grammar.check(&[]).unwrap_err().cause.number(), 9);
+        for callers in 0..=crate::MAX_CALLERS {
+            let found = grammar.search(callers).unwrap();
+            let Searched::Potential { witness, .. } = found else { panic!("S: S is taken any number of times") };
+            assert_eq!(crate::check_witness(grammar.table(), callers, &witness), Ok(()));
+            assert_eq!(grammar.check(callers, &[]).unwrap_err().cause.number(), 9);
+        }
+        assert_eq!(grammar.search(3).unwrap_err().to_string(), "refused=21 at=0");
     }
 }

@@ -12,6 +12,15 @@
 //! joined, among those that the writer is given, and in two lines that are read back. What is written has the declared spelling. Keys,
 //! as `rule=`, are no names.
 //!
+//! Searches and checks take `callers`, how many callers a state of the automaton remembers: 0, 1 or 2. At 0 a state is an item, a place in
+//! a rule, and a rule that ends returns to every place that may have called it. At 1 or 2 a state is an item with its nearest calling
+//! items, and a rule that ends returns to its nearest caller, so that fewer alarms are false. A rule then has its states once for each
+//! chain of its callers: [`search_room`] tells Q, rows grow with Q squared, and the automaton is built in time that grows with Q. Begin with
+//! 0; where the verdict is potential and you believe it to be a false alarm, try 1, then 2. Unambiguous at some number stays so at the next,
+//! where the states fit. Whatever the number, an accepted certificate says that no sentence has two derivation trees; it holds with the
+//! number that it was made with. More than [`MAX_CALLERS`] are refused with 21 at 0, behind the causes of the table; then more than
+//! [`MAX_STATES`] states with these callers with 8 at 0.
+//!
 //! [`Grammar`] owns its rows: read a text, or two that are joined ([`join`]), search it, check a certificate, read two strings back. The
 //! functions below it lend rows.
 
@@ -44,6 +53,8 @@ pub const MAX_NONTERMINALS: usize = 2_000;
 pub const MAX_RULES: usize = 400;
 /// Document 02's limit of states.
 pub const MAX_STATES: usize = 1_024;
+/// The most callers that a state remembers.
+pub const MAX_CALLERS: usize = 2;
 /// Document 02's limit of a text's bytes.
 pub const MAX_TEXT_BYTES: usize = 262_144;
 
@@ -126,7 +137,7 @@ pub struct TripleRecord {
 ///
 /// `looked` is the number of choices of moves that give a successor, each choice counted, over all triples that are reached from
 /// (0,0,0). Each of these is taken up once; of its successors the code may try fewer, since it leaves out blocks that were had. The
-/// figure depends on the table alone, and is at most [`Room::most_looked`].
+/// figure depends on the table and the callers alone, and is at most [`Room::most_looked`].
 #[derive(Clone, Copy, Debug, PartialEq, Eq)]
 pub enum Verdict {
     /// No sentence has two derivation trees.
@@ -164,7 +175,7 @@ pub struct Read {
     pub nonterminals: usize,
     /// The number of the table's entries.
     pub entries: usize,
-    /// Q.
+    /// Q at 0 callers.
     pub states: usize,
 }
 
@@ -198,7 +209,7 @@ fn verdict_of(reply: &raw::SearchReply) -> Verdict {
     }
 }
 
-/// Q of a table.
+/// Q of a table, at 0 callers.
 ///
 /// # Errors
 ///
@@ -225,11 +236,18 @@ pub fn check_table(table: Table) -> Result<usize, Refusal> {
 ///
 /// # Errors
 ///
-/// Those of the table.
-pub fn nth_step(table: Table, layer: usize, left: usize, right: usize, nth: usize) -> Result<Option<Step>, Refusal> {
+/// Those of the table, 21, 8.
+pub fn nth_step(
+    table: Table,
+    callers: usize,
+    layer: usize,
+    left: usize,
+    right: usize,
+    nth: usize,
+) -> Result<Option<Step>, Refusal> {
     let Table { terminals, nonterminals, rules } = table;
-    let reply =
-        unsafe { raw::ambiguity_nth_step(terminals, nonterminals, rules.as_ptr(), rules.len(), layer, left, right, nth) };
+    let (entries, length) = (rules.as_ptr(), rules.len());
+    let reply = unsafe { raw::ambiguity_nth_step(terminals, nonterminals, entries, length, callers, layer, left, right, nth) };
     refusal::or_else(reply.cause, reply.at, || {
         (reply.kind == 1).then(|| Step {
             layer: reply.layer as usize,
@@ -245,12 +263,13 @@ pub fn nth_step(table: Table, layer: usize, left: usize, right: usize, nth: usiz
 ///
 /// # Errors
 ///
-/// Causes 9 to 13. Whatever certificate comes with a grammar without a sentence, it is 19.
-pub fn check_certificate(table: Table, certificate: &[u8]) -> Result<(), Refusal> {
+/// 21, 8, then causes 9 to 13. Whatever certificate comes with a grammar without a sentence, it is 19.
+pub fn check_certificate(table: Table, callers: usize, certificate: &[u8]) -> Result<(), Refusal> {
     let Table { terminals, nonterminals, rules } = table;
-    let (bytes, length) = (certificate.as_ptr(), certificate.len());
-    let reply =
-        unsafe { raw::ambiguity_check_certificate(terminals, nonterminals, rules.as_ptr(), rules.len(), bytes, length) };
+    let (entries, bytes) = (rules.as_ptr(), certificate.as_ptr());
+    let reply = unsafe {
+        raw::ambiguity_check_certificate(terminals, nonterminals, entries, rules.len(), callers, bytes, certificate.len())
+    };
     refusal::or_else(reply.cause, reply.at, || ())
 }
 
@@ -258,32 +277,36 @@ pub fn check_certificate(table: Table, certificate: &[u8]) -> Result<(), Refusal
 ///
 /// # Errors
 ///
-/// Cause 15.
-pub fn check_witness(table: Table, row: &[u32]) -> Result<(), Refusal> {
+/// 21, 8, then cause 15.
+pub fn check_witness(table: Table, callers: usize, row: &[u32]) -> Result<(), Refusal> {
     let Table { terminals, nonterminals, rules } = table;
+    let (entries, indices) = (rules.as_ptr(), row.as_ptr());
     let reply =
-        unsafe { raw::ambiguity_check_witness(terminals, nonterminals, rules.as_ptr(), rules.len(), row.as_ptr(), row.len()) };
+        unsafe { raw::ambiguity_check_witness(terminals, nonterminals, entries, rules.len(), callers, indices, row.len()) };
     refusal::or_else(reply.cause, reply.at, || ())
 }
 
 /// The witness check over a row of records, which answers alike: a layer above 1 or a state of Q or more is a wrong entry.
-pub fn check_witness_records(table: Table, records: &[TripleRecord]) -> Result<(), Refusal> {
+pub fn check_witness_records(table: Table, callers: usize, records: &[TripleRecord]) -> Result<(), Refusal> {
     let Table { terminals, nonterminals, rules } = table;
-    let (entries, length) = (records.as_ptr(), records.len());
-    let reply =
-        unsafe { raw::ambiguity_check_witness_records(terminals, nonterminals, rules.as_ptr(), rules.len(), entries, length) };
+    let (entries, row) = (rules.as_ptr(), records.as_ptr());
+    let reply = unsafe {
+        raw::ambiguity_check_witness_records(terminals, nonterminals, entries, rules.len(), callers, row, records.len())
+    };
     refusal::or_else(reply.cause, reply.at, || ())
 }
 
-/// Searches: `certificate_bytes(Q)` bytes and `row_entries(Q)` entries of each row are just enough, as [`search_room`] tells them.
+/// Searches: `certificate_bytes(Q)` bytes and `row_entries(Q)` entries of each row are just enough, as [`search_room`] tells them with
+/// these callers.
 /// Unambiguous leaves the smallest acceptable certificate at the front of `certificate` and keeps the witness row; potential leaves the
 /// shortest witness at the front of that row and keeps the certificate. The fronts of queue and parents are 0 afterwards.
 ///
 /// # Errors
 ///
-/// Cause 14.
+/// 21, 8, then cause 14.
 pub fn search(
     table: Table,
+    callers: usize,
     certificate: &mut [u8],
     queue: &mut [u32],
     parents: &mut [u32],
@@ -296,6 +319,7 @@ pub fn search(
             nonterminals,
             rules.as_ptr(),
             rules.len(),
+            callers,
             certificate.as_mut_ptr(),
             certificate.len(),
             queue.as_mut_ptr(),
@@ -363,8 +387,8 @@ pub fn write_text(table: Table, names: Names, out: &mut [u8]) -> Result<usize, R
     refusal::or_else(reply.cause, reply.at, || reply.length as usize)
 }
 
-/// Writes what the program prints for a text to the front of `out`: states, verdict, and the size or the two strings of the shortest
-/// witness; or a refusal's two lines: 14 for a longer text, a fault of the text, 19 among them, or 14 for more states. Back comes its
+/// Writes what the program prints for a text to the front of `out`, at 0 callers: states, verdict, and the size or the two strings of the
+/// shortest witness; or a refusal's two lines: 14 for a longer text, a fault of the text, 19 among them, or 14 for more states. Back comes its
 /// length; the only refusal is an output that is too short, and `MAX_REPORT_BYTES` are always enough.
 pub fn report(text: &[u8], out: &mut [u8]) -> Result<usize, Refusal> {
     let reply = unsafe { raw::ambiguity_report(text.as_ptr(), text.len(), out.as_mut_ptr(), out.len()) };

@@ -107,6 +107,7 @@ extern "C" {
         n: usize,
         table: *const u16,
         table_entries: usize,
+        callers: usize,
         layer: usize,
         left: usize,
         right: usize,
@@ -118,6 +119,7 @@ extern "C" {
         n: usize,
         table: *const u16,
         table_entries: usize,
+        callers: usize,
         certificate: *const u8,
         certificate_bytes: usize,
     ) -> CheckReply;
@@ -127,6 +129,7 @@ extern "C" {
         n: usize,
         table: *const u16,
         table_entries: usize,
+        callers: usize,
         row: *const u32,
         row_entries: usize,
     ) -> CheckReply;
@@ -136,17 +139,19 @@ extern "C" {
         n: usize,
         table: *const u16,
         table_entries: usize,
+        callers: usize,
         records: *const TripleRecord,
         records_entries: usize,
     ) -> CheckReply;
 
-    pub fn ambiguity_search_room(t: usize, n: usize, table: *const u16, table_entries: usize) -> RoomReply;
+    pub fn ambiguity_search_room(t: usize, n: usize, table: *const u16, table_entries: usize, callers: usize) -> RoomReply;
 
     pub fn ambiguity_search(
         t: usize,
         n: usize,
         table: *const u16,
         table_entries: usize,
+        callers: usize,
         certificate: *mut u8,
         certificate_bytes: usize,
         queue: *mut u32,

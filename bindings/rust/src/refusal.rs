@@ -1,8 +1,8 @@
-//! Refusals: the causes of document 01, and 19 and 20 of document 02, each with its position.
+//! Refusals: the causes of document 01, and 19 to 21 of document 02, each with its position.
 
 use std::fmt;
 
-/// Why something is refused; the numbers are document 01's, and 19 and 20 are document 02's.
+/// Why something is refused; the numbers are document 01's, and 19 to 21 are document 02's.
 #[derive(Clone, Copy, Debug, PartialEq, Eq)]
 #[repr(u8)]
 pub enum Cause {
@@ -20,7 +20,7 @@ pub enum Cause {
     RuleRepeated = 6,
     /// A rule past [`MAX_RULES`](crate::MAX_RULES): at its offset.
     TooManyRules = 7,
-    /// Q would pass [`MAX_STATES`](crate::MAX_STATES): at the rule's offset.
+    /// Q would pass [`MAX_STATES`](crate::MAX_STATES): at the rule's offset; at 0 if it does so only with the callers that are remembered.
     TooManyStates = 8,
     /// The certificate has the wrong length: at 0.
     CertificateLength = 9,
@@ -46,9 +46,11 @@ pub enum Cause {
     NoSentence = 19,
     /// A name is a terminal in one text and a nonterminal in the other: at the module's line.
     KindsClash = 20,
+    /// More callers are to be remembered than [`MAX_CALLERS`](crate::MAX_CALLERS): at 0.
+    TooManyCallers = 21,
 }
 
-pub(crate) const CAUSES: [Cause; 20] = [
+pub(crate) const CAUSES: [Cause; 21] = [
     Cause::OutOfRange,
     Cause::Truncated,
     Cause::LeftUndeclared,
@@ -69,6 +71,7 @@ pub(crate) const CAUSES: [Cause; 20] = [
     Cause::NameRepeated,
     Cause::NoSentence,
     Cause::KindsClash,
+    Cause::TooManyCallers,
 ];
 
 /// What is refused, and where; bindings/c/ambiguity.h says for each cause what the position counts.
@@ -81,7 +84,7 @@ pub struct Refusal {
 }
 
 impl Cause {
-    /// Its number, 1 to 20.
+    /// Its number, 1 to 21.
     #[must_use]
     pub fn number(self) -> u8 {
         self as u8
@@ -101,7 +104,7 @@ impl fmt::Display for Refusal {
 
 impl std::error::Error for Refusal {}
 
-/// The refusal of a reply, or what comes where nothing is refused. That a cause is at most 20 is proved (`CauseTheorems`).
+/// The refusal of a reply, or what comes where nothing is refused. That a cause is at most 21 is proved (`CauseTheorems`).
 pub(crate) fn or_else<T>(cause: u64, at: u64, given: impl FnOnce() -> T) -> Result<T, Refusal> {
     if cause == 0 {
         return Ok(given());

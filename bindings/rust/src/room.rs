@@ -5,7 +5,7 @@ use crate::{raw, refusal, Names, Refusal, Table};
 /// What a search is to be lent, and how many moves the automaton has.
 #[derive(Clone, Copy, Debug, PartialEq, Eq)]
 pub struct Room {
-    /// Q.
+    /// Q, with the callers that were asked for.
     pub states: usize,
     /// The bytes of the certificate.
     pub certificate: usize,
@@ -23,30 +23,30 @@ impl Room {
     }
 }
 
-/// What a search of this table is to be lent, from the table alone: no search is made. [`search`](crate::search), lent so much, is
-/// never refused with 14; lent less for the certificate or in any row it always is.
+/// What a search of this table with so many callers is to be lent, from the table alone: no search is made. [`search`](crate::search),
+/// lent so much, is never refused with 14; lent less for the certificate or in any row it always is.
 ///
 /// # Errors
 ///
-/// Those of the table.
+/// Those of the table, then 21 and 8: so it tells, too, whether the states fit.
 ///
 /// ```
 /// use ambiguity::{search, search_room, Room, Table, Verdict, START};
 ///
 /// let table = Table { terminals: 1, nonterminals: 1, rules: &[START, 1, 1] };
-/// let room = search_room(table)?;
+/// let room = search_room(table, 0)?;
 /// assert_eq!(room, Room { states: 6, certificate: 9, entries: 72, moves: 6 });
 /// let mut certificate = vec![0; room.certificate];
 /// let [mut queue, mut parents, mut witness] = [0; 3].map(|_| vec![0; room.entries]);
-/// let verdict = search(table, &mut certificate, &mut queue, &mut parents, &mut witness)?;
+/// let verdict = search(table, 0, &mut certificate, &mut queue, &mut parents, &mut witness)?;
 /// assert_eq!(verdict, Verdict::Unambiguous { size: 11, looked: 14 });
 /// assert!(verdict.looked() <= room.most_looked());
 /// # Ok::<(), ambiguity::Refusal>(())
 /// ```
-pub fn search_room(table: Table) -> Result<Room, Refusal> {
+pub fn search_room(table: Table, callers: usize) -> Result<Room, Refusal> {
     let Table { terminals, nonterminals, rules } = table;
     // SAFETY: the pointer and the length are those of a slice, which lives on during the call; so in the call below.
-    let reply = unsafe { raw::ambiguity_search_room(terminals, nonterminals, rules.as_ptr(), rules.len()) };
+    let reply = unsafe { raw::ambiguity_search_room(terminals, nonterminals, rules.as_ptr(), rules.len(), callers) };
     refusal::or_else(reply.cause, reply.at, || Room {
         states: reply.states as usize,
         certificate: reply.certificate as usize,

@@ -31,6 +31,21 @@ struct Item {
     next: Option<Code>,
 }
 
+/// Triples with so many callers, and Q.
+#[derive(Clone, Copy)]
+struct Triples {
+    callers: usize,
+    states: usize,
+}
+
+impl Triples {
+    /// Layer, left and right of a triple's index.
+    fn parts(self, index: u32) -> (usize, usize, usize) {
+        let (index, states) = (index as usize, self.states);
+        (index / states / states, index / states % states, index % states)
+    }
+}
+
 /// What moved where a side goes from a state to another. An item before a nonterminal goes on to the next item of its rule by a symbol,
 /// and to the first one of a rule by an opening; an item at its rule's end closes that. State 0 opens rule 0.
 fn moved(items: &[Item], from: usize, to: usize) -> Move {
@@ -56,18 +71,12 @@ impl Grammar {
         items
     }
 
-    /// Layer, left and right of a triple's index.
-    fn triple(&self, index: u32) -> (usize, usize, usize) {
-        let (index, states) = (index as usize, self.states());
-        (index / states / states, index / states % states, index % states)
-    }
-
     /// The first step record that leads from a triple to another, of all that the library has; none if that is no successor. Behind
     /// the records that lead back to the triple itself the next indices ascend.
-    fn recorded(&self, from: u32, to: u32) -> Option<Step> {
-        let (layer, left, right) = self.triple(from);
-        let record = |nth: usize| nth_step(self.table(), layer, left, right, nth).ok().flatten();
-        let index = |step: &Step| (step.layer * self.states() + step.left) * self.states() + step.right;
+    fn recorded(&self, triples: Triples, from: u32, to: u32) -> Option<Step> {
+        let (layer, left, right) = triples.parts(from);
+        let record = |nth: usize| nth_step(self.table(), triples.callers, layer, left, right, nth).ok().flatten();
+        let index = |step: &Step| (step.layer * triples.states + step.left) * triples.states + step.right;
         let place = |index: usize| (index != from as usize, index);
         let is_before = |nth: usize| record(nth).is_some_and(|step| place(index(&step)) < place(to as usize));
         let mut past = 1;
@@ -86,12 +95,13 @@ impl Grammar {
         record(first).filter(|step| index(step) == to as usize)
     }
 
-    /// The step record of a triple and its successor, by their states: only where they are the same triple do these not tell it.
-    fn step(&self, items: &[Item], from: u32, to: u32) -> Option<Step> {
+    /// The step record of a triple and its successor at 0 callers, by their states: only where they are the same triple do these not
+    /// tell it.
+    fn step(&self, triples: Triples, items: &[Item], from: u32, to: u32) -> Option<Step> {
         if from == to {
-            return self.recorded(from, to);
+            return self.recorded(triples, from, to);
         }
-        let ((from_layer, from_left, from_right), (layer, left, right)) = (self.triple(from), self.triple(to));
+        let ((from_layer, from_left, from_right), (layer, left, right)) = (triples.parts(from), triples.parts(to));
         let side = |from: usize, to: usize| {
             // At the parting a side that is at a rule's end closes it; the other one stays before its terminal.
             let moves = if layer > from_layer { items[from].next.is_none() } else { from != to };
@@ -104,21 +114,30 @@ impl Grammar {
         Some(Step { layer, left, right, on_left: side(from_left, left), on_right: side(from_right, right) })
     }
 
-    /// The step records that lead through a row of triples' indices, as [`nth_step`] has them. None where an entry is no successor of
-    /// the one before. For a row that begins with 0, as a witness does, the time grows with its length.
+    /// The step records that lead through a row of triples' indices with so many callers, as [`nth_step`] has them. None where an entry is
+    /// no successor of the one before, and for callers that are refused. For a row that begins with 0, as a witness does, the time grows
+    /// with its length; with callers each step is looked up among the library's records, which takes longer.
     #[must_use]
-    pub fn steps(&self, row: &[u32]) -> Option<Vec<Step>> {
+    pub fn steps(&self, callers: usize, row: &[u32]) -> Option<Vec<Step>> {
+        let triples = Triples { callers, states: self.room(callers).ok()?.states };
         let items = self.items();
         let only_the_end_fails = |refusal: Refusal| refusal.cause == Cause::WitnessWrong && refusal.at == row.len();
-        let leads_on = check_witness(self.table(), row).map_or_else(only_the_end_fails, |()| true);
-        let step = |from, to| if leads_on { self.step(&items, from, to) } else { self.recorded(from, to) };
+        let leads_on = callers == 0 && check_witness(self.table(), 0, row).map_or_else(only_the_end_fails, |()| true);
+        let step = |from, to| {
+            if leads_on {
+                self.step(triples, &items, from, to)
+            } else {
+                self.recorded(triples, from, to)
+            }
+        };
         row.windows(2).map(|entries| step(entries[0], entries[1])).collect()
     }
 
-    /// The two strings of a witness: what either side moves, in order. None where an entry is no successor of the one before.
+    /// The two strings of a witness with so many callers: what either side moves, in order. None where an entry is no successor of the one
+    /// before, and for callers that are refused.
     #[must_use]
-    pub fn strings(&self, witness: &[u32]) -> Option<Strings> {
-        let steps = self.steps(witness)?;
+    pub fn strings(&self, callers: usize, witness: &[u32]) -> Option<Strings> {
+        let steps = self.steps(callers, witness)?;
         let letters = |side: fn(&Step) -> Move| steps.iter().filter_map(|step| side(step).letter()).collect();
         Some(Strings { left: letters(|step| step.on_left), right: letters(|step| step.on_right) })
     }
@@ -141,8 +160,8 @@ impl Grammar {
     /// use ambiguity::{Grammar, Searched};
     ///
     /// let grammar = Grammar::read(b"terminals=a\nnonterminals=S\nrule=S: a S a\nrule=S: a\n")?;
-    /// let Searched::Potential { witness, .. } = grammar.search() else { panic!("the middle is not seen") };
-    /// let strings = grammar.strings(&witness).unwrap();
+    /// let Searched::Potential { witness, .. } = grammar.search(0)? else { panic!("the middle is not seen") };
+    /// let strings = grammar.strings(0, &witness).unwrap();
     /// let lines = grammar.lines(&strings).unwrap();
     /// assert_eq!(lines, "left=(0 (2 a )2 a )1 )0\nright=(0 (1 a (2 a )2 )0\n");
     /// assert_eq!(grammar.read_back(lines.as_bytes())?, strings);
@@ -172,13 +191,14 @@ impl Grammar {
 #[cfg(test)]
 mod tests {
     use super::*;
-    use crate::Searched;
+    use crate::{Searched, MAX_CALLERS};
 
     #[test]
     fn strings_and_words() {
         let grammar = Grammar::read(b"terminals=a\nnonterminals=S\nrule=S: S\nrule=S: a\n").unwrap();
-        let Searched::Potential { witness, .. } = grammar.search() else { panic!("S: S is taken any number of times") };
-        let strings = grammar.strings(&witness).unwrap();
+        let found = grammar.search(0).unwrap();
+        let Searched::Potential { witness, .. } = found else { panic!("S: S is taken any number of times") };
+        let strings = grammar.strings(0, &witness).unwrap();
         let lines = grammar.lines(&strings).unwrap();
         assert_eq!(lines, "left=(0 S )0\nright=(0 (1 S )1 )0\n");
         assert_eq!(grammar.read_back(lines.as_bytes()), Ok(strings.clone()));
@@ -192,14 +212,14 @@ mod tests {
             assert_eq!((grammar.word(letter), grammar.lines(&Strings { left, right: Vec::new() })), (None, None));
         }
         for row in [[0, 0], [0, u32::MAX], [u32::MAX, 0]] {
-            assert_eq!(grammar.strings(&row), None);
+            assert_eq!((0..4).map(|callers| grammar.strings(callers, &row)).collect::<Vec<_>>(), [None, None, None, None]);
         }
     }
 
     /// All step records of a triple, one after the other.
-    fn all(grammar: &Grammar, from: u32) -> Vec<Step> {
-        let (layer, left, right) = grammar.triple(from);
-        (0..).map_while(|nth| nth_step(grammar.table(), layer, left, right, nth).unwrap()).collect()
+    fn all(grammar: &Grammar, triples: Triples, from: u32) -> Vec<Step> {
+        let (layer, left, right) = triples.parts(from);
+        (0..).map_while(|nth| nth_step(grammar.table(), triples.callers, layer, left, right, nth).unwrap()).collect()
     }
 
     /// Along witnesses, and between any two triples of small grammars, the steps are the library's records.
@@ -210,21 +230,32 @@ mod tests {
         {
             let text = format!("terminals=a\nnonterminals=S,T\nrule={rules}\n");
             let grammar = Grammar::read(text.as_bytes()).unwrap();
-            let index = |step: &Step| ((step.layer * grammar.states() + step.left) * grammar.states() + step.right) as u32;
-            let Searched::Potential { witness, .. } = grammar.search() else { panic!("{rules}") };
-            let steps = grammar.steps(&witness).unwrap();
-            for (entries, step) in witness.windows(2).zip(&steps) {
-                let records = all(&grammar, entries[0]);
-                assert_eq!(records.iter().find(|record| index(record) == entries[1]), Some(step), "{rules}");
+            for callers in 0..=MAX_CALLERS {
+                steps_of(&grammar, callers);
             }
-            let triples = 0..2 * (grammar.states() * grammar.states()) as u32;
-            for from in triples.clone() {
-                let records = all(&grammar, from);
-                for to in triples.clone() {
-                    let record = records.iter().find(|record| index(record) == to).copied();
-                    assert_eq!(grammar.recorded(from, to), record, "{rules}: {from} {to}");
-                    assert!(record.is_none() || grammar.step(&grammar.items(), from, to) == record, "{rules}: {from} {to}");
-                }
+        }
+    }
+
+    fn steps_of(grammar: &Grammar, callers: usize) {
+        let triples = Triples { callers, states: grammar.room(callers).unwrap().states };
+        let index = |step: &Step| ((step.layer * triples.states + step.left) * triples.states + step.right) as u32;
+        let Searched::Potential { witness, .. } = grammar.search(callers).unwrap() else { panic!("{grammar:?}") };
+        let steps = grammar.steps(callers, &witness).unwrap();
+        for (entries, step) in witness.windows(2).zip(&steps) {
+            let records = all(grammar, triples, entries[0]);
+            assert_eq!(records.iter().find(|record| index(record) == entries[1]), Some(step), "{grammar:?}");
+        }
+        if callers > 0 {
+            return;
+        }
+        let indices = 0..2 * (triples.states * triples.states) as u32;
+        for from in indices.clone() {
+            let records = all(grammar, triples, from);
+            for to in indices.clone() {
+                let record = records.iter().find(|record| index(record) == to).copied();
+                assert_eq!(grammar.recorded(triples, from, to), record, "{grammar:?}: {from} {to}");
+                let step = grammar.step(triples, &grammar.items(), from, to);
+                assert!(record.is_none() || step == record, "{grammar:?}: {from} {to}");
             }
         }
     }

@@ -32,9 +32,9 @@ fn numbers_of_every_size() {
     {
         let table = Table { terminals, nonterminals, rules: &RULES };
         assert_eq!(ambiguity::check_table(table), refused(Cause::OutOfRange, 0));
-        assert_eq!(ambiguity::check_certificate(table, &CERTIFICATE), refused(Cause::OutOfRange, 0));
+        assert_eq!(ambiguity::check_certificate(table, 0, &CERTIFICATE), refused(Cause::OutOfRange, 0));
     }
-    assert_eq!(ambiguity::nth_step(one_a(&RULES), usize::MAX, usize::MAX, usize::MAX, 0), Ok(None));
+    assert_eq!(ambiguity::nth_step(one_a(&RULES), 0, usize::MAX, usize::MAX, usize::MAX, 0), Ok(None));
 }
 
 #[test]
@@ -43,14 +43,14 @@ fn certificates_of_every_length() {
     for length in 0..=lent.row().len() {
         let right = length == certificate_bytes(6);
         let expected = if right { Ok(()) } else { refused(Cause::CertificateLength, 0) };
-        assert_eq!(ambiguity::check_certificate(one_a(&RULES), &lent.row()[..length]), expected);
+        assert_eq!(ambiguity::check_certificate(one_a(&RULES), 0, &lent.row()[..length]), expected);
     }
     assert!(lent.kept());
 }
 
 #[test]
 fn certificates_of_the_document() {
-    let check = |certificate: &[u8]| ambiguity::check_certificate(one_a(&RULES), certificate);
+    let check = |certificate: &[u8]| ambiguity::check_certificate(one_a(&RULES), 0, certificate);
     assert_eq!(check(&CERTIFICATE), Ok(()));
     assert_eq!(check(&CERTIFICATE[..8]), refused(Cause::CertificateLength, 0));
     assert_eq!(check(&[0x00; 9]), refused(Cause::StartMissing, 0));
@@ -60,9 +60,9 @@ fn certificates_of_the_document() {
 
 #[test]
 fn witnesses_that_are_empty_or_only_begin() {
-    assert_eq!(ambiguity::check_witness(one_a(&RULES), &[]), refused(Cause::WitnessWrong, 0));
-    assert_eq!(ambiguity::check_witness(one_a(&RULES), &[0]), refused(Cause::WitnessWrong, 1));
-    assert_eq!(ambiguity::check_witness(one_a(&RULES), &[0, u32::MAX]), refused(Cause::WitnessWrong, 1));
+    assert_eq!(ambiguity::check_witness(one_a(&RULES), 0, &[]), refused(Cause::WitnessWrong, 0));
+    assert_eq!(ambiguity::check_witness(one_a(&RULES), 0, &[0]), refused(Cause::WitnessWrong, 1));
+    assert_eq!(ambiguity::check_witness(one_a(&RULES), 0, &[0, u32::MAX]), refused(Cause::WitnessWrong, 1));
 }
 
 /// Reads the text into rows of these lengths.
@@ -100,7 +100,7 @@ fn search_with(lengths: [isize; 4]) {
     let mut certificate = Lent::new(&vec![7; length(certificate_bytes(6), lengths[0])], 0xFF);
     let (mut queue, mut parents, mut witness) = (row(lengths[1]), row(lengths[2]), row(lengths[3]));
     let (lent, rows) = (certificate.row_mut(), (queue.row_mut(), parents.row_mut(), witness.row_mut()));
-    let answer = ambiguity::search(one_a(&RULES), lent, rows.0, rows.1, rows.2);
+    let answer = ambiguity::search(one_a(&RULES), 0, lent, rows.0, rows.1, rows.2);
     if lengths.iter().any(|more| *more < 0) {
         assert_eq!(answer, refused(Cause::BufferTooShort, 0));
         assert!(certificate.kept() && queue.kept() && parents.kept() && witness.kept());

@@ -72,7 +72,7 @@ fn records_reached(table: Table, states: usize) -> usize {
     let mut taken = 0;
     while let Some([layer, left, right]) = reached.get(taken).copied() {
         taken += 1;
-        for step in (0..).map_while(|nth| ambiguity::nth_step(table, layer, left, right, nth).unwrap()) {
+        for step in (0..).map_while(|nth| ambiguity::nth_step(table, 0, layer, left, right, nth).unwrap()) {
             records += 1;
             let next = [step.layer, step.left, step.right];
             if !reached.contains(&next) {
@@ -103,18 +103,18 @@ fn search_text(text: &[u8], states: usize, looked: usize, size: Option<usize>) {
     assert_eq!(ambiguity::check_table(table), Ok(states));
     let mut certificate = vec![0; certificate_bytes(states)];
     let [mut queue, mut parents, mut witness] = [0; 3].map(|_| vec![0; row_entries(states)]);
-    let verdict = ambiguity::search(table, &mut certificate, &mut queue, &mut parents, &mut witness).unwrap();
+    let verdict = ambiguity::search(table, 0, &mut certificate, &mut queue, &mut parents, &mut witness).unwrap();
     assert_eq!((verdict.looked(), records_reached(table, states)), (looked, looked));
-    assert!(looked <= ambiguity::search_room(table).unwrap().most_looked());
+    assert!(looked <= ambiguity::search_room(table, 0).unwrap().most_looked());
     match verdict {
         Verdict::Unambiguous { size: found, .. } => {
             assert_eq!(Some(found), size);
             assert_eq!(certificate.iter().map(|byte| byte.count_ones() as usize).sum::<usize>(), found);
-            assert_eq!(ambiguity::check_certificate(table, &certificate), Ok(()));
+            assert_eq!(ambiguity::check_certificate(table, 0, &certificate), Ok(()));
         }
         Verdict::Potential { entries, .. } => {
             assert_eq!(size, None);
-            assert_eq!(ambiguity::check_witness(table, &witness[..entries]), Ok(()));
+            assert_eq!(ambiguity::check_witness(table, 0, &witness[..entries]), Ok(()));
         }
     }
 }
@@ -122,8 +122,8 @@ fn search_text(text: &[u8], states: usize, looked: usize, size: Option<usize>) {
 /// The strings of the witness that the search writes are those of the lines, and read back they give the same lines.
 fn strings_of(text: &[u8], lines: &str) {
     let grammar = Grammar::read(text).unwrap();
-    let Searched::Potential { witness, .. } = grammar.search() else { panic!("{lines}") };
-    let strings = grammar.strings(&witness).unwrap();
+    let Searched::Potential { witness, .. } = grammar.search(0).unwrap() else { panic!("{lines}") };
+    let strings = grammar.strings(0, &witness).unwrap();
     assert_eq!(grammar.lines(&strings).unwrap(), lines);
     assert_eq!(grammar.read_back(lines.as_bytes()), Ok(strings));
 }
@@ -132,7 +132,7 @@ fn strings_of(text: &[u8], lines: &str) {
 fn witness_of(table: Table, states: usize) -> Vec<u32> {
     let mut certificate = vec![0; certificate_bytes(states)];
     let [mut queue, mut parents, mut witness] = [0; 3].map(|_| vec![0; row_entries(states)]);
-    let found = ambiguity::search(table, &mut certificate, &mut queue, &mut parents, &mut witness);
+    let found = ambiguity::search(table, 0, &mut certificate, &mut queue, &mut parents, &mut witness);
     let Ok(Verdict::Potential { entries, .. }) = found else { panic!("{found:?}") };
     witness.truncate(entries);
     witness
@@ -216,12 +216,12 @@ fn certificates_of_nine_states() {
         [0x15, 0x01, 0x54, 0x44, 0x50, 0x13, 0x26, 0x10, 0x40, 0x35, 0x01, 0x40, 0, 0, 0x41, 0x09, 0, 0x08, 0, 0, 0];
     let tables = [grammar(1, 1, &LEFT_RECURSION), grammar(2, 1, &[S, 3, 1, S, 2, S, 0])];
     for (table, certificate) in tables.into_iter().zip([left, nested]) {
-        assert_eq!(ambiguity::check_certificate(table, &certificate), Ok(()));
+        assert_eq!(ambiguity::check_certificate(table, 0, &certificate), Ok(()));
         let mut spare = certificate;
         spare[20] |= 0x04;
-        assert_eq!(ambiguity::check_certificate(table, &spare), refused(Cause::SpareBit, 162));
+        assert_eq!(ambiguity::check_certificate(table, 0, &spare), refused(Cause::SpareBit, 162));
     }
-    assert_eq!(ambiguity::check_certificate(grammar(2001, 1, &[]), &[]), refused(Cause::OutOfRange, 0));
+    assert_eq!(ambiguity::check_certificate(grammar(2001, 1, &[]), 0, &[]), refused(Cause::OutOfRange, 0));
 }
 
 const CERTIFICATE_OF_82: &str = concat!(
@@ -236,7 +236,7 @@ const UNREACHED_OF_31: &str =
 fn search_in(table: Table, lengths: [usize; 4]) -> (Result<Verdict, Refusal>, Vec<u8>) {
     let mut certificate = vec![0xAA; lengths[0]];
     let [mut queue, mut parents, mut witness] = [1, 2, 3].map(|place| vec![0xAA; lengths[place]]);
-    let answer = ambiguity::search(table, &mut certificate, &mut queue, &mut parents, &mut witness);
+    let answer = ambiguity::search(table, 0, &mut certificate, &mut queue, &mut parents, &mut witness);
     (answer, certificate)
 }
 
@@ -262,7 +262,7 @@ fn certificates_that_are_found() {
 #[test]
 fn certificates_over_every_rule() {
     let unreached = [S, 2, 1, S, S, 0, A, 2, A, A, A, 2, S, 2];
-    assert_eq!(ambiguity::check_certificate(grammar(2, 2, &unreached), &bytes_of(UNREACHED_OF_31)), Ok(()));
+    assert_eq!(ambiguity::check_certificate(grammar(2, 2, &unreached), 0, &bytes_of(UNREACHED_OF_31)), Ok(()));
 }
 
 /// One row is too short by one, and all others are as long as they must be; or the table is at fault.

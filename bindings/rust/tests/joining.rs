@@ -70,7 +70,7 @@ fn a_heating_module() {
     assert_eq!(grammar, Grammar::read(JOINED.as_bytes()).unwrap());
     assert_eq!((grammar.table().rules, grammar.states()), (&JOINED_RULES[..], 19));
     // The robot's grammar is unambiguous. In the joined one what is held has no end: a further step is inside or behind.
-    let verdict = |grammar: &Grammar| matches!(grammar.search(), Searched::Unambiguous { .. });
+    let verdict = |grammar: &Grammar| matches!(grammar.search(0), Ok(Searched::Unambiguous { .. }));
     assert!(verdict(&Grammar::read(ROBOT.as_bytes()).unwrap()) && !verdict(&grammar));
 }
 

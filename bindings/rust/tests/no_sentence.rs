@@ -6,9 +6,12 @@ mod support;
 use ambiguity::{certificate_bytes, row_entries, Cause, Code, JoinPart, JoinRefusal, Names, Part, PartRefusal, Refusal};
 use ambiguity::{Table, TripleRecord};
 use ambiguity::{MAX_NAMES, MAX_NONTERMINALS, MAX_REPORT_BYTES, MAX_REPORT_TEXT_BYTES, MAX_STATES, MAX_TABLE_ENTRIES};
-use support::{bytes_of, grammar, refused, Lent, A, B, S};
+use support::{bytes_of, grammar, refused, search_refused, Lent, A, B, S};
 
 const NO_SENTENCE: Refusal = Refusal { cause: Cause::NoSentence, at: 0 };
+
+/// 19 comes before 21.
+const CALLERS: [usize; 5] = [0, 1, 2, 3, usize::MAX];
 
 /// A grammar as table and as text, with Q.
 struct Endless {
@@ -36,9 +39,13 @@ const fn endless(terminals: usize, nonterminals: usize, rules: &'static [Code], 
 fn tables_rooms_and_step_records() {
     for Endless { table, states, .. } in ENDLESS {
         assert_eq!(ambiguity::check_table(table), Err(NO_SENTENCE));
-        assert_eq!(ambiguity::search_room(table), Err(NO_SENTENCE));
-        for (layer, left, right, nth) in [(0, 0, 0, 0), (1, 1, 1, 0), (0, 2, 2, 1), (0, states, 0, 0), (2, 0, 0, usize::MAX)] {
-            assert_eq!(ambiguity::nth_step(table, layer, left, right, nth), Err(NO_SENTENCE));
+        for callers in CALLERS {
+            assert_eq!(ambiguity::search_room(table, callers), Err(NO_SENTENCE));
+            for (layer, left, right, nth) in
+                [(0, 0, 0, 0), (1, 1, 1, 0), (0, 2, 2, 1), (0, states, 0, 0), (2, 0, 0, usize::MAX)]
+            {
+                assert_eq!(ambiguity::nth_step(table, callers, layer, left, right, nth), Err(NO_SENTENCE));
+            }
         }
     }
 }
@@ -49,12 +56,16 @@ fn certificates_and_witnesses() {
     for Endless { table, states, .. } in ENDLESS {
         let bytes = certificate_bytes(states);
         for certificate in [vec![], vec![0; bytes], [vec![1], vec![0; bytes - 1]].concat(), vec![0xFF; bytes + 1]] {
-            assert_eq!(ambiguity::check_certificate(table, &certificate), Err(NO_SENTENCE));
+            for callers in CALLERS {
+                assert_eq!(ambiguity::check_certificate(table, callers, &certificate), Err(NO_SENTENCE));
+            }
         }
         for row in [&[][..], &[0], &[1], &[0, u32::MAX]] {
-            assert_eq!(ambiguity::check_witness(table, row), Err(NO_SENTENCE));
             let records: Vec<_> = row.iter().map(|entry| TripleRecord { layer: *entry, left: 0, right: 0 }).collect();
-            assert_eq!(ambiguity::check_witness_records(table, &records), Err(NO_SENTENCE));
+            for callers in CALLERS {
+                assert_eq!(ambiguity::check_witness(table, callers, row), Err(NO_SENTENCE));
+                assert_eq!(ambiguity::check_witness_records(table, callers, &records), Err(NO_SENTENCE));
+            }
         }
     }
 }
@@ -68,21 +79,19 @@ fn acceptable_certificates() {
         (grammar(1, 2, &[A, 1, 1, A, 0]), ["01000000000000000000000000", "05400101000000000000000000"]),
     ] {
         for certificate in certificates {
-            assert_eq!(ambiguity::check_certificate(table, &bytes_of(certificate)), Err(NO_SENTENCE), "{certificate}");
+            assert_eq!(ambiguity::check_certificate(table, 0, &bytes_of(certificate)), Err(NO_SENTENCE), "{certificate}");
         }
     }
-    assert_eq!(ambiguity::check_certificate(grammar(0, 1, &[S, 1, S]), &bytes_of("010000000000000000")), Err(NO_SENTENCE));
+    assert_eq!(ambiguity::check_certificate(grammar(0, 1, &[S, 1, S]), 0, &bytes_of("010000000000000000")), Err(NO_SENTENCE));
 }
 
 #[test]
 fn searches() {
     for Endless { table, states, .. } in ENDLESS {
         for (bytes, entries) in [(0, 0), (certificate_bytes(states), row_entries(states))] {
-            let mut certificate = Lent::new(&vec![7; bytes], 0xFF);
-            let [mut queue, mut parents, mut witness] = [0; 3].map(|_| Lent::new(&vec![7; entries], u32::MAX));
-            let rows = (queue.row_mut(), parents.row_mut(), witness.row_mut());
-            assert_eq!(ambiguity::search(table, certificate.row_mut(), rows.0, rows.1, rows.2), Err(NO_SENTENCE));
-            assert!(certificate.kept() && queue.kept() && parents.kept() && witness.kept());
+            for callers in CALLERS {
+                search_refused(table, callers, [bytes, entries, entries, entries], Cause::NoSentence);
+            }
         }
     }
 }

@@ -4,7 +4,8 @@
 mod support;
 
 use ambiguity::{certificate_bytes, check_table, row_entries, search_room, write_text, written_length};
-use ambiguity::{Cause, Code, Grammar, Move, Names, Refusal, Room, Searched, Table, MAX_RULES, MAX_STATES, MAX_TERMINALS};
+use ambiguity::{Cause, Code, Grammar, Move, Names, Refusal, Room, Searched, Table};
+use ambiguity::{MAX_CALLERS, MAX_RULES, MAX_STATES, MAX_TERMINALS};
 use std::fs;
 use std::path::Path;
 use support::{grammar, lent_less, lent_room, refused, Lent, A, B, S};
@@ -51,39 +52,43 @@ fn many_moves(led: Code, twice: Code) -> Vec<Code> {
 
 #[test]
 fn figures() {
-    assert_eq!(search_room(grammar(1, 1, &[S, 1, 1])), Ok(Room { states: 6, certificate: 9, entries: 72, moves: 6 }));
+    assert_eq!(search_room(grammar(1, 1, &[S, 1, 1]), 0), Ok(Room { states: 6, certificate: 9, entries: 72, moves: 6 }));
     for (terminals, nonterminals, rules, states, openings, shifts) in counted() {
         let table = grammar(terminals, nonterminals, &rules);
-        assert_eq!(search_room(table), Ok(room(states, 2 * openings + shifts)), "{table:?}");
+        assert_eq!(search_room(table, 0), Ok(room(states, 2 * openings + shifts)), "{table:?}");
     }
 }
 
 /// The moves of a state by its step records: those that it makes alone in layer 1, beside the end, which makes none, and the symbol
 /// that it passes together with itself in layer 0.
-fn moves_of(table: Table, state: usize) -> usize {
-    let steps = |layer, right| (0..).map_while(move |nth| ambiguity::nth_step(table, layer, state, right, nth).unwrap());
+fn moves_of(table: Table, callers: usize, state: usize) -> usize {
+    let steps =
+        |layer, right| (0..).map_while(move |nth| ambiguity::nth_step(table, callers, layer, state, right, nth).unwrap());
     let alone = steps(1, 1).filter(|step| step.on_right == Move::Still).count();
     alone + steps(0, state).filter(|step| matches!(step.on_left, Move::Symbol(_))).count()
 }
 
-fn counts_its_moves(table: Table) {
-    let room = search_room(table).unwrap();
-    assert_eq!(room.states, check_table(table).unwrap());
-    assert_eq!(room.moves, (0..room.states).map(|state| moves_of(table, state)).sum::<usize>(), "{table:?}");
+fn counts_its_moves(table: Table, callers: usize) {
+    let room = search_room(table, callers).unwrap();
+    assert!(callers > 0 || room.states == check_table(table).unwrap());
+    let moves = (0..room.states).map(|state| moves_of(table, callers, state)).sum::<usize>();
+    assert_eq!(room.moves, moves, "{table:?} {callers}");
 }
 
 #[test]
 fn moves_are_those_of_step_records() {
     for (terminals, nonterminals, rules, ..) in counted() {
-        counts_its_moves(grammar(terminals, nonterminals, &rules));
+        for callers in 0..=MAX_CALLERS {
+            counts_its_moves(grammar(terminals, nonterminals, &rules), callers);
+        }
     }
     for (_, grammar) in corpus() {
-        counts_its_moves(grammar.table());
+        counts_its_moves(grammar.table(), 0);
     }
     let many = many_moves(53, 2);
     let table = grammar(53, 1, &many);
-    assert_eq!(search_room(table), Ok(room(256, 2 * (1 + 66 * (133 + 1)) + 187)));
-    counts_its_moves(table);
+    assert_eq!(search_room(table, 0), Ok(room(256, 2 * (1 + 66 * (133 + 1)) + 187)));
+    counts_its_moves(table, 0);
 }
 
 /// Q is at its limit, and so many moves are told in the same way.
@@ -93,12 +98,14 @@ fn rooms_at_the_limits() {
     let most = many_moves(245, 194);
     let table = grammar(245, 1, &most);
     let openings = 1 + 258 * (517 + 1);
-    assert_eq!(search_room(table), Ok(room(MAX_STATES, 2 * openings + 763)));
-    lent_room(table);
+    assert_eq!(search_room(table, 0), Ok(room(MAX_STATES, 2 * openings + 763)));
+    lent_room(table, 0);
     let units: Vec<Code> = (1..=MAX_RULES as Code).flat_map(|code| [S, 1, code]).collect();
     let table = grammar(MAX_RULES, 1, &units);
-    assert_eq!(search_room(table), Ok(room(804, 2 * (1 + MAX_RULES) + MAX_RULES + 1)));
-    lent_room(table);
+    for callers in 0..=MAX_CALLERS {
+        assert_eq!(search_room(table, callers), Ok(room(804, 2 * (1 + MAX_RULES) + MAX_RULES + 1)));
+        lent_room(table, callers);
+    }
 }
 
 /// Every refusal is the table's.
@@ -121,7 +128,9 @@ fn rooms_of_refused_tables() {
     ] {
         let table = grammar(terminals, nonterminals, &rules);
         assert_eq!(check_table(table), refused(cause, at));
-        assert_eq!(search_room(table), refused(cause, at));
+        for callers in [0, 1, 2, 3, usize::MAX] {
+            assert_eq!(search_room(table, callers), refused(cause, at));
+        }
         for names in
             [Names { bytes: b"", starts: &[], lengths: &[] }, Names { bytes: b"aa", starts: &[0, 1], lengths: &[1; 2] }]
         {
@@ -133,10 +142,14 @@ fn rooms_of_refused_tables() {
 #[test]
 fn searches_lent_their_room_and_less() {
     for (terminals, nonterminals, rules, ..) in counted() {
-        lent_room(grammar(terminals, nonterminals, &rules));
+        lent_room(grammar(terminals, nonterminals, &rules), 0);
     }
     for (_, grammar) in corpus() {
-        lent_room(grammar.table());
+        for callers in 0..=MAX_CALLERS {
+            if grammar.room(callers).is_ok() {
+                lent_room(grammar.table(), callers);
+            }
+        }
     }
 }
 
@@ -145,7 +158,7 @@ fn searches_lent_their_room_and_less() {
 fn searches_lent_a_part_of_their_room() {
     let table = grammar(1, 1, &[S, 1, 1]);
     for lent in [[0, 0, 0, 0], [9, 0, 0, 0], [0, 72, 72, 72], [9, 0, 72, 72], [9, 72, 0, 72], [9, 72, 72, 0], [8, 71, 71, 71]] {
-        lent_less(table, lent);
+        lent_less(table, 0, lent);
     }
 }
 
@@ -235,9 +248,9 @@ fn lengths_that_are_refused() {
 #[test]
 fn owned_grammars() {
     for (_, grammar) in corpus() {
-        let room = grammar.room();
-        assert_eq!((Ok(room), room.states), (search_room(grammar.table()), grammar.states()));
-        let searched = grammar.search();
+        let room = grammar.room(0).unwrap();
+        assert_eq!((Ok(room), room.states), (search_room(grammar.table(), 0), grammar.states()));
+        let searched = grammar.search(0).unwrap();
         assert!(searched.looked() <= room.most_looked());
         match searched {
             Searched::Unambiguous { certificate, .. } => assert_eq!(certificate.len(), room.certificate),

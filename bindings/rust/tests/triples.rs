@@ -27,9 +27,9 @@ fn steps() {
         (1, &[S, 1, 1], [0, 65536, 0], "records=0"),
     ];
     for (terminals, rules, [layer, left, right], expected) in cases {
-        assert_eq!(all_steps(grammar(terminals, 1, rules), layer, left, right), Ok(expected.to_string()));
+        assert_eq!(all_steps(grammar(terminals, 1, rules), 0, layer, left, right), Ok(expected.to_string()));
     }
-    assert_eq!(all_steps(grammar(1, 1, &[S, 1, 1, S]), 0, 0, 0), refused(Cause::Truncated, 3));
+    assert_eq!(all_steps(grammar(1, 1, &[S, 1, 1, S]), 0, 0, 0, 0), refused(Cause::Truncated, 3));
 }
 
 /// S→a; S→A; A→A: the items from 6 on are of rules that no sentence uses.
@@ -47,7 +47,7 @@ fn steps_without_dead_rules() {
         ([1, 9, 1], "records=0"),
     ] {
         let [layer, left, right] = triple;
-        assert_eq!(all_steps(grammar(1, 2, &rules), layer, left, right), Ok(expected.to_string()), "{triple:?}");
+        assert_eq!(all_steps(grammar(1, 2, &rules), 0, layer, left, right), Ok(expected.to_string()), "{triple:?}");
     }
 }
 
@@ -63,7 +63,7 @@ fn witnesses() {
         (0, &[0, 2, 4, 20, 29, 75, 73], refused(Cause::OutOfRange, 0)),
     ];
     for (nonterminals, row, expected) in cases {
-        assert_eq!(ambiguity::check_witness(grammar(1, nonterminals, &CYCLE), row), expected, "{row:?}");
+        assert_eq!(ambiguity::check_witness(grammar(1, nonterminals, &CYCLE), 0, row), expected, "{row:?}");
     }
 }
 
@@ -89,7 +89,7 @@ fn records() {
     ];
     for (nonterminals, records, expected) in cases {
         let lent: Vec<_> = records.iter().map(|&[layer, left, right]| TripleRecord { layer, left, right }).collect();
-        let answer = ambiguity::check_witness_records(grammar(1, nonterminals, &CYCLE), &lent);
+        let answer = ambiguity::check_witness_records(grammar(1, nonterminals, &CYCLE), 0, &lent);
         assert_eq!(answer, expected, "{records:?}");
     }
 }

@@ -2,6 +2,7 @@
 
 use ambiguity::{Grammar, Refusal, Searched};
 
+use crate::callers::{self, Verdict};
 use crate::command::{Answer, Request, Status};
 use crate::explanation::{self, Explanation, Found};
 use crate::lines::{self, Form, MOST_STATES};
@@ -29,37 +30,46 @@ pub struct Source<'a> {
 struct Judged<'a> {
     source: Source<'a>,
     grammar: &'a Grammar,
-    searched: &'a Searched,
+    verdict: &'a Verdict,
     warnings: &'a [Told],
     /// Why the verdict is potential, unless few lines are asked for.
     explanation: Option<Explanation>,
 }
 
 impl Judged<'_> {
-    /// The lines that the program `ambig` prints for a verdict.
+    /// The lines that the program `ambig` prints for a verdict; where callers are remembered, one more.
     fn lines(&self) -> String {
-        let states = self.grammar.states();
-        match self.searched {
-            Searched::Unambiguous { size, .. } => format!("states={states}\nverdict=unambiguous\nreached={size}\n"),
-            Searched::Potential { .. } => format!("states={states}\nverdict=potential\n{}", self.strings()),
+        let Verdict { callers, states, searched, .. } = self.verdict;
+        let head = format!("states={states}\n{}", callers::line(*callers));
+        match searched {
+            Searched::Unambiguous { size, .. } => format!("{head}verdict=unambiguous\nreached={size}\n"),
+            Searched::Potential { .. } => format!("{head}verdict=potential\n{}", self.strings()),
         }
     }
 
     /// The two lines of a potential verdict.
     fn strings(&self) -> String {
-        match self.searched {
-            Searched::Unambiguous { .. } => String::new(),
-            Searched::Potential { witness, .. } => strings::printed(self.source.text, self.grammar, witness),
-        }
+        let witness = self.verdict.witness.as_ref();
+        witness.map_or(String::new(), |witness| strings::printed(self.source.text, self.grammar, witness))
     }
 
     /// These lines, and how much the search looked at.
     fn long_lines(&self) -> String {
-        format!("{}looked={}\n", self.lines(), self.searched.looked())
+        format!("{}looked={}\n", self.lines(), self.verdict.searched.looked())
+    }
+
+    /// With how many callers the verdict is potential, and with how many there are too many states.
+    fn tried(&self) -> String {
+        let Verdict { tried, too_many_states, .. } = self.verdict;
+        let line = |key: &str, numbers: &[usize]| match numbers {
+            [] => String::new(),
+            numbers => format!("{key}={}\n", callers::listed(numbers)),
+        };
+        line("tried", tried) + &line("too-many-states", too_many_states)
     }
 
     fn json(&self) -> String {
-        json::judged(self.source.file, self.grammar, self.searched, self.explanation.as_ref(), &self.strings(), self.warnings)
+        json::judged(self.source.file, self.grammar, self.verdict, self.explanation.as_ref(), &self.strings(), self.warnings)
     }
 
     fn page(&self) -> String {
@@ -67,7 +77,7 @@ impl Judged<'_> {
             file: self.source.file,
             text: self.source.text,
             grammar: self.grammar,
-            searched: self.searched,
+            verdict: self.verdict,
             explanation: self.explanation.as_ref(),
             warnings: self.warnings,
         })
@@ -75,22 +85,34 @@ impl Judged<'_> {
 
     /// What standard output gets: the certificate, or the explanation. The certificate's form has no place for other lines.
     fn printed(&self, request: &Request) -> String {
-        match (self.searched, &self.explanation) {
+        let Verdict { callers, states, searched, witness, .. } = self.verdict;
+        match (searched, &self.explanation, witness) {
             _ if request.has("--looked") => self.long_lines(),
             _ if request.has("--quiet") => self.lines(),
             _ if request.has("--json") => self.json(),
             _ if request.has("--html") => self.page(),
-            (Searched::Unambiguous { certificate, size, .. }, _) => {
-                lines::written(self.grammar, *size, certificate, form_asked(request, self.grammar.states()))
+            (Searched::Unambiguous { certificate, size, .. }, ..) => {
+                lines::written(self.grammar, *callers, *size, certificate, form_asked(request, *states))
             }
-            (Searched::Potential { witness, .. }, explanation) => {
-                let steps = |explanation: &Explanation| match request.has("--steps") {
+            (Searched::Potential { .. }, Some(explanation), Some(witness)) => {
+                let steps = match request.has("--steps") {
                     true => format!("\n{}", readings::told(self.grammar, witness, &explanation.steps)),
                     false => String::new(),
                 };
-                let told = explanation.as_ref().map_or(String::new(), |told| told.told(self.grammar) + &steps(told));
-                self.long_lines() + &told
+                self.long_lines() + &self.tried() + &explanation.told(self.grammar) + &steps
             }
+            (Searched::Potential { .. }, ..) => self.long_lines(),
+        }
+    }
+
+    /// That a certificate holds with callers.
+    fn note(&self) -> String {
+        match self.verdict {
+            Verdict { callers: 0, .. } => String::new(),
+            Verdict { callers, searched: Searched::Unambiguous { .. }, .. } => {
+                format!("{}: note: unambiguous with {} remembered\n", self.source.file, callers::counted(*callers))
+            }
+            Verdict { .. } => String::new(),
         }
     }
 
@@ -129,9 +151,9 @@ impl Judged<'_> {
     }
 
     fn status(&self) -> Status {
-        match (self.searched, &self.explanation) {
-            (Searched::Unambiguous { .. }, _) => Status::Yes,
-            (_, Some(Explanation { found: Found::Two(..), .. })) => Status::No,
+        match &self.explanation {
+            _ if self.verdict.is_unambiguous() => Status::Yes,
+            Some(Explanation { found: Found::Two(..), .. }) => Status::No,
             _ => Status::Potential,
         }
     }
@@ -141,6 +163,11 @@ impl Judged<'_> {
 fn form_asked(request: &Request, states: usize) -> Form {
     let forms = [("--form=1", Form::Plain), ("--form=2", Form::Checked), ("--form=3", Form::Runs)];
     forms.into_iter().find(|(option, _)| request.has(option)).map_or(Form::usual(states), |(_, form)| form)
+}
+
+/// The callers that are asked for, if any are.
+fn callers_asked(request: &Request) -> Option<usize> {
+    ["--callers=0", "--callers=1", "--callers=2"].iter().position(|option| request.has(option))
 }
 
 /// Few lines are asked for, and no messages.
@@ -160,30 +187,44 @@ fn refused(request: &Request, Source { file, text, .. }: Source, refusal: Refusa
     Answer { status: Status::Refused, out, err }
 }
 
+/// Callers that are asked for have too many states: the text has no place for that.
+fn unfit(request: &Request, file: &str, callers: usize, refusal: Refusal) -> Answer {
+    let message = callers::refused(callers, refusal);
+    let (out, err) = match request {
+        _ if is_quiet(request) => (refusals::numbers(refusal), String::new()),
+        _ if request.has("--json") => (json::unfit(file, callers, refusal, &message), String::new()),
+        _ => (String::new(), format!("{file}: error: {message} ({refusal})\n")),
+    };
+    Answer { status: Status::Refused, out, err }
+}
+
 /// What is said of a text, as the options ask for it.
 pub fn judged(request: &Request, source: Source) -> Answer {
     let grammar = match Grammar::read(source.text) {
         Ok(grammar) => grammar,
         Err(refusal) => return refused(request, source, refusal),
     };
-    let searched = grammar.search();
-    let form = form_asked(request, grammar.states());
-    if matches!(searched, Searched::Unambiguous { .. }) && !form.has(grammar.states()) {
-        let (file, form, states) = (source.file, form as usize, grammar.states());
+    let asked = callers_asked(request);
+    let verdict = match callers::verdict(&grammar, asked) {
+        Ok(verdict) => verdict,
+        Err(refusal) => return unfit(request, source.file, asked.unwrap_or(0), refusal),
+    };
+    let (states, form) = (verdict.states, form_asked(request, verdict.states));
+    if verdict.is_unambiguous() && !form.has(states) {
+        let (file, form) = (source.file, form as usize);
+        let with = if verdict.callers > 0 { format!(" with {}", callers::counted(verdict.callers)) } else { String::new() };
         return Answer::misuse(&format!(
-            "{file}: error: form {form} has at most {MOST_STATES} states; the grammar has {states}"
+            "{file}: error: form {form} has at most {MOST_STATES} states; the grammar has {states}{with}"
         ));
     }
     let warnings = warnings::of(&grammar);
-    let explanation = match &searched {
-        Searched::Potential { witness, .. } if !is_quiet(request) => Some(explanation::of(&grammar, witness)),
-        _ => None,
-    };
-    let judged = Judged { source, grammar: &grammar, searched: &searched, warnings: &warnings, explanation };
+    let explained = verdict.witness.as_ref().filter(|_| !is_quiet(request));
+    let explanation = explained.map(|witness| explanation::of(&grammar, witness));
+    let judged = Judged { source, grammar: &grammar, verdict: &verdict, warnings: &warnings, explanation };
     let counts = request.has("-Werror") && !warnings.is_empty();
     let silent = is_quiet(request) || request.has("--json");
     let said = if counts || !silent { judged.warned() } else { String::new() };
-    let headline = if silent { String::new() } else { judged.headline() };
+    let headline = if silent { String::new() } else { judged.headline() + &judged.note() };
     Answer {
         status: if counts { Status::Refused } else { judged.status() },
         out: judged.printed(request),

@@ -57,12 +57,16 @@ pub struct Tool {
     pub help: &'static str,
     /// The options beside `--help` and `--version`.
     pub options: &'static [&'static str],
+    /// Options that are written with `=` and a number, or with that as the next word, and what they take.
+    pub numbered: &'static [(&'static str, &'static str)],
     /// Options of which at most one is taken, row by row.
     pub exclusive: &'static [&'static [&'static str]],
     /// Options that take one turn of files, and print no line `file=`.
     pub single: &'static [&'static str],
     /// Options that take several turns, and print no line `file=` either.
     pub bare: &'static [&'static str],
+    /// Options that are taken only together with another one.
+    pub needs: &'static [(&'static str, &'static str)],
     /// The files that are judged together.
     pub files: usize,
     /// Whether no more files are taken than these.
@@ -107,7 +111,13 @@ fn no_option(tool: &Tool, word: &str) -> String {
 fn option(tool: &Tool, word: &str) -> Result<&'static str, String> {
     let long = SHORT.iter().find(|(short, _)| *short == word).map_or(word, |(_, long)| long);
     let known = COMMON.iter().chain(tool.options).find(|known| **known == long);
-    known.copied().ok_or_else(|| no_option(tool, word))
+    let name = word.split('=').next().unwrap_or(word);
+    let numbered = tool.numbered.iter().find(|(option, _)| *option == name);
+    match (known, numbered) {
+        (Some(known), _) => Ok(known),
+        (None, Some((option, takes))) => Err(format!("{option} takes {takes}")),
+        (None, None) => Err(no_option(tool, word)),
+    }
 }
 
 /// The request in these words; an error says what is wrong with them.
@@ -117,6 +127,10 @@ fn requested(tool: &Tool, words: Vec<OsString>) -> Result<Request, String> {
     while let Some(word) = words.next() {
         match word.to_str() {
             Some("--") => request.files.extend(words.by_ref()),
+            Some(word) if tool.numbered.iter().any(|(option, _)| *option == word) => {
+                let number = words.next().unwrap_or_default();
+                request.options.push(option(tool, &format!("{word}={}", number.to_string_lossy()))?);
+            }
             Some(word) if word.starts_with('-') && word != "-" => request.options.push(option(tool, word)?),
             _ => request.files.push(word),
         }
@@ -135,6 +149,10 @@ fn contradiction(tool: &Tool, request: &Request) -> Option<String> {
         if let [first, second, ..] = given[..] {
             return Some(format!("{first} and {second} do not go together"));
         }
+    }
+    let given = tool.needs.iter().find(|(option, other)| request.has(option) && !request.has(other));
+    if let Some((option, other)) = given {
+        return Some(format!("{option} is taken together with {other} only"));
     }
     if tool.once && request.files.len() > tool.files {
         return Some("there are too many files".to_string());

@@ -2,6 +2,7 @@
 
 use ambiguity::{Code, Grammar, Refusal, Searched};
 
+use crate::callers::Verdict;
 use crate::command::VERSION;
 use crate::diagnosis::Finding;
 use crate::explanation::{Explanation, Found};
@@ -30,6 +31,10 @@ pub fn text(text: &str) -> String {
 
 fn list(values: impl Iterator<Item = String>) -> String {
     format!("[{}]", values.collect::<Vec<_>>().join(","))
+}
+
+fn numbers(numbers: &[usize]) -> String {
+    list(numbers.iter().map(usize::to_string))
 }
 
 /// Keys and values that are JSON already.
@@ -106,21 +111,24 @@ fn head(file: &str, verdict: &str) -> Vec<(&'static str, String)> {
 pub fn judged(
     file: &str,
     grammar: &Grammar,
-    searched: &Searched,
+    verdict: &Verdict,
     explanation: Option<&Explanation>,
     strings: &str,
     warnings: &[Told],
 ) -> String {
-    let verdict = match explanation {
+    let Verdict { callers, states, searched, tried, too_many_states, .. } = verdict;
+    let word = match explanation {
         None => "unambiguous",
         Some(explanation) => explanation.headline(grammar).0,
     };
-    let mut members = head(file, verdict);
-    members.extend([("states", grammar.states().to_string()), ("rules", grammar.rules().len().to_string())]);
-    members.push(("looked", searched.looked().to_string()));
+    let mut members = head(file, word);
+    members.extend([("states", states.to_string()), ("callers", callers.to_string())]);
+    members.extend([("tried", numbers(tried)), ("too-many-states", numbers(too_many_states))]);
+    members.extend([("rules", grammar.rules().len().to_string()), ("looked", searched.looked().to_string())]);
     if let Searched::Unambiguous { certificate, size, .. } = searched {
         members.push(("size", size.to_string()));
-        members.push(("certificate", text(&lines::written(grammar, *size, certificate, Form::usual(grammar.states())))));
+        let lines = lines::written(grammar, *callers, *size, certificate, Form::usual(*states));
+        members.push(("certificate", text(&lines)));
     }
     for line in strings.lines() {
         if let Some((key, value)) = line.split_once('=') {
@@ -136,12 +144,23 @@ pub fn judged(
     object(&members) + "\n"
 }
 
+fn refused_head(file: &str, refusal: Refusal) -> Vec<(&'static str, String)> {
+    let numbers = vec![("refused", refusal.cause.number().to_string()), ("at", refusal.at.to_string())];
+    [head(file, "refused"), numbers].concat()
+}
+
 /// A file that is refused.
 pub fn refused(file: &str, refusal: Refusal, finding: &Finding) -> String {
-    let mut members = head(file, "refused");
-    members.extend([("refused", refusal.cause.number().to_string()), ("at", refusal.at.to_string())]);
+    let mut members = refused_head(file, refusal);
     members.extend([("line", finding.line.to_string()), ("column", finding.column.to_string())]);
     members.push(("message", text(&finding.message)));
+    object(&members) + "\n"
+}
+
+/// A file that has too many states with the callers that are asked for: no place of it is at fault.
+pub fn unfit(file: &str, callers: usize, refusal: Refusal, message: &str) -> String {
+    let mut members = refused_head(file, refusal);
+    members.extend([("callers", callers.to_string()), ("message", text(message))]);
     object(&members) + "\n"
 }
 

@@ -1,5 +1,6 @@
 //! What `ambig-certify`, `ambig-check` and `ambig-join` share. Verdicts are the library's; here they are put into words, lines and pages.
 
+pub mod callers;
 pub mod certify;
 pub mod codes;
 pub mod command;
@@ -21,6 +22,7 @@ pub mod readings;
 pub mod refusals;
 pub mod sentences;
 pub mod shut;
+pub mod spots;
 pub mod strings;
 pub mod tree;
 pub mod warnings;

@@ -2,6 +2,7 @@
 
 use ambiguity::{Grammar, Searched};
 
+use crate::callers::Verdict;
 use crate::command::VERSION;
 use crate::drawing::{self, Drawing};
 use crate::explanation::{self, Explanation, Found};
@@ -79,7 +80,7 @@ pub struct Subject<'a> {
     pub file: &'a str,
     pub text: &'a [u8],
     pub grammar: &'a Grammar,
-    pub searched: &'a Searched,
+    pub verdict: &'a Verdict,
     /// Why a verdict is potential.
     pub explanation: Option<&'a Explanation>,
     pub warnings: &'a [Told],
@@ -87,18 +88,18 @@ pub struct Subject<'a> {
 
 /// The page of a grammar that was read from a file.
 pub fn of(subject: &Subject) -> String {
-    let grammar = subject.grammar;
-    let parts = match (subject.searched, subject.explanation) {
-        (Searched::Unambiguous { certificate, size, looked }, _) => {
-            let lines = lines::written(grammar, *size, certificate, Form::usual(grammar.states()));
-            [unambiguous(grammar, *size, *looked), grammar_part(grammar, &[]), certificate_part(&lines, grammar.states())]
+    let (grammar, verdict) = (subject.grammar, subject.verdict);
+    let parts = match (&verdict.searched, &verdict.witness, subject.explanation) {
+        (Searched::Unambiguous { certificate, size, .. }, ..) => {
+            let lines = lines::written(grammar, verdict.callers, *size, certificate, Form::usual(verdict.states));
+            [unambiguous(grammar, verdict, *size), grammar_part(grammar, &[]), certificate_part(&lines, verdict.states)]
         }
-        (Searched::Potential { witness, looked }, Some(explanation)) => {
+        (Searched::Potential { .. }, Some(witness), Some(explanation)) => {
             let strings = strings_part(&strings::printed(subject.text, grammar, witness));
             let text = grammar_part(grammar, &parting_lines(explanation));
-            [potential(grammar, explanation, *looked), trees_part(grammar, explanation), text + &strings]
+            [potential(grammar, verdict, explanation), trees_part(grammar, explanation), text + &strings]
         }
-        (Searched::Potential { .. }, None) => [String::new(), String::new(), String::new()],
+        (Searched::Potential { .. }, ..) => [String::new(), String::new(), String::new()],
     };
     let [verdict, first, second] = parts;
     let parts = [verdict, warnings_part(subject.warnings), first, second].concat();
@@ -126,17 +127,29 @@ fn banner(class: &str, title: &str, paragraphs: &[String]) -> String {
     format!("<p class=\"verdict {class}\"><strong>{title}</strong>\n{paragraphs}</p>\n")
 }
 
-fn figures(grammar: &Grammar) -> String {
-    format!("States Q = {}, rules {}", grammar.states(), grammar.rules().len())
+fn figures(grammar: &Grammar, verdict: &Verdict) -> String {
+    let remembered = if verdict.callers > 0 { format!(", callers remembered {}", verdict.callers) } else { String::new() };
+    format!("States Q = {}{remembered}, rules {}", verdict.states, grammar.rules().len())
 }
 
-fn unambiguous(grammar: &Grammar, size: usize, looked: usize) -> String {
-    let figures = format!("{}, size of the certificate {size}, successors looked at {looked}.", figures(grammar));
+fn unambiguous(grammar: &Grammar, verdict: &Verdict, size: usize) -> String {
+    let (figures, looked) = (figures(grammar, verdict), verdict.searched.looked());
+    let figures = format!("{figures}, size of the certificate {size}, successors looked at {looked}.");
     banner("yes", "Unambiguous", &["No sentence has two derivation trees.".to_string(), figures])
 }
 
-fn potential(grammar: &Grammar, explanation: &Explanation, looked: usize) -> String {
-    let figures = format!("{}, successors looked at {looked}.", figures(grammar));
+/// With how many callers the verdict is potential, and with how many there are too many states.
+fn tried(verdict: &Verdict) -> String {
+    let numbers = |numbers: &[usize]| words::all_of(&numbers.iter().map(usize::to_string).collect::<Vec<_>>());
+    let unfit = match &verdict.too_many_states[..] {
+        [] => String::new(),
+        unfit => format!("; with {} there are too many states", numbers(unfit)),
+    };
+    format!("Callers remembered: tried with {}{unfit}.", numbers(&verdict.tried))
+}
+
+fn potential(grammar: &Grammar, verdict: &Verdict, explanation: &Explanation) -> String {
+    let figures = format!("{}, successors looked at {}.", figures(grammar, verdict), verdict.searched.looked());
     let (title, said) = match &explanation.found {
         Found::Two(phrase, example) => {
             let said = explanation::ambiguous(grammar, phrase, example);
@@ -145,7 +158,7 @@ fn potential(grammar: &Grammar, explanation: &Explanation, looked: usize) -> Str
         Found::Not(extent) => ("Potentially ambiguous", capital(&explanation::not_found(extent))),
     };
     let parting = format!("The readings part {}.", explanation.parting.sentence(grammar));
-    banner("no", title, &[said, parting, figures])
+    banner("no", title, &[said, parting, figures, tried(verdict)])
 }
 
 fn capital(text: &str) -> String {

@@ -16,7 +16,7 @@ fn moved(grammar: &Grammar, side: Move) -> String {
 
 /// The step records that lead through a witness.
 pub fn steps(grammar: &Grammar, witness: &[u32]) -> Vec<Step> {
-    grammar.steps(witness).expect("an entry of a witness is a successor of the one before")
+    grammar.steps(0, witness).expect("an entry of a witness is a successor of the one before")
 }
 
 /// Rows of cells as lines, each column as wide as its widest cell.

@@ -5,8 +5,8 @@ use ambiguity::{Cause, Grammar, JoinPart, JoinRefusal, Refusal};
 use crate::diagnosis::{self, Finding};
 use crate::joins::Pair;
 use crate::lines::{Certificate, Malformed};
+use crate::spots;
 use crate::strings::{self, NotParting};
-use crate::words;
 
 /// The lines of a refusal for scripts, as the program `ambig` prints them.
 pub fn numbers(refusal: Refusal) -> String {
@@ -53,20 +53,23 @@ pub fn of_lines(file: &str, faults: &[Malformed]) -> String {
     faults.iter().map(|fault| error(file, fault.line, fault.column, &fault.message)).collect()
 }
 
-/// A triple by its index, in words.
-fn triple(grammar: &Grammar, index: usize) -> String {
-    let (layer, left, right) = words::triple(grammar, index);
-    format!("layer {layer}, left '{}', right '{}'", words::state(grammar, left), words::state(grammar, right))
+/// A triple with so many callers by its index, in words.
+fn triple(grammar: &Grammar, callers: usize, index: usize) -> String {
+    let states = grammar.room(callers).map_or(1, |room| room.states);
+    let (layer, left, right) = (index / states / states, index / states % states, index % states);
+    let [left, right] = [left, right].map(|state| spots::state(grammar, callers, state));
+    format!("layer {layer}, left '{left}', right '{right}'")
 }
 
 /// A refusal of a certificate. The position is that of the byte that holds the triple, or would hold it.
 pub fn of_certificate(file: &str, certificate: &Certificate, refusal: Refusal, grammar: &Grammar) -> String {
     let at = refusal.at;
+    let triple = |index: usize| triple(grammar, certificate.callers, index);
     let words = match refusal.cause {
         Cause::SpareBit => format!("bit {at} stands past the last triple and is set"),
-        Cause::StartMissing => format!("the certificate lacks {}", triple(grammar, 0)),
-        Cause::EndPresent => format!("the certificate holds {}", triple(grammar, at)),
-        Cause::SuccessorMissing => format!("the certificate lacks a successor of {}", triple(grammar, at)),
+        Cause::StartMissing => format!("the certificate lacks {}", triple(0)),
+        Cause::EndPresent => format!("the certificate holds {}", triple(at)),
+        Cause::SuccessorMissing => format!("the certificate lacks a successor of {}", triple(at)),
         cause => cause.to_string(),
     };
     let (line, column) = certificate.place(at / 8);

@@ -67,7 +67,7 @@ fn item(grammar: &Grammar, number: usize, dot: usize) -> String {
     format!("{left}: {}", words.join(" "))
 }
 
-/// A state of the position automaton: the start, the end, or an item.
+/// A state of the position automaton at 0 callers: the start, the end, or an item.
 pub fn state(grammar: &Grammar, state: usize) -> String {
     match state {
         0 => return "start".to_string(),
@@ -117,7 +117,7 @@ pub fn all_of(names: &[String]) -> String {
     }
 }
 
-/// Layer, left and right of a triple's index.
+/// Layer, left and right of a triple's index, at 0 callers.
 pub fn triple(grammar: &Grammar, index: usize) -> (usize, usize, usize) {
     let states = grammar.states();
     (index / states / states, index / states % states, index % states)

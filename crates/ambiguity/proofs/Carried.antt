@@ -10,11 +10,13 @@ use Rattle.grammar.specs.Grammar.{Grammar, WellFormed}
 use Rattle.grammar.specs.Refusal.{Answer, done, andThen}
 use Rattle.grammar.specs.TableCheck.{checkTable}
 use Rattle.grammar.proofs.Answers.{then-goes}
+use Rattle.grammar.proofs.WellFormed.{room}
 use Rattle.grammar.proofs.Sentence.{passes-exactly}
 use Rattle.automaton.specs.Items.{states}
 use Rattle.automaton.specs.Strings.{Potential}
 use Rattle.automaton.specs.Position.{position}
 use Rattle.automaton.specs.PositionMoves.{movesOf}
+use Rattle.automaton.specs.Callers.{checkWith}
 use Rattle.triples.specs.Index.{index, tripleCount}
 use Rattle.triples.specs.Smallest.{smallest}
 use Rattle.triples.specs.Certificate.{byteCount, checkBytes, checkCertificate}
@@ -22,6 +24,7 @@ use Rattle.triples.specs.Witness.{entryOf, checkRow, checkWitness, checkWitness
 use Rattle.triples.specs.Verdict.{checkVerdict}
 use Rattle.triple_laws.proofs.Laws.{end-of}
 use Rattle.triple_laws.proofs.Position.{position-listed, position-regular}
+use Rattle.triple_laws.proofs.CallerChecks.{zero-check}
 use Rattle.parting.proofs.Position.{potential-reached}
 use Rattle.witness_records.specs.Records.{triples}
 use Rattle.rooms.specs.Room.{Room, roomOf, searchRoom, roomTold}
@@ -29,7 +32,7 @@ use Rattle.carried.specs.Carried.{moved, carriedTable, carriedGrammar, Same}
 use Rattle.carried.proofs.Bytes.{bytes-wider, bytes-carried}
 use Rattle.carried.proofs.Searches.{searches-carried}
 use Rattle.ambiguity.specs.Carried.{wideTable, CarriedTheorems}
-use Rattle.ambiguity.proofs.Searches.{stores}
+use Rattle.ambiguity.proofs.Entries.{stores}
 
 -- an answer that is one thing is the other
 alike : {A : Type 0} {a b : A} (v : A) → b ≡ a → (v ≡ a) ↔ (v ≡ b)
@@ -51,32 +54,34 @@ module _ (t n : ℕ) (table : List ℕ) (G : Grammar) (e : checkTable byteLimits
   s : Same byteLimits limits t n table G
   s = bytes-carried t n table G e
 
-  -- what follows the table check on both sides
+  -- what follows the refusals up to 8 on both sides: without callers these are the table check's
   both : {A : Type 0} (go here : Grammar → Answer A) → here wide ≡ go G
-      → andThen (checkTable limits t n (carriedTable byteLimits limits table)) here ≡ andThen (checkTable byteLimits t n table) go
+      → andThen (checkWith limits t n (carriedTable byteLimits limits table) 0) here ≡ andThen (checkWith byteLimits t n table 0) go
   both go here h =
-      then-goes (checkTable limits t n (carriedTable byteLimits limits table)) here wide (s .passes) ∙ h
-      ∙ sym (then-goes (checkTable byteLimits t n table) go G e)
+      then-goes (checkWith limits t n (carriedTable byteLimits limits table) 0) here wide
+      (zero-check limits room t n (carriedTable byteLimits limits table) ∙ s .passes)
+      ∙ h
+      ∙ sym (then-goes (checkWith byteLimits t n table 0) go G (zero-check byteLimits (omega arith) t n table ∙ e))
 
   certificate-same : (bytes : List ℕ)
-      → checkCertificate limits t n (carriedTable byteLimits limits table) bytes ≡ checkCertificate byteLimits t n table bytes
+      → checkCertificate limits t n (carriedTable byteLimits limits table) 0 bytes ≡ checkCertificate byteLimits t n table 0 bytes
   unfolding checkCertificate
   certificate-same bytes = both (λ G. checkBytes (movesOf byteLimits G) bytes) (λ G. checkBytes (movesOf limits G) bytes) (s .certificates bytes)
 
   witness-same : (row : List ℕ)
-      → checkWitness limits t n (carriedTable byteLimits limits table) row ≡ checkWitness byteLimits t n table row
+      → checkWitness limits t n (carriedTable byteLimits limits table) 0 row ≡ checkWitness byteLimits t n table 0 row
   unfolding checkWitness
   witness-same row = both (λ G. checkRow (movesOf byteLimits G) row) (λ G. checkRow (movesOf limits G) row) (s .witnesses row)
 
   records-same : (entries : List (ℕ × ℕ × ℕ))
-      → checkWitnessRecords limits t n (carriedTable byteLimits limits table) entries ≡ checkWitnessRecords byteLimits t n table entries
+      → checkWitnessRecords limits t n (carriedTable byteLimits limits table) 0 entries ≡ checkWitnessRecords byteLimits t n table 0 entries
   unfolding checkWitnessRecords
   records-same entries =
       both (λ G. checkRow (movesOf byteLimits G) (map (entryOf (states G)) entries)) (λ G. checkRow (movesOf limits G) (map (entryOf (states G)) entries))
       (s .witnesses (map (entryOf (states wide)) entries)
       ∙ ap (λ (q : ℕ). checkRow (movesOf byteLimits G) (map (entryOf q) entries)) (s .states))
 
-  room-same : searchRoom limits t n (carriedTable byteLimits limits table) ≡ searchRoom byteLimits t n table
+  room-same : searchRoom limits t n (carriedTable byteLimits limits table) 0 ≡ searchRoom byteLimits t n table 0
   unfolding searchRoom
   room-same =
       both (λ G. done (roomOf (movesOf byteLimits G))) (λ G. done (roomOf (movesOf limits G)))

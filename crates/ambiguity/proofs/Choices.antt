@@ -1,41 +1,47 @@
--- The choices of moves at what the position automaton reaches: the list of them, and their number. Assumes nothing.
+-- The choices of moves at what the automaton with m callers reaches: the list of them, and their number. Assumes nothing.
+use Prim.Native.Nat.{ℕ}
 use mathlib.Core.Path.{_≡_, sym, _∙_}
 use mathlib.Core.List.{List}
+use mathlib.Core.Logic.{_↔_}
 use lib.ListN.{length}
 use Rattle.grammar.specs.Limits.{limits}
 use Rattle.grammar.specs.Grammar.{Grammar}
-use Rattle.automaton.specs.Moves.{Regular, Lists}
-use Rattle.automaton.specs.Position.{position}
-use Rattle.automaton.specs.PositionMoves.{movesOf}
+use Rattle.automaton.specs.Moves.{listed, Regular, Lists}
+use Rattle.automaton.specs.Callers.{callers}
+use Rattle.automaton.specs.CallerMoves.{movesWith}
 use Rattle.triples.specs.Looked.{lookedAt}
+use Rattle.triples.specs.Successor.{StepTo}
+use Rattle.triples.specs.Numbers.{StepAt}
 use Rattle.triple_laws.proofs.Members.{distinct-same}
-use Rattle.triple_laws.proofs.Numbered.{reached-to, reached-same, step-same}
+use Rattle.triple_laws.proofs.Numbers.{step-numbers, reached-numbers}
 use Rattle.figures.specs.Choice.{Choice}
-use Rattle.figures.proofs.Choices.{reachedChoices, choices-number, choices-distinct, reached-inside, choices-exact}
+use Rattle.figures.proofs.Choices.{InRange, reachedChoices, choices-number, choices-distinct, reached-inside, choices-exact}
 use Rattle.ambiguity.specs.Searches.{ListsChoices}
 
-module _ (G : Grammar) (R : Regular (movesOf limits G)) (N : Lists (position limits G) (movesOf limits G)) where
-  pub choices-listed : ListsChoices G (reachedChoices (movesOf limits G) R)
+module _ (G : Grammar) (m : ℕ) (R : Regular (movesWith limits G m)) (N : Lists (callers limits G m) (movesWith limits G m)) where
+  -- the step of a choice, by the numbers of its states and in the lists
+  step-of : (c : Choice) → InRange (movesWith limits G m) R (c .layer) (c .left) (c .right)
+      → StepAt (callers limits G m) (c .layer) (c .left) (c .right) (c .step .layer) (c .step .left) (c .step .right) (c .step .«on_left») (c .step .«on_right»)
+      ↔ StepTo (listed (movesWith limits G m)) (c .layer) (c .left) (c .right) (c .step .layer) (c .step .left) (c .step .right) (c .step .«on_left») (c .step .«on_right»)
+  step-of c h =
+      step-numbers (callers limits G m) (movesWith limits G m) R N (c .layer) (c .left) (c .right) (c .step .layer) (c .step .left) (c .step .right) (c .step .«on_left») (c .step .«on_right»)
+      (h .layer) (h .left) (h .right)
+
+  -- the list of them
+  pub choices-listed : ListsChoices G m (reachedChoices (movesWith limits G m) R)
   choices-listed =
-      let A = position limits G in
-      let M = movesOf limits G in
+      let M = movesWith limits G m in
       record {
         distinct = choices-distinct M R;
         choices = λ c. let e = choices-exact M R c in
-            let s = c .step in (
-              λ m. let (r, x) = e .0 m in
-                  let h = reached-inside M R r in (
-                    reached-same A M R N (h .left) (h .right) .1 r,
-                    step-same A M R N {f = c .layer} {g = s .layer} {p = c .left} {q = c .right} {p′ = s .left} {q′ = s .right} {l = s .«on_left»} {r = s .«on_right»} (h .left) (h .right) .1 x,
-                  ),
-              λ (r, x). let k = reached-to A M R N r in
-                  let h = reached-inside M R k in
-                  e .1 (k, step-same A M R N {f = c .layer} {g = s .layer} {p = c .left} {q = c .right} {p′ = s .left} {q′ = s .right} {l = s .«on_left»} {r = s .«on_right»} (h .left) (h .right) .0 x),
+            let a = reached-numbers (callers limits G m) M R N (c .layer) (c .left) (c .right) in (
+              λ k. let (r, x) = e .0 k in (a .1 r, step-of c (reached-inside M R r) .1 x),
+              λ (r, x). let k = a .0 r in e .1 (k, step-of c (reached-inside M R k) .0 x),
             );
       }
 
   -- the figure is the length of every such list
-  pub choices-counted : (l : List Choice) → ListsChoices G l → lookedAt (movesOf limits G) ≡ length l
+  pub choices-counted : (l : List Choice) → ListsChoices G m l → lookedAt (movesWith limits G m) ≡ length l
   choices-counted l h =
-      sym (choices-number (movesOf limits G) R)
-      ∙ distinct-same (choices-listed .distinct) (h .distinct) (λ c. (λ m. h .choices c .1 (choices-listed .choices c .0 m), λ m. choices-listed .choices c .1 (h .choices c .0 m)))
+      sym (choices-number (movesWith limits G m) R)
+      ∙ distinct-same (choices-listed .distinct) (h .distinct) (λ c. (λ k. h .choices c .1 (choices-listed .choices c .0 k), λ k. choices-listed .choices c .1 (h .choices c .0 k)))

@@ -1,5 +1,11 @@
+pub mod Entries
+pub mod Held
 pub mod Choices
 pub mod Searches
+pub mod States
+pub mod Ascending
+pub mod StateOrder
+pub mod Callers
 pub mod Rooms
 pub mod Steps
 pub mod Texts

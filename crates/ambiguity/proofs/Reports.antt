@@ -13,10 +13,14 @@ use Rattle.grammar.specs.Grammar.{Grammar, WellFormed}
 use Rattle.grammar.specs.Refusal.{Answer, done, refused, bufferTooShort}
 use Rattle.grammar.proofs.Answers.{no-bool, done-inj, unless-done}
 use Rattle.automaton.specs.Items.{states}
+use Rattle.automaton.specs.Strings.{Potential, Unambiguous}
+use Rattle.automaton.specs.Position.{position}
 use Rattle.automaton.specs.PositionMoves.{movesOf}
 use Rattle.triples.specs.Index.{index}
 use Rattle.triples.specs.Smallest.{smallest, size}
 use Rattle.triple_laws.proofs.Explore.{is-element}
+use Rattle.triple_laws.proofs.Position.{position-listed, position-regular}
+use Rattle.parting.proofs.Position.{potential-reached}
 use Rattle.text.specs.Promise.{afterwards}
 use Rattle.search.specs.Promise.{isPotential}
 use Rattle.text.specs.Names.{within, all}
@@ -32,7 +36,7 @@ use Rattle.report.specs.declared.Reported.the-variants.{Written}
 use Rattle.report.proofs.Strings.{witness-valid}
 use Rattle.report.proofs.Sizes.{judged-text, never-short}
 use Rattle.report.proofs.Written.{report-done}
-use Rattle.ambiguity.proofs.Searches.{parting, not-parting}
+use Rattle.ambiguity.proofs.Held.{parting, not-parting}
 use Rattle.ambiguity.proofs.Readings.{reading-theorems, sides-theorems, back-theorems}
 use Rattle.ambiguity.specs.Readings.{left, right, linesOf, stringsOf}
 use Rattle.ambiguity.specs.Reports.{ReportLines, GiveSides, ReportTheorems}
@@ -74,11 +78,19 @@ module _ (text : List ℕ) (s : Source) (c : checkText limits text ≡ done s) (
   abbrev G : Grammar
   G = grammarOf s
 
+  -- the program judges without callers, by the position automaton
+  parts : isPotential (movesOf limits G) ≡ true → Potential (position limits G)
+  parts = parting (position limits G) (movesOf limits G) (position-regular limits G W (omega arith)) (position-listed limits G W (omega arith)) (potential-reached limits G W (omega arith))
+
+  never-parts : isPotential (movesOf limits G) ≡ false → Unambiguous (position limits G)
+  never-parts =
+      not-parting (position limits G) (movesOf limits G) (position-regular limits G W (omega arith)) (position-listed limits G W (omega arith)) (potential-reached limits G W (omega arith))
+
   lines-of : (b : Bool) → isPotential (movesOf limits G) ≡ b
       → ReportLines s G (line statesIs (decimal (states G)) ++ verdictLines b (size (movesOf limits G)) (witnessLines G (symbolNames s)))
   unfolding witnessLines
   lines-of true e =
-      let p = parting G W e in
+      let p = parts e in
       let v = witness-valid G W e in
       let m = is-element (index (states G) 1 1 1) (smallest (movesOf limits G)) .0 e in
       record {
@@ -89,10 +101,10 @@ module _ (text : List ℕ) (s : Source) (c : checkText limits text ≡ done s) (
         otherwise = λ u. absurd (u p);
       }
   lines-of false e = record {
-    potential = (λ q. not-both (line statesIs (decimal (states G))) (line reachedIs (decimal (size (movesOf limits G)))) (linesOf s (left G) (right G)) q, λ p. absurd (not-parting G W e p));
-    strings = λ p. absurd (not-parting G W e p);
-    back = λ p. absurd (not-parting G W e p);
-    sides = λ p. absurd (not-parting G W e p);
+    potential = (λ q. not-both (line statesIs (decimal (states G))) (line reachedIs (decimal (size (movesOf limits G)))) (linesOf s (left G) (right G)) q, λ p. absurd (never-parts e p));
+    strings = λ p. absurd (never-parts e p);
+    back = λ p. absurd (never-parts e p);
+    sides = λ p. absurd (never-parts e p);
     otherwise = λ u. refl;
   }
 
@@ -102,7 +114,7 @@ module _ (text : List ℕ) (s : Source) (c : checkText limits text ≡ done s) (
   unfolding witnessLines
   sides-back true e rest f =
       let l = lines-of true e in
-      let p = parting G W e in
+      let p = parts e in
       let d : linesOf s (left G) (right G) ≡ rest = ap (drop (length (line verdictIs potential))) f in
       let few = l .sides p .few in
       λ a b r a′ b′ h i j. back-theorems text rest a b r a′ b′ h .reads s c (left G) (right G) (ap (stringsOf s) (sym d) ∙ l .back p)

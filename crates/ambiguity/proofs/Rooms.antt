@@ -1,5 +1,5 @@
 -- What follows from the promises of the room told beforehand. Assumes nothing.
-use Prim.Native.Nat.{ℕ, _+_, _*_, _≤_, _<_}
+use Prim.Native.Nat.{ℕ, _+_, _*_, _≤_}
 use mathlib.Core.Path.{_≡_, refl, ap, sym, subst, subst₂, _∙_}
 use mathlib.Core.Bool.{Bool, true, false, not}
 use mathlib.Core.List.{List}
@@ -10,19 +10,16 @@ use lib.Dec.{leb, eqb}
 use lib.ListN.{length}
 use Rattle.grammar.specs.Limits.{limits}
 use Rattle.grammar.specs.Grammar.{Grammar}
-use Rattle.grammar.specs.Refusal.{Answer, done, refused, refuseUnless, andThen, bufferTooShort, nameRepeated, noSentence}
-use Rattle.grammar.specs.TableCheck.{checkTable, TableAnswer}
-use Rattle.grammar.specs.declared.TableChecked.{TableChecked}
-use Rattle.grammar.specs.declared.TableVerdict.the-variants.{Refused}
+use Rattle.grammar.specs.Refusal.{Answer, done, refused, bufferTooShort, nameRepeated, noSentence}
+use Rattle.grammar.specs.TableCheck.{checkTable}
 use Rattle.grammar.proofs.Answers.{no-bool, no-answer, and-both, both-and, then-goes, then-stops}
 use Rattle.grammar.proofs.Causes.{CausedBy, result, cause, unless, next, upTo, caused-more, stored-causes}
-use Rattle.automaton.specs.AllMoves.{Moved, allMoves, moveCount}
-use Rattle.automaton.specs.Items.{states}
-use Rattle.automaton.specs.PositionMoves.{movesOf}
+use Rattle.automaton.specs.AllMoves.{moveCount}
+use Rattle.automaton.specs.Callers.{checkWith}
+use Rattle.automaton.specs.CallerMoves.{movesWith}
 use Rattle.triples.specs.Index.{tripleCount}
 use Rattle.triples.specs.Certificate.{byteCount}
-use Rattle.figures.proofs.MovesExact.{moves-distinct}
-use Rattle.figures.proofs.Position.{position-moves, position-cardinal}
+use Rattle.figures.proofs.Callers.{with-list, with-cardinal}
 use Rattle.search.specs.Promise.{Lent, isEnough, Searches}
 use Rattle.search.specs.declared.SearchVerdict.{SearchVerdict}
 use Rattle.search.specs.declared.SearchVerdict.the-variants as search
@@ -35,23 +32,23 @@ use Rattle.text.proofs.RoundTrip.{table-refuses, into-refused, into-short, into
 use Rattle.text.proofs.Promises.{told-as, told-refused}
 use Rattle.text.specs.Promise.{textLength, textWritten, afterwards, WritesText, LengthAnswer}
 use Rattle.text.specs.declared.TextLength.{TextLength}
-use Rattle.text.specs.declared.TextLength.the-variants as size
 use Rattle.text.specs.declared.TextWritten.{TextWritten}
 use Rattle.text.specs.declared.TextWritten.the-variants as writer
 use Rattle.table_check.proofs.Callers.{refused-table}
-use Rattle.ambiguity.specs.Entries.{Stores}
+use Rattle.ambiguity.specs.Entries.{StoresAt, statesAt}
 use Rattle.ambiguity.specs.Searches.{Certifies}
-use Rattle.ambiguity.specs.Rooms.{ListsMoves, LentThat, LentLess, RoomTheorems, LengthTheorems}
-use Rattle.ambiguity.proofs.Searches.{checked, stores, regular, search-theorems}
+use Rattle.ambiguity.specs.Rooms.{LentThat, LentLess, RoomTheorems, LengthTheorems}
+use Rattle.ambiguity.proofs.Entries.{checked-at, stores-at, stops, zero-live}
+use Rattle.ambiguity.proofs.Searches.{search-theorems}
 
 -- ---- a search
 
--- the room that is told is that of a grammar's moves
-record IsRoomOf (G : Grammar) (q b e m : ℕ) : Type 0 where
-  size : q ≡ states G
-  certificate : b ≡ byteCount (states G)
-  entries : e ≡ tripleCount (states G)
-  moves : m ≡ moveCount (movesOf limits G)
+-- the room that is told is that of a grammar's moves with m callers
+record IsRoomOf (G : Grammar) (m q b e x : ℕ) : Type 0 where
+  size : q ≡ statesAt G m
+  certificate : b ≡ byteCount (statesAt G m)
+  entries : e ≡ tripleCount (statesAt G m)
+  moves : x ≡ moveCount (movesWith limits G m)
 
 -- lent that much or less, by the search's own test
 that-enough : (Q : ℕ) (l : Lent) → LentThat (byteCount Q) (tripleCount Q) l → isEnough Q l ≡ true
@@ -81,70 +78,76 @@ less-short Q l h = go (isEnough Q l) refl
     go false e = refl
 
 -- a verdict is no refusal
-verdict-given : (t n : ℕ) (table : List ℕ) (G : Grammar) (v : SearchVerdict) (written : List ℕ)
-    → ((k l : ℕ) × (v ≡ search.Potential k l)) ⊎ Certifies t n table G v written → (c p : ℕ) → ¬ (v ≡ search.Refused c p)
-verdict-given t n table G v written (inl (k, l, q)) c p e = let z : search.Potential k l ≡ search.Refused c p = sym q ∙ e in absurd (let y : _≡_ {A = ℕ} 0 1 = cc in omega arith)
-verdict-given t n table G v written (inr k) c p e = let z = sym (k .verdict) ∙ e in absurd (let y : _≡_ {A = ℕ} 0 1 = cc in omega arith)
+verdict-given : (t n : ℕ) (table : List ℕ) (m : ℕ) (G : Grammar) (v : SearchVerdict) (written : List ℕ)
+    → ((k l : ℕ) × (v ≡ search.Potential k l)) ⊎ Certifies t n table m G v written → (c p : ℕ) → ¬ (v ≡ search.Refused c p)
+verdict-given t n table m G v written (inl (k, l, q)) c p e = let z : search.Potential k l ≡ search.Refused c p = sym q ∙ e in absurd (let y : _≡_ {A = ℕ} 0 1 = cc in omega arith)
+verdict-given t n table m G v written (inr k) c p e = let z = sym (k .verdict) ∙ e in absurd (let y : _≡_ {A = ℕ} 0 1 = cc in omega arith)
 
--- where the search gave a verdict, it was lent enough
-answered : (t n : ℕ) (table : List ℕ) (G : Grammar) → Stores t n table G → (before : Lent) (v : SearchVerdict) (after : Lent) → Searches t n table before v after
-    → (k l : ℕ) → (v ≡ search.Unambiguous k l) ⊎ (v ≡ search.Potential k l) → isEnough (states G) before ≡ true
-answered t n table G s before v after a k l y = go (isEnough (states G) before) refl
-  where
-    apart : (v ≡ search.Unambiguous k l) ⊎ (v ≡ search.Potential k l) → v ≡ search.Refused bufferTooShort 0 → ⊥
-    apart (inl q) e = let z : search.Unambiguous k l ≡ search.Refused bufferTooShort 0 = sym q ∙ e in let o : _≡_ {A = ℕ} 0 1 = cc in omega arith
-    apart (inr q) e = let z : search.Potential k l ≡ search.Refused bufferTooShort 0 = sym q ∙ e in let o : _≡_ {A = ℕ} 0 1 = cc in omega arith
-
-    go : (b : Bool) → isEnough (states G) before ≡ b → b ≡ true
-    go true e = refl
-    go false e = absurd (apart y (search-theorems t n table before v after a .short G s e .0))
-
-module _ (t n : ℕ) (table : List ℕ) (r : SearchRoom) (h : RoomAnswer t n table r) where
-  room-passed : (G : Grammar) → checkTable limits t n table ≡ done G → r ≡ roomTold (done (roomOf (movesOf limits G)))
-  unfolding searchRoom
-  room-passed G e = h ∙ ap roomTold (then-goes (checkTable limits t n table) (λ G. done (roomOf (movesOf limits G))) G e)
-
-  room-refused : (c p : ℕ) → checkTable limits t n table ≡ refused c p → r ≡ room.Refused c p
-  unfolding searchRoom
-  room-refused c p e = h ∙ ap roomTold (then-stops (checkTable limits t n table) (λ G. done (roomOf (movesOf limits G))) c p e)
-
-  -- the table passed, and the numbers are its grammar's
-  room-of : (q b e m : ℕ) → r ≡ room.Room q b e m → (G : Grammar) × Stores t n table G × IsRoomOf G q b e m
-  room-of q b e m x = go (checkTable limits t n table) refl
+module _ (t n : ℕ) (table : List ℕ) (m : ℕ) where
+  -- where the search gave a verdict, it was lent enough
+  answered : (G : Grammar) → StoresAt t n table m G → (before : Lent) (v : SearchVerdict) (after : Lent) → Searches t n table m before v after
+      → (k l : ℕ) → (v ≡ search.Unambiguous k l) ⊎ (v ≡ search.Potential k l) → isEnough (statesAt G m) before ≡ true
+  answered G s before v after a k l y = go (isEnough (statesAt G m) before) refl
     where
-      go : (o : Answer Grammar) → checkTable limits t n table ≡ o → (G : Grammar) × Stores t n table G × IsRoomOf G q b e m
-      go (done G) y =
-          let z : room.Room q b e m ≡ room.Room (states G) (byteCount (states G)) (tripleCount (states G)) (moveCount (movesOf limits G)) = sym x ∙ room-passed G y in
-          (G, stores t n table G y, record { size = cc; certificate = cc; entries = cc; moves = cc })
-      go (refused c p) y = let z : room.Room q b e m ≡ room.Refused c p = sym x ∙ room-refused c p y in absurd (let w : _≡_ {A = ℕ} 0 1 = cc in omega arith)
+      apart : (v ≡ search.Unambiguous k l) ⊎ (v ≡ search.Potential k l) → v ≡ search.Refused bufferTooShort 0 → ⊥
+      apart (inl q) e = let z : search.Unambiguous k l ≡ search.Refused bufferTooShort 0 = sym q ∙ e in let o : _≡_ {A = ℕ} 0 1 = cc in omega arith
+      apart (inr q) e = let z : search.Potential k l ≡ search.Refused bufferTooShort 0 = sym q ∙ e in let o : _≡_ {A = ℕ} 0 1 = cc in omega arith
 
-  pub room-theorems : RoomTheorems t n table r
-  room-theorems = record {
-    refused = λ c cause at a d. room-refused cause at (refused-table t n table c a cause at d);
-    told = λ G s. (_, room-passed G (checked t n table G s));
-    enough = λ q b e m x before v after a l at.
-        let k = room-of q b e m x in
-        let G = k .0 in
-        let w = search-theorems t n table before v after a .enough G (k .1)
-        (that-enough (states G) before (subst₂ (λ b e. LentThat b e before) (k .2 .certificate) (k .2 .entries) l)) in
-        verdict-given t n table G v _ (w .one-of-two) bufferTooShort at;
-    short = λ q b e m x before v after a l.
-        let k = room-of q b e m x in
-        let G = k .0 in
-        search-theorems t n table before v after a .short G (k .1)
-        (less-short (states G) before (subst₂ (λ b e. LentLess b e before) (k .2 .certificate) (k .2 .entries) l));
-    looked = λ q b e m x before v after a k l y.
-        let g = room-of q b e m x in
-        let G = g .0 in
-        let w = search-theorems t n table before v after a .enough G (g .1) (answered t n table G (g .1) before v after a k l y) in
-        subst₂ (λ q m. l ≤ m * m + 2 * (q * m)) (sym (g .2 .size)) (sym (g .2 .moves)) (w .looked k l y .1);
-    listed = λ G s. let W = s .isTable .wellFormed in
-        (allMoves (movesOf limits G), record { distinct = moves-distinct (movesOf limits G) (regular G W); moves = position-moves limits G W (omega arith) });
-    number = λ G s q b e m x l d.
-        let z : room.Room q b e m ≡ room.Room (states G) (byteCount (states G)) (tripleCount (states G)) (moveCount (movesOf limits G)) = sym x ∙ room-passed G (checked t n table G s) in
-        let y : m ≡ moveCount (movesOf limits G) = cc in
-        y ∙ sym (position-cardinal limits G (s .isTable .wellFormed) (omega arith) l (d .distinct) (d .moves));
-  }
+      go : (b : Bool) → isEnough (statesAt G m) before ≡ b → b ≡ true
+      go true e = refl
+      go false e = absurd (apart y (search-theorems t n table m before v after a .short G s e .0))
+
+  module _ (r : SearchRoom) (h : RoomAnswer t n table m r) where
+    -- the answer, by what the refusals up to 8 give
+    room-passed : (G : Grammar) → checkWith limits t n table m ≡ done G → r ≡ roomTold (done (roomOf (movesWith limits G m)))
+    unfolding searchRoom
+    room-passed G e = h ∙ ap roomTold (then-goes (checkWith limits t n table m) (λ G. done (roomOf (movesWith limits G m))) G e)
+
+    room-refused : (c p : ℕ) → checkWith limits t n table m ≡ refused c p → r ≡ room.Refused c p
+    unfolding searchRoom
+    room-refused c p e = h ∙ ap roomTold (then-stops (checkWith limits t n table m) (λ G. done (roomOf (movesWith limits G m))) c p e)
+
+    -- the room of a grammar that passes
+    abbrev roomAt : Grammar → SearchRoom
+    roomAt G = room.Room (statesAt G m) (byteCount (statesAt G m)) (tripleCount (statesAt G m)) (moveCount (movesWith limits G m))
+
+    -- the table passed, the states fit, and the numbers are its grammar's
+    room-of : (q b e x : ℕ) → r ≡ room.Room q b e x → (G : Grammar) × StoresAt t n table m G × IsRoomOf G m q b e x
+    room-of q b e x y = go (checkWith limits t n table m) refl
+      where
+        go : (o : Answer Grammar) → checkWith limits t n table m ≡ o → (G : Grammar) × StoresAt t n table m G × IsRoomOf G m q b e x
+        go (done G) c =
+            let z : room.Room q b e x ≡ roomAt G = sym y ∙ room-passed G c in
+            (G, stores-at t n table m G c, record { size = cc; certificate = cc; entries = cc; moves = cc })
+        go (refused c p) d = let z : room.Room q b e x ≡ room.Refused c p = sym y ∙ room-refused c p d in absurd (let w : _≡_ {A = ℕ} 0 1 = cc in omega arith)
+
+    pub room-theorems : RoomTheorems t n table m r
+    room-theorems = record {
+      refused = λ cause at a. room-refused cause at (stops t n table m a);
+      told = λ G s. (_, room-passed G (checked-at t n table m G s));
+      enough = λ q b e x y before v after a l at.
+          let k = room-of q b e x y in
+          let G = k .0 in
+          let w = search-theorems t n table m before v after a .enough G (k .1)
+          (that-enough (statesAt G m) before (subst₂ (λ b e. LentThat b e before) (k .2 .certificate) (k .2 .entries) l)) in
+          verdict-given t n table m G v _ (w .one-of-two) bufferTooShort at;
+      short = λ q b e x y before v after a l.
+          let k = room-of q b e x y in
+          let G = k .0 in
+          search-theorems t n table m before v after a .short G (k .1)
+          (less-short (statesAt G m) before (subst₂ (λ b e. LentLess b e before) (k .2 .certificate) (k .2 .entries) l));
+      looked = λ q b e x y before v after a k l z.
+          let g = room-of q b e x y in
+          let G = g .0 in
+          let w = search-theorems t n table m before v after a .enough G (g .1) (answered G (g .1) before v after a k l z) in
+          subst₂ (λ q x. l ≤ x * x + 2 * (q * x)) (sym (g .2 .size)) (sym (g .2 .moves)) (w .looked k l z .1);
+      listed = λ G s. let W = s .stores .isTable .wellFormed in with-list limits G W (omega arith) (zero-live G W (s .stores .sentence)) m;
+      number = λ G s q b e x y l d.
+          let W = s .stores .isTable .wellFormed in
+          let z : room.Room q b e x ≡ roomAt G = sym y ∙ room-passed G (checked-at t n table m G s) in
+          let c : x ≡ moveCount (movesWith limits G m) = cc in
+          c ∙ sym (with-cardinal limits G W (omega arith) (zero-live G W (s .stores .sentence)) m l d);
+    }
 
 -- ---- the writer
 

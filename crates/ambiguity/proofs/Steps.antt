@@ -12,32 +12,29 @@ use lib.ListN.{length}
 use borrow.Author.Tests.{ltb-true, ltb-false, eq-eqb}
 use Rattle.grammar.specs.Basics.{choose, Mem, here, there, Distinct, more, when}
 use Rattle.grammar.specs.Limits.{limits}
-use Rattle.grammar.specs.Grammar.{Grammar, WellFormed}
+use Rattle.grammar.specs.Grammar.{Grammar}
 use Rattle.grammar.specs.Refusal.{done}
-use Rattle.grammar.specs.TableCheck.{checkTable}
 use Rattle.grammar.proofs.Answers.{then-goes, then-stops}
-use Rattle.automaton.specs.Items.{states}
 use Rattle.automaton.specs.Moves.{Moves, Regular}
-use Rattle.automaton.specs.Position.{position}
-use Rattle.automaton.specs.PositionMoves.{movesOf}
+use Rattle.automaton.specs.Callers.{callers, checkWith}
+use Rattle.automaton.specs.CallerMoves.{movesWith}
 use Rattle.triples.specs.Index.{index, tripleCount}
 use Rattle.triples.specs.Records.{nextIndex, key, choices, ordered, records}
 use Rattle.triples.specs.declared.Step.{Step}
 use Rattle.triples.proofs.Index.{index-below}
-use Rattle.triples.specs.Successor.{StepTo}
+use Rattle.triples.specs.Numbers.{StepAt}
 use Rattle.triple_laws.proofs.Pairs.{Rising, pairs-none, pairs-more, pairs-join}
 use Rattle.triple_laws.proofs.Records.{steps-in-range, records-exact}
 use Rattle.triple_laws.proofs.RecordDoubles.{records-distinct}
 use Rattle.triple_laws.proofs.Single.{records-rise}
 use Rattle.triple_laws.proofs.Placed.{side, place, records-placed, side-small}
-use Rattle.triple_laws.proofs.Numbered.{step-same}
+use Rattle.triple_laws.proofs.Numbers.{step-numbers}
 use Rattle.steps.specs.Steps.{nth, nthRecord, nthStep, recordAnswer, stepAnswer}
 use Rattle.steps.specs.declared.StepAnswer.{StepAnswer}
 use Rattle.steps.specs.declared.StepAnswer.the-variants as step
-use Rattle.table_check.proofs.Callers.{refused-table}
-use Rattle.ambiguity.specs.Entries.{Usize, Stores, StepAnswers}
+use Rattle.ambiguity.specs.Entries.{Usize, StoresAt, statesAt, StepAnswers}
 use Rattle.ambiguity.specs.FrontPage.{StepTheorems}
-use Rattle.ambiguity.proofs.Searches.{checked, regular, lists}
+use Rattle.ambiguity.proofs.Entries.{checked-at, stops, regular, lists}
 
 -- what stands at a place of a list is in it, and what is in it stands at a place below its length
 nth-in : (l : List Step) (k : ℕ) (x : Step) → nth l k ≡ some x → Mem x l
@@ -185,43 +182,55 @@ module _ (M : Moves) where
         let m = mul-le-mul {n₁ = M .states} {m₁ = M .states} {n₂ = limits .maxStates} {m₂ = limits .maxStates} small small in
         omega (arith, m, at-most f p q)
 
--- the records of a triple in range are the steps of the position automaton
-records-steps : (G : Grammar) → WellFormed limits G → (f p q : ℕ) → f < 2 → p < states G → q < states G → (s : Step)
-    → Mem s (records (movesOf limits G) f p q)
-    ↔ StepTo (position limits G) f p q (s .layer) (s .left) (s .right) (s .«on_left») (s .«on_right»)
-records-steps G W f p q hf hp hq s =
-    let r = records-exact (movesOf limits G) (regular G W) f p q hf hp hq s in
-    let z = step-same (position limits G) (movesOf limits G) (regular G W) (lists G W) {f = f} {g = s .layer} {p = p} {q = q} {p′ = s .left}
-    {q′ = s .right} {l = s .«on_left»} {r = s .«on_right»} hp hq in
-    (λ m. z .1 (r .0 m), λ t. r .1 (z .0 t))
+module _ (t n : ℕ) (table : List ℕ) (m f p q : ℕ) where
+  module _ (G : Grammar) (s : StoresAt t n table m G) where
+    -- the moves with m callers, which are regular
+    abbrev M : Moves
+    M = movesWith limits G m
 
-module _ (t n : ℕ) (table : List ℕ) (f p q : ℕ) (ask : ℕ → StepAnswer) (h : StepAnswers t n table f p q ask) where
-  record-at : (G : Grammar) → Stores t n table G → (k : ℕ) → Usize k → ask k ≡ recordAnswer (nthRecord (movesOf limits G) f p q k)
-  unfolding nthStep
-  record-at G s k u = h k u ∙ ap stepAnswer (then-goes (checkTable limits t n table) (λ G. done (nthRecord (movesOf limits G) f p q k)) G (checked t n table G s))
+    R : Regular M
+    R = regular G (s .stores .isTable .wellFormed) (s .stores .sentence) m
 
-  usize-at : (G : Grammar) → Stores t n table G → (k : ℕ) → k < length (records (movesOf limits G) f p q) → Usize k
-  usize-at G s k i = place-usize (movesOf limits G) (regular G (s .isTable .wellFormed)) (s .isTable .wellFormed .size) f p q k i
+    -- the records of a triple in range are the steps of the automaton
+    records-steps : f < 2 → p < statesAt G m → q < statesAt G m → (x : Step)
+        → Mem x (records M f p q) ↔ StepAt (callers limits G m) f p q (x .layer) (x .left) (x .right) (x .«on_left») (x .«on_right»)
+    records-steps hf hp hq x =
+        let r = records-exact M R f p q hf hp hq x in
+        let z = step-numbers (callers limits G m) M R (lists G (s .stores .isTable .wellFormed) (s .stores .sentence) m) f p q (x .layer) (x .left) (x .right)
+        (x .«on_left») (x .«on_right») hf hp hq in
+        (λ k. z .1 (r .0 k), λ y. r .1 (z .0 y))
 
-  pub step-theorems : StepTheorems t n table f p q ask
-  unfolding nthStep
-  step-theorems = record {
-    refused = λ r cause at e d k u. h k u
-        ∙ ap stepAnswer (then-stops (checkTable limits t n table) (λ G. done (nthRecord (movesOf limits G) f p q k)) cause at (refused-table t n table r e cause at d));
-    outside = λ G s out k u. let l = records (movesOf limits G) f p q in
-        record-at G s k u ∙ ap recordAnswer (nth-past l k (omega (arith, ap (length {A = Step}) (none-outside (movesOf limits G) f p q out))));
-    exact = λ G s hf hp hq x. let r = records-steps G (s .isTable .wellFormed) f p q hf hp hq x in (
-      λ (k, u, e). r .0 (nth-in (records (movesOf limits G) f p q) k x (answer-some _ x (sym (record-at G s k u) ∙ e))),
-      λ y. let m = in-nth (records (movesOf limits G) f p q) x (r .1 y) in
-          let u = usize-at G s (m .0) (m .1) in
-          (m .0, u, record-at G s (m .0) u ∙ ap recordAnswer (m .2)),
-    );
-    once = λ G s k l x u v e w. nth-once (records (movesOf limits G) f p q) (records-distinct (movesOf limits G) (regular G (s .isTable .wellFormed)) f p q) k l x
-        (answer-some _ x (sym (record-at G s k u) ∙ e)) (answer-some _ x (sym (record-at G s l v) ∙ w));
-    count = λ G s. let l = records (movesOf limits G) f p q in (
-      length l,
-      at-most (movesOf limits G) (regular G (s .isTable .wellFormed)) f p q,
-      λ k j. let x = nth-below l k j in (x .0, record-at G s k (usize-at G s k j) ∙ ap recordAnswer (x .1)),
-      λ k j u. record-at G s k u ∙ ap recordAnswer (nth-past l k j),
-    );
-  }
+    -- their places are those of a usize
+    usize-at : (k : ℕ) → k < length (records M f p q) → Usize k
+    usize-at k i = place-usize M R (s .few-states) f p q k i
+
+  module _ (ask : ℕ → StepAnswer) (h : StepAnswers t n table m f p q ask) where
+    -- the answer for a place, by the records
+    record-at : (G : Grammar) → StoresAt t n table m G → (k : ℕ) → Usize k → ask k ≡ recordAnswer (nthRecord (movesWith limits G m) f p q k)
+    unfolding nthStep
+    record-at G s k u =
+        h k u
+        ∙ ap stepAnswer (then-goes (checkWith limits t n table m) (λ G. done (nthRecord (movesWith limits G m) f p q k)) G (checked-at t n table m G s))
+
+    pub step-theorems : StepTheorems t n table m f p q ask
+    unfolding nthStep
+    step-theorems = record {
+      refused = λ cause at e k u. h k u
+          ∙ ap stepAnswer (then-stops (checkWith limits t n table m) (λ G. done (nthRecord (movesWith limits G m) f p q k)) cause at (stops t n table m e));
+      outside = λ G s out k u. let l = records (movesWith limits G m) f p q in
+          record-at G s k u ∙ ap recordAnswer (nth-past l k (omega (arith, ap (length {A = Step}) (none-outside (movesWith limits G m) f p q out))));
+      exact = λ G s hf hp hq x. let r = records-steps G s hf hp hq x in (
+        λ (k, u, e). r .0 (nth-in (records (movesWith limits G m) f p q) k x (answer-some _ x (sym (record-at G s k u) ∙ e))),
+        λ y. let z = in-nth (records (movesWith limits G m) f p q) x (r .1 y) in
+            let u = usize-at G s (z .0) (z .1) in
+            (z .0, u, record-at G s (z .0) u ∙ ap recordAnswer (z .2)),
+      );
+      once = λ G s k l x u v e w. nth-once (records (movesWith limits G m) f p q) (records-distinct (movesWith limits G m) (R G s) f p q) k l x
+          (answer-some _ x (sym (record-at G s k u) ∙ e)) (answer-some _ x (sym (record-at G s l v) ∙ w));
+      count = λ G s. let l = records (movesWith limits G m) f p q in (
+        length l,
+        at-most (movesWith limits G m) (R G s) f p q,
+        λ k j. let x = nth-below l k j in (x .0, record-at G s k (usize-at G s k j) ∙ ap recordAnswer (x .1)),
+        λ k j u. record-at G s k u ∙ ap recordAnswer (nth-past l k j),
+      );
+    }

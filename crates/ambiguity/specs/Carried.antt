@@ -1,6 +1,7 @@
--- Byte tables carried over: what the search, the certificate check, both witness checks and the room told beforehand answered under
--- document 01's limits, where a symbol was one byte, they answer under the limits in force, for the same t and n and the table with
--- its nonterminal codes moved up. What was promised under document 01's limits are the definitions of the promises at `byteLimits`.
+-- Byte tables carried over: what the search, the certificate check, both witness checks and the room told beforehand
+-- answered under document 01's limits, where a symbol was one byte, they answer under the limits in force, for the same t
+-- and n and the table with its nonterminal codes moved up, without callers (`zero-check` in specs/Callers.antt). What was
+-- promised under document 01's limits are the definitions of the promises at `byteLimits`.
 -- Source: document 02, [8].
 -- Assumes nothing.
 use Prim.Native.Nat.{ℕ, _+_}
@@ -37,13 +38,13 @@ pub record CarriedTheorems (t n : ℕ) (table : List ℕ) (G : Grammar) : Type 0
   pub parting : Potential (position byteLimits G) ↔ Potential (position limits (carriedGrammar byteLimits limits G))
   -- the search answers and leaves what is lent as it did, and in no other way
   pub searches : (before : Lent) (r : SearchVerdict) (after : Lent)
-      → SearchesAt byteLimits t n table before r after ↔ Searches t n (wideTable table) before r after
+      → SearchesAt byteLimits t n table 0 before r after ↔ Searches t n (wideTable table) 0 before r after
   -- every row of bytes, of indices and of records is answered as it was
   pub certificates : (bytes : List ℕ) (v : CheckVerdict)
-      → (v ≡ checkVerdict (checkCertificate byteLimits t n table bytes)) ↔ CertificateAnswer t n (wideTable table) bytes v
+      → (v ≡ checkVerdict (checkCertificate byteLimits t n table 0 bytes)) ↔ CertificateAnswer t n (wideTable table) 0 bytes v
   pub witnesses : (row : List ℕ) (v : CheckVerdict)
-      → (v ≡ checkVerdict (checkWitness byteLimits t n table row)) ↔ WitnessAnswer t n (wideTable table) row v
+      → (v ≡ checkVerdict (checkWitness byteLimits t n table 0 row)) ↔ WitnessAnswer t n (wideTable table) 0 row v
   pub records : (entries : List TripleRecord) (v : CheckVerdict)
-      → (v ≡ checkVerdict (checkWitnessRecords byteLimits t n table (triples entries))) ↔ RecordsAnswer t n (wideTable table) entries v
+      → (v ≡ checkVerdict (checkWitnessRecords byteLimits t n table 0 (triples entries))) ↔ RecordsAnswer t n (wideTable table) 0 entries v
   -- the room of the search is told as it was
-  pub rooms : (r : SearchRoom) → (r ≡ roomTold (searchRoom byteLimits t n table)) ↔ RoomAnswer t n (wideTable table) r
+  pub rooms : (r : SearchRoom) → (r ≡ roomTold (searchRoom byteLimits t n table 0)) ↔ RoomAnswer t n (wideTable table) 0 r

@@ -2,15 +2,16 @@
 -- the entry's `ensures`; it determines the answer and all that was lent. Each promise is one definition:
 -- specs/Entries.antt says where. specs/Searches.antt, specs/Rooms.antt, specs/Texts.antt, specs/Joins.antt,
 -- specs/Reports.antt and specs/Readings.antt have what follows for the search, for room told beforehand, for texts,
--- for two texts that are joined, for the program and for the two lines of a witness, specs/Carried.antt what holds of byte tables carried over,
--- specs/Automata.antt whose moves the promises compute with, proofs/FrontPage.antt the value of the record.
+-- for two texts that are joined, for the program and for the two lines of a witness, specs/Carried.antt what holds
+-- of byte tables carried over, specs/Automata.antt and specs/Callers.antt whose moves the promises compute with,
+-- without callers and with them, proofs/FrontPage.antt the value of the record.
 -- Source: document 01 and document 02's requests; README.md has the demands. Of demand 1, that a refusal is the
 -- first in the documents' order is in the definitions that the promises equal.
 -- Assumes nothing.
 use Prim.Native.Nat.{ℕ, _+_, _≤_, _<_}
 use mathlib.Core.Path.{_≡_}
 use mathlib.Core.List.{List, map}
-use mathlib.Core.Logic.{_↔_}
+use mathlib.Core.Logic.{_⊎_, _↔_}
 use Rattle.grammar.specs.Basics.{Mem}
 use Rattle.grammar.specs.Limits.{byteLimits, limits}
 use Rattle.grammar.specs.Grammar.{Grammar, WellFormed}
@@ -21,10 +22,9 @@ use Rattle.grammar.specs.declared.TableChecked.{TableChecked}
 use Rattle.grammar.specs.declared.TableVerdict.the-variants.{Passed, Refused}
 use Rattle.grammar.specs.TableCheck.{checkTable, TableAnswer}
 use Rattle.automaton.specs.Strings.{Potential, Unambiguous}
-use Rattle.automaton.specs.Items.{states}
-use Rattle.automaton.specs.Position.{positionOf, position, every}
+use Rattle.automaton.specs.Position.{positionOf, every}
+use Rattle.automaton.specs.Callers.{callers}
 use Rattle.triples.specs.Index.{tripleCount}
-use Rattle.triples.specs.Successor.{StepTo}
 use Rattle.triples.specs.Certificate.{AcceptableCertificate}
 use Rattle.triples.specs.Witness.{Witness}
 use Rattle.triples.specs.declared.CheckVerdict.{CheckVerdict}
@@ -53,7 +53,8 @@ use Rattle.readings.specs.Promise.{ReadsBack}
 use Rattle.readings.specs.declared.ReadBack.{ReadBack}
 use Rattle.report.specs.Report.{Reports}
 use Rattle.report.specs.declared.Reported.{Reported}
-use Rattle.ambiguity.specs.Entries.{Usize, IsTableOf, Stores, StepAnswers}
+use Rattle.ambiguity.specs.Entries.{Usize, IsTableOf, Stores, StoresAt, StopsAt, statesAt, StepAnswers}
+use Rattle.triples.specs.Numbers.{StepAt}
 use Rattle.ambiguity.specs.Searches.{SearchTheorems}
 use Rattle.ambiguity.specs.Texts.{TextTheorems}
 use Rattle.ambiguity.specs.Joins.{JoinTheorems, ShownTheorems, JoinedTextTheorems}
@@ -61,6 +62,7 @@ use Rattle.ambiguity.specs.Readings.{ReadingTheorems, BackTheorems}
 use Rattle.ambiguity.specs.Reports.{ReportTheorems}
 use Rattle.ambiguity.specs.Automata.{AutomatonTheorems, IndexTheorems}
 use Rattle.ambiguity.specs.Rooms.{RoomTheorems, LengthTheorems}
+use Rattle.ambiguity.specs.Callers.{CallerTheorems, AcrossTheorems}
 use Rattle.ambiguity.specs.Carried.{CarriedTheorems}
 
 module _ (t n : ℕ) (table : List ℕ) where
@@ -74,65 +76,75 @@ module _ (t n : ℕ) (table : List ℕ) where
     -- so rule 0 is live in every grammar that passes
     pub rule-0-live : (G : Grammar) → Stores t n table G → Live limits G 0
 
+-- each entry over triples, with m callers
+module _ (t n : ℕ) (table : List ℕ) (m : ℕ) where
   pub record StepTheorems (f p q : ℕ) (ask : ℕ → StepAnswer) : Type 0 where
-    -- the faults of the table come first, as the table check gives them
-    pub refused : (r : TableChecked) (cause at : ℕ) → TableAnswer t n table r → r .verdict ≡ Refused cause at
-        → (k : ℕ) → Usize k → ask k ≡ step.Refused cause at
+    -- the refusals up to [11]'s 8 come first
+    pub refused : (cause at : ℕ) → StopsAt t n table m cause at → (k : ℕ) → Usize k → ask k ≡ step.Refused cause at
     -- of a triple out of range every answer is that there are no more
-    pub outside : (G : Grammar) → Stores t n table G → ¬ ((f < 2) × (p < states G) × (q < states G)) → (k : ℕ) → Usize k → ask k ≡ step.NoMore
+    pub outside : (G : Grammar) → StoresAt t n table m G → ¬ ((f < 2) × (p < statesAt G m) × (q < statesAt G m)) → (k : ℕ) → Usize k → ask k ≡ step.NoMore
     -- of a triple in range the answers are exactly the steps to its successors
-    pub exact : (G : Grammar) → Stores t n table G → f < 2 → p < states G → q < states G → (s : Step)
+    pub exact : (G : Grammar) → StoresAt t n table m G → f < 2 → p < statesAt G m → q < statesAt G m → (s : Step)
         → ((k : ℕ) × Usize k × (ask k ≡ step.Record s))
-        ↔ StepTo (position limits G) f p q (s .layer) (s .left) (s .right) (s .«on_left») (s .«on_right»)
+        ↔ StepAt (callers limits G m) f p q (s .layer) (s .left) (s .right) (s .«on_left») (s .«on_right»)
     -- a record stands at one place only
-    pub once : (G : Grammar) → Stores t n table G → (k l : ℕ) (s : Step) → Usize k → Usize l → ask k ≡ step.Record s → ask l ≡ step.Record s → k ≡ l
+    pub once : (G : Grammar) → StoresAt t n table m G → (k l : ℕ) (s : Step) → Usize k → Usize l → ask k ≡ step.Record s → ask l ≡ step.Record s → k ≡ l
     -- there is a number of records, at most 2Q² + 2: below it each place has one, and from it on there are no more
-    pub count : (G : Grammar) → Stores t n table G → (c : ℕ) × (c ≤ tripleCount (states G) + 2)
+    pub count : (G : Grammar) → StoresAt t n table m G → (c : ℕ) × (c ≤ tripleCount (statesAt G m) + 2)
         × ((k : ℕ) → k < c → (s : Step) × (ask k ≡ step.Record s)) × ((k : ℕ) → c ≤ k → Usize k → ask k ≡ step.NoMore)
 
   pub record WitnessTheorems (row : List ℕ) (v : CheckVerdict) : Type 0 where
-    -- the faults of the table come first, as the table check gives them
-    pub refused : (r : TableChecked) (cause at : ℕ) → TableAnswer t n table r → r .verdict ≡ Refused cause at → v ≡ check.Refused cause at
+    -- the refusals up to [11]'s 8 come first
+    pub refused : (cause at : ℕ) → StopsAt t n table m cause at → v ≡ check.Refused cause at
     -- accepted exactly if the row is a witness of the grammar
-    pub accepted : (G : Grammar) → Stores t n table G → (v ≡ check.Accepted) ↔ Witness (position limits G) row
+    pub accepted : (G : Grammar) → StoresAt t n table m G → (v ≡ check.Accepted) ↔ Witness (callers limits G m) row
     -- demand 2: an accepted row shows that two strings part
-    pub potential : (G : Grammar) → Stores t n table G → v ≡ check.Accepted → Potential (position limits G)
+    pub potential : (G : Grammar) → StoresAt t n table m G → v ≡ check.Accepted → Potential (callers limits G m)
 
   pub record RecordTheorems (entries : List TripleRecord) (v : CheckVerdict) : Type 0 where
-    pub refused : (r : TableChecked) (cause at : ℕ) → TableAnswer t n table r → r .verdict ≡ Refused cause at → v ≡ check.Refused cause at
+    pub refused : (cause at : ℕ) → StopsAt t n table m cause at → v ≡ check.Refused cause at
     -- records in range are answered as the row of their indices is
-    pub alike : (G : Grammar) → Stores t n table G → ((e : TripleRecord) → Mem e entries → InRange (states G) e)
-        → (w : CheckVerdict) → WitnessAnswer t n table (map (indexOf (states G)) entries) w → v ≡ w
+    pub alike : (G : Grammar) → StoresAt t n table m G → ((e : TripleRecord) → Mem e entries → InRange (statesAt G m) e)
+        → (w : CheckVerdict) → WitnessAnswer t n table m (map (indexOf (statesAt G m)) entries) w → v ≡ w
     -- accepted exactly if all are in range and their indices are a witness
-    pub accepted : (G : Grammar) → Stores t n table G
+    pub accepted : (G : Grammar) → StoresAt t n table m G
         → (v ≡ check.Accepted)
-        ↔ (((e : TripleRecord) → Mem e entries → InRange (states G) e) × Witness (position limits G) (map (indexOf (states G)) entries))
+        ↔ (((e : TripleRecord) → Mem e entries → InRange (statesAt G m) e) × Witness (callers limits G m) (map (indexOf (statesAt G m)) entries))
     -- demand 2: accepted records show that two strings part
-    pub potential : (G : Grammar) → Stores t n table G → v ≡ check.Accepted → Potential (position limits G)
+    pub potential : (G : Grammar) → StoresAt t n table m G → v ≡ check.Accepted → Potential (callers limits G m)
 
   pub record CertificateTheorems (bytes : List ℕ) (v : CheckVerdict) : Type 0 where
-    pub refused : (r : TableChecked) (cause at : ℕ) → TableAnswer t n table r → r .verdict ≡ Refused cause at → v ≡ check.Refused cause at
+    pub refused : (cause at : ℕ) → StopsAt t n table m cause at → v ≡ check.Refused cause at
     -- demand 3: accepted exactly if the bytes are an acceptable certificate of the grammar
-    pub accepted : (G : Grammar) → Stores t n table G → (v ≡ check.Accepted) ↔ AcceptableCertificate (position limits G) bytes
+    pub accepted : (G : Grammar) → StoresAt t n table m G → (v ≡ check.Accepted) ↔ AcceptableCertificate (callers limits G m) bytes
     -- and if it accepts them, no sentence of that grammar has two derivation trees
-    pub one-tree : (G : Grammar) → Stores t n table G → v ≡ check.Accepted → (sentence : List ℕ) → ¬ HasTwoTrees limits G sentence
+    pub one-tree : (G : Grammar) → StoresAt t n table m G → v ≡ check.Accepted → (sentence : List ℕ) → ¬ HasTwoTrees limits G sentence
     -- demand 2: nor do two strings part
-    pub unambiguous : (G : Grammar) → Stores t n table G → v ≡ check.Accepted → Unambiguous (position limits G)
+    pub unambiguous : (G : Grammar) → StoresAt t n table m G → v ≡ check.Accepted → Unambiguous (callers limits G m)
     -- document 02, [3]: what was an acceptable certificate of a grammar with a sentence while every rule had moves, document 01's
-    -- automaton, is still accepted; of a grammar without one it is refused with 19 (`refused`, [4])
-    pub former : (G : Grammar) → Stores t n table G → AcceptableCertificate (positionOf limits G every) bytes → v ≡ check.Accepted
+    -- automaton, is still accepted without callers; of a grammar without one it is refused with 19 (`refused`, [4])
+    pub former : m ≡ 0 → (G : Grammar) → Stores t n table G → AcceptableCertificate (positionOf limits G every) bytes → v ≡ check.Accepted
 
 -- whatever answers as the entries promise; and the automaton and the indices with which they are computed
 pub record FrontPage : Type 1 where
   pub tables : (t n : ℕ) (table : List ℕ) (r : TableChecked) → TableAnswer t n table r → TableTheorems t n table r
-  pub steps : (t n : ℕ) (table : List ℕ) (f p q : ℕ) (ask : ℕ → StepAnswer) → StepAnswers t n table f p q ask → StepTheorems t n table f p q ask
-  pub witnesses : (t n : ℕ) (table row : List ℕ) (v : CheckVerdict) → WitnessAnswer t n table row v → WitnessTheorems t n table row v
-  pub records : (t n : ℕ) (table : List ℕ) (entries : List TripleRecord) (v : CheckVerdict) → RecordsAnswer t n table entries v
-      → RecordTheorems t n table entries v
-  pub certificates : (t n : ℕ) (table bytes : List ℕ) (v : CheckVerdict) → CertificateAnswer t n table bytes v → CertificateTheorems t n table bytes v
-  pub searches : (t n : ℕ) (table : List ℕ) (before : Lent) (r : SearchVerdict) (after : Lent) → Searches t n table before r after
-      → SearchTheorems t n table before r after
-  pub rooms : (t n : ℕ) (table : List ℕ) (r : SearchRoom) → RoomAnswer t n table r → RoomTheorems t n table r
+  -- document 02, [11]: for each m by itself, and for every input: either a refusal up to [11]'s 8 stops it or the states fit
+  pub stopped : (t n : ℕ) (table : List ℕ) (m : ℕ) → ((cause at : ℕ) × StopsAt t n table m cause at) ⊎ ((G : Grammar) × StoresAt t n table m G)
+  pub steps : (t n : ℕ) (table : List ℕ) (m f p q : ℕ) (ask : ℕ → StepAnswer) → StepAnswers t n table m f p q ask
+      → StepTheorems t n table m f p q ask
+  pub witnesses : (t n : ℕ) (table : List ℕ) (m : ℕ) (row : List ℕ) (v : CheckVerdict) → WitnessAnswer t n table m row v
+      → WitnessTheorems t n table m row v
+  pub records : (t n : ℕ) (table : List ℕ) (m : ℕ) (entries : List TripleRecord) (v : CheckVerdict) → RecordsAnswer t n table m entries v
+      → RecordTheorems t n table m entries v
+  pub certificates : (t n : ℕ) (table : List ℕ) (m : ℕ) (bytes : List ℕ) (v : CheckVerdict) → CertificateAnswer t n table m bytes v
+      → CertificateTheorems t n table m bytes v
+  pub searches : (t n : ℕ) (table : List ℕ) (m : ℕ) (before : Lent) (r : SearchVerdict) (after : Lent) → Searches t n table m before r after
+      → SearchTheorems t n table m before r after
+  pub rooms : (t n : ℕ) (table : List ℕ) (m : ℕ) (r : SearchRoom) → RoomAnswer t n table m r → RoomTheorems t n table m r
+  -- whose moves these are, and which states there are
+  pub callers : (G : Grammar) → WellFormed limits G → HasSentence limits G → (m : ℕ) → CallerTheorems G m
+  -- across m: at 0 the automaton is the position automaton, and an unambiguous verdict is kept
+  pub across : (t n : ℕ) (table : List ℕ) → AcrossTheorems t n table
   pub texts : TextTheorems
   pub text-lengths : (t n : ℕ) (table bytes starts lengths : List ℕ) (r : TextLength) → LengthAnswer t n table bytes starts lengths r
       → LengthTheorems t n table bytes starts lengths r

@@ -1,6 +1,7 @@
 pub mod Entries
 pub mod Searches
 pub mod Rooms
+pub mod Callers
 pub mod Texts
 pub mod Joins
 pub mod Readings

@@ -3,19 +3,19 @@ use Prim.Native.Nat.{ℕ, _≤_}
 use native.Mathlib.Omega.{arith}
 use mathlib.Core.Path.{_≡_, refl, sym, subst}
 use mathlib.Core.Bool.{Bool, true, false}
-use lib.Dec.{leb}
-use borrow.Author.Tests.{leb-true}
+use lib.Dec.{leb, eqb}
+use borrow.Author.Tests.{leb-true, eqb-true}
 use mathlib.Core.Option.{Option, none, some}
 use mathlib.Core.List.{List}
 use mathlib.Core.Logic.{inl, inr}
 use Rattle.grammar.specs.Limits.{limits}
 use Rattle.grammar.specs.Grammar.{Grammar}
-use Rattle.grammar.specs.Refusal.{Answer, done, refused, andThen, noSentence, kindsClash}
+use Rattle.grammar.specs.Refusal.{Answer, done, refused, andThen, noSentence, kindsClash, tooManyCallers}
 use Rattle.grammar.specs.TableCheck.{tableChecked}
 use Rattle.grammar.specs.declared.TableVerdict.the-variants.{Passed}
-use Rattle.grammar.proofs.Answers.{and-both}
+use Rattle.grammar.proofs.Answers.{and-both, or-one}
 use Rattle.automaton.specs.Moves.{Moves}
-use Rattle.automaton.specs.PositionMoves.{movesOf}
+use Rattle.automaton.specs.CallerMoves.{movesWith}
 use Rattle.triples.specs.Verdict.{checkVerdict}
 use Rattle.triples.specs.declared.CheckVerdict.{CheckVerdict}
 use Rattle.triples.specs.declared.CheckVerdict.the-variants.{Accepted}
@@ -36,9 +36,9 @@ use Rattle.text.specs.declared.TextLength.the-variants as length
 use Rattle.text.specs.declared.TextWritten.the-variants.{Written}
 use Rattle.witness_records.specs.Records.{triples}
 use Rattle.ambiguity_c.specs.Replies.{tableReply, stepReply, checkReply, searchReply, roomReply, readReply, writeReply, lengthReply, reportReply, readBackReply}
-use Rattle.ambiguity_c.specs.Causes.{Tells, JoinTells, IsRead, IsRoom, IsVerdict, IsStep, CauseTheorems}
+use Rattle.ambiguity_c.specs.Causes.{Tells, JoinTells, CallerTells, IsRead, IsRoom, IsVerdict, IsStep, CauseTheorems}
 use Rattle.grammar.proofs.Causes.{cause}
-use Rattle.ambiguity_c.proofs.Refusals.{isCause, Caused, isJoinCause, JoinCaused, join-into, joined-into, check-table, nth-step, check-witness, check-records, check-certificate, search-asked, search-room, check-text, read-into, text-from, write-into, report-into, strings-into}
+use Rattle.ambiguity_c.proofs.Refusals.{isCause, Caused, isJoinCause, JoinCaused, isCallerCause, CallerCaused, join-into, joined-into, check-table, nth-step, check-witness, check-records, check-certificate, search-asked, search-room, check-text, read-into, text-from, write-into, report-into, strings-into}
 
 -- nothing is refused
 tells-done : {X : Type 0} → X → Tells 0 X
@@ -52,38 +52,50 @@ tells-refused c h =
     let high : c ≤ noSentence = leb-true c noSentence (b .1) in
     record { known = high; zero = λ e. absurd (omega arith) }
 
+-- with callers
+answer-told : {X : Type 0} → X → CallerTells 0 X
+answer-told x = record { known = inl (omega arith); zero = λ e. x }
+
+refusal-told : {X : Type 0} (c : ℕ) → isCallerCause c ≡ true → CallerTells c X
+refusal-told c h = elim (or-one (isCause c) (eqb c tooManyCallers) h) [
+  | inl q ↦ let t = tells-refused c q in record { known = inl (t .known); zero = t .zero }
+  | inr q ↦
+      let z : c ≡ tooManyCallers = eqb-true c tooManyCallers q in
+      record { known = inr z; zero = λ e. absurd (omega arith) }
+]
+
 table-tells : (o : Answer Grammar) → Caused o → Tells (tableReply (tableChecked o) .cause) (tableChecked o .verdict ≡ Passed)
 table-tells (done G) h = tells-done refl
 table-tells (refused c p) (cause h) = tells-refused c h
 
-step-tells : (o : Answer (Option Step)) → Caused o → Tells (stepReply (stepAnswer o) .cause) (IsStep (stepAnswer o))
-step-tells (done none) h = tells-done (inr (refl, refl))
-step-tells (done (some s)) h = tells-done (inl (refl, (s, refl)))
-step-tells (refused c p) (cause h) = tells-refused c h
+step-tells : (o : Answer (Option Step)) → CallerCaused o → CallerTells (stepReply (stepAnswer o) .cause) (IsStep (stepAnswer o))
+step-tells (done none) h = answer-told (inr (refl, refl))
+step-tells (done (some s)) h = answer-told (inl (refl, (s, refl)))
+step-tells (refused c p) (cause h) = refusal-told c h
 
-check-tells : (o : Answer Unit) → Caused o → Tells (checkReply (checkVerdict o) .cause) (checkVerdict o ≡ Accepted)
-check-tells (done u) h = tells-done refl
-check-tells (refused c p) (cause h) = tells-refused c h
+check-tells : (o : Answer Unit) → CallerCaused o → CallerTells (checkReply (checkVerdict o) .cause) (checkVerdict o ≡ Accepted)
+check-tells (done u) h = answer-told refl
+check-tells (refused c p) (cause h) = refusal-told c h
 
-verdict-tells : (o : Answer Unit) (v : CheckVerdict) → Caused o → v ≡ checkVerdict o → Tells (checkReply v .cause) (v ≡ Accepted)
-verdict-tells o v h a = subst (λ v. Tells (checkReply v .cause) (v ≡ Accepted)) (sym a) (check-tells o h)
+verdict-tells : (o : Answer Unit) (v : CheckVerdict) → CallerCaused o → v ≡ checkVerdict o → CallerTells (checkReply v .cause) (v ≡ Accepted)
+verdict-tells o v h a = subst (λ v. CallerTells (checkReply v .cause) (v ≡ Accepted)) (sym a) (check-tells o h)
 
 told-tells : (b : Bool) (M : Moves) (before : Lent) (v : SearchVerdict) (after : Lent) → Told b M before v after
-    → Tells (searchReply v .cause) (IsVerdict v)
+    → CallerTells (searchReply v .cause) (IsVerdict v)
 told-tells true M before v after a =
-    subst (λ v. Tells (searchReply v .cause) (IsVerdict v)) (sym (a .verdict)) (tells-done (inr (refl, refl)))
+    subst (λ v. CallerTells (searchReply v .cause) (IsVerdict v)) (sym (a .verdict)) (answer-told (inr (refl, refl)))
 told-tells false M before v after a =
-    subst (λ v. Tells (searchReply v .cause) (IsVerdict v)) (sym (a .verdict)) (tells-done (inl (refl, refl)))
+    subst (λ v. CallerTells (searchReply v .cause) (IsVerdict v)) (sym (a .verdict)) (answer-told (inl (refl, refl)))
 
-search-tells : (o : Answer Grammar) (before : Lent) (v : SearchVerdict) (after : Lent) → Caused o → Answers limits o before v after
-    → Tells (searchReply v .cause) (IsVerdict v)
-search-tells (done G) before v after h a = told-tells (isPotential (movesOf limits G)) (movesOf limits G) before v after a
-search-tells (refused c p) before v after (cause h) a =
-    subst (λ v. Tells (searchReply v .cause) (IsVerdict v)) (sym (a .0)) (tells-refused c h)
+search-tells : (m : ℕ) (o : Answer Grammar) (before : Lent) (v : SearchVerdict) (after : Lent) → CallerCaused o → Answers limits m o before v after
+    → CallerTells (searchReply v .cause) (IsVerdict v)
+search-tells m (done G) before v after h a = told-tells (isPotential (movesWith limits G m)) (movesWith limits G m) before v after a
+search-tells m (refused c p) before v after (cause h) a =
+    subst (λ v. CallerTells (searchReply v .cause) (IsVerdict v)) (sym (a .0)) (refusal-told c h)
 
-room-tells : (o : Answer Room) → Caused o → Tells (roomReply (roomTold o) .cause) (IsRoom (roomTold o))
-room-tells (done m) h = tells-done refl
-room-tells (refused c p) (cause h) = tells-refused c h
+room-tells : (o : Answer Room) → CallerCaused o → CallerTells (roomReply (roomTold o) .cause) (IsRoom (roomTold o))
+room-tells (done r) h = answer-told refl
+room-tells (refused c p) (cause h) = refusal-told c h
 
 read-tells : (o : Answer Source) → Caused o → Tells (readReply (textRead o) .cause) (IsRead (textRead o))
 read-tells (done s) h = tells-done refl
@@ -141,13 +153,13 @@ pub cause-theorems : CauseTheorems
 cause-theorems = record {
   tables = λ t n table r a.
       subst (λ r. Tells (tableReply r .cause) (r .verdict ≡ Passed)) (sym a) (table-tells _ (check-table limits t n table));
-  steps = λ t n table f p q ask a k u.
-      subst (λ s. Tells (stepReply s .cause) (IsStep s)) (sym (a k u)) (step-tells _ (nth-step limits t n table f p q k));
-  witnesses = λ t n table row v a. verdict-tells _ v (check-witness limits t n table row) a;
-  records = λ t n table entries v a. verdict-tells _ v (check-records limits t n table (triples entries)) a;
-  certificates = λ t n table bytes v a. verdict-tells _ v (check-certificate limits t n table bytes) a;
-  searches = λ t n table before v after a. search-tells _ before v after (search-asked limits t n table before) a;
-  rooms = λ t n table v a. subst (λ v. Tells (roomReply v .cause) (IsRoom v)) (sym a) (room-tells _ (search-room limits t n table));
+  steps = λ t n table m f p q ask a k u.
+      subst (λ s. CallerTells (stepReply s .cause) (IsStep s)) (sym (a k u)) (step-tells _ (nth-step limits t n table m f p q k));
+  witnesses = λ t n table m row v a. verdict-tells _ v (check-witness limits t n table m row) a;
+  records = λ t n table m entries v a. verdict-tells _ v (check-records limits t n table m (triples entries)) a;
+  certificates = λ t n table m bytes v a. verdict-tells _ v (check-certificate limits t n table m bytes) a;
+  searches = λ t n table m before v after a. search-tells m _ before v after (search-asked limits t n table m before) a;
+  rooms = λ t n table m v a. subst (λ v. CallerTells (roomReply v .cause) (IsRoom v)) (sym a) (room-tells _ (search-room limits t n table m));
   reads = λ text table starts lengths v table′ starts′ lengths′ a.
       subst (λ v. Tells (readReply v .cause) (IsRead v)) (sym (a .answer)) (read-tells _ (read-into limits _ _ _ text));
   writes = λ t n table bytes starts lengths out v out′ a.

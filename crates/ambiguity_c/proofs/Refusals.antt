@@ -1,22 +1,19 @@
 -- Every refusal of the entries' definitions has one of the documents' causes. Assumes nothing.
-use Prim.Native.Nat.{ℕ, zero, suc, _+_, _≤_}
-use mathlib.Core.Path.{_≡_, refl}
-use mathlib.Core.Bool.{Bool, true, false, _&&_}
-use mathlib.Core.List.{List, [], _∷_, _++_}
-use mathlib.Core.Option.{Option, none, some}
+use Prim.Native.Nat.{ℕ, suc, _+_, _≤_}
+use mathlib.Core.Path.{_≡_, refl, ap}
+use mathlib.Core.Bool.{Bool, true, _||_}
+use mathlib.Core.List.{List, [], _∷_}
 use native.Mathlib.Omega.{arith}
 use borrow.Author.Tests.{leb-true, le-leb}
-use lib.Dec.{leb}
-use lib.ListN.{length}
-use Rattle.grammar.specs.Basics.{choose}
+use lib.Dec.{leb, eqb}
 use Rattle.grammar.specs.Limits.{Limits}
-use Rattle.grammar.specs.Table.{ruleAt}
-use Rattle.grammar.specs.Refusal.{Answer, done, refused, refuseUnless, andThen, tooManyStates, certificateLength, spareBit, startMissing, endPresent, successorMissing, bufferTooShort, witnessWrong, malformed, nameUnknown, nameRepeated, noSentence, kindsClash}
+use Rattle.grammar.specs.Refusal.{Answer, tooManyStates, certificateLength, spareBit, startMissing, endPresent, successorMissing, bufferTooShort, witnessWrong, malformed, nameUnknown, nameRepeated, noSentence, kindsClash, tooManyCallers}
 use Rattle.grammar.specs.TableCheck.{checkTable}
 use Rattle.grammar.proofs.Answers.{and-both, both-and}
 use Rattle.grammar.proofs.Causes.{CausedBy, result, cause, unless, next, upTo, caused-more, stored-causes}
 use Rattle.automaton.specs.Moves.{Moves}
-use Rattle.automaton.specs.PositionMoves.{movesOf}
+use Rattle.automaton.specs.Callers.{checkCallers, checkWith}
+use Rattle.automaton.specs.CallerMoves.{movesWith}
 use Rattle.triples.specs.Certificate.{checkBytes, checkCertificate}
 use Rattle.triples.specs.Witness.{checkOn, checkRow, checkWitness, checkWitnessRecords}
 use Rattle.modules.specs.Joined.{joinedText, refuseClash, joinTexts, joinedTableInto, joinedTextInto}
@@ -50,9 +47,26 @@ pub check-table : (L : Limits) (t n : ℕ) (table : List ℕ) → Caused (checkT
 unfolding checkTable
 check-table L t n table = next _ _ (caused-more (more tooManyStates (omega arith)) _ (stored-causes L t n table)) (λ G. unless noSentence _ _ _ refl result)
 
-pub nth-step : (L : Limits) (t n : ℕ) (table : List ℕ) (f p q k : ℕ) → Caused (nthStep L t n table f p q k)
+-- ---- with callers, where 21 is a cause too
+
+abbrev pub isCallerCause : ℕ → Bool
+isCallerCause c = isCause c || eqb c tooManyCallers
+
+abbrev pub CallerCaused : {A : Type 0} → Answer A → Type 0
+CallerCaused o = CausedBy isCallerCause o
+
+still : (c : ℕ) → isCause c ≡ true → isCallerCause c ≡ true
+still c e = ap (λ (b : Bool). b || eqb c tooManyCallers) e
+
+-- the refusals up to 8
+check-with : (L : Limits) (t n : ℕ) (table : List ℕ) (m : ℕ) → CallerCaused (checkWith L t n table m)
+unfolding checkWith checkCallers
+check-with L t n table m =
+    next _ _ (caused-more still _ (check-table L t n table)) (λ G. unless tooManyCallers _ _ _ refl (unless tooManyStates _ _ _ refl result))
+
+pub nth-step : (L : Limits) (t n : ℕ) (table : List ℕ) (m f p q k : ℕ) → CallerCaused (nthStep L t n table m f p q k)
 unfolding nthStep
-nth-step L t n table f p q k = next _ _ (check-table L t n table) (λ G. result)
+nth-step L t n table m f p q k = next _ _ (check-with L t n table m) (λ G. result)
 
 check-bytes : (M : Moves) (bytes : List ℕ) → Caused (checkBytes M bytes)
 unfolding checkBytes
@@ -63,9 +77,9 @@ check-bytes M bytes =
     (unless endPresent _ _ _ refl
     (unless successorMissing _ _ _ refl result))))
 
-pub check-certificate : (L : Limits) (t n : ℕ) (table bytes : List ℕ) → Caused (checkCertificate L t n table bytes)
+pub check-certificate : (L : Limits) (t n : ℕ) (table : List ℕ) (m : ℕ) (bytes : List ℕ) → CallerCaused (checkCertificate L t n table m bytes)
 unfolding checkCertificate
-check-certificate L t n table bytes = next _ _ (check-table L t n table) (λ G. check-bytes (movesOf L G) bytes)
+check-certificate L t n table m bytes = next _ _ (check-with L t n table m) (λ G. caused-more still _ (check-bytes (movesWith L G m) bytes))
 
 check-on : (M : Moves) (i place : ℕ) (row : List ℕ) → Caused (checkOn M i place row)
 unfolding checkOn
@@ -77,21 +91,23 @@ unfolding checkRow
 check-row M [] = cause refl
 check-row M (i ∷ is) = unless witnessWrong _ _ _ refl (check-on M i 1 is)
 
-pub check-witness : (L : Limits) (t n : ℕ) (table row : List ℕ) → Caused (checkWitness L t n table row)
+pub check-witness : (L : Limits) (t n : ℕ) (table : List ℕ) (m : ℕ) (row : List ℕ) → CallerCaused (checkWitness L t n table m row)
 unfolding checkWitness
-check-witness L t n table row = next _ _ (check-table L t n table) (λ G. check-row (movesOf L G) row)
+check-witness L t n table m row = next _ _ (check-with L t n table m) (λ G. caused-more still _ (check-row (movesWith L G m) row))
 
-pub check-records : (L : Limits) (t n : ℕ) (table : List ℕ) (entries : List (ℕ × ℕ × ℕ)) → Caused (checkWitnessRecords L t n table entries)
+pub check-records : (L : Limits) (t n : ℕ) (table : List ℕ) (m : ℕ) (entries : List (ℕ × ℕ × ℕ)) → CallerCaused (checkWitnessRecords L t n table m entries)
 unfolding checkWitnessRecords
-check-records L t n table entries = next _ _ (check-table L t n table) (λ G. check-row (movesOf L G) _)
+check-records L t n table m entries = next _ _ (check-with L t n table m) (λ G. caused-more still _ (check-row (movesWith L G m) _))
 
-pub search-asked : (L : Limits) (t n : ℕ) (table : List ℕ) (l : Lent) → Caused (searchable L t n table l)
+pub search-asked : (L : Limits) (t n : ℕ) (table : List ℕ) (m : ℕ) (l : Lent) → CallerCaused (searchable L t n table m l)
 unfolding searchable
-search-asked L t n table l = next _ _ (check-table L t n table) (λ G. unless bufferTooShort _ _ _ refl result)
+search-asked L t n table m l = next _ _ (check-with L t n table m) (λ G. unless bufferTooShort _ _ _ refl result)
 
-pub search-room : (L : Limits) (t n : ℕ) (table : List ℕ) → Caused (searchRoom L t n table)
+pub search-room : (L : Limits) (t n : ℕ) (table : List ℕ) (m : ℕ) → CallerCaused (searchRoom L t n table m)
 unfolding searchRoom
-search-room L t n table = next _ _ (check-table L t n table) (λ G. result)
+search-room L t n table m = next _ _ (check-with L t n table m) (λ G. result)
+
+-- ---- texts
 
 last-tests : (L : Limits) (s : Source) → Caused (lastTests L s)
 unfolding lastTests

@@ -1,10 +1,10 @@
--- What the cause in a reply tells a caller: it is one of document 01's or document 02's 19 and 20, or 0, and then nothing is refused.
+-- What the cause in a reply tells a caller: it is one of document 01's or document 02's 19, 20 and 21, or 0, and then nothing is refused.
 -- proofs/Causes.antt has the value of the record. Assumes nothing.
 use Prim.Native.Nat.{ℕ, _≤_}
 use mathlib.Core.Path.{_≡_}
 use mathlib.Core.List.{List}
 use mathlib.Core.Logic.{_⊎_}
-use Rattle.grammar.specs.Refusal.{noSentence, kindsClash}
+use Rattle.grammar.specs.Refusal.{noSentence, kindsClash, tooManyCallers}
 use Rattle.grammar.specs.declared.TableChecked.{TableChecked}
 use Rattle.grammar.specs.declared.TableVerdict.the-variants.{Passed}
 use Rattle.grammar.specs.TableCheck.{TableAnswer}
@@ -49,6 +49,11 @@ pub record JoinTells (cause : ℕ) (Answered : Type 0) : Type 0 where
   pub known : cause ≤ kindsClash
   pub zero : cause ≡ 0 → Answered
 
+-- with callers it may be 21 too
+pub record CallerTells (cause : ℕ) (Answered : Type 0) : Type 0 where
+  pub known : (cause ≤ noSentence) ⊎ (cause ≡ tooManyCallers)
+  pub zero : cause ≡ 0 → Answered
+
 -- the numbers of the reply are the answer
 abbrev pub IsRead : TextRead → Type 0
 IsRead v = v ≡ Read (readReply v .terminals) (readReply v .nonterminals) (readReply v .entries) (readReply v .states)
@@ -70,17 +75,17 @@ IsStep v =
 -- whatever answers as the entries promise
 pub record CauseTheorems : Type 0 where
   pub tables : (t n : ℕ) (table : List ℕ) (r : TableChecked) → TableAnswer t n table r → Tells (tableReply r .cause) (r .verdict ≡ Passed)
-  pub steps : (t n : ℕ) (table : List ℕ) (f p q : ℕ) (ask : ℕ → StepAnswer) → StepAnswers t n table f p q ask
-      → (k : ℕ) → Usize k → Tells (stepReply (ask k) .cause) (IsStep (ask k))
-  pub witnesses : (t n : ℕ) (table row : List ℕ) (v : CheckVerdict) → WitnessAnswer t n table row v
-      → Tells (checkReply v .cause) (v ≡ Accepted)
-  pub records : (t n : ℕ) (table : List ℕ) (entries : List TripleRecord) (v : CheckVerdict) → RecordsAnswer t n table entries v
-      → Tells (checkReply v .cause) (v ≡ Accepted)
-  pub certificates : (t n : ℕ) (table bytes : List ℕ) (v : CheckVerdict) → CertificateAnswer t n table bytes v
-      → Tells (checkReply v .cause) (v ≡ Accepted)
-  pub searches : (t n : ℕ) (table : List ℕ) (before : Lent) (v : SearchVerdict) (after : Lent) → Searches t n table before v after
-      → Tells (searchReply v .cause) (IsVerdict v)
-  pub rooms : (t n : ℕ) (table : List ℕ) (v : SearchRoom) → RoomAnswer t n table v → Tells (roomReply v .cause) (IsRoom v)
+  pub steps : (t n : ℕ) (table : List ℕ) (m f p q : ℕ) (ask : ℕ → StepAnswer) → StepAnswers t n table m f p q ask
+      → (k : ℕ) → Usize k → CallerTells (stepReply (ask k) .cause) (IsStep (ask k))
+  pub witnesses : (t n : ℕ) (table : List ℕ) (m : ℕ) (row : List ℕ) (v : CheckVerdict) → WitnessAnswer t n table m row v
+      → CallerTells (checkReply v .cause) (v ≡ Accepted)
+  pub records : (t n : ℕ) (table : List ℕ) (m : ℕ) (entries : List TripleRecord) (v : CheckVerdict) → RecordsAnswer t n table m entries v
+      → CallerTells (checkReply v .cause) (v ≡ Accepted)
+  pub certificates : (t n : ℕ) (table : List ℕ) (m : ℕ) (bytes : List ℕ) (v : CheckVerdict) → CertificateAnswer t n table m bytes v
+      → CallerTells (checkReply v .cause) (v ≡ Accepted)
+  pub searches : (t n : ℕ) (table : List ℕ) (m : ℕ) (before : Lent) (v : SearchVerdict) (after : Lent) → Searches t n table m before v after
+      → CallerTells (searchReply v .cause) (IsVerdict v)
+  pub rooms : (t n : ℕ) (table : List ℕ) (m : ℕ) (v : SearchRoom) → RoomAnswer t n table m v → CallerTells (roomReply v .cause) (IsRoom v)
   pub reads : (text table starts lengths : List ℕ) (v : TextRead) (table′ starts′ lengths′ : List ℕ)
       → ReadsText text table starts lengths v table′ starts′ lengths′ → Tells (readReply v .cause) (IsRead v)
   pub writes : (t n : ℕ) (table bytes starts lengths out : List ℕ) (v : TextWritten) (out′ : List ℕ)

@@ -21,8 +21,8 @@ pub record Replies {Verdict Reply : Type 0} (Promised : Verdict → Type 0) (rep
   pub promised : Promised answer
   pub told : r ≡ reply answer
 
-abbrev pub RepliesSearch : ℕ → ℕ → List ℕ → Lent → SearchReply → Lent → Type 0
-RepliesSearch t n table before r after = Replies (λ v. Searches t n table before v after) searchReply r
+abbrev pub RepliesSearch : ℕ → ℕ → List ℕ → ℕ → Lent → SearchReply → Lent → Type 0
+RepliesSearch t n table m before r after = Replies (λ v. Searches t n table m before v after) searchReply r
 
 abbrev pub RepliesRead : List ℕ → List ℕ → List ℕ → List ℕ → ReadReply → List ℕ → List ℕ → List ℕ → Type 0
 RepliesRead text table starts lengths r table′ starts′ lengths′ =

@@ -83,7 +83,7 @@ searchReply (search.Refused cause at) = record { cause = cause; at = at; verdict
 
 -- the room of a search: Q, the certificate's bytes, the entries of each row, and the number of moves
 abbrev pub roomReply : SearchRoom → RoomReply
-roomReply (room.Room q b e m) = record { cause = 0; at = 0; states = q; certificate = b; entries = e; moves = m }
+roomReply (room.Room q b e x) = record { cause = 0; at = 0; states = q; certificate = b; entries = e; moves = x }
 roomReply (room.Refused cause at) = record { cause = cause; at = at; states = 0; certificate = 0; entries = 0; moves = 0 }
 
 -- the reader: t, n, the number of the table's entries and Q

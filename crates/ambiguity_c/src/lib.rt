@@ -132,14 +132,15 @@ pub extern "C" fn ambiguity_nth_step(
     t: usize,
     n: usize,
     table: &[u16],
+    callers: usize,
     layer: usize,
     left: usize,
     right: usize,
     nth: usize,
 ) -> StepReply
-    ensures { λ r. ⌜ Replies (NthAnswer t n (now (table .entry)) layer left right nth) stepReply r ⌝ }
+    ensures { λ r. ⌜ Replies (NthAnswer t n (now (table .entry)) callers layer left right nth) stepReply r ⌝ }
 {
-    let answer = ambiguity::nth_step(t, n, table, layer, left, right, nth);
+    let answer = ambiguity::nth_step(t, n, table, callers, layer, left, right, nth);
     replies::step_told(answer)
 }
 
@@ -148,11 +149,12 @@ pub extern "C" fn ambiguity_check_certificate(
     t: usize,
     n: usize,
     table: &[u16],
+    callers: usize,
     bytes: &[u8],
 ) -> CheckReply
-    ensures { λ r. ⌜ Replies (CertificateAnswer t n (now (table .entry)) (now (bytes .entry))) checkReply r ⌝ }
+    ensures { λ r. ⌜ Replies (CertificateAnswer t n (now (table .entry)) callers (now (bytes .entry))) checkReply r ⌝ }
 {
-    let verdict = ambiguity::check_certificate(t, n, table, bytes);
+    let verdict = ambiguity::check_certificate(t, n, table, callers, bytes);
     replies::check_told(verdict)
 }
 
@@ -161,11 +163,12 @@ pub extern "C" fn ambiguity_check_witness(
     t: usize,
     n: usize,
     table: &[u16],
+    callers: usize,
     row: &[u32],
 ) -> CheckReply
-    ensures { λ r. ⌜ Replies (WitnessAnswer t n (now (table .entry)) (now (row .entry))) checkReply r ⌝ }
+    ensures { λ r. ⌜ Replies (WitnessAnswer t n (now (table .entry)) callers (now (row .entry))) checkReply r ⌝ }
 {
-    let verdict = ambiguity::check_witness(t, n, table, row);
+    let verdict = ambiguity::check_witness(t, n, table, callers, row);
     replies::check_told(verdict)
 }
 
@@ -174,11 +177,12 @@ pub extern "C" fn ambiguity_check_witness_records(
     t: usize,
     n: usize,
     table: &[u16],
+    callers: usize,
     entries: &[TripleRecord],
 ) -> CheckReply
-    ensures { λ r. ⌜ Replies (RecordsAnswer t n (now (table .entry)) (now (entries .entry))) checkReply r ⌝ }
+    ensures { λ r. ⌜ Replies (RecordsAnswer t n (now (table .entry)) callers (now (entries .entry))) checkReply r ⌝ }
 {
-    let verdict = ambiguity::check_witness_records(t, n, table, entries);
+    let verdict = ambiguity::check_witness_records(t, n, table, callers, entries);
     replies::check_told(verdict)
 }
 
@@ -187,15 +191,16 @@ pub extern "C" fn ambiguity_search(
     t: usize,
     n: usize,
     table: &[u16],
+    callers: usize,
     certificate: &mut [u8],
     queue: &mut [u32],
     parents: &mut [u32],
     witness: &mut [u32],
 ) -> SearchReply
-    ensures { λ r. ⌜ RepliesSearch t n (now (table .entry)) (lent (now (certificate .entry)) (now (queue .entry)) (now (parents .entry)) (now (witness .entry))) r
+    ensures { λ r. ⌜ RepliesSearch t n (now (table .entry)) callers (lent (now (certificate .entry)) (now (queue .entry)) (now (parents .entry)) (now (witness .entry))) r
         (lent (now (certificate .exit)) (now (queue .exit)) (now (parents .exit)) (now (witness .exit))) ⌝ }
 {
-    let answer = ambiguity::search(t, n, table, certificate, queue, parents, witness);
+    let answer = ambiguity::search(t, n, table, callers, certificate, queue, parents, witness);
     replies::search_told(answer)
 }
 
@@ -230,10 +235,15 @@ pub extern "C" fn ambiguity_write_text(
 }
 
 #[no_mangle]
-pub extern "C" fn ambiguity_search_room(t: usize, n: usize, table: &[u16]) -> RoomReply
-    ensures { λ r. ⌜ Replies (RoomAnswer t n (now (table .entry))) roomReply r ⌝ }
+pub extern "C" fn ambiguity_search_room(
+    t: usize,
+    n: usize,
+    table: &[u16],
+    callers: usize,
+) -> RoomReply
+    ensures { λ r. ⌜ Replies (RoomAnswer t n (now (table .entry)) callers) roomReply r ⌝ }
 {
-    let answer = ambiguity::search_room(t, n, table);
+    let answer = ambiguity::search_room(t, n, table, callers);
     replies::room_told(answer)
 }
 

@@ -2,11 +2,13 @@
 -- Source: document 02, [5] ("the number M of moves in the automaton, nonterminal shifts included"). Assumes nothing.
 use Prim.Native.Nat.{ℕ, zero, suc}
 use mathlib.Core.List.{List, [], _∷_, _++_, map}
+use mathlib.Core.Logic.{_↔_}
 use lib.Dec.{leb}
 use lib.ListN.{length}
-use Rattle.grammar.specs.Basics.{when, each}
+use Rattle.grammar.specs.Basics.{when, each, Mem, Distinct}
+use Rattle.automaton.specs.Automaton.{Automaton}
 use Rattle.automaton.specs.Moves.{Moves}
-use Rattle.automaton.specs.Strings.{Letter, opening, closing, symbol}
+use Rattle.automaton.specs.Strings.{Letter, opening, closing, symbol, MovesBy}
 
 -- the numbers below n, ascending
 unfoldable pub numbers : ℕ → List ℕ
@@ -36,3 +38,14 @@ module _ (M : Moves) where
 
   abbrev pub moveCount : ℕ
   moveCount = length allMoves
+
+-- a move of an automaton, from a state to a state
+pub record MoveOf (A : Automaton) : Type 0 where
+  pub from : A .State
+  pub by : Letter
+  pub to : A .State
+
+-- the list has each move of an automaton once, and no other
+pub record ListsMoves (A : Automaton) (l : List (MoveOf A)) : Type 0 where
+  pub distinct : Distinct l
+  pub moves : (e : MoveOf A) → Mem e l ↔ MovesBy A (e .by) (e .from) (e .to)

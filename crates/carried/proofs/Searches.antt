@@ -5,6 +5,7 @@ use mathlib.Core.Path.{_≡_, refl, ap, ap₂, sym, subst, _∙_}
 use mathlib.Core.Bool.{Bool, true, false}
 use mathlib.Core.List.{List}
 use mathlib.Core.Logic.{_↔_}
+use native.Mathlib.Omega.{arith}
 use lib.ListN.{length}
 use Rattle.grammar.specs.Basics.{over}
 use Rattle.grammar.specs.Limits.{Limits}
@@ -17,8 +18,10 @@ use Rattle.automaton.specs.Moves.{Moves}
 use Rattle.automaton.specs.PositionMoves.{movesOf}
 use Rattle.triples.specs.Smallest.{smallest}
 use Rattle.triples.specs.Certificate.{certificateOf}
+use Rattle.automaton.specs.Callers.{checkWith}
 use Rattle.triples.specs.Shortest.{shortest}
 use Rattle.triples.specs.Looked.{lookedAt}
+use Rattle.triple_laws.proofs.CallerChecks.{zero-check}
 use Rattle.search.specs.Promise.{isPotential, unambiguous, potential, searchVerdict, Lent, isEnough, searchable, cleared, Told, Answers, SearchesAt}
 use Rattle.search.specs.declared.SearchVerdict.{SearchVerdict}
 use Rattle.carried.specs.Carried.{carriedTable, carriedGrammar, Wider, Same}
@@ -44,46 +47,48 @@ module _ (M N : Moves) (q : N .states ≡ M .states) (set : smallest N ≡ small
   }
 
 -- what is searched, by a grammar that passes
-searched : (L : Limits) (t n : ℕ) (table : List ℕ) (l : Lent) (G : Grammar) → checkTable L t n table ≡ done G
-    → searchable L t n table l ≡ refuseUnless bufferTooShort 0 (isEnough (states G) l) (done G)
+searched : (L : Limits) (t n : ℕ) (table : List ℕ) (l : Lent) (G : Grammar) → checkWith L t n table 0 ≡ done G
+    → searchable L t n table 0 l ≡ refuseUnless bufferTooShort 0 (isEnough (states G) l) (done G)
 unfolding searchable
-searched L t n table l G e = then-goes (checkTable L t n table) (λ G. refuseUnless bufferTooShort 0 (isEnough (states G) l) (done G)) G e
+searched L t n table l G e = then-goes (checkWith L t n table 0) (λ G. refuseUnless bufferTooShort 0 (isEnough (states G) l) (done G)) G e
 
 -- one way: a promise at L for G gives one at M for H
-module _ (L M : Limits) (t n : ℕ) (table other : List ℕ) (G H : Grammar) (e : checkTable L t n table ≡ done G) (f : checkTable M t n other ≡ done H)
+module _ (L M : Limits) (t n : ℕ) (table other : List ℕ) (G H : Grammar) (e : checkWith L t n table 0 ≡ done G) (f : checkWith M t n other 0 ≡ done H)
     (q : states H ≡ states G) (verdict : isPotential (movesOf M H) ≡ isPotential (movesOf L G)) (set : smallest (movesOf M H) ≡ smallest (movesOf L G))
     (way : shortest (movesOf M H) ≡ shortest (movesOf L G)) (looked : lookedAt (movesOf M H) ≡ lookedAt (movesOf L G))
     (before : Lent) (r : SearchVerdict) (after : Lent) where
-  one-way : SearchesAt L t n table before r after → SearchesAt M t n other before r after
+  one-way : SearchesAt L t n table 0 before r after → SearchesAt M t n other 0 before r after
   one-way p = go (isEnough (states G) before) refl
     where
-      go : (c : Bool) → isEnough (states G) before ≡ c → SearchesAt M t n other before r after
+      go : (c : Bool) → isEnough (states G) before ≡ c → SearchesAt M t n other 0 before r after
       go true h =
-          let x : searchable L t n table before ≡ done G
+          let x : searchable L t n table 0 before ≡ done G
           = searched L t n table before G e ∙ unless-holds bufferTooShort 0 (isEnough (states G) before) (done G) h in
-          let y : searchable M t n other before ≡ done H
+          let y : searchable M t n other 0 before ≡ done H
           = searched M t n other before H f
           ∙ unless-holds bufferTooShort 0 (isEnough (states H) before) (done H) (ap (λ (k : ℕ). isEnough k before) q ∙ h) in
-          subst (λ (a : Answer Grammar). Answers M a before r after) (sym y)
+          subst (λ (a : Answer Grammar). Answers M 0 a before r after) (sym y)
           (subst (λ (c : Bool). Told c (movesOf M H) before r after) (sym verdict)
           (told (movesOf L G) (movesOf M H) q set way looked before r after (isPotential (movesOf L G))
-          (subst (λ (a : Answer Grammar). Answers L a before r after) x p)))
+          (subst (λ (a : Answer Grammar). Answers L 0 a before r after) x p)))
       go false h =
-          let x : searchable L t n table before ≡ refused bufferTooShort 0
+          let x : searchable L t n table 0 before ≡ refused bufferTooShort 0
           = searched L t n table before G e ∙ unless-fails bufferTooShort 0 (isEnough (states G) before) (done G) h in
-          let y : searchable M t n other before ≡ refused bufferTooShort 0
+          let y : searchable M t n other 0 before ≡ refused bufferTooShort 0
           = searched M t n other before H f
           ∙ unless-fails bufferTooShort 0 (isEnough (states H) before) (done H) (ap (λ (k : ℕ). isEnough k before) q ∙ h) in
-          subst (λ (a : Answer Grammar). Answers M a before r after) (sym y) (subst (λ (a : Answer Grammar). Answers L a before r after) x p)
+          subst (λ (a : Answer Grammar). Answers M 0 a before r after) (sym y) (subst (λ (a : Answer Grammar). Answers L 0 a before r after) x p)
 
 -- the search of a table that passed under L, and of the carried table under M
 pub searches-carried : (L M : Limits) → Wider L M → (t n : ℕ) (table : List ℕ) (G : Grammar) → checkTable L t n table ≡ done G
     → (before : Lent) (r : SearchVerdict) (after : Lent)
-    → SearchesAt L t n table before r after ↔ SearchesAt M t n (carriedTable L M table) before r after
+    → SearchesAt L t n table 0 before r after ↔ SearchesAt M t n (carriedTable L M table) 0 before r after
 searches-carried L M W t n table G e before r after =
-    let s = carried L M W t n table G e in (
-      one-way L M t n table (carriedTable L M table) G (carriedGrammar L M G) e (s .passes) (s .states) (s .verdict) (s .smallest)
+    let s = carried L M W t n table G e in
+    let x = zero-check L (W .four) t n table ∙ e in
+    let y = zero-check M (omega (arith, W .four, W .states)) t n (carriedTable L M table) ∙ s .passes in (
+      one-way L M t n table (carriedTable L M table) G (carriedGrammar L M G) x y (s .states) (s .verdict) (s .smallest)
           (s .witness) (s .looked) before r after,
-      one-way M L t n (carriedTable L M table) table (carriedGrammar L M G) G (s .passes) e (sym (s .states)) (sym (s .verdict)) (sym (s .smallest))
+      one-way M L t n (carriedTable L M table) table (carriedGrammar L M G) G y x (sym (s .states)) (sym (s .verdict)) (sym (s .smallest))
           (sym (s .witness)) (sym (s .looked)) before r after,
     )

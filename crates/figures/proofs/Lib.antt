@@ -11,3 +11,5 @@ pub mod Bound
 pub mod MovesExact
 pub mod Position
 pub mod Choices
+pub mod OfAutomaton
+pub mod Callers

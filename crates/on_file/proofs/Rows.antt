@@ -7,6 +7,7 @@ use mathlib.Core.Bool.{Bool, true, false, not, _&&_}
 use mathlib.Core.List.{List, [], _∷_}
 use native.Mathlib.Omega.{arith}
 use lib.Dec.{eqb}
+use lib.ListN.{length}
 use borrow.Author.Tests.{eqb-true, not-true}
 use Rattle.grammar.specs.Basics.{Mem, here, there, each}
 use Rattle.grammar.specs.Limits.{limits}
@@ -24,19 +25,19 @@ use Rattle.grammar.proofs.WellFormed.{stored-only, room}
 use Rattle.grammar.proofs.Live.{has-sentence}
 use Rattle.grammar.proofs.Sentence.{with-sentence, without-sentence}
 use Rattle.grammar.proofs.Palindromes.{palindromes, palindromes-one}
-use Rattle.automaton.specs.Items.{states}
-use Rattle.automaton.specs.Position.{position}
 use Rattle.automaton.specs.Strings.{Potential, Unambiguous}
-use Rattle.automaton.specs.Moves.{Regular, Lists}
-use Rattle.automaton.specs.PositionMoves.{movesOf, shown, aheads, rulesOf, completed, past, aheadRow, openings, closings}
+use Rattle.automaton.specs.Moves.{Moves, Regular, Lists}
+use Rattle.automaton.specs.PositionMoves.{shown, aheads, rulesOf, completed, past, aheadRow, openings, closings}
+use Rattle.automaton.specs.Callers.{upTo, itemsFrom, sameItems, placeOf, items, codeAt, itemsBefore, chains, spots, callers}
+use Rattle.automaton.specs.CallerMoves.{spotAhead, spotAfter, liveRules, spotOpenings, returns, spotClosings, movesWith}
 use Rattle.triples.specs.Index.{index}
 use Rattle.triples.specs.Records.{leftAlone, rightAlone, bothShift, bothClose, choices, insert, ordered, records}
 use Rattle.triples.specs.Smallest.{isElement, push, pushAll, explore, successors, smallest, size}
 use Rattle.triples.specs.Certificate.{SmallestCertificate, bitsFrom, bytesFrom, certificateOf}
 use Rattle.triple_laws.proofs.Explore.{is-element, not-element}
 use Rattle.triple_laws.proofs.Laws.{end-of, smallest-of}
-use Rattle.triple_laws.proofs.Position.{position-listed, position-regular}
-use Rattle.parting.proofs.Position.{potential-reached}
+use Rattle.triple_laws.proofs.CallerPosition.{with-listed, with-regular}
+use Rattle.parting.proofs.Callers.{spots-reached}
 use Rattle.on_file.specs.Rows.{Claim, withoutSentence, unambiguous, certified, potential, potentialOnly, Row, Claimed, answerOf, Says, rows}
 
 -- the table is that of a grammar
@@ -47,16 +48,14 @@ passes (refused cause at) = false
 abbrev grammar : Row → Grammar
 grammar r = grammarOf (r .terminals) (r .nonterminals) (decode (r .table))
 
--- the claim's test, of a grammar with a sentence: whether (1,1,1) is in the smallest set, its size, its certificate
-claimTest : Grammar → List ℕ → Claim → Bool
-claimTest G table withoutSentence = not (hasSentence limits G)
-claimTest G table (unambiguous n) = not (isElement (index (states G) 1 1 1) (smallest (movesOf limits G))) && eqb (size (movesOf limits G)) n
-claimTest G table (certified n bytes) =
-    not (isElement (index (states G) 1 1 1) (smallest (movesOf limits G))) && (eqb (size (movesOf limits G)) n && sameCodes (certificateOf (states G) (smallest (movesOf limits G))) bytes)
-claimTest G table potential = isElement (index (states G) 1 1 1) (smallest (movesOf limits G))
-claimTest G table potentialOnly =
-    isElement (index (states G) 1 1 1) (smallest (movesOf limits G))
-    && (eqb (G .terminals) 1 && (eqb (G .nonterminals) 1 && sameCodes table (encode (palindromes .rules))))
+-- the claim's test beside that of a sentence, from Q and the smallest set: whether (1,1,1) is in it, its size, its certificate
+claimTest : ℕ → List ℕ → Grammar → List ℕ → Claim → Bool
+claimTest Q set G table withoutSentence = true
+claimTest Q set G table (unambiguous n) = not (isElement (index Q 1 1 1) set) && eqb (length set) n
+claimTest Q set G table (certified n bytes) = not (isElement (index Q 1 1 1) set) && (eqb (length set) n && sameCodes (certificateOf Q set) bytes)
+claimTest Q set G table potential = isElement (index Q 1 1 1) set
+claimTest Q set G table potentialOnly =
+    isElement (index Q 1 1 1) set && (eqb (G .terminals) 1 && (eqb (G .nonterminals) 1 && sameCodes table (encode (palindromes .rules))))
 
 -- the test of a sentence: all but the first claim have one
 sentenceTest : Grammar → Claim → Bool
@@ -68,8 +67,10 @@ sentenceTest G potentialOnly = hasSentence limits G
 
 rowTest : Row → Bool
 rowTest r =
+    let M = movesWith limits (grammar r) (r .callers) in
     passes (storedTable limits (r .terminals) (r .nonterminals) (r .table))
-    && (eqb (states (grammar r)) (r .states) && (sentenceTest (grammar r) (r .claim) && claimTest (grammar r) (r .table) (r .claim)))
+    && (eqb (length (spots limits (grammar r) (r .callers))) (r .states)
+    && (sentenceTest (grammar r) (r .claim) && claimTest (M .states) (smallest M) (grammar r) (r .table) (r .claim)))
 
 everyTest : List Row → Bool
 everyTest [] = true
@@ -87,43 +88,47 @@ passed t n table e = go (storedTable limits t n table) refl e
         q ∙ ap done (λ i. record { terminals = T .terminals i; nonterminals = T .nonterminals i; rules = sym d i })
     go (refused c p) q e = no-bool (sym e)
 
--- the verdict, from the smallest set
-module _ (G : Grammar) (W : WellFormed limits G) where
-  R : Regular (movesOf limits G)
-  R = position-regular limits G W (omega arith)
+-- the verdict with m callers, from the smallest set
+module _ (G : Grammar) (W : WellFormed limits G) (m : ℕ) where
+  abbrev M : Moves
+  M = movesWith limits G m
 
-  N : Lists (position limits G) (movesOf limits G)
-  N = position-listed limits G W (omega arith)
+  N : Lists (callers limits G m) M
+  N = with-listed limits G W (omega arith) m
 
-  potential-listed : Potential (position limits G) ↔ Mem (index (states G) 1 1 1) (smallest (movesOf limits G))
-  potential-listed =
-      let r = end-of (position limits G) (movesOf limits G) R N in
-      let p = potential-reached limits G W (omega arith) in
+  R : hasSentence limits G ≡ true → Regular M
+  unfolding isLive
+  R h = with-regular limits G W (omega arith) h m
+
+  potential-listed : hasSentence limits G ≡ true → Potential (callers limits G m) ↔ Mem (index (M .states) 1 1 1) (smallest M)
+  potential-listed h =
+      let r = end-of (callers limits G m) M (R h) N in
+      let p = spots-reached limits G W (omega arith) m in
       (λ s. r .0 (p .0 s), λ m. p .1 (r .1 m))
 
-  not-listed : not (isElement (index (states G) 1 1 1) (smallest (movesOf limits G))) ≡ true → Mem (index (states G) 1 1 1) (smallest (movesOf limits G)) → ⊥
-  not-listed e = not-element (index (states G) 1 1 1) (smallest (movesOf limits G)) .0 (not-true (isElement (index (states G) 1 1 1) (smallest (movesOf limits G))) e)
+  not-listed : not (isElement (index (M .states) 1 1 1) (smallest M)) ≡ true → Mem (index (M .states) 1 1 1) (smallest M) → ⊥
+  not-listed e = not-element (index (M .states) 1 1 1) (smallest M) .0 (not-true (isElement (index (M .states) 1 1 1) (smallest M)) e)
 
-  lone : not (isElement (index (states G) 1 1 1) (smallest (movesOf limits G))) ≡ true → Unambiguous (position limits G)
-  lone e s = not-listed e (potential-listed .0 s)
+  lone : hasSentence limits G ≡ true → not (isElement (index (M .states) 1 1 1) (smallest M)) ≡ true → Unambiguous (callers limits G m)
+  lone h e s = not-listed e (potential-listed h .0 s)
 
-  parted : isElement (index (states G) 1 1 1) (smallest (movesOf limits G)) ≡ true → Potential (position limits G)
-  parted e = potential-listed .1 (is-element (index (states G) 1 1 1) (smallest (movesOf limits G)) .0 e)
+  parted : hasSentence limits G ≡ true → isElement (index (M .states) 1 1 1) (smallest M) ≡ true → Potential (callers limits G m)
+  parted h e = potential-listed h .1 (is-element (index (M .states) 1 1 1) (smallest M) .0 e)
 
-  claimed : (table : List ℕ) (c : Claim) → G .rules ≡ decode table → claimTest G table c ≡ true → Claimed G c
-  unfolding claimTest Claimed
-  claimed table withoutSentence d e = λ s. no-bool (sym (has-sentence limits G W (omega arith) .1 s) ∙ not-true (hasSentence limits G) e)
-  claimed table (unambiguous n) d e =
-      let a = and-both (not (isElement (index (states G) 1 1 1) (smallest (movesOf limits G)))) (eqb (size (movesOf limits G)) n) e in
-      (lone (a .0), eqb-true (size (movesOf limits G)) n (a .1))
-  claimed table (certified n bytes) d e =
-      let a = and-both (not (isElement (index (states G) 1 1 1) (smallest (movesOf limits G)))) _ e in
-      let b = and-both (eqb (size (movesOf limits G)) n) (sameCodes (certificateOf (states G) (smallest (movesOf limits G))) bytes) (a .1) in
-      let s = smallest-of (position limits G) (movesOf limits G) R N (not-listed (a .0)) in
-      (lone (a .0), eqb-true (size (movesOf limits G)) n (b .0), subst (SmallestCertificate (position limits G)) (same-codes (certificateOf (states G) (smallest (movesOf limits G))) bytes .0 (b .1)) s)
-  claimed table potential d e = parted e
-  claimed table potentialOnly d e =
-      let a = and-both (isElement (index (states G) 1 1 1) (smallest (movesOf limits G))) _ e in
+  claimed : (table : List ℕ) (c : Claim) → G .rules ≡ decode table → sentenceTest G c ≡ true → claimTest (M .states) (smallest M) G table c ≡ true → Claimed G m c
+  unfolding sentenceTest claimTest Claimed
+  claimed table withoutSentence d h e = λ s. no-bool (sym (has-sentence limits G W (omega arith) .1 s) ∙ not-true (hasSentence limits G) h)
+  claimed table (unambiguous n) d h e =
+      let a = and-both (not (isElement (index (M .states) 1 1 1) (smallest M))) (eqb (size M) n) e in
+      (lone h (a .0), eqb-true (size M) n (a .1))
+  claimed table (certified n bytes) d h e =
+      let a = and-both (not (isElement (index (M .states) 1 1 1) (smallest M))) _ e in
+      let b = and-both (eqb (size M) n) (sameCodes (certificateOf (M .states) (smallest M)) bytes) (a .1) in
+      let s = smallest-of (callers limits G m) M (R h) N (not-listed (a .0)) in
+      (lone h (a .0), eqb-true (size M) n (b .0), subst (SmallestCertificate (callers limits G m)) (same-codes (certificateOf (M .states) (smallest M)) bytes .0 (b .1)) s)
+  claimed table potential d h e = parted h e
+  claimed table potentialOnly d h e =
+      let a = and-both (isElement (index (M .states) 1 1 1) (smallest M)) _ e in
       let b = and-both (eqb (G .terminals) 1) _ (a .1) in
       let c = and-both (eqb (G .nonterminals) 1) (sameCodes table (encode (palindromes .rules))) (b .1) in
       let x : G .rules ≡ palindromes .rules = d ∙ ap decode (same-codes table (encode (palindromes .rules)) .0 (c .1)) ∙ decode-encode (palindromes .rules) in
@@ -132,7 +137,7 @@ module _ (G : Grammar) (W : WellFormed limits G) where
         nonterminals = sym (eqb-true (G .nonterminals) 1 (c .0)) i;
         rules = sym x i;
       } in
-      (parted (a .0), subst (λ (G : Grammar). (w : List ℕ) → ¬ HasTwoTrees limits G w) p palindromes-one)
+      (parted h (a .0), subst (λ (G : Grammar). (w : List ℕ) → ¬ HasTwoTrees limits G w) p palindromes-one)
 
 -- the table check's answer, from the test of a sentence
 answered : (t n : ℕ) (table : List ℕ) (G : Grammar) (c : Claim) → storedTable limits t n table ≡ done G → sentenceTest G c ≡ true
@@ -147,16 +152,17 @@ answered t n table G potentialOnly q e = with-sentence limits t n table G q e
 row-says : (r : Row) → rowTest r ≡ true → Says r
 unfolding rowTest
 row-says r e =
+    let G = grammar r in
     let a = and-both (passes (storedTable limits (r .terminals) (r .nonterminals) (r .table))) _ e in
-    let b = and-both (eqb (states (grammar r)) (r .states)) _ (a .1) in
-    let c = and-both (sentenceTest (grammar r) (r .claim)) (claimTest (grammar r) (r .table) (r .claim)) (b .1) in
+    let b = and-both (eqb (length (spots limits G (r .callers))) (r .states)) _ (a .1) in
+    let c = and-both (sentenceTest G (r .claim)) _ (b .1) in
     let p = passed (r .terminals) (r .nonterminals) (r .table) (a .0) in
     record {
-      grammar = grammar r;
+      grammar = G;
       stored = p;
-      answers = answered (r .terminals) (r .nonterminals) (r .table) (grammar r) (r .claim) p (c .0);
-      count = eqb-true (states (grammar r)) (r .states) (b .0);
-      claimed = claimed (grammar r) (stored-only limits room (r .terminals) (r .nonterminals) (r .table) (grammar r) p .wellFormed) (r .table) (r .claim) refl (c .1);
+      answers = answered (r .terminals) (r .nonterminals) (r .table) G (r .claim) p (c .0);
+      count = eqb-true (length (spots limits G (r .callers))) (r .states) (b .0);
+      claimed = claimed G (stored-only limits room (r .terminals) (r .nonterminals) (r .table) G p .wellFormed) (r .callers) (r .table) (r .claim) refl (c .0) (c .1);
     }
 
 every-says : {r : Row} (rs : List Row) → everyTest rs ≡ true → Mem r rs → Says r
@@ -167,7 +173,9 @@ every-says (s ∷ rs) e (there m) = every-says rs (and-both (rowTest s) (everyTe
 computed : everyTest rows ≡ true
 unfolding everyTest rowTest sentenceTest claimTest passes rows storedTable checkFrom nextRule readRule declaredFront isAmong sameCodes refuseUnless andThen decodeUpTo stateCount encode
     rule each has hasAll concluded waiting rounds nonterminalsOf productive usable reachable hasSentence isLive
-    shown aheads rulesOf completed past aheadRow openings closings leftAlone rightAlone bothShift bothClose choices insert ordered records
+    shown aheads rulesOf completed past aheadRow openings closings
+    upTo itemsFrom sameItems placeOf items codeAt itemsBefore chains spots spotAhead spotAfter liveRules spotOpenings returns spotClosings
+    leftAlone rightAlone bothShift bothClose choices insert ordered records
     isElement push pushAll explore successors smallest bitsFrom bytesFrom
 computed = refl
 

@@ -1,16 +1,20 @@
--- What the entries over triples begin with: the table's refusal, or rows that show the moves of its grammar's position automaton.
+-- What the entries over triples begin with: a refusal up to [11]'s 8, or rows that show the moves of the table's grammar with m callers.
 -- Assumes nothing.
 use Prim.Native.Nat.{ℕ, _≤_}
 use mathlib.Core.Path.{_≡_}
+use mathlib.Core.Bool.{true}
 use mathlib.Core.List.{List}
 use lib.ListN.{length}
 use Rattle.grammar.specs.Limits.{limits}
-use Rattle.grammar.specs.Grammar.{Grammar}
+use Rattle.grammar.specs.Grammar.{Grammar, WellFormed}
+use Rattle.grammar.specs.Live.{isLive}
+use Rattle.grammar.specs.Record.{recordOf}
+use Rattle.grammar.specs.declared.CheckedGrammar.{CheckedGrammar}
 use Rattle.grammar.specs.Refusal.{done, refused}
-use Rattle.grammar.specs.TableCheck.{checkTable}
 use Rattle.grammar.specs.declared.TableVerdict.the-variants.{Passed, Refused}
 use Rattle.automaton.specs.Moves.{Moves, Regular}
-use Rattle.automaton.specs.PositionMoves.{movesOf}
+use Rattle.automaton.specs.Callers.{checkCallers, checkWith}
+use Rattle.automaton.specs.CallerMoves.{movesWith}
 use Rattle.moves.specs.Tables.{Tables}
 use Rattle.moves.specs.Shows.{Shows}
 use Rattle.prepared.specs.declared.Prepared.{Prepared}
@@ -27,8 +31,20 @@ pub record RowsOf (M : Moves) (w : Prepared) (rows : Tables) : Type 0 where
   pub shows : Shows M (w .terminals) (w .kinds) rows
   pub long : length (rows .targets) ≡ limits .maxStates
 
--- the table's refusal, or the rows of its grammar
-pub record Prepares (t n : ℕ) (table : List ℕ) (w : Prepared) (rows : Tables) : Type 0 where
+-- the record is that of a well-formed grammar with a sentence
+pub record IsChecked (G : Grammar) (g : CheckedGrammar) : Type 0 where
+  pub wellFormed : WellFormed limits G
+  pub same : g ≡ recordOf G
+  pub sentence : isLive limits G 0 ≡ true
+
+-- 21 or 8, or the rows of a grammar with m callers
+pub record PreparesFor (G : Grammar) (m : ℕ) (w : Prepared) (rows : Tables) : Type 0 where
   pub sized : Sized (w .states)
-  pub refused-as : (cause at : ℕ) → w .verdict ≡ Refused cause at → checkTable limits t n table ≡ refused cause at
-  pub passed-as : w .verdict ≡ Passed → (G : Grammar) × (checkTable limits t n table ≡ done G) × RowsOf (movesOf limits G) w rows
+  pub refused-as : (cause at : ℕ) → w .verdict ≡ Refused cause at → checkCallers limits G m ≡ refused cause at
+  pub passed-as : w .verdict ≡ Passed → (checkCallers limits G m ≡ done G) × RowsOf (movesWith limits G m) w rows
+
+-- a refusal up to [11]'s 8, or the rows of the table's grammar with m callers
+pub record Prepares (t n : ℕ) (table : List ℕ) (m : ℕ) (w : Prepared) (rows : Tables) : Type 0 where
+  pub sized : Sized (w .states)
+  pub refused-as : (cause at : ℕ) → w .verdict ≡ Refused cause at → checkWith limits t n table m ≡ refused cause at
+  pub passed-as : w .verdict ≡ Passed → (G : Grammar) × (checkWith limits t n table m ≡ done G) × RowsOf (movesWith limits G m) w rows

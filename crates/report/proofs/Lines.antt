@@ -51,7 +51,7 @@ module _ (t n : ℕ) (table : List ℕ) (q : ℕ) (text starts lengths : List �
       = omega (arith, length-spelled text starts lengths (c .rows .paired), c .symbols, k .terminals, k .nonterminals) in
       omega (arith, ap length lines-are, grammar-most G (k .wellFormed) (omega (arith, s .counted, s .few)) names (c .named) many)
 
-  module _ (before : Lent) (v : SearchVerdict) (after : Lent) (l : Rows before) (h : Searches t n table before v after) where
+  module _ (before : Lent) (v : SearchVerdict) (after : Lent) (l : Rows before) (h : Searches t n table 0 before v after) where
     pub unambiguous-lines : (k looked : ℕ) → v ≡ search.Unambiguous k looked → unambiguousLines q k ≡ tableLines (checkTable limits t n table) names
     unambiguous-lines k looked e =
         let a = is-unambiguous t n table q text starts lengths s before v after l h k looked e in

@@ -14,11 +14,13 @@ use Rattle.grammar.specs.Limits.{limits}
 use Rattle.grammar.specs.Grammar.{Grammar, stateCount}
 use Rattle.grammar.specs.Refusal.{Answer, done, refused, refuseUnless, andThen}
 use Rattle.grammar.proofs.Answers.{unless-holds, unless-fails, then-goes, then-stops}
+use Rattle.grammar.proofs.WellFormed.{room}
 use Rattle.automaton.specs.Items.{states}
 use Rattle.automaton.specs.Moves.{Moves}
 use Rattle.automaton.specs.PositionMoves.{movesOf}
 use Rattle.triples.specs.Smallest.{size}
 use Rattle.triples.specs.Shortest.{shortest}
+use Rattle.triple_laws.proofs.CallerChecks.{zero-check}
 use Rattle.text.specs.Read.{Source}
 use Rattle.text.specs.Rules.{checkText}
 use Rattle.search.specs.Promise.{Lent, isPotential, searchable, Told, Answers, Searches}
@@ -49,7 +51,7 @@ kindIn (search.Potential n looked) = 1
 kindIn (search.Refused c p) = 2
 
 module _ (t n : ℕ) (table : List ℕ) (q : ℕ) (text starts lengths : List ℕ) (s : Tellable t n table q text starts lengths)
-    (before : Lent) (v : SearchVerdict) (after : Lent) (l : Rows before) (h : Searches t n table before v after) where
+    (before : Lent) (v : SearchVerdict) (after : Lent) (l : Rows before) (h : Searches t n table 0 before v after) where
   abbrev M : Moves
   M = movesOf limits (s .grammar)
 
@@ -64,7 +66,7 @@ module _ (t n : ℕ) (table : List ℕ) (q : ℕ) (text starts lengths : List �
         parents = omega (arith, m, l .parents);
         witness = omega (arith, m, l .witness);
       }) in
-      subst (λ (o : Answer Grammar). Answers limits o before v after) (search-enough t n table before G (s .passes) e) h
+      subst (λ (o : Answer Grammar). Answers limits 0 o before v after) (search-enough t n table 0 before G (zero-check limits room t n table ∙ s .passes) e) h
 
   -- unambiguous with the size
   pub is-unambiguous : (k looked : ℕ) → v ≡ search.Unambiguous k looked → (isPotential M ≡ false) × (k ≡ size M)

@@ -1,6 +1,6 @@
 -- What the program prints for a text.
 -- Source: document 01, "Grammars on file", from "The program reads text from standard input" on; document 02, [2], which adds the
--- lines of the two readings where 01 prints two lines only. Assumes nothing.
+-- lines of the two readings where 01 prints two lines only, and [11], by which it remembers no caller. Assumes nothing.
 use Prim.Native.Nat.{ℕ, _+_, _*_}
 use mathlib.Core.Path.{_≡_}
 use mathlib.Core.Bool.{Bool, true, false}

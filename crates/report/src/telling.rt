@@ -74,6 +74,7 @@ fn put_table(
         t,
         n,
         table,
+        0,
         &mut certificate,
         &mut queue,
         &mut parents,

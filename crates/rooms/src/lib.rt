@@ -57,9 +57,9 @@ fn count_moves<'a>(
     count
 }
 
-// The room of a search.
-pub fn search_room(t: usize, n: usize, table: &[u16]) -> SearchRoom
-    ensures { λ r. ⌜ RoomAnswer t n (now (table .entry)) r ⌝ }
+// The room of a search with so many callers.
+pub fn search_room(t: usize, n: usize, table: &[u16], callers: usize) -> SearchRoom
+    ensures { λ r. ⌜ RoomAnswer t n (now (table .entry)) callers r ⌝ }
 {
     let mut ahead = [0u16; MAX_STATES];
     let mut number = [0u16; MAX_STATES];
@@ -72,6 +72,7 @@ pub fn search_room(t: usize, n: usize, table: &[u16]) -> SearchRoom
         t,
         n,
         table,
+        callers,
         &mut ahead,
         &mut number,
         &mut member,

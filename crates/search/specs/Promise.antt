@@ -1,6 +1,7 @@
 -- What the search promises: its answer, and every lent row afterwards.
 -- Source: document 01, "Triples, certificate, witness", from "The search writes the smallest such set" on, and "Causes of refusal";
--- document 02, [1] (which witness), [6] (how many successors it looked at, reported with either verdict) and [8] (under any limits).
+-- document 02, [1] (which witness), [6] (how many successors it looked at, reported with either verdict), [8] (under any limits) and
+-- [11] (with m callers).
 -- Assumes nothing.
 use Prim.Native.Nat.{ℕ}
 use mathlib.Core.Path.{_≡_}
@@ -12,10 +13,9 @@ use Rattle.grammar.specs.Basics.{over}
 use Rattle.grammar.specs.Limits.{Limits, limits}
 use Rattle.grammar.specs.Grammar.{Grammar}
 use Rattle.grammar.specs.Refusal.{Answer, done, refused, refuseUnless, andThen, bufferTooShort}
-use Rattle.grammar.specs.TableCheck.{checkTable}
-use Rattle.automaton.specs.Items.{states}
 use Rattle.automaton.specs.Moves.{Moves}
-use Rattle.automaton.specs.PositionMoves.{movesOf}
+use Rattle.automaton.specs.Callers.{checkWith}
+use Rattle.automaton.specs.CallerMoves.{movesWith}
 use Rattle.triples.specs.Index.{index, tripleCount}
 use Rattle.triples.specs.Smallest.{isElement, smallest, size}
 use Rattle.triples.specs.Certificate.{byteCount, certificateOf}
@@ -56,9 +56,10 @@ isEnough Q l =
     leb (byteCount Q) (length (l .certificate))
     && (leb (tripleCount Q) (length (l .queue)) && (leb (tripleCount Q) (length (l .parents)) && leb (tripleCount Q) (length (l .witness))))
 
--- the grammar to search: table faults first, then 14
-unfoldable pub searchable : Limits → ℕ → ℕ → List ℕ → Lent → Answer Grammar
-searchable L t n table l = andThen (checkTable L t n table) (λ G. refuseUnless bufferTooShort 0 (isEnough (states G) l) (done G))
+-- the grammar to search with m callers: the refusals up to [11]'s 8 first, then 14
+unfoldable pub searchable : Limits → ℕ → ℕ → List ℕ → ℕ → Lent → Answer Grammar
+searchable L t n table m l =
+    andThen (checkWith L t n table m) (λ G. refuseUnless bufferTooShort 0 (isEnough (movesWith L G m .states) l) (done G))
 
 -- a work row afterwards: the first 2Q² entries are 0
 abbrev pub cleared : ℕ → List ℕ → List ℕ
@@ -86,13 +87,13 @@ Told true = Witnessed
 Told false = Certified
 
 -- a refusal changes nothing
-abbrev pub Answers : Limits → Answer Grammar → Lent → SearchVerdict → Lent → Type 0
-Answers L (done G) before r after = Told (isPotential (movesOf L G)) (movesOf L G) before r after
-Answers L (refused cause at) before r after = (r ≡ searchVerdict (refused cause at)) × (after ≡ before)
+abbrev pub Answers : Limits → ℕ → Answer Grammar → Lent → SearchVerdict → Lent → Type 0
+Answers L m (done G) before r after = Told (isPotential (movesWith L G m)) (movesWith L G m) before r after
+Answers L m (refused cause at) before r after = (r ≡ searchVerdict (refused cause at)) × (after ≡ before)
 
 -- the promise under any limits, and under those in force
-abbrev pub SearchesAt : Limits → ℕ → ℕ → List ℕ → Lent → SearchVerdict → Lent → Type 0
-SearchesAt L t n table before r after = Answers L (searchable L t n table before) before r after
+abbrev pub SearchesAt : Limits → ℕ → ℕ → List ℕ → ℕ → Lent → SearchVerdict → Lent → Type 0
+SearchesAt L t n table m before r after = Answers L m (searchable L t n table m before) before r after
 
-abbrev pub Searches : ℕ → ℕ → List ℕ → Lent → SearchVerdict → Lent → Type 0
-Searches t n table before r after = SearchesAt limits t n table before r after
+abbrev pub Searches : ℕ → ℕ → List ℕ → ℕ → Lent → SearchVerdict → Lent → Type 0
+Searches t n table m before r after = SearchesAt limits t n table m before r after

@@ -13,6 +13,7 @@ use Rattle.grammar.specs.TableCheck.{sameCodes, isAmong, declaredFront, readRul
 use Rattle.grammar.specs.Basics.{each}
 use Rattle.grammar.specs.Live.{has, hasAll, concluded, waiting, rounds, nonterminalsOf, productive, usable, reachable, hasSentence, isLive}
 use Rattle.automaton.specs.PositionMoves.{shown, aheads, rulesOf, completed, past, aheadRow, openings, closings}
+use Rattle.automaton.specs.Callers.{upTo, itemsFrom, items, spots, checkCallers, checkWith}
 use Rattle.triples.specs.declared.Move.the-variants.{Opening, Closing, Symbol, Still}
 use Rattle.triples.specs.declared.Step.{Step}
 use Rattle.triples.specs.Records.{step}
@@ -21,8 +22,9 @@ use Rattle.steps.specs.Steps.{nth, nthStep}
 
 -- to unfold one of these is to unfold all that it uses
 checked : ℕ → List ℕ → ℕ → ℕ → ℕ → ℕ → Answer (Option Step)
-unfolding decodeUpTo stateCount sameCodes isAmong declaredFront readRule nextRule checkFrom storedTable checkTable refuseUnless andThen nthStep
-checked t table f p q k = nthStep byteLimits t 1 table f p q k
+unfolding decodeUpTo stateCount sameCodes isAmong declaredFront readRule nextRule checkFrom storedTable checkTable refuseUnless andThen
+    upTo itemsFrom items spots checkCallers checkWith nthStep
+checked t table f p q k = nthStep byteLimits t 1 table 0 f p q k
 
 lived : ℕ → List ℕ → ℕ → ℕ → ℕ → ℕ → Answer (Option Step)
 unfolding checked rule each has hasAll concluded waiting rounds nonterminalsOf productive usable reachable hasSentence isLive

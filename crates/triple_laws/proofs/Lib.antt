@@ -19,3 +19,12 @@ pub mod SmallestSet
 pub mod Numbered
 pub mod Position
 pub mod Laws
+pub mod Numbers
+pub mod Callers
+pub mod Spots
+pub mod CallerMoves
+pub mod CallerOrder
+pub mod CallerRegular
+pub mod CallerZero
+pub mod CallerPosition
+pub mod CallerChecks

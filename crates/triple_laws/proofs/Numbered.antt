@@ -40,7 +40,7 @@ module _ (A : Automaton) (M : Moves) (R : Regular M) (N : Lists A M) where
   step-to (read-both {a = a} {p} {q} {p′} {q′} t u v) = read-both (N .terminal a .0 t) (N .shifts a p p′ .0 u) (N .shifts a q q′ .0 v)
 
   -- the state with a number below Q
-  state : (p : ℕ) → p < M .states → (s : A .State) × (n s ≡ p)
+  pub state : (p : ℕ) → p < M .states → (s : A .State) × (n s ≡ p)
   state p h = N .every p (omega (arith, N .states))
 
   before-from : {s : A .State} {p : ℕ} → n s ≡ p → BeforeTerminal (listed M) p → BeforeTerminal A s
@@ -50,7 +50,7 @@ module _ (A : Automaton) (M : Moves) (R : Regular M) (N : Lists A M) where
       (a, N .terminal a .1 t, (z .0, N .shifts a s (z .0) .1 (ap (M .ahead) e ∙ u .0, u .1, z .1 ∙ u .2 ∙ ap (M .after) (sym e))))
 
   -- a step of the lists between numbers of states is one of the automaton
-  step-from : {f g a b a′ b′ : ℕ} {l r : Move} → StepTo (listed M) f a b g a′ b′ l r
+  pub step-from : {f g a b a′ b′ : ℕ} {l r : Move} → StepTo (listed M) f a b g a′ b′ l r
       → (p q p′ q′ : A .State) → n p ≡ a → n q ≡ b → n p′ ≡ a′ → n q′ ≡ b′ → n p < A .states → n q < A .states → StepTo A f p q g p′ q′ l r
   step-from {f} (open-left {i = i} o) p q p′ q′ e u e′ u′ h k =
       subst (λ z. StepTo A f p q f p′ z (Opening i) Still) (N .one q q′ k (u ∙ sym u′))
@@ -109,17 +109,17 @@ module _ (A : Automaton) (M : Moves) (R : Regular M) (N : Lists A M) where
   reached-to (next r s) = next (reached-to r) (successor-to s)
 
   -- reached states with these numbers
-  record Found (f a b : ℕ) : Type 0 where
-    p : A .State
-    q : A .State
-    left : n p ≡ a
-    right : n q ≡ b
-    layer : f < 2
-    left-below : n p < A .states
-    right-below : n q < A .states
-    reached : Reached A f p q
+  pub record Found (f a b : ℕ) : Type 0 where
+    pub p : A .State
+    pub q : A .State
+    pub left : n p ≡ a
+    pub right : n q ≡ b
+    pub layer : f < 2
+    pub left-below : n p < A .states
+    pub right-below : n q < A .states
+    pub reached : Reached A f p q
 
-  found : {f a b : ℕ} → Reached (listed M) f a b → Found f a b
+  pub found : {f a b : ℕ} → Reached (listed M) f a b → Found f a b
   found origin = record {
     p = A .first;
     q = A .first;

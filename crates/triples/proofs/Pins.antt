@@ -16,6 +16,7 @@ use Rattle.grammar.specs.Basics.{each}
 use Rattle.grammar.specs.Live.{has, hasAll, concluded, waiting, rounds, nonterminalsOf, productive, usable, reachable, hasSentence, isLive}
 use Rattle.automaton.specs.Items.{states}
 use Rattle.automaton.specs.PositionMoves.{movesOf, shown, aheads, rulesOf, completed, past, aheadRow, openings, closings}
+use Rattle.automaton.specs.Callers.{upTo, itemsFrom, items, spots, checkCallers, checkWith}
 use Rattle.triples.specs.declared.Move.the-variants.{Opening, Closing, Symbol, Still}
 use Rattle.triples.specs.declared.Step.{Step}
 use Rattle.triples.specs.Index.{index, tripleCount, layerOf, leftOf, rightOf}
@@ -71,23 +72,23 @@ certificate : Tables → List ℕ
 unfolding reached bitsFrom bytesFrom
 certificate s = certificateOf (states (grammar s)) (reached s)
 
--- the table check, the certificate check and the witness check
+-- the table check, and the certificate check and the witness check without callers
 checkRules : Tables → Answer Grammar
 unfolding decodeUpTo stateCount sameCodes isAmong declaredFront readRule nextRule checkFrom storedTable checkTable refuseUnless andThen
     has hasAll concluded waiting rounds nonterminalsOf productive hasSentence
 checkRules s = checkTable byteLimits (s .terminals) (s .nonterminals) (s .table)
 
 checkBits : Tables → List ℕ → Answer Unit
-unfolding checkRules certificate lowest areSet checkBytes checkCertificate
-checkBits s bytes = checkCertificate byteLimits (s .terminals) (s .nonterminals) (s .table) bytes
+unfolding checkRules certificate upTo itemsFrom items spots checkCallers checkWith lowest areSet checkBytes checkCertificate
+checkBits s bytes = checkCertificate byteLimits (s .terminals) (s .nonterminals) (s .table) 0 bytes
 
 checkPath : Tables → List ℕ → Answer Unit
 unfolding checkBits checkOn checkRow checkWitness
-checkPath s row = checkWitness byteLimits (s .terminals) (s .nonterminals) (s .table) row
+checkPath s row = checkWitness byteLimits (s .terminals) (s .nonterminals) (s .table) 0 row
 
 checkEntries : Tables → List (ℕ × ℕ × ℕ) → Answer Unit
 unfolding checkPath checkWitnessRecords
-checkEntries s entries = checkWitnessRecords byteLimits (s .terminals) (s .nonterminals) (s .table) entries
+checkEntries s entries = checkWitnessRecords byteLimits (s .terminals) (s .nonterminals) (s .table) 0 entries
 
 -- no rule
 abbrev bare : Tables

@@ -8,11 +8,10 @@ use lib.Dec.{eqb, ltb}
 use Rattle.grammar.specs.Basics.{choose}
 use Rattle.grammar.specs.Limits.{Limits}
 use Rattle.grammar.specs.Refusal.{Answer, done, refused, refuseUnless, andThen, witnessWrong}
-use Rattle.grammar.specs.TableCheck.{checkTable}
-use Rattle.automaton.specs.Items.{states}
 use Rattle.automaton.specs.Automaton.{Automaton}
 use Rattle.automaton.specs.Moves.{Moves}
-use Rattle.automaton.specs.PositionMoves.{movesOf}
+use Rattle.automaton.specs.Callers.{checkWith}
+use Rattle.automaton.specs.CallerMoves.{movesWith}
 use Rattle.triples.specs.Successor.{Successor}
 use Rattle.triples.specs.Index.{index, tripleCount}
 use Rattle.triples.specs.Smallest.{isElement, successors}
@@ -43,9 +42,9 @@ module _ (M : Moves) where
   checkRow [] = refused witnessWrong 0
   checkRow (i ∷ is) = refuseUnless witnessWrong 0 (eqb i (index (M .states) 0 0 0)) (checkOn i 1 is)
 
--- the witness check: table faults first
-unfoldable pub checkWitness : Limits → ℕ → ℕ → List ℕ → List ℕ → Answer Unit
-checkWitness L t n table row = andThen (checkTable L t n table) (λ G. checkRow (movesOf L G) row)
+-- the witness check with m callers: the refusals up to [11]'s 8 first
+unfoldable pub checkWitness : Limits → ℕ → ℕ → List ℕ → ℕ → List ℕ → Answer Unit
+checkWitness L t n table m row = andThen (checkWith L t n table m) (λ G. checkRow (movesWith L G m) row)
 
 -- a record (layer, left, right) of a lent list as an index: one with a layer above 1 or a state of Q or more is a wrong entry,
 -- as 2Q² is
@@ -53,5 +52,6 @@ abbrev pub entryOf : ℕ → ℕ × ℕ × ℕ → ℕ
 entryOf Q e = choose (ltb (e .0) 2 && (ltb (e .1) Q && ltb (e .2) Q)) (index Q (e .0) (e .1) (e .2)) (tripleCount Q)
 
 -- the witness check over such a list answers alike
-unfoldable pub checkWitnessRecords : Limits → ℕ → ℕ → List ℕ → List (ℕ × ℕ × ℕ) → Answer Unit
-checkWitnessRecords L t n table entries = andThen (checkTable L t n table) (λ G. checkRow (movesOf L G) (map (entryOf (states G)) entries))
+unfoldable pub checkWitnessRecords : Limits → ℕ → ℕ → List ℕ → ℕ → List (ℕ × ℕ × ℕ) → Answer Unit
+checkWitnessRecords L t n table m entries =
+    andThen (checkWith L t n table m) (λ G. checkRow (movesWith L G m) (map (entryOf (movesWith L G m .states)) entries))

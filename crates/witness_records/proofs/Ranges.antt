@@ -10,11 +10,10 @@ use Rattle.grammar.specs.Basics.{Mem, here, there}
 use Rattle.grammar.specs.Limits.{limits}
 use Rattle.grammar.specs.Grammar.{Grammar}
 use Rattle.grammar.specs.Refusal.{done}
-use Rattle.grammar.specs.TableCheck.{checkTable}
 use Rattle.grammar.proofs.Answers.{then-goes}
-use Rattle.automaton.specs.Items.{states}
 use Rattle.automaton.specs.Moves.{Moves, listed, Regular}
-use Rattle.automaton.specs.PositionMoves.{movesOf}
+use Rattle.automaton.specs.Callers.{checkWith}
+use Rattle.automaton.specs.CallerMoves.{movesWith}
 use Rattle.triples.specs.Index.{tripleCount}
 use Rattle.triples.specs.Witness.{LeadsOn, goes, Witness, begins, entryOf, checkRow, checkWitness, checkWitnessRecords}
 use Rattle.triples.proofs.Index.{index-below}
@@ -31,13 +30,13 @@ entries-are Q (e ∷ es) h =
     ap₂ (λ (j : ℕ) (is : List ℕ). j ∷ is) (entry-in Q (e .layer) (e .left) (e .right) (r .layer) (r .left) (r .right)) (entries-are Q es (λ x m. h x (there m)))
 
 -- the two checks answer alike
-pub records-alike : (t n : ℕ) (table : List ℕ) (G : Grammar) (es : List TripleRecord) → checkTable limits t n table ≡ done G
-    → ((e : TripleRecord) → Mem e es → InRange (states G) e) → checkWitnessRecords limits t n table (triples es) ≡ checkWitness limits t n table (map (indexOf (states G)) es)
+pub records-alike : (t n : ℕ) (table : List ℕ) (m : ℕ) (G : Grammar) (es : List TripleRecord) → checkWith limits t n table m ≡ done G
+    → ((e : TripleRecord) → Mem e es → InRange (movesWith limits G m .states) e) → checkWitnessRecords limits t n table m (triples es) ≡ checkWitness limits t n table m (map (indexOf (movesWith limits G m .states)) es)
 unfolding checkWitnessRecords checkWitness
-records-alike t n table G es c h =
-    then-goes (checkTable limits t n table) (λ G. checkRow (movesOf limits G) (map (entryOf (states G)) (triples es))) G c
-    ∙ ap (checkRow (movesOf limits G)) (entries-are (states G) es h)
-    ∙ sym (then-goes (checkTable limits t n table) (λ G₁. checkRow (movesOf limits G₁) (map (indexOf (states G)) es)) G c)
+records-alike t n table m G es c h =
+    then-goes (checkWith limits t n table m) (λ G. checkRow (movesWith limits G m) (map (entryOf (movesWith limits G m .states)) (triples es))) G c
+    ∙ ap (checkRow (movesWith limits G m)) (entries-are (movesWith limits G m .states) es h)
+    ∙ sym (then-goes (checkWith limits t n table m) (λ G₁. checkRow (movesWith limits G₁ m) (map (indexOf (movesWith limits G m .states)) es)) G c)
 
 -- an entry below 2Q² is that of a record in range
 pub entry-inside : (Q : ℕ) (e : TripleRecord) → entryOf Q (triple e) < tripleCount Q → InRange Q e

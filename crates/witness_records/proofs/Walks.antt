@@ -14,12 +14,11 @@ use Rattle.grammar.specs.Basics.{choose}
 use Rattle.grammar.specs.Limits.{limits}
 use Rattle.grammar.specs.Grammar.{Grammar}
 use Rattle.grammar.specs.Refusal.{Answer, done, refused, refuseUnless, andThen}
-use Rattle.grammar.specs.TableCheck.{checkTable}
 use Rattle.grammar.specs.declared.TableVerdict.{TableVerdict}
 use Rattle.grammar.proofs.Answers.{unless-holds, unless-fails, then-goes, then-stops}
-use Rattle.automaton.specs.Items.{states}
 use Rattle.automaton.specs.Moves.{Moves}
-use Rattle.automaton.specs.PositionMoves.{movesOf}
+use Rattle.automaton.specs.Callers.{checkWith}
+use Rattle.automaton.specs.CallerMoves.{movesWith}
 use Rattle.triples.specs.Index.{index, tripleCount}
 use Rattle.triples.specs.Smallest.{isElement, successors}
 use Rattle.triples.specs.Verdict.{checkVerdict}
@@ -216,20 +215,20 @@ module _ (M : Moves) (w : Board) (s : Sized (w .states)) (R : ReadyFor M w) wher
           stops e es 0 0 (length (e ∷ es)) (o ∙ after-first-wrong w 0 0 j zero-in h refl n) ∙ first-no j is n
 
 -- the answer is the definition's
-pub records-answer : (t n : ℕ) (table : List ℕ) (w : Board) (es : List TripleRecord) → Begun t n table w
-    → ending w (walkFrom w 0 0 es) (length es) ≡ checkVerdict (checkWitnessRecords limits t n table (triples es))
+pub records-answer : (t n : ℕ) (table : List ℕ) (m : ℕ) (w : Board) (es : List TripleRecord) → Begun t n table m w
+    → ending w (walkFrom w 0 0 es) (length es) ≡ checkVerdict (checkWitnessRecords limits t n table m (triples es))
 unfolding checkWitnessRecords
-records-answer t n table w es b = go (checkTable limits t n table) refl
+records-answer t n table m w es b = go (checkWith limits t n table m) refl
   where
     then : Grammar → Answer Unit
-    then G = checkRow (movesOf limits G) (map (entryOf (states G)) (triples es))
+    then G = checkRow (movesWith limits G m) (map (entryOf (movesWith limits G m .states)) (triples es))
 
-    go : (o : Answer Grammar) → checkTable limits t n table ≡ o → ending w (walkFrom w 0 0 es) (length es) ≡ checkVerdict (andThen (checkTable limits t n table) then)
+    go : (o : Answer Grammar) → checkWith limits t n table m ≡ o → ending w (walkFrom w 0 0 es) (length es) ≡ checkVerdict (andThen (checkWith limits t n table m) then)
     go (done G) e =
         let g = b .goes G e in
-        ap (λ (v : TableVerdict). told v (endOf (w .states) (walkFrom w 0 0 es) (length es))) (g .0) ∙ whole (movesOf limits G) w (b .sized) (g .1) es
-        ∙ ap (λ Q. checkVerdict (checkRow (movesOf limits G) (map (entryOf Q) (triples es)))) (g .1 .size)
-        ∙ ap checkVerdict (sym (then-goes (checkTable limits t n table) then G e))
+        ap (λ (v : TableVerdict). told v (endOf (w .states) (walkFrom w 0 0 es) (length es))) (g .0) ∙ whole (movesWith limits G m) w (b .sized) (g .1) es
+        ∙ ap (λ Q. checkVerdict (checkRow (movesWith limits G m) (map (entryOf Q) (triples es)))) (g .1 .size)
+        ∙ ap checkVerdict (sym (then-goes (checkWith limits t n table m) then G e))
     go (refused c p) e =
         ap (λ (v : TableVerdict). told v (endOf (w .states) (walkFrom w 0 0 es) (length es))) (b .stops c p e)
-        ∙ ap checkVerdict (sym (then-stops (checkTable limits t n table) then c p e))
+        ∙ ap checkVerdict (sym (then-stops (checkWith limits t n table m) then c p e))

@@ -5,10 +5,10 @@ use mathlib.Core.List.{List}
 use Rattle.grammar.specs.Limits.{limits}
 use Rattle.grammar.specs.Grammar.{Grammar}
 use Rattle.grammar.specs.Refusal.{done, refused}
-use Rattle.grammar.specs.TableCheck.{checkTable}
 use Rattle.grammar.specs.declared.TableVerdict.the-variants.{Passed, Refused}
 use Rattle.automaton.specs.Moves.{Moves}
-use Rattle.automaton.specs.PositionMoves.{movesOf}
+use Rattle.automaton.specs.Callers.{checkWith}
+use Rattle.automaton.specs.CallerMoves.{movesWith}
 use Rattle.prepared.specs.Prepared.{Sized}
 use Rattle.witness_check.specs.Contracts.{Ready}
 use Rattle.witness_records.specs.declared.Board.{Board}
@@ -17,8 +17,8 @@ use Rattle.witness_records.specs.declared.Board.{Board}
 abbrev pub ReadyFor : Moves → Board → Type 0
 ReadyFor M w = Ready M (w .ahead) (w .after) (w .number) (w .member) (w .target) (w .terminals) (w .opening) (w .states)
 
--- the table's refusal, or the rows of its grammar
-pub record Begun (t n : ℕ) (table : List ℕ) (w : Board) : Type 0 where
+-- a refusal up to [11]'s 8, or the rows of the table's grammar with m callers
+pub record Begun (t n : ℕ) (table : List ℕ) (m : ℕ) (w : Board) : Type 0 where
   pub sized : Sized (w .states)
-  pub stops : (cause at : ℕ) → checkTable limits t n table ≡ refused cause at → w .verdict ≡ Refused cause at
-  pub goes : (G : Grammar) → checkTable limits t n table ≡ done G → (w .verdict ≡ Passed) × ReadyFor (movesOf limits G) w
+  pub stops : (cause at : ℕ) → checkWith limits t n table m ≡ refused cause at → w .verdict ≡ Refused cause at
+  pub goes : (G : Grammar) → checkWith limits t n table m ≡ done G → (w .verdict ≡ Passed) × ReadyFor (movesWith limits G m) w

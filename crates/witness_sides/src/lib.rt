@@ -87,6 +87,7 @@ pub fn two_sides(
         t,
         n,
         table,
+        0,
         &mut ahead,
         &mut number,
         &mut member,

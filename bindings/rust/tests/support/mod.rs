@@ -45,12 +45,12 @@ fn step_text(step: Step) -> String {
 }
 
 /// All step records of a triple, as second/README.md has their line.
-pub fn all_steps(table: Table, layer: usize, left: usize, right: usize) -> Result<String, Refusal> {
+pub fn all_steps(table: Table, callers: usize, layer: usize, left: usize, right: usize) -> Result<String, Refusal> {
     let mut records = Vec::new();
-    while let Some(step) = ambiguity::nth_step(table, layer, left, right, records.len())? {
+    while let Some(step) = ambiguity::nth_step(table, callers, layer, left, right, records.len())? {
         records.push(step_text(step));
     }
-    assert_eq!(ambiguity::nth_step(table, layer, left, right, usize::MAX)?, None);
+    assert_eq!(ambiguity::nth_step(table, callers, layer, left, right, usize::MAX)?, None);
     Ok(format!("records={}{}", records.len(), records.concat()))
 }
 
@@ -89,30 +89,37 @@ impl<T: Copy + PartialEq + Debug> Lent<T> {
 }
 
 /// Searches with rows of these lengths, certificate, queue, parents, witness; back comes also whether nothing that was lent has changed.
-fn lent_search(table: Table, lengths: [usize; 4]) -> (Result<Verdict, Refusal>, bool) {
+fn lent_search(table: Table, callers: usize, lengths: [usize; 4]) -> (Result<Verdict, Refusal>, bool) {
     let mut certificate = Lent::new(&vec![7; lengths[0]], 0xFF);
     let [mut queue, mut parents, mut witness] = [1, 2, 3].map(|row| Lent::new(&vec![7; lengths[row]], u32::MAX));
     let rows = (queue.row_mut(), parents.row_mut(), witness.row_mut());
-    let answer = ambiguity::search(table, certificate.row_mut(), rows.0, rows.1, rows.2);
+    let answer = ambiguity::search(table, callers, certificate.row_mut(), rows.0, rows.1, rows.2);
     (answer, certificate.kept() && queue.kept() && parents.kept() && witness.kept())
 }
 
 /// A search that is lent so little is refused with 14, and changes nothing.
-pub fn lent_less(table: Table, lengths: [usize; 4]) {
-    assert_eq!(lent_search(table, lengths), (refused(Cause::BufferTooShort, 0), true), "{table:?} {lengths:?}");
+pub fn lent_less(table: Table, callers: usize, lengths: [usize; 4]) {
+    search_refused(table, callers, lengths, Cause::BufferTooShort);
+}
+
+/// A search that is refused so at 0 changes nothing.
+pub fn search_refused(table: Table, callers: usize, lengths: [usize; 4], cause: Cause) {
+    let answer = lent_search(table, callers, lengths);
+    assert_eq!(answer, (refused(cause, 0), true), "{table:?} {callers} {lengths:?}");
 }
 
 /// A search of a table without a fault that is lent its room is not refused, and looks at no more than the room tells; lent one less
 /// of any, it is refused.
-pub fn lent_room(table: Table) {
-    let room = ambiguity::search_room(table).unwrap();
+pub fn lent_room(table: Table, callers: usize) {
+    let room = ambiguity::search_room(table, callers).unwrap();
     let Room { certificate, entries, .. } = room;
     let enough = [certificate, entries, entries, entries];
-    assert!(lent_search(table, enough).0.is_ok_and(|verdict| verdict.looked() <= room.most_looked()), "{table:?}");
+    let answer = lent_search(table, callers, enough).0;
+    assert!(answer.is_ok_and(|verdict| verdict.looked() <= room.most_looked()), "{table:?} {callers}");
     for row in 0..enough.len() {
         let mut less = enough;
         less[row] -= 1;
-        lent_less(table, less);
+        lent_less(table, callers, less);
     }
 }
 

@@ -19,6 +19,14 @@ as ambig does, looks for a phrase with two trees, and tells where two readings
 part. What is refused, the place of a potential verdict, and warnings about
 rules and names that no sentence uses, go to standard error.
 
+A state may remember the callers of its rule: at 0 none, which is tried first,
+then 1 and 2, where the states fit, until the verdict is unambiguous. A
+certificate with callers has a line callers=. A potential verdict has a line
+tried=, and too-many-states= where the states do not fit; its two strings are
+those at 0.
+
+  --callers M    ask with M callers alone, 0, 1 or 2
+
   --steps        print the witness too, entry by entry
   --looked       print the lines of --quiet, and looked=, the number of
                  successors that the search looked at
@@ -40,8 +48,24 @@ Exit status: 0 unambiguous, 1 ambiguous (two trees were found), 2 bad use, or a
 file that cannot be read or written, 3 potential (no trees were found, or
 --quiet), 4 refused. Of several files the worst: 2, then 4, 1, 3, 0.
 ",
-    options: &["--steps", "--looked", "--json", "--fix", "--html", "--form=1", "--form=2", "--form=3", "-Werror", "--quiet"],
+    options: &[
+        "--callers=0",
+        "--callers=1",
+        "--callers=2",
+        "--steps",
+        "--looked",
+        "--json",
+        "--fix",
+        "--html",
+        "--form=1",
+        "--form=2",
+        "--form=3",
+        "-Werror",
+        "--quiet",
+    ],
+    numbered: &[("--callers", "0, 1 or 2")],
     exclusive: &[
+        &["--fix", "--callers=0", "--callers=1", "--callers=2"],
         &["--html", "--json", "--fix", "--quiet", "--steps"],
         &["--html", "--json", "--fix", "--looked", "--steps"],
         &["--html", "--json", "--fix", "--quiet", "--form=1", "--form=2", "--form=3"],
@@ -50,6 +74,7 @@ file that cannot be read or written, 3 potential (no trees were found, or
     ],
     single: &["--html", "--fix"],
     bare: &["--json"],
+    needs: &[],
     files: 1,
     once: false,
 };

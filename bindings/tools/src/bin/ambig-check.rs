@@ -5,7 +5,7 @@ use std::process::ExitCode;
 
 use ambig_tools::command::{self, Answer, Request, Status, Tool};
 use ambig_tools::strings::{self, Wrong};
-use ambig_tools::{lines, refusals};
+use ambig_tools::{callers, lines, refusals};
 use ambiguity::{Grammar, MAX_TEXT_BYTES};
 
 const TOOL: Tool = Tool {
@@ -14,8 +14,10 @@ const TOOL: Tool = Tool {
     help: "
 Reads grammar text from GRAMMAR and the lines of ambig-certify from CERTIFICATE;
 one of the files may be -, standard input. Says 'accepted' if the certificate is
-acceptable: then no sentence of the grammar has two derivation trees. Otherwise
-says on standard error what is wrong, in which file, line and column.
+acceptable: then no sentence of the grammar has two derivation trees. A
+certificate that remembers callers has a line callers=, and the answer has it
+too. Otherwise says on standard error what is wrong, in which file, line and
+column.
 
 With --lines the second file has the lines left= and right=, as ambig prints
 them. Says 'accepted' if their strings part in the grammar: then its verdict is
@@ -32,9 +34,11 @@ read or written, 4 the grammar is refused. Of several pairs the worst: 2, then
 4, 1, 0.
 ",
     options: &["--lines", "--quiet"],
+    numbered: &[],
     exclusive: &[],
     single: &[],
     bare: &[],
+    needs: &[],
     files: 2,
     once: false,
 };
@@ -45,8 +49,9 @@ fn refused(request: &Request, numbers: String, message: String) -> Answer {
     Answer { status: Status::No, out, err }
 }
 
-fn accepted() -> Answer {
-    Answer { status: Status::Yes, out: "accepted\n".to_string(), err: String::new() }
+/// What is accepted with so many callers; at 0 they are not told.
+fn accepted(callers: usize) -> Answer {
+    Answer { status: Status::Yes, out: format!("accepted\n{}", callers::line(callers)), err: String::new() }
 }
 
 fn judged_certificate(request: &Request, file: &str, grammar: &Grammar, certificate: &[u8]) -> Answer {
@@ -54,8 +59,8 @@ fn judged_certificate(request: &Request, file: &str, grammar: &Grammar, certific
         Ok(certificate) => certificate,
         Err(malformed) => return refused(request, "malformed\n".to_string(), refusals::of_lines(file, &malformed)),
     };
-    match grammar.check(&certificate.bytes) {
-        Ok(()) => accepted(),
+    match grammar.check(certificate.callers, &certificate.bytes) {
+        Ok(()) => accepted(certificate.callers),
         Err(refusal) => {
             let message = refusals::of_certificate(file, &certificate, refusal, grammar);
             refused(request, refusals::numbers(refusal), message)
@@ -75,7 +80,7 @@ fn judged_strings(request: &Request, file: &str, grammar: &Grammar, lines: &[u8]
         }
     };
     match strings::check(grammar, &strings) {
-        Ok(()) => accepted(),
+        Ok(()) => accepted(0),
         Err(Wrong::NotParting(fault)) => {
             refused(request, "not-parting\n".to_string(), refusals::of_not_parting(file, lines, &fault))
         }

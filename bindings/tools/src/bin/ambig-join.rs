@@ -22,6 +22,7 @@ standard error, with the file, line and column at fault.
 
   --certify      print no text but the verdict of it, as ambig-certify does
                  for a file
+  --callers M    with --certify: ask with M callers remembered alone, 0, 1 or 2
   -q, --quiet    print the lines refused=, at= and part= for what is refused;
                  with --certify the lines that the program ambig prints
   -h, --help     print this help
@@ -31,10 +32,12 @@ Exit status: 0 joined, 2 bad use, or a file that cannot be read or written, 4
 refused. With --certify: 0 unambiguous, 1 ambiguous (two trees were found), 3
 potential (no trees were found, or --quiet).
 ",
-    options: &["--certify", "--quiet"],
-    exclusive: &[],
+    options: &["--certify", "--callers=0", "--callers=1", "--callers=2", "--quiet"],
+    numbered: &[("--callers", "0, 1 or 2")],
+    exclusive: &[&["--callers=0", "--callers=1", "--callers=2"]],
     single: &[],
     bare: &[],
+    needs: &[("--callers=0", "--certify"), ("--callers=1", "--certify"), ("--callers=2", "--certify")],
     files: 2,
     once: true,
 };

@@ -1,6 +1,9 @@
 //! A line of a certificate, read from the left.
 
+use ambiguity::{Grammar, MAX_CALLERS};
+
 use super::{digits, remainder, Certificate, Form, Malformed, Part, MOST_STATES};
+use crate::callers;
 
 /// What is still to be read of a line.
 pub struct Line<'a> {
@@ -91,6 +94,35 @@ impl Line<'_> {
             return self.fault(format!("form {} has at most {MOST_STATES} states; the grammar has {states}", form as usize));
         }
         Ok(form)
+    }
+
+    /// How many callers a certificate remembers: at 0 it has no such line.
+    pub fn callers(&mut self) -> Result<usize, Malformed> {
+        let callers = self.number(callers::KEY)?;
+        if (1..=MAX_CALLERS).contains(&callers) {
+            return Ok(callers);
+        }
+        self.fault("1 or 2 is expected; a certificate of 0 callers has no such line")
+    }
+
+    /// The line of the states, which are so many with these callers. What fits other callers is told.
+    pub fn states(&mut self, grammar: &Grammar, callers: usize, states: usize) -> Result<(), Malformed> {
+        let found = Line { rest: self.rest, ..*self }.number("states=")?;
+        let fits = |other: &usize| grammar.room(*other).is_ok_and(|room| room.states == found);
+        let Some(other) = (0..=MAX_CALLERS).filter(|other| *other != callers && found != states).find(fits) else {
+            return self.known("states=", states);
+        };
+        self.literal("states=")?;
+        let with = |callers| match callers {
+            0 => "without callers".to_string(),
+            callers => format!("with {}", callers::counted(callers)),
+        };
+        let line = match (other, callers) {
+            (0, _) => "is the line behind it one too many?".to_string(),
+            (other, 0) => format!("is the line '{}{other}' missing behind it?", callers::KEY),
+            (other, _) => format!("is '{}{other}' meant behind it?", callers::KEY),
+        };
+        self.fault(format!("{found} is found, and {} this number is {states}, {} {found}: {line}", with(callers), with(other)))
     }
 
     /// A line of bytes, or of bytes and runs, put to its place.

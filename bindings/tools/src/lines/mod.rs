@@ -3,8 +3,9 @@
 mod line;
 mod runs;
 
-use ambiguity::Grammar;
+use ambiguity::{Grammar, Room};
 
+use crate::callers;
 use line::Line;
 
 /// The forms. Form 2 has check digits at each line's end, and leaves lines out whose bytes are all 0; form 3 writes runs of zeros by
@@ -62,10 +63,11 @@ fn digits(offset: usize, bytes: &[u8]) -> impl Iterator<Item = u8> + '_ {
     offset.into_iter().chain(bytes.iter().flat_map(|byte| [byte >> 4, byte & 15]))
 }
 
-/// The lines of a certificate that holds so many triples.
-pub fn written(grammar: &Grammar, size: usize, certificate: &[u8], form: Form) -> String {
-    let (states, rules) = (grammar.states(), grammar.rules().len());
-    let head = format!("certificate-form={}\nstates={states}\nrules={rules}\nsize={size}\n", form as usize);
+/// The lines of a certificate that was made with so many callers and holds so many triples.
+pub fn written(grammar: &Grammar, callers: usize, size: usize, certificate: &[u8], form: Form) -> String {
+    let states = grammar.room(callers).expect("a certificate was made with these callers").states;
+    let head = format!("certificate-form={}\nstates={states}\n{}", form as usize, callers::line(callers));
+    let head = format!("{head}rules={}\nsize={size}\n", grammar.rules().len());
     if form == Form::Runs {
         return head + &runs::written(certificate);
     }
@@ -106,6 +108,10 @@ struct Part {
 #[derive(Debug)]
 pub struct Certificate {
     pub bytes: Vec<u8>,
+    /// How many callers it remembers.
+    pub callers: usize,
+    /// Lines in front of the bytes.
+    head: usize,
     form: Form,
     /// What the lines hold, in order.
     parts: Vec<Part>,
@@ -117,7 +123,7 @@ impl Certificate {
         match self.parts.iter().find(|part| byte < part.end).or(self.parts.last()) {
             Some(part) if (part.start..part.end).contains(&byte) => (part.line, part.column),
             Some(part) => (part.line, 1),
-            None => (HEAD, 1),
+            None => (self.head, 1),
         }
     }
 
@@ -127,8 +133,8 @@ impl Certificate {
     }
 }
 
-/// Lines in front of the bytes.
-const HEAD: usize = 4;
+/// The line that may tell callers.
+const CALLERS: usize = 3;
 
 /// Faults that are told at once.
 const MOST_FAULTS: usize = 20;
@@ -145,7 +151,7 @@ pub fn read(grammar: &Grammar, text: &[u8]) -> Result<Certificate, Vec<Malformed
     }
     let (mut certificate, size) = head(grammar, &lines).map_err(|fault| vec![fault])?;
     let mut faults = Vec::new();
-    for number in HEAD + 1..=lines.len() {
+    for number in certificate.head + 1..=lines.len() {
         if lines[number - 1].is_empty() && certificate.form != Form::Plain {
             continue;
         }
@@ -176,7 +182,7 @@ pub fn read(grammar: &Grammar, text: &[u8]) -> Result<Certificate, Vec<Malformed
 fn other_form(certificate: &Certificate, lines: &[&[u8]], number: usize) -> Option<Malformed> {
     let forms = [Form::Checked, Form::Runs].into_iter().filter(|form| *form != certificate.form);
     let is_good = |form: &Form| {
-        let mut other = Certificate { bytes: certificate.bytes.clone(), form: *form, parts: Vec::new() };
+        let mut other = Certificate { bytes: certificate.bytes.clone(), form: *form, parts: Vec::new(), ..*certificate };
         line(lines, number).part(&mut other).is_ok()
     };
     let form = forms.into_iter().find(is_good)? as usize;
@@ -193,13 +199,26 @@ fn line<'a>(lines: &[&'a [u8]], number: usize) -> Line<'a> {
     Line { rest: lines.get(number - 1).copied().unwrap_or_default(), line: number, column: 1 }
 }
 
-/// The certificate without bytes, and its size.
+/// The callers that the third line tells, 0 if it tells none, and the room with them.
+fn callers_in(grammar: &Grammar, lines: &[&[u8]]) -> Result<(usize, Room), Malformed> {
+    let mut line = line(lines, CALLERS);
+    let callers = if line.rest.starts_with(callers::KEY.as_bytes()) { line.callers()? } else { 0 };
+    match grammar.room(callers) {
+        Ok(room) => Ok((callers, room)),
+        Err(refusal) => line.fault(callers::refused(callers, refusal)),
+    }
+}
+
+/// The certificate without bytes, and its size. What the first two lines must say depends on the callers.
 fn head(grammar: &Grammar, lines: &[&[u8]]) -> Result<(Certificate, usize), Malformed> {
-    let form = line(lines, 1).form(grammar.states())?;
-    line(lines, 2).known("states=", grammar.states())?;
-    line(lines, 3).known("rules=", grammar.rules().len())?;
-    let size = line(lines, HEAD).number("size=")?;
-    Ok((Certificate { bytes: vec![0; grammar.room().certificate], form, parts: Vec::new() }, size))
+    let (callers, room) = callers_in(grammar, lines)?;
+    let form = line(lines, 1).form(room.states)?;
+    line(lines, 2).states(grammar, callers, room.states)?;
+    let rules = CALLERS + usize::from(callers > 0);
+    line(lines, rules).known("rules=", grammar.rules().len())?;
+    let head = rules + 1;
+    let size = line(lines, head).number("size=")?;
+    Ok((Certificate { bytes: vec![0; room.certificate], callers, head, form, parts: Vec::new() }, size))
 }
 
 /// What is wrong when all lines were read.
@@ -213,5 +232,5 @@ fn end(certificate: &Certificate, lines: usize, size: usize) -> Option<Malformed
         return None;
     }
     let message = format!("the number of bits that are set below is {set}: this number is wrong, or lines are missing");
-    fault(HEAD, "size=".len() + 1, message)
+    fault(certificate.head, "size=".len() + 1, message)
 }

@@ -31,7 +31,7 @@ pub fn printed(text: &[u8], grammar: &Grammar, witness: &[u32]) -> String {
 
 /// The lines of a witness, by its two strings.
 pub fn of_witness(grammar: &Grammar, witness: &[u32]) -> String {
-    let strings = grammar.strings(witness).expect("an entry of a witness is a successor of the one before");
+    let strings = grammar.strings(0, witness).expect("an entry of a witness is a successor of the one before");
     grammar.lines(&strings).expect("the letters are the grammar's")
 }
 
@@ -47,7 +47,7 @@ pub enum Wrong {
 /// Accepts two strings that part: a row of triples is found for them, and the library's witness check accepts it.
 pub fn check(grammar: &Grammar, strings: &Strings) -> Result<(), Wrong> {
     let row = row::of(grammar, strings).map_err(Wrong::NotParting)?;
-    ambiguity::check_witness(grammar.table(), &row).map_err(Wrong::Row)
+    ambiguity::check_witness(grammar.table(), 0, &row).map_err(Wrong::Row)
 }
 
 /// The column of a letter in its line, and behind the last letter that of the line's end. Columns count bytes from 1.

@@ -186,8 +186,8 @@ fn certificates_of_grammars_without_a_sentence() {
 fn certified() -> Vec<(Grammar, String)> {
     let of = |text: &str| {
         let grammar = Grammar::read(text.as_bytes()).ok().filter(|grammar| Form::Checked.has(grammar.states()))?;
-        let Searched::Unambiguous { certificate, size, .. } = grammar.search() else { return None };
-        let lines = lines::written(&grammar, size, &certificate, Form::Checked);
+        let Searched::Unambiguous { certificate, size, .. } = grammar.search(0).unwrap() else { return None };
+        let lines = lines::written(&grammar, 0, size, &certificate, Form::Checked);
         Some((grammar, lines))
     };
     corpus().iter().filter_map(|entry| of(&entry.text)).collect()
@@ -198,9 +198,9 @@ fn both_forms_give_the_same_bytes() {
     let certified = certified();
     assert!(certified.len() >= 50);
     for (grammar, checked) in certified {
-        let Searched::Unambiguous { certificate, size, .. } = grammar.search() else { unreachable!() };
-        let plain = lines::written(&grammar, size, &certificate, Form::Plain);
-        let runs = lines::written(&grammar, size, &certificate, Form::Runs);
+        let Searched::Unambiguous { certificate, size, .. } = grammar.search(0).unwrap() else { unreachable!() };
+        let plain = lines::written(&grammar, 0, size, &certificate, Form::Plain);
+        let runs = lines::written(&grammar, 0, size, &certificate, Form::Runs);
         assert!(runs.len() <= checked.len() + 20, "{runs}");
         let (head, bytes) = checked.split_at(checked.match_indices('\n').nth(3).unwrap().0 + 1);
         let spread = format!("{head}\n\n{bytes}");
@@ -270,8 +270,8 @@ fn two_thousand_slips_in_form_3() {
 
 /// A grammar with its certificate in form 3.
 fn in_runs(grammar: Grammar) -> (Grammar, String) {
-    let Searched::Unambiguous { certificate, size, .. } = grammar.search() else { panic!("it is unambiguous") };
-    let lines = lines::written(&grammar, size, &certificate, Form::Runs);
+    let Searched::Unambiguous { certificate, size, .. } = grammar.search(0).unwrap() else { panic!("it is unambiguous") };
+    let lines = lines::written(&grammar, 0, size, &certificate, Form::Runs);
     (grammar, lines)
 }
 
@@ -318,15 +318,15 @@ fn every_bit_of_a_certificate_is_needed() {
     assert!(unambiguous().len() >= 20);
     for text in unambiguous() {
         let grammar = Grammar::read(text.as_bytes()).unwrap();
-        let Searched::Unambiguous { certificate: bytes, size, .. } = grammar.search() else { panic!("{text}") };
-        let lines = lines::written(&grammar, size, &bytes, Form::Plain);
+        let Searched::Unambiguous { certificate: bytes, size, .. } = grammar.search(0).unwrap() else { panic!("{text}") };
+        let lines = lines::written(&grammar, 0, size, &bytes, Form::Plain);
         let held: Vec<usize> = (0..8 * bytes.len()).filter(|index| bytes[index / 8] >> (index % 8) & 1 == 1).collect();
         assert_eq!(size, held.len());
         for index in held {
             let flipped = with_byte(&lines, size - 1, index / 8, bytes[index / 8] ^ 1 << (index % 8));
             let without = lines::read(&grammar, flipped.as_bytes()).unwrap();
             let cause = if index == 0 { 11 } else { 13 };
-            assert_eq!(grammar.check(&without.bytes).unwrap_err().cause.number(), cause, "{text}");
+            assert_eq!(grammar.check(0, &without.bytes).unwrap_err().cause.number(), cause, "{text}");
         }
     }
 }
@@ -348,7 +348,7 @@ fn the_largest_grammar() {
     assert_eq!(check(&grammar, &lines), said(0, "accepted\n"));
     // Bytes alone, with line ends of two bytes: there are no longer lines.
     let grammar = Grammar::read(text.as_bytes()).unwrap();
-    let lines = lines::written(&grammar, 8 * 262_144, &[0xff; 262_144], Form::Runs).replace('\n', "\r\n");
+    let lines = lines::written(&grammar, 0, 8 * 262_144, &[0xff; 262_144], Form::Runs).replace('\n', "\r\n");
     assert!(lines.len() < lines::MOST_BYTES && lines.contains("\n3fff0: "), "{}", lines.len());
     assert_eq!(lines::read(&grammar, lines.as_bytes()).unwrap().bytes, [0xff; 262_144]);
 }

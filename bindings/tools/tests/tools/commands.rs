@@ -43,6 +43,15 @@ fn bad_use() {
         (&["-q", "--steps", grammar], "--quiet and --steps do not go together"),
         (&["--json", "--html", grammar], "--html and --json do not go together"),
         (&["--form=1", "--form=2", grammar], "--form=1 and --form=2 do not go together"),
+        (&["--callers", "3", grammar], "--callers takes 0, 1 or 2"),
+        (&["--callers=3", grammar], "--callers takes 0, 1 or 2"),
+        (&["--callers=", grammar], "--callers takes 0, 1 or 2"),
+        (&["--callers", "01", grammar], "--callers takes 0, 1 or 2"),
+        (&["--callers", grammar], "--callers takes 0, 1 or 2"),
+        (&[grammar, "--callers"], "--callers takes 0, 1 or 2"),
+        (&["--caller=1", grammar], "there is no option --caller=1; is --callers=1 meant?"),
+        (&["--callers", "1", "--callers=2", grammar], "--callers=1 and --callers=2 do not go together"),
+        (&["--fix", "--callers", "1", grammar], "--fix and --callers=1 do not go together"),
     ] {
         let ran = run(CERTIFY, words, b"");
         assert_eq!((ran.status, ran.out.as_str()), (2, ""));
@@ -54,6 +63,7 @@ fn bad_use() {
         (&["-", "-"], "standard input can be read once only"),
         (&[grammar, "-", "-"], "files are missing"),
         (&[grammar, "--steps"], "there is no option --steps"),
+        (&["--callers", "1", grammar], "there is no option --callers"),
     ] {
         let ran = run(CHECK, words, b"");
         assert_eq!((ran.status, ran.out.as_str()), (2, ""));
@@ -68,6 +78,8 @@ fn bad_use() {
         (&[grammar, grammar, grammar, grammar], "there are too many files"),
         (&["--certfy", grammar, grammar], "there is no option --certfy; is --certify meant?"),
         (&["--html", grammar, grammar], "there is no option --html"),
+        (&["--callers", "1", grammar, grammar], "--callers=1 is taken together with --certify only"),
+        (&["--callers", "7", "--certify", grammar, grammar], "--callers takes 0, 1 or 2"),
     ] {
         let ran = run(JOIN, words, b"");
         assert_eq!((ran.status, ran.out.as_str()), (2, ""));
@@ -150,11 +162,14 @@ fn how_much_the_search_looked_at() {
     assert!(!certify(&one_a()).out.contains("looked="));
 }
 
-/// Where `--quiet` is asked for, the tool prints what `ambig` prints, whose lines the index has.
+/// Where `--quiet` is asked for at 0 callers, the tool prints what `ambig` prints, whose lines the index has; with others it prints the
+/// same, but for false alarms that are none with callers.
 #[test]
 fn the_corpus_as_the_program_prints_it() {
     for entry in corpus() {
-        let ran = run(CERTIFY, &["--quiet", "-"], entry.text.as_bytes());
+        let ran = run(CERTIFY, &["--quiet", "--callers", "0", "-"], entry.text.as_bytes());
+        let other = run(CERTIFY, &["--quiet", "-"], entry.text.as_bytes());
+        assert!(other == ran || entry.truth == "false-alarm" && other.out.contains("\ncallers="), "{}", entry.name);
         let verdict = if entry.truth == "unambiguous" { "unambiguous" } else { "potential" };
         let mut lines = ran.out.lines();
         assert!(lines.next().unwrap().starts_with("states="));

@@ -11,6 +11,7 @@ verdict=potential
 left=(0 (2 if S else (3 x )3 )0
 right=(0 (1 if S )1 else (3 x )3 )0
 looked=390
+tried=0,1,2
 ambiguous: `if if S else S` has two trees, for example `if if x else x`
 after `if if S`: left goes on with `else`, right ends `S: if S`, line 3
 left tree:                    right tree:
@@ -25,6 +26,7 @@ verdict=potential
 left=(0 S )0
 right=(0 (1 S )1 )0
 looked=55
+tried=0,1,2
 ambiguous: `a` has two trees
 after `a`: left ends the sentence, right ends `S: S`, line 3
 left tree:        right tree:
@@ -51,8 +53,8 @@ close S': S  S
              close S': S
 ";
 
-/// Lines before those that explain: states, verdict, two strings, and how much the search looked at.
-const VERDICT: usize = 5;
+/// Lines before those that explain: states, verdict, two strings, how much the search looked at, and the callers that were tried.
+const VERDICT: usize = 6;
 
 fn dangling() -> String {
     text("if,else,x", "S", &["S: if S", "S: if S else S", "S: x"])
@@ -114,9 +116,10 @@ fn the_corpus() {
     assert_eq!(ambiguous, 36);
 }
 
-/// What is said of the corpus fits on a page, and is the same when it is printed again.
+/// What is said of the corpus at 0 callers fits on a page, and is the same when it is printed again.
 #[test]
 fn pages_of_the_corpus() {
+    let certify = |text: &str| run(CERTIFY, &["--callers=0", "-"], text.as_bytes());
     for entry in corpus().iter().filter(|entry| entry.truth != "unambiguous") {
         let Ran { status, out, .. } = certify(&entry.text);
         assert_eq!(status, if entry.truth == "ambiguous" { 1 } else { 3 });
@@ -329,7 +332,7 @@ fn left_is_left() {
     let mut compared = 0;
     for entry in corpus().iter().filter(|entry| entry.truth == "ambiguous") {
         let grammar = Grammar::read(entry.text.as_bytes()).unwrap();
-        let ambiguity::Searched::Potential { witness, .. } = grammar.search() else { panic!("{}", entry.name) };
+        let ambiguity::Searched::Potential { witness, .. } = grammar.search(0).unwrap() else { panic!("{}", entry.name) };
         let steps = ambig_tools::readings::steps(&grammar, &witness);
         let strings = ambig_tools::parting::of_witness(&grammar, &witness, &steps);
         let trees = ambig_tools::explanation::of(&grammar, &witness).parting;
@@ -371,10 +374,12 @@ fn all_ambiguities() {
     assert_eq!(certify(&many).out.matches("\nalso: ").count(), 8);
 }
 
-/// Where every pair was tried, the tool says what that means.
+/// Where every pair was tried, the tool says what that means. With one caller this grammar has a certificate.
 #[test]
 fn an_exhausted_search() {
-    let out = certify(&corpus().into_iter().find(|entry| entry.name == "left-and-right").unwrap().text).out;
+    let grammar = corpus().into_iter().find(|entry| entry.name == "left-and-right").unwrap().text;
+    assert_eq!(certify(&grammar).status, 0);
+    let out = run(CERTIFY, &["--callers", "0", "-"], grammar.as_bytes()).out;
     let said = "no sentence with two trees was found: all 13 pairs of unfinished trees were\n  tried. By this search, which is not proved, \
                 no sentence has two trees.";
     assert!(out.contains(said), "{out}");

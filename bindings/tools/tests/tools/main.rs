@@ -1,5 +1,6 @@
 //! Tests of the tools, and of what they share.
 
+mod callers;
 mod certificates;
 mod commands;
 mod explanations;

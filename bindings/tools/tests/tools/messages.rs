@@ -127,7 +127,7 @@ fn many_mistakes() {
 
 /// What the search says of a text: the verdict, with the size or the number of the witness's entries, and how much it looked at.
 fn searched(text: &str) -> (bool, usize, usize) {
-    match Grammar::read(text.as_bytes()).unwrap().search() {
+    match Grammar::read(text.as_bytes()).unwrap().search(0).unwrap() {
         Searched::Unambiguous { size, looked, .. } => (true, size, looked),
         Searched::Potential { witness, looked } => (false, witness.len(), looked),
     }

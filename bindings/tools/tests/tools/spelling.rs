@@ -66,7 +66,7 @@ fn certificates_and_lines() {
     for entry in corpus().into_iter().filter(|entry| entry.text.len() < 2_000) {
         let grammar = Grammar::read(entry.text.as_bytes()).unwrap();
         let path = file("in-another-case", &mixed_rules(&entry.text));
-        match grammar.search() {
+        match grammar.search(0).unwrap() {
             Searched::Unambiguous { .. } => {
                 let Ran { out, .. } = run(CERTIFY, &["-"], entry.text.as_bytes());
                 assert_eq!(run(CHECK, &[&path, "-"], out.as_bytes()), said(0, "accepted\n"), "{}", entry.name);

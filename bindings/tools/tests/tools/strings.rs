@@ -9,7 +9,7 @@ use ambiguity::{Grammar, Letter, Searched, Strings, MAX_REPORT_STATES, MAX_REPOR
 fn potential() -> Vec<(String, Grammar, Vec<u32>)> {
     let of = |text: String| {
         let grammar = Grammar::read(text.as_bytes()).unwrap();
-        match grammar.search() {
+        match grammar.search(0).unwrap() {
             Searched::Potential { witness, .. } => Some((text, grammar, witness)),
             Searched::Unambiguous { .. } => None,
         }
@@ -35,7 +35,7 @@ fn the_corpus_parts() {
         let lines = strings::of_witness(grammar, witness);
         assert_eq!(strings::printed(text.as_bytes(), grammar, witness), lines);
         let path = file("corpus-parts", text);
-        let quiet = run(CERTIFY, &["--quiet", &path], b"");
+        let quiet = run(CERTIFY, &["--quiet", "--callers=0", &path], b"");
         assert_eq!(quiet, said(3, &format!("states={}\nverdict=potential\n{lines}", grammar.states())));
         assert_eq!(run(CHECK, &["--lines", &path, "-"], lines.as_bytes()), said(0, "accepted\n"));
         let strings = grammar.read_back(lines.as_bytes()).unwrap();
@@ -71,7 +71,7 @@ fn damaged(string: &[Letter], letters: &[Letter]) -> Vec<Vec<Letter>> {
 fn damaged_letters() {
     let (mut accepted, mut all) = (0, 0);
     for (_, grammar, witness) in potential().into_iter().filter(|(_, grammar, _)| grammar.states() <= MAX_REPORT_STATES) {
-        let strings = grammar.strings(&witness).unwrap();
+        let strings = grammar.strings(0, &witness).unwrap();
         let letters = letters(&grammar);
         let left = damaged(&strings.left, &letters).into_iter().map(|left| Strings { left, right: strings.right.clone() });
         let right = damaged(&strings.right, &letters).into_iter().map(|right| Strings { left: strings.left.clone(), right });
@@ -109,7 +109,7 @@ fn all_short_pairs() {
             assert_eq!(taken(&grammar, &pair), parts, "{}", grammar.lines(&pair).unwrap());
             parting += usize::from(parts);
         }
-        let potential = matches!(grammar.search(), Searched::Potential { .. });
+        let potential = matches!(grammar.search(0), Ok(Searched::Potential { .. }));
         assert_eq!(parting > 0, potential, "{rules:?}: {parting} of {} strings", strings.len());
     }
 }

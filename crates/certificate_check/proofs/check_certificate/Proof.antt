@@ -4,7 +4,7 @@ use native.Mathlib.Omega.{arith}
 use mathlib.Core.Path.{ap, sym, _∙_}
 use Rattle.grammar.specs.Limits.{limits}
 use Rattle.grammar.proofs.Answers.{then-goes, then-stops}
-use Rattle.automaton.specs.PositionMoves.{movesOf}
+use Rattle.automaton.specs.CallerMoves.{movesWith}
 use Rattle.triples.specs.Certificate.{checkBytes, checkCertificate}
 use Rattle.triples.specs.Verdict.{checkVerdict}
 use Rattle.plans.proofs.PlannedLaws.{verified-of}
@@ -33,7 +33,7 @@ unfolding checkCertificate
 returns c =
     let w = c .before .before .before in
     let v = c .before .verdict .given in
-    ap checkVerdict (sym (then-stops _ (λ G. checkBytes (movesOf limits G) (start w .args .bytes .now)) (v .0 .0) (v .0 .1 .0)
+    ap checkVerdict (sym (then-stops _ (λ G. checkBytes (movesWith limits G (start w .args .callers)) (start w .args .bytes .now)) (v .0 .0) (v .0 .1 .0)
     (w .prepare .ensures .refused-as (v .0 .0) (v .0 .1 .0) (v .1))))
 
 enum-told : tie.Need-enum-told
@@ -41,9 +41,10 @@ enum-told c = search needs
 
 check-bits-requires : tie.Need-check-bits-requires
 check-bits-requires c κs =
-    let p = rowsAt (passedAt c) .prepare .ensures .passed-as (passedAt c .enum-told .given .1) in
+    let w = rowsAt (passedAt c) in
+    let p = w .prepare .ensures .passed-as (passedAt c .enum-told .given .1) in
     let r = p .2 in
-    verified-of (movesOf limits (p .0)) (r .regular) _ _ _ (r .size) _ (r .shows) (omega (arith, r .long))
+    verified-of (movesWith limits (p .0) (start w .args .callers)) (r .regular) _ _ _ (r .size) _ (r .shows) (omega (arith, r .long))
 
 returns-2 : tie.Need-returns-2
 unfolding checkCertificate
@@ -51,8 +52,8 @@ returns-2 c =
     let w = rowsAt (passedAt (c .before)) in
     let p = w .prepare .ensures .passed-as (passedAt (c .before) .enum-told .given .1) in
     let r = p .2 in
-    c .check-bits .ensures _ (planned-of (movesOf limits (p .0)) (r .regular) _ _ _ (r .size) _ (r .shows) (omega (arith, r .long)))
-    ∙ ap checkVerdict (sym (then-goes _ (λ G. checkBytes (movesOf limits G) (start w .args .bytes .now)) (p .0) (p .1)))
+    c .check-bits .ensures _ (planned-of (movesWith limits (p .0) (start w .args .callers)) (r .regular) _ _ _ (r .size) _ (r .shows) (omega (arith, r .long)))
+    ∙ ap checkVerdict (sym (then-goes _ (λ G. checkBytes (movesWith limits G (start w .args .callers)) (start w .args .bytes .now)) (p .0) (p .1)))
 
 pub check-certificate-spec : {M : Type 1} → statement M
 check-certificate-spec =

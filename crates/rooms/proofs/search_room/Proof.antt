@@ -6,7 +6,7 @@ use Prim.Native.Nat.{_*_, _≤_}
 use Rattle.grammar.specs.Limits.{limits}
 use Rattle.grammar.specs.Refusal.{done}
 use Rattle.grammar.proofs.Answers.{then-goes, then-stops}
-use Rattle.automaton.specs.PositionMoves.{movesOf}
+use Rattle.automaton.specs.CallerMoves.{movesWith}
 use Rattle.plans.proofs.PlanLaws.{square-of}
 use Rattle.plans.proofs.PlannedLaws.{verified-of}
 use Rattle.rooms.specs.Room.{roomOf, searchRoom, roomTold}
@@ -14,7 +14,10 @@ use Rattle.rooms.proofs.CountLaws.{room-is}
 use Rattle.rooms.proofs.search_room.Statement.{statement}
 use Rattle.rooms.proofs.search_room.Tie as tie
 
--- from the rows being lent on back to where they were prepared
+-- from the prepared rows back to the function's entry, and from their being lent on to where they were prepared
+abbrev start : tie.After-prepare → tie.Start
+start c = c .before .before .before .before .before .before .before .before .before
+
 abbrev passedAt : tie.After-first2 → tie.After-enum-told
 passedAt c = c .before .before .before
 
@@ -36,7 +39,7 @@ unfolding searchRoom
 returns c =
     let w = c .before .before .before in
     let v = c .before .verdict .given in
-    ap roomTold (sym (then-stops _ (λ G. done (roomOf (movesOf limits G))) (v .0 .0) (v .0 .1 .0)
+    ap roomTold (sym (then-stops _ (λ G. done (roomOf (movesWith limits G (start w .args .callers)))) (v .0 .0) (v .0 .1 .0)
     (w .prepare .ensures .refused-as (v .0 .0) (v .0 .1 .0) (v .1))))
 
 enum-told : tie.Need-enum-told
@@ -53,9 +56,10 @@ add-certificate c = omega (arith, square-small (rowsAt c))
 
 count-moves-requires : tie.Need-count-moves-requires
 count-moves-requires c κs =
-    let p = rowsAt (passedAt c) .prepare .ensures .passed-as (passedAt c .enum-told .given .1) in
+    let w = rowsAt (passedAt c) in
+    let p = w .prepare .ensures .passed-as (passedAt c .enum-told .given .1) in
     let r = p .2 in
-    verified-of (movesOf limits (p .0)) (r .regular) _ _ _ (r .size) _ (r .shows) (omega (arith, r .long)) .fits
+    verified-of (movesWith limits (p .0) (start w .args .callers)) (r .regular) _ _ _ (r .size) _ (r .shows) (omega (arith, r .long)) .fits
 
 returns-2 : tie.Need-returns-2
 unfolding searchRoom
@@ -63,8 +67,8 @@ returns-2 c =
     let w = rowsAt (passedAt (c .before)) in
     let p = w .prepare .ensures .passed-as (passedAt (c .before) .enum-told .given .1) in
     let r = p .2 in
-    room-is (movesOf limits (p .0)) (r .regular) _ _ _ (r .size) _ (r .shows) (omega (arith, r .long)) (c .count-moves .result) (c .count-moves .ensures)
-    ∙ ap roomTold (sym (then-goes _ (λ G. done (roomOf (movesOf limits G))) (p .0) (p .1)))
+    room-is (movesWith limits (p .0) (start w .args .callers)) (r .regular) _ _ _ (r .size) _ (r .shows) (omega (arith, r .long)) (c .count-moves .result) (c .count-moves .ensures)
+    ∙ ap roomTold (sym (then-goes _ (λ G. done (roomOf (movesWith limits G (start w .args .callers)))) (p .0) (p .1)))
 
 pub search-room-spec : {M : Type 1} → statement M
 search-room-spec =

@@ -8,8 +8,7 @@ use Rattle.grammar.specs.Limits.{limits}
 use Rattle.grammar.specs.Grammar.{Grammar}
 use Rattle.grammar.specs.Refusal.{Answer, done}
 use Rattle.grammar.proofs.Answers.{then-goes, then-stops}
-use Rattle.automaton.specs.Items.{states}
-use Rattle.automaton.specs.PositionMoves.{movesOf}
+use Rattle.automaton.specs.CallerMoves.{movesWith}
 use Rattle.triples.specs.declared.Step.{Step}
 use Rattle.steps.specs.Steps.{nthRecord, nthStep, recordAnswer, stepAnswer}
 use Rattle.steps.proofs.Answers.{laid-in, shown-nth, beyond-left, beyond-right}
@@ -26,9 +25,9 @@ rowsAt c = c .before .before
 abbrev lentAt : tie.After-targets2 → tie.Else2
 lentAt c = c .before .before .before .before .before .before
 
--- what follows the table check
-abbrev then : ℕ → ℕ → ℕ → ℕ → Grammar → Answer (Option Step)
-then f p q k G = done (nthRecord (movesOf limits G) f p q k)
+-- what follows the refusals up to 8
+abbrev then : ℕ → ℕ → ℕ → ℕ → ℕ → Grammar → Answer (Option Step)
+then m f p q k G = done (nthRecord (movesWith limits G m) f p q k)
 
 prepare-requires : tie.Need-prepare-requires
 prepare-requires c κs = search needs
@@ -42,7 +41,7 @@ returns c =
     let w = c .before .before .before in
     let a = start w .args in
     let v = c .before .verdict .given in
-    ap stepAnswer (sym (then-stops _ (then (a .layer) (a .left) (a .right) (a .nth)) (v .0 .0) (v .0 .1 .0)
+    ap stepAnswer (sym (then-stops _ (then (a .callers) (a .layer) (a .left) (a .right) (a .nth)) (v .0 .0) (v .0 .1 .0)
     (w .prepare .ensures .refused-as (v .0 .0) (v .0 .1 .0) (v .1))))
 
 enum-told : tie.Need-enum-told
@@ -54,8 +53,8 @@ returns-2 c =
     let w = rowsAt (c .before) in
     let a = start w .args in
     let p = w .prepare .ensures .passed-as (c .before .enum-told .given .1) in
-    beyond-left (movesOf limits (p .0)) (a .layer) (a .left) (a .right) (a .nth) (omega (arith, p .2 .size, c .if1 .taken))
-    ∙ ap stepAnswer (sym (then-goes _ (then (a .layer) (a .left) (a .right) (a .nth)) (p .0) (p .1)))
+    beyond-left (movesWith limits (p .0) (a .callers)) (a .layer) (a .left) (a .right) (a .nth) (omega (arith, p .2 .size, c .if1 .taken))
+    ∙ ap stepAnswer (sym (then-goes _ (then (a .callers) (a .layer) (a .left) (a .right) (a .nth)) (p .0) (p .1)))
 
 returns-3 : tie.Need-returns-3
 unfolding nthStep
@@ -63,8 +62,8 @@ returns-3 c =
     let w = rowsAt (c .before .before) in
     let a = start w .args in
     let p = w .prepare .ensures .passed-as (c .before .before .enum-told .given .1) in
-    beyond-right (movesOf limits (p .0)) (a .layer) (a .left) (a .right) (a .nth) (omega (arith, p .2 .size, c .if2 .taken))
-    ∙ ap stepAnswer (sym (then-goes _ (then (a .layer) (a .left) (a .right) (a .nth)) (p .0) (p .1)))
+    beyond-right (movesWith limits (p .0) (a .callers)) (a .layer) (a .left) (a .right) (a .nth) (omega (arith, p .2 .size, c .if2 .taken))
+    ∙ ap stepAnswer (sym (then-goes _ (then (a .callers) (a .layer) (a .left) (a .right) (a .nth)) (p .0) (p .1)))
 
 slice-aggregate-nth-rows : tie.Need-slice-aggregate-nth-rows
 slice-aggregate-nth-rows c =
@@ -78,12 +77,12 @@ nth-rows-requires c κs =
     let a = start w .args in
     let p = w .prepare .ensures .passed-as (e .before .before .enum-told .given .1) in
     let r = p .2 in
-    let hp : a .left < states (p .0) = omega (arith, r .size, e .before .if1 .left) in
-    let hq : a .right < states (p .0) = omega (arith, r .size, e .if2 .left) in (
+    let hp : a .left < movesWith limits (p .0) (a .callers) .states = omega (arith, r .size, e .before .if1 .left) in
+    let hq : a .right < movesWith limits (p .0) (a .callers) .states = omega (arith, r .size, e .if2 .left) in (
       (omega (arith, hp, r .shows .few), omega (arith, hq, r .shows .few)),
       (
-        laid-in (movesOf limits (p .0)) _ _ _ (r .shows) (omega (arith, r .long)) (a .left) hp,
-        laid-in (movesOf limits (p .0)) _ _ _ (r .shows) (omega (arith, r .long)) (a .right) hq,
+        laid-in (movesWith limits (p .0) (a .callers)) _ _ _ (r .shows) (omega (arith, r .long)) (a .left) hp,
+        laid-in (movesWith limits (p .0) (a .callers)) _ _ _ (r .shows) (omega (arith, r .long)) (a .right) hq,
       ),
     )
 
@@ -95,11 +94,11 @@ returns-4 c =
     let a = start w .args in
     let p = w .prepare .ensures .passed-as (e .before .before .enum-told .given .1) in
     let r = p .2 in
-    let hp : a .left < states (p .0) = omega (arith, r .size, e .before .if1 .left) in
-    let hq : a .right < states (p .0) = omega (arith, r .size, e .if2 .left) in
+    let hp : a .left < movesWith limits (p .0) (a .callers) .states = omega (arith, r .size, e .before .if1 .left) in
+    let hq : a .right < movesWith limits (p .0) (a .callers) .states = omega (arith, r .size, e .if2 .left) in
     c .nth-rows .ensures
-    ∙ ap recordAnswer (shown-nth (movesOf limits (p .0)) (r .regular) _ _ _ (r .shows) (a .layer) (a .left) (a .right) (a .nth) hp hq)
-    ∙ ap stepAnswer (sym (then-goes _ (then (a .layer) (a .left) (a .right) (a .nth)) (p .0) (p .1)))
+    ∙ ap recordAnswer (shown-nth (movesWith limits (p .0) (a .callers)) (r .regular) _ _ _ (r .shows) (a .layer) (a .left) (a .right) (a .nth) hp hq)
+    ∙ ap stepAnswer (sym (then-goes _ (then (a .callers) (a .layer) (a .left) (a .right) (a .nth)) (p .0) (p .1)))
 
 pub nth-step-spec : {M : Type 1} → statement M
 nth-step-spec =

@@ -3,7 +3,7 @@ use borrow.Author.Needs.{needs}
 use mathlib.Core.Path.{ap, sym, _∙_}
 use Rattle.grammar.specs.Limits.{limits}
 use Rattle.grammar.proofs.Answers.{then-goes, then-stops}
-use Rattle.automaton.specs.PositionMoves.{movesOf}
+use Rattle.automaton.specs.CallerMoves.{movesWith}
 use Rattle.triples.specs.Verdict.{checkVerdict}
 use Rattle.triples.specs.Witness.{checkRow, checkWitness}
 use Rattle.witness_check.proofs.ReadyLaws.{ready-of}
@@ -31,7 +31,7 @@ unfolding checkWitness
 returns c =
     let w = c .before .before .before in
     let v = c .before .verdict .given in
-    ap checkVerdict (sym (then-stops _ (λ G. checkRow (movesOf limits G) (start w .args .row .now)) (v .0 .0) (v .0 .1 .0)
+    ap checkVerdict (sym (then-stops _ (λ G. checkRow (movesWith limits G (start w .args .callers)) (start w .args .row .now)) (v .0 .0) (v .0 .1 .0)
     (w .prepare .ensures .refused-as (v .0 .0) (v .0 .1 .0) (v .1))))
 
 enum-told : tie.Need-enum-told
@@ -46,8 +46,8 @@ returns-2 c =
     let w = rowsAt (passedAt (c .before)) in
     let p = w .prepare .ensures .passed-as (passedAt (c .before) .enum-told .given .1) in
     let r = p .2 in
-    c .walk .ensures _ (ready-of (movesOf limits (p .0)) (r .regular) _ _ _ (r .size) _ (r .shows))
-    ∙ ap checkVerdict (sym (then-goes _ (λ G. checkRow (movesOf limits G) (start w .args .row .now)) (p .0) (p .1)))
+    c .walk .ensures _ (ready-of (movesWith limits (p .0) (start w .args .callers)) (r .regular) _ _ _ (r .size) _ (r .shows))
+    ∙ ap checkVerdict (sym (then-goes _ (λ G. checkRow (movesWith limits G (start w .args .callers)) (start w .args .row .now)) (p .0) (p .1)))
 
 pub check-witness-spec : {M : Type 1} → statement M
 check-witness-spec =

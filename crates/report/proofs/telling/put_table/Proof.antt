@@ -36,7 +36,7 @@ abbrev before : Lent
 before = lent (replicate 576 0) (replicate 4608 0) (replicate 4608 0) (replicate 4608 0)
 
 abbrev after : tie.After-search → Lent
-after k = let l = k .search .last in lent (l .1 .1 .1 .0) (l .1 .1 .1 .1 .0) (l .1 .1 .1 .1 .1 .0) (l .1 .1 .1 .1 .1 .1 .0)
+after k = let l = k .search .last .1 .1 .1 .1 in lent (l .0) (l .1 .0) (l .1 .1 .0) (l .1 .1 .1 .0)
 
 suffice : Rows before
 suffice = record {
@@ -119,7 +119,7 @@ array-share-prefix-witness : tie.Need-array-share-prefix-witness
 array-share-prefix-witness c =
     let b = c .before .before .before .before .before in
     let k = second b in
-    omega (arith, fits k (entries b .0) (entries b .1) (entries b .2), k .search .kept .1 .1 .1 .1 .1 .1 .0, length-replicate {A = ℕ} 4608 0)
+    omega (arith, fits k (entries b .0) (entries b .1) (entries b .2), k .search .kept .1 .1 .1 .1 .1 .1 .1 .0, length-replicate {A = ℕ} 4608 0)
 
 slice-aggregate-put-sides : tie.Need-slice-aggregate-put-sides
 slice-aggregate-put-sides c =

@@ -1,0 +1,10 @@
+pub mod FilledLaws
+pub mod LevelRowLaws
+pub mod RankLaws
+pub mod PlaceLaws
+pub mod KeyLaws
+pub mod LevelLaws
+pub mod PassLaws
+pub mod Entries
+pub mod AddLaws
+pub mod BuiltLaws

@@ -1,0 +1,4 @@
+pub mod Contracts
+pub mod LevelRows
+pub mod Levels
+pub mod Rows
