@@ -1,6 +1,6 @@
 """Compares the tools with the program ambig and with the second program, judge.py.
 
-    agree.py TOOLS AMBIG     TOOLS is the folder of ambig-certify, ambig-check and ambig-join
+    agree.py TOOLS AMBIG     TOOLS is the folder of ambig-certify, ambig-check, ambig-join and ambig-trees
 
 Prints a line for each comparison and exits with 1 if one fails.
 """
@@ -13,6 +13,7 @@ import random
 import re
 import subprocess
 import sys
+import tempfile
 
 ROOT = os.path.dirname(os.path.dirname(os.path.abspath(__file__)))
 sys.path.insert(0, os.path.join(ROOT, "second"))
@@ -24,10 +25,10 @@ from judge import certified, checked, verdict  # noqa: E402
 from printed import RUNS, certificate_in, lines_of  # noqa: E402
 from program import MAX_BYTES, MAX_STATES  # noqa: E402
 from readings import LentStrings, Refused, named_in, read_back, reading_lines  # noqa: E402
-from tables import Refusal  # noqa: E402
+from tables import START, Refusal  # noqa: E402
 from test_partings import accepts, has_pair  # noqa: E402
 from text import AMPLE, MAX_TEXT, read_text  # noqa: E402
-from trees import MOST, tree_count  # noqa: E402
+from trees import MOST, some_sentences, tree_count  # noqa: E402
 from triples import triples_of  # noqa: E402
 
 MESSAGES = sorted(glob.glob(os.path.join(ROOT, "bindings/tools/tests/messages/*.grammar")))
@@ -41,6 +42,8 @@ RANDOM = 400              # grammars
 SHORT_TEXT = 2000         # bytes of a text that is tried in another case
 SHORT = 4                 # terminals of a short sentence
 PAIRS = 600               # texts that are joined
+MAX_ROW = 64              # terminals of a sentence
+ROWS = 5                  # sentences of a grammar, and as many rows of the same words
 
 
 def ran(words, text):
@@ -65,6 +68,7 @@ class Tools:
         self.certify = os.path.join(folder, "ambig-certify")
         self.check = os.path.join(folder, "ambig-check")
         self.join = os.path.join(folder, "ambig-join")
+        self.trees = os.path.join(folder, "ambig-trees")
         self.ambig = ambig
 
 
@@ -195,7 +199,7 @@ def check_potential(text, told):
         return 0
     rows = [tree_row(text, told["nonterminal"], told[side]) for side in ("left-tree", "right-tree")]
     assert rows == [told["phrase"]] * 2 and told["left-tree"] != told["right-tree"]
-    assert has_two_trees(text, " ".join(told["sentence"]) or EMPTY)
+    assert has_two_trees(text, " ".join(told["sentence"]) or EMPTY) and told["confirmed"] is True
     return 1
 
 
@@ -408,11 +412,49 @@ def random_grammars(tools):
     return "%d grammars, %d of them ambiguous" % (RANDOM, ambiguous)
 
 
+def row_of_rules(grammar, numbers):
+    """The row of the tree that applies these rules, each node before its children."""
+    row, expected = [], [START]
+    for number in numbers:
+        while expected[-1] < START:
+            row.append(expected.pop())
+        rule = grammar.rules[number - 1]
+        assert rule.left == expected.pop()
+        expected += reversed(rule.right)
+    return tuple(row + expected[::-1])
+
+
+def trees(tools):
+    """Sentences, and the same words in other orders, have as many trees as the second program counts; the rules of one give it again."""
+    rng = random.Random(1)
+    found = dict.fromkeys(["none", "one", "several"], 0)
+    texts = [text_in(entry.name) for entry in entries() if entry.truth != WITHOUT and entry.states <= SMALL]
+    texts += [text for text in (random_text(rng) for _ in range(RANDOM // 2)) if found_in(text) is not None]
+    for text in texts:
+        read = found_in(text)
+        rows = [()] + [row for row in some_sentences(rng, read.grammar, ROWS, 10) if len(row) <= MAX_ROW]
+        rows += [tuple(rng.sample(row, len(row))) for row in rows]
+        lines = "".join(" ".join(read.names[code - 1] for code in row) + "\n" for row in rows)
+        with tempfile.NamedTemporaryFile() as file:
+            file.write(text)
+            file.flush()
+            told = ran([tools.trees, "--json", file.name], in_case(rng, lines.encode()))[0].splitlines()
+        for row, line in itertools.zip_longest(rows, map(json.loads, told)):
+            count = ["none", "one", "several"][tree_count(read.grammar, row)]
+            assert line["trees"] == count and coded(read, " ".join(line["sentence"]) or EMPTY) == row, (text, row, line)
+            if count == "one":
+                assert row_of_rules(read.grammar, line["rules"]) == row, (text, row, line)
+                assert tree_row(text, read.names[read.grammar.terminals], line["tree"]) == line["sentence"], (text, row, line)
+            found[count] += 1
+    assert min(found.values()) > ROWS * 50, found
+    return ", ".join("%s %d" % count for count in found.items())
+
+
 def main(folder, ambig):
     tools = Tools(folder, ambig)
     failed = 0
     for test in (as_ambig, messages, with_callers, certificates, same_certificates, json_lines, strings, spelling, joins,
-                 sentences, random_grammars):
+                 sentences, random_grammars, trees):
         try:
             print("%s: %s" % (test(tools), test.__doc__.strip()))
         except AssertionError as error:

@@ -1,13 +1,15 @@
 /* The library for C: the table check, the step records, the certificate check, the witness check over indices and over records, the
  * search, the reader and the writer of grammar text, what search and writer are to be lent, told beforehand, the report that the program
- * prints, reading back of the two strings that it prints, and the join of a module's text to the robot's. Each function answers as its
- * entry promises; crates/ambiguity_c/src/lib.rt has the promises, proved.
- * "Document 01" is the paper that the library follows: it has the tables, the certificates and the causes of refusal. Causes 19 to 21,
- * the codes of 16 bits, the limits, names in any case, modules and remembered callers are document 02's, which has the requests after it.
+ * prints, reading back of the two strings that it prints, the join of a module's text to the robot's, and the derivation trees of one
+ * sentence. Each function answers as its entry promises; crates/ambiguity_c/src/lib.rt has the promises, proved.
+ * "Document 01" is the paper that the library follows: it has the tables, the certificates and the causes of refusal. Causes 19 to 22,
+ * the codes of 16 bits, the limits, names in any case, modules, remembered callers and the trees of one sentence are document 02's, which
+ * has the requests after it.
  *
  * What holds of every function:
- * - Every input is taken: what is wrong is refused, with a cause from 1 to 21 and a position. `cause` 0 says that nothing is
- *   refused. A refusal changes no lent row. A field that an answer does not have is 0.
+ * - Every input is taken: what is wrong is refused, with a cause from 1 to 22 and a position. `cause` 0 says that nothing is
+ *   refused. A refusal changes no lent row, but for the work row of ambiguity_find_trees, which tells when. A field that an answer does
+ *   not have is 0.
  * - A row is lent as a pointer and its number of entries. The pointer is never NULL, also at 0 entries, and is aligned as its
  *   type is. A row that is written overlaps no other row of the call. Nothing is kept after the return.
  * - A written row may be longer than needed: its front is written, the rest stays as it was.
@@ -30,7 +32,7 @@
 #endif
 
 /* The version of the whole: library, header, wrapper, tools. The first number changes when a caller has to. */
-#define AMBIGUITY_VERSION "5.0.0"
+#define AMBIGUITY_VERSION "5.1.0"
 #define AMBIGUITY_VERSION_MAJOR 5
 
 /* The limits of document 02. A right side has at most 12 codes. */
@@ -40,6 +42,7 @@
 #define AMBIGUITY_MAX_STATES 1024
 #define AMBIGUITY_MAX_CALLERS 2
 #define AMBIGUITY_MAX_TEXT_BYTES 262144
+#define AMBIGUITY_MAX_ROW 64
 
 /* The code of the first nonterminal, the start. Terminals have the codes 1 to t, nonterminals the n codes from this one on; all others
  * are undeclared. */
@@ -49,6 +52,11 @@
  * where memory is set aside when a program is compiled; ambiguity_search_room tells the same of a table, at run time. */
 #define AMBIGUITY_ROW_ENTRIES(states) ((size_t)2 * (states) * (states))
 #define AMBIGUITY_CERTIFICATE_BYTES(states) ((AMBIGUITY_ROW_ENTRIES(states) + 7) / 8)
+
+/* The entries of the work row for the trees of one sentence, by Q at 0 callers: one for each state and each pair of the places before,
+ * between and behind AMBIGUITY_MAX_ROW terminals. ambiguity_trees_room tells the same of a table. */
+#define AMBIGUITY_PLACES (AMBIGUITY_MAX_ROW + 1)
+#define AMBIGUITY_TREES_ENTRIES(states) ((size_t)AMBIGUITY_PLACES * AMBIGUITY_PLACES * (states))
 
 /* Enough for any grammar: entries of its table (a rule takes one more than its states), and symbols. */
 #define AMBIGUITY_MAX_TABLE_ENTRIES (AMBIGUITY_MAX_STATES - 4 + AMBIGUITY_MAX_RULES)
@@ -100,7 +108,8 @@ enum ambiguity_cause {
     AMBIGUITY_NAME_REPEATED = 18,     /* name declared twice, in whatever case: at the line, or at the symbol number */
     AMBIGUITY_NO_SENTENCE = 19,       /* the start, the first nonterminal, has no finite tree: at 0 */
     AMBIGUITY_KINDS_CLASH = 20,       /* name a terminal in one text and a nonterminal in the other: at the module's line */
-    AMBIGUITY_TOO_MANY_CALLERS = 21   /* more than 2 callers are to be remembered: at 0 */
+    AMBIGUITY_TOO_MANY_CALLERS = 21,  /* more than 2 callers are to be remembered: at 0 */
+    AMBIGUITY_ROW_WRONG = 22          /* a 65th terminal, or a code that is no terminal: at the first such place of the row, from 0 */
 };
 
 enum ambiguity_moved { AMBIGUITY_STILL = 0, AMBIGUITY_OPENING = 1, AMBIGUITY_CLOSING = 2, AMBIGUITY_SYMBOL = 3 };
@@ -108,6 +117,9 @@ enum ambiguity_moved { AMBIGUITY_STILL = 0, AMBIGUITY_OPENING = 1, AMBIGUITY_CLO
 enum ambiguity_kind { AMBIGUITY_REFUSED = 0, AMBIGUITY_RECORD = 1, AMBIGUITY_NO_MORE = 2 };
 
 enum ambiguity_verdict { AMBIGUITY_NO_VERDICT = 0, AMBIGUITY_UNAMBIGUOUS = 1, AMBIGUITY_POTENTIAL = 2 };
+
+/* How many derivation trees a row of terminals has; several may be infinitely many. */
+enum ambiguity_found { AMBIGUITY_NOT_FOUND = 0, AMBIGUITY_NO_TREE = 1, AMBIGUITY_ONE_TREE = 2, AMBIGUITY_SEVERAL_TREES = 3 };
 
 /* What reading back refuses: the grammar's text, or the two lines and the rows for them. */
 enum ambiguity_part { AMBIGUITY_NO_PART = 0, AMBIGUITY_GRAMMAR = 1, AMBIGUITY_LINES = 2 };
@@ -207,6 +219,19 @@ typedef struct {
     uint64_t start;  /* from 0 */
     uint64_t length; /* in bytes */
 } ambiguity_part_reply;
+
+typedef struct {
+    uint64_t cause;
+    uint64_t at;
+    uint64_t found; /* an ambiguity_found; with a refusal AMBIGUITY_NOT_FOUND */
+    uint64_t count; /* one tree: its rules; else 0 */
+} ambiguity_trees_reply;
+
+typedef struct {
+    uint64_t cause;
+    uint64_t at;
+    uint64_t entries; /* of the work row */
+} ambiguity_trees_room_reply;
 
 #ifdef __cplusplus
 extern "C" {
@@ -350,6 +375,31 @@ ambiguity_part_reply ambiguity_joined_name(const uint8_t *robot, size_t robot_by
  * than the text; AMBIGUITY_MAX_TEXT_BYTES are always enough. */
 ambiguity_write_reply ambiguity_write_joined(const uint8_t *robot, size_t robot_bytes, const uint8_t *addon, size_t addon_bytes,
                                              uint8_t *out, size_t out_bytes);
+
+/* What ambiguity_find_trees is to be lent for any row of this table: the entries of its work row, 4 bytes each, which are
+ * AMBIGUITY_TREES_ENTRIES(Q) with Q at 0 callers. Refuses with the causes of the table and no others. ambiguity_find_trees, lent so many,
+ * is refused with 14 for its list alone; lent fewer, it always is, if the row has no fault. At 1024 states that is 17305600 bytes. */
+ambiguity_trees_room_reply ambiguity_trees_room(size_t t, size_t n, const uint16_t *table, size_t table_entries);
+
+/* The derivation trees of one row of terminals, which are given by their codes: none, one or several. The answer is that of the count of
+ * its trees, also for the empty row, and where the count is infinite, as with S -> S; S -> a for every row that has a tree. With an
+ * accepted certificate of the table, at whatever number of callers, several is never the answer.
+ *
+ * One comes with its rules: the first `count` entries of the list are the numbers of the rules that the tree applies, from 1, each node
+ * before its children and children from left to right. They determine the tree. S -> A B; A -> C; B -> b; C -> c on c b gives 1 2 4 3.
+ * How many rules a tree has depends on the row; where nonterminals have empty trees it may be more than any list holds.
+ *
+ * Lent are the work row, as ambiguity_trees_room tells it, whatever it holds, and the list. Refuses, in this order: with the causes of
+ * the table; with 22 at the first place of the row that is at fault, counted from 0, which is place 64 for a longer row if no earlier one
+ * holds a code that is no terminal (codes past it are not looked at); with 14 at 0 if the work row is shorter; and, behind all that, with
+ * 14 at 0 if there is one tree and the list is shorter than its rules. None and several need no list: it may have 0 entries.
+ *
+ * Afterwards: whatever is answered, the first AMBIGUITY_TREES_ENTRIES(Q) entries of the work row are 0. So they are after the 14 for the
+ * list, which is known only once the work row has been used. Every other refusal leaves it as it was. Past these entries it is never
+ * changed. One writes `count` entries of the list; none, several and every refusal leave the whole list as it was. */
+ambiguity_trees_reply ambiguity_find_trees(size_t t, size_t n, const uint16_t *table, size_t table_entries, const uint16_t *row,
+                                           size_t row_entries, uint32_t *work, size_t work_entries, uint16_t *list,
+                                           size_t list_entries);
 
 #ifdef __cplusplus
 }

@@ -30,6 +30,7 @@ static inline const char *ambiguity_cause_text(uint64_t cause)
     case AMBIGUITY_NO_SENTENCE: return "the start has no finite tree, so there is no sentence";
     case AMBIGUITY_KINDS_CLASH: return "a name is a terminal in one text and a nonterminal in the other";
     case AMBIGUITY_TOO_MANY_CALLERS: return "more callers are to be remembered than two";
+    case AMBIGUITY_ROW_WRONG: return "the row has more than 64 terminals, or a code that is none";
     default: return "a cause that this header does not know";
     }
 }

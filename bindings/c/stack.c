@@ -2,7 +2,8 @@
  * the stack went below the caller. Exits with 0 if none went deeper than ambiguity.h says. The frames are of fixed size and no
  * function calls itself, so the largest grammar, with the most names, has the deepest calls that there are. Functions that take callers
  * are measured with 0, 1 and 2. A line with more names than the limit is read another way, which is measured too, in the robot's text and
- * in a module's. The report takes no more than 48 states; its two strings are read back. */
+ * in a module's. The report takes no more than 48 states; its two strings are read back. Trees are found of the longest rows: none, one,
+ * also where the list is too short for it, and several. */
 #define _XOPEN_SOURCE 700
 #include <pthread.h>
 #include <stdio.h>
@@ -20,6 +21,8 @@
 #define REPORT_NAMES 150
 #define LAST "rule=S: a19 a19\n"
 #define LAST_POTENTIAL "rule=S: S\nrule=S:\n"
+#define LAST_PAIRS "rule=S: a0 a0 S\n"
+#define LAST_TREES "rule=S: S S\n"
 #define LINES "left=(0 (1 a0 )1 )0\nright=S (0 a9\n"
 #define LETTERS 5
 
@@ -36,6 +39,12 @@ static uint32_t witness[ROW];
 static uint32_t row[] = {0, MOST * 2 + 2, MOST * 2 + 3};
 static ambiguity_triple_record records[] = {{0, 0, 0}, {0, 2, 2}, {0, 2, 3}};
 static uint32_t strings[2][LETTERS];
+static uint32_t work[AMBIGUITY_TREES_ENTRIES(MOST)];
+static uint16_t sentence[AMBIGUITY_MAX_ROW];
+static uint16_t list[AMBIGUITY_MAX_ROW];
+static size_t list_entries;
+static ambiguity_trees_reply trees;
+static ambiguity_trees_room_reply trees_room;
 static ambiguity_read_back_reply read_back;
 static ambiguity_read_reply grammar;
 static ambiguity_read_reply joined;
@@ -123,6 +132,17 @@ static void run_name(void)
 static void run_write_joined(void)
 {
     written = ambiguity_write_joined(text, strlen((char *)text), addon, strlen((char *)addon), out, sizeof out);
+}
+
+static void run_trees_room(void)
+{
+    trees_room = ambiguity_trees_room(grammar.terminals, grammar.nonterminals, table, grammar.entries);
+}
+
+static void run_trees(void)
+{
+    trees = ambiguity_find_trees(grammar.terminals, grammar.nonterminals, table, grammar.entries, sentence, AMBIGUITY_MAX_ROW, work,
+                                 AMBIGUITY_TREES_ENTRIES(MOST), list, list_entries);
 }
 
 static void run_report(void) { ambiguity_report(text, strlen((char *)text), out, sizeof out); }
@@ -307,6 +327,39 @@ static int measure_names(void)
     return wrong + measure("ambiguity_check_table", run_table, AMBIGUITY_STACK_BYTES);
 }
 
+/* The trees of 64 times the first terminal, with this answer, or refused with 14. */
+static int measure_found(const char *what, uint64_t found)
+{
+    int wrong = measure(what, run_trees, AMBIGUITY_STACK_BYTES);
+    return wrong + (trees.found != found) + (trees.cause != (found == AMBIGUITY_NOT_FOUND ? AMBIGUITY_BUFFER_TOO_SHORT : 0));
+}
+
+/* The largest grammar that ends so. With LAST_PAIRS, which has a state more, it has two fewer. */
+static int read_largest(const char *last, uint64_t states)
+{
+    make_text(states == MOST ? MOST : MOST - 3, AMBIGUITY_MAX_TERMINALS, last);
+    run_read();
+    return grammar.cause != AMBIGUITY_NOT_REFUSED || grammar.states != states;
+}
+
+/* The row has no tree where rules have two terminals alone, one of 32 rules with LAST_PAIRS, and several with LAST_TREES. */
+static int measure_trees(void)
+{
+    int wrong = read_largest(LAST, MOST), i;
+    for (i = 0; i < AMBIGUITY_MAX_ROW; i++)
+        sentence[i] = 1;
+    wrong += measure("ambiguity_trees_room", run_trees_room, AMBIGUITY_STACK_BYTES);
+    wrong += trees_room.cause != AMBIGUITY_NOT_REFUSED || trees_room.entries != AMBIGUITY_TREES_ENTRIES(MOST);
+    wrong += measure_found("ambiguity_find_trees, none", AMBIGUITY_NO_TREE);
+    wrong += read_largest(LAST_PAIRS, MOST - 2);
+    list_entries = AMBIGUITY_MAX_ROW / 2 - 1;
+    wrong += measure_found("ambiguity_find_trees, a list too short", AMBIGUITY_NOT_FOUND);
+    list_entries = AMBIGUITY_MAX_ROW / 2;
+    wrong += measure_found("ambiguity_find_trees, one", AMBIGUITY_ONE_TREE) + (trees.count != list_entries);
+    wrong += read_largest(LAST_TREES, MOST);
+    return wrong + measure_found("ambiguity_find_trees, several", AMBIGUITY_SEVERAL_TREES);
+}
+
 /* Of the largest grammar, whose start has one caller, so that it has as many states whatever the callers, all that takes them. */
 static int measure_callers(void)
 {
@@ -335,5 +388,6 @@ int main(void)
     wrong += measure_report("ambiguity_report, potential", LAST_POTENTIAL, "states=46\nverdict=potential\nleft=(0 ");
     wrong += measure_long_texts();
     wrong += measure_joins();
+    wrong += measure_trees();
     return wrong != 0;
 }

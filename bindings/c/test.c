@@ -1,8 +1,9 @@
 /* The certificate check on document 01's cases of S -> a, the witness check over records on those of S -> S; S -> a, the report,
  * and reading its two strings back; searches and texts lent just what is told beforehand, and one less, with 0, 1 and 2 callers; names in
- * any case; a heating module joined to the robot's text, with each kind of refusal; all fifteen functions on grammars without a sentence;
- * too many callers and too many chains of them, and certificates of another number of callers; and tables and texts at the limits and
- * just past them. Exits with 0 if every answer is document 01's and document 02's. */
+ * any case; a heating module joined to the robot's text, with each kind of refusal; the trees of one sentence, none, one and several, with
+ * each kind of refusal, and rows that are lent exactly, one less and more; all seventeen functions on grammars without a sentence; too
+ * many callers and too many chains of them, and certificates of another number of callers; and tables and texts at the limits and just
+ * past them. Exits with 0 if every answer is document 01's and document 02's. */
 #include <stdio.h>
 #include <string.h>
 
@@ -221,7 +222,11 @@ static void expect_table_without_sentence(size_t lent)
                                                          lent_rows[1], lent, lent_bytes, lent);
     ambiguity_length_reply length = ambiguity_written_length(0, 1, ENDLESS, ENTRIES(ENDLESS), NO_NAMES, 0, lent_rows[0], lent,
                                                              lent_rows[1], lent);
+    ambiguity_trees_room_reply room = ambiguity_trees_room(0, 1, ENDLESS, ENTRIES(ENDLESS));
+    ambiguity_trees_reply trees = ambiguity_find_trees(0, 1, ENDLESS, ENTRIES(ENDLESS), lent_table, lent, lent_rows[0], lent, lent_table, 0);
     size_t callers;
+    expect_no_sentence("room of trees", room.cause, room.at, room.entries);
+    expect_no_sentence("trees of a sentence", trees.cause, trees.at, trees.found | trees.count);
     expect_no_sentence("table check", table.cause, table.at, table.states);
     expect_no_sentence("writer", written.cause, written.at, written.length);
     expect_no_sentence("written length", length.cause, length.at, length.length);
@@ -752,6 +757,145 @@ static void expect_joins(void)
     expect_joined_limits();
 }
 
+/* S -> A B; A -> C; B -> b; C -> c. */
+static const uint16_t IN_ORDER[] = {S, 2, S + 1, S + 2, S + 1, 1, S + 3, S + 2, 1, 1, S + 3, 1, 2};
+
+/* S -> if S; S -> if S else S; S -> x. */
+static const uint16_t DANGLING[] = {S, 2, 1, S, S, 4, 1, S, 2, S, S, 1, 3};
+
+/* Rows for the trees of grammars of up to 27 states. */
+#define TREES_STATES 27
+#define TREES_WORK (AMBIGUITY_TREES_ENTRIES(TREES_STATES) + 3)
+#define TREES_LIST 72
+
+static uint32_t work_row[TREES_WORK];
+static uint16_t rule_list[TREES_LIST];
+
+_Static_assert(AMBIGUITY_MAX_ROW == 64 && AMBIGUITY_PLACES == 65, "65 places are before, between and behind 64 terminals");
+_Static_assert(AMBIGUITY_TREES_ENTRIES(AMBIGUITY_MAX_STATES) * 4 == 17305600, "the bytes of the longest work row");
+_Static_assert(sizeof(ambiguity_trees_reply) == 32 && sizeof(ambiguity_trees_room_reply) == 24, "replies are numbers of 64 bits");
+
+/* The trees of a row of this table, with rows of so many entries: this reply; of the work row the first `zeros` entries are 0 then and the
+ * others unchanged; the list has these rules in front, and is unchanged behind them. */
+static void expect_trees(const char *what, struct asked in, const uint16_t *row, size_t row_entries, size_t work, size_t list,
+                         ambiguity_trees_reply right, size_t zeros, const uint16_t *rules)
+{
+    size_t i;
+    for (i = 0; i < TREES_WORK; i++)
+        work_row[i] = 7;
+    for (i = 0; i < TREES_LIST; i++)
+        rule_list[i] = 7;
+    ambiguity_trees_reply reply =
+        ambiguity_find_trees(in.t, in.n, in.table, in.entries, row, row_entries, work_row, work, rule_list, list);
+    int same = reply.cause == right.cause && reply.at == right.at && reply.found == right.found && reply.count == right.count;
+    for (i = 0; i < TREES_WORK; i++)
+        same = same && work_row[i] == (i < zeros ? 0 : 7);
+    for (i = 0; i < TREES_LIST; i++)
+        same = same && rule_list[i] == (i < right.count ? rules[i] : 7);
+    printf("%s: %s, lent %zu and %zu, cause %llu at %llu, found %llu of %llu rules\n", same ? "ok" : "WRONG", what, work, list,
+           (unsigned long long)reply.cause, (unsigned long long)reply.at, (unsigned long long)reply.found,
+           (unsigned long long)reply.count);
+    wrong += !same;
+}
+
+/* The answer for a row with rows that are just long enough and longer ones, and 14 with one entry less: of the work row, which then stays
+ * as it was, and, where there is one tree, of the list, where the work row is 0 afterwards. */
+static void expect_answer(const char *what, struct asked in, const uint16_t *row, size_t row_entries, uint64_t found,
+                          const uint16_t *rules, size_t count)
+{
+    const ambiguity_trees_reply right = {AMBIGUITY_NOT_REFUSED, 0, found, count};
+    const ambiguity_trees_reply short_of = {AMBIGUITY_BUFFER_TOO_SHORT, 0, AMBIGUITY_NOT_FOUND, 0};
+    ambiguity_trees_room_reply room = ambiguity_trees_room(in.t, in.n, in.table, in.entries);
+    size_t work = (size_t)room.entries;
+    expect_trees(what, in, row, row_entries, work, count, right, work, rules);
+    expect_trees(what, in, row, row_entries, work + 2, TREES_LIST, right, work, rules);
+    expect_trees(what, in, row, row_entries, work - 1, TREES_LIST, short_of, 0, rules);
+    expect_trees(what, in, row, row_entries, 0, 0, short_of, 0, rules);
+    if (found == AMBIGUITY_ONE_TREE) {
+        expect_trees(what, in, row, row_entries, work, count - 1, short_of, work, rules);
+        expect_trees(what, in, row, row_entries, TREES_WORK, 0, short_of, work, rules);
+    }
+}
+
+/* 22 at a place, whatever is lent. */
+static void expect_row_refused(const char *what, struct asked in, const uint16_t *row, size_t row_entries, uint64_t at)
+{
+    const ambiguity_trees_reply right = {AMBIGUITY_ROW_WRONG, at, AMBIGUITY_NOT_FOUND, 0};
+    expect_trees(what, in, row, row_entries, TREES_WORK, TREES_LIST, right, 0, row);
+    expect_trees(what, in, row, row_entries, 0, 0, right, 0, row);
+}
+
+static void expect_rows_refused(struct asked in)
+{
+    uint16_t row[AMBIGUITY_MAX_ROW + 3];
+    size_t i;
+    for (i = 0; i < ENTRIES(row); i++)
+        row[i] = 1;
+    expect_row_refused("65 terminals", in, row, AMBIGUITY_MAX_ROW + 1, AMBIGUITY_MAX_ROW);
+    expect_row_refused("67 terminals", in, row, ENTRIES(row), AMBIGUITY_MAX_ROW);
+    row[65] = S;
+    expect_row_refused("67 codes, of which one past place 64 is no terminal", in, row, ENTRIES(row), AMBIGUITY_MAX_ROW);
+    row[63] = S;
+    expect_row_refused("67 codes, of which that at place 63 is no terminal", in, row, ENTRIES(row), 63);
+    row[0] = 0;
+    expect_row_refused("a code that is 0", in, row, 1, 0);
+    row[0] = (uint16_t)(in.t + 1);
+    expect_row_refused("the code past the last terminal", in, row, ENTRIES(row), 0);
+}
+
+/* A table that is refused, whatever the row and what is lent. */
+static void expect_no_trees(const char *what, struct asked in, uint64_t cause, uint64_t at)
+{
+    static const uint16_t none[] = {0};
+    const ambiguity_trees_reply right = {cause, at, AMBIGUITY_NOT_FOUND, 0};
+    ambiguity_trees_room_reply room = ambiguity_trees_room(in.t, in.n, in.table, in.entries);
+    expect(what, (ambiguity_check_reply){room.cause, room.at}, cause, at);
+    wrong += room.entries != 0;
+    expect_trees(what, in, none, 1, TREES_WORK, TREES_LIST, right, 0, none);
+    expect_trees(what, in, none, 0, 0, 0, right, 0, none);
+}
+
+static void expect_sentences(void)
+{
+    static const uint16_t c_b[] = {2, 1}, in_order[] = {1, 2, 4, 3}, a[] = {1}, first[] = {1};
+    static const uint16_t if_if_x_else_x[] = {1, 1, 3, 2, 3}, if_x_else_x[] = {1, 3, 2, 3}, two[] = {2, 3, 3};
+    static const uint16_t take_two[] = {1, 7, 8, 7, 2, 4, 5, 6}, channels[] = {2, 2, 1, 3, 7, 6, 5, 1};
+    struct asked ordered = {2, 4, IN_ORDER, ENTRIES(IN_ORDER), 0}, cycle = {1, 1, CYCLE, ENTRIES(CYCLE), 0};
+    struct asked dangling = {3, 1, DANGLING, ENTRIES(DANGLING), 0}, set = {8, 3, CHANNELS, ENTRIES(CHANNELS), 0};
+    struct asked pairs = {0, 1, PAIRS, ENTRIES(PAIRS), 0};
+    ambiguity_trees_room_reply room = ambiguity_trees_room(1, 1, TABLE, ENTRIES(TABLE));
+    expect("the room of S -> a", (ambiguity_check_reply){room.cause, room.entries}, AMBIGUITY_NOT_REFUSED, 25350);
+    expect_answer("c b, each node before its children", ordered, c_b, 2, AMBIGUITY_ONE_TREE, in_order, 4);
+    expect_answer("no sentence", ordered, a, 1, AMBIGUITY_NO_TREE, first, 0);
+    expect_answer("infinitely many trees", cycle, a, 1, AMBIGUITY_SEVERAL_TREES, first, 0);
+    expect_answer("the empty row, which is no sentence", cycle, a, 0, AMBIGUITY_NO_TREE, first, 0);
+    expect_answer("the empty row, several trees", pairs, a, 0, AMBIGUITY_SEVERAL_TREES, first, 0);
+    expect_answer("the empty row, one tree", set, a, 0, AMBIGUITY_ONE_TREE, first, 1);
+    expect_answer("a method of two commands", set, take_two, 8, AMBIGUITY_ONE_TREE, channels, 8);
+    expect_answer("two trees", dangling, if_if_x_else_x, 5, AMBIGUITY_SEVERAL_TREES, first, 0);
+    expect_answer("one tree", dangling, if_x_else_x, 4, AMBIGUITY_ONE_TREE, two, 3);
+    expect_rows_refused(dangling);
+    expect_rows_refused(set);
+    expect_no_trees("a table cut, trees", (struct asked){3, 1, DANGLING, ENTRIES(DANGLING) - 1, 0}, AMBIGUITY_TRUNCATED, 10);
+    expect_no_trees("no nonterminal, trees", (struct asked){3, 0, DANGLING, ENTRIES(DANGLING), 0}, AMBIGUITY_OUT_OF_RANGE, 0);
+    expect_no_trees("no sentence, trees", (struct asked){0, 1, ENDLESS, ENTRIES(ENDLESS), 0}, AMBIGUITY_NO_SENTENCE, 0);
+}
+
+/* 64 terminals are taken: S -> S a; S -> ; a tree of 65 rules, and one entry of the list less. */
+static void expect_longest(void)
+{
+    static const uint16_t list[] = {S, 2, S, 1, S, 0};
+    uint16_t row[AMBIGUITY_MAX_ROW], rules[AMBIGUITY_MAX_ROW + 1];
+    size_t i;
+    for (i = 0; i < AMBIGUITY_MAX_ROW; i++) {
+        row[i] = 1;
+        rules[i] = 1;
+    }
+    rules[AMBIGUITY_MAX_ROW] = 2;
+    expect_answer("64 terminals", (struct asked){1, 1, list, ENTRIES(list), 0}, row, AMBIGUITY_MAX_ROW, AMBIGUITY_ONE_TREE, rules,
+                  AMBIGUITY_MAX_ROW + 1);
+}
+
 int main(void)
 {
     uint8_t longer[BYTES + 1] = {0};
@@ -789,6 +933,8 @@ int main(void)
     expect_lengths();
     expect_case();
     expect_joins();
+    expect_sentences();
+    expect_longest();
     expect_report(ENDLESS_TEXT, "refused=19\nat=0\n");
     expect_without_sentence();
     expect_order();

@@ -4,6 +4,7 @@
     found = grammar.search(0)
     if found.unambiguous:
         grammar.check(0, found.certificate)
+    trees = grammar.trees(["a"])
     joined = ambiguity.join(robot, module)
 
 Every verdict is the library's. What it refuses is raised as Refused, with the
@@ -18,13 +19,17 @@ this file, and then where the loader looks.
 
 import ctypes
 import os
-from typing import List, NamedTuple, Optional
+from typing import List, NamedTuple, Optional, Sequence
 
 MAX_TABLE_ENTRIES = 1420  # enough for any grammar
 MAX_NAMES = 4000
 MAX_TEXT_BYTES = 262144
 MAX_CALLERS = 2           # that a state remembers
+MAX_RULES = 65536         # that are listed of a tree
+START = 32768             # the code of the first nonterminal
 UNAMBIGUOUS = 1
+ONE_TREE = 2
+FOUND = "refused", "none", "one", "several"
 MODULE = 2                # of two texts that are joined; the robot's is 1
 BUFFER_TOO_SHORT, NO_SENTENCE, TOO_MANY_CALLERS = 14, 19, 21
 HERE = os.path.dirname(os.path.abspath(__file__))
@@ -46,6 +51,8 @@ ROOM = reply("states", "certificate", "entries", "moves")
 SEARCH = reply("verdict", "count", "looked")
 CHECK = reply()
 WRITE = reply("length")
+TREES_ROOM = reply("entries")
+TREES = reply("found", "count")
 TABLE = [Size, Size, Codes, Size]
 CALLERS = TABLE + [Size]
 TEXTS = [Bytes, Size, Bytes, Size]
@@ -68,6 +75,8 @@ def opened() -> ctypes.CDLL:
         "ambiguity_search_room": (ROOM, CALLERS),
         "ambiguity_search": (SEARCH, CALLERS + [Bytes, Size, Row, Size, Row, Size, Row, Size]),
         "ambiguity_check_certificate": (CHECK, CALLERS + [Bytes, Size]),
+        "ambiguity_trees_room": (TREES_ROOM, TABLE),
+        "ambiguity_find_trees": (TREES, TABLE + [Codes, Size, Row, Size, Codes, Size]),
         "ambiguity_join_texts": (READ, TEXTS + [Codes, Size]),
         "ambiguity_joined_name": (PART, TEXTS + [Size]),
         "ambiguity_write_joined": (WRITE, TEXTS + [Bytes, Size]),
@@ -89,7 +98,7 @@ def version() -> str:
 
 
 class Refused(ValueError):
-    """What the library refuses: `cause` is a number from 1 to 21, `at` a position. Where two texts are joined, `part` says what is
+    """What the library refuses: `cause` is a number from 1 to 22, `at` a position. Where two texts are joined, `part` says what is
     refused: "robot", "module" or "join"."""
 
     def __init__(self, cause: int, at: int, part: Optional[str] = None) -> None:
@@ -109,6 +118,14 @@ class Searched(NamedTuple):
     witness: Optional[List[int]]
 
 
+class Trees(NamedTuple):
+    """How many derivation trees a sentence has: `found` is "none", "one" or "several"; `rules` are those of the one tree, by their numbers
+    from 1, each node before its children, children from left to right."""
+
+    found: str
+    rules: Optional[List[int]]
+
+
 def taken(answer):
     """An answer that refuses nothing."""
     if answer.cause:
@@ -126,6 +143,11 @@ def lent(data: bytes):
     return (ctypes.c_uint8 * max(1, len(data))).from_buffer_copy(data or b"\0")
 
 
+def folded(name: str) -> str:
+    """A name with its ASCII letters small: names that are equal so are the same."""
+    return "".join(letter.lower() if letter.isascii() else letter for letter in name)
+
+
 class Grammar:
     """A grammar that was read from its text: `states` is Q at 0 callers, `names` are terminals, then nonterminals, as they are declared.
     Names that differ only in the case of ASCII letters are the same."""
@@ -139,6 +161,8 @@ class Grammar:
         self.terminals, self.nonterminals = read.terminals, read.nonterminals
         places = zip(starts[:read.terminals + read.nonterminals], lengths)
         self.names = [text[start:start + length].decode("ascii") for start, length in places]
+        codes = list(range(1, self.terminals + 1)) + list(range(START, START + self.nonterminals))
+        self._codes = dict(zip(map(folded, self.names), codes))
         self._table = self.terminals, self.nonterminals, table, read.entries
 
     def states_with(self, callers: int) -> int:
@@ -159,6 +183,21 @@ class Grammar:
     def check(self, callers: int, certificate: bytes) -> None:
         """Raises Refused unless the certificate is acceptable with so many callers: then no sentence has two derivation trees."""
         taken(LIBRARY.ambiguity_check_certificate(*self._table, small(callers), lent(certificate), len(certificate)))
+
+
+    def code(self, name: str) -> int:
+        """The code of a symbol by its name, in any case of its ASCII letters; 0, which is no code, for a name that is not declared."""
+        return self._codes.get(folded(name), 0)
+
+    def trees(self, words: Sequence[str], most: int = MAX_RULES) -> Trees:
+        """The derivation trees of a sentence, given by the names of its terminals. Raises Refused with 22 at the first word that is no
+        terminal, or at 64 for a longer sentence; with 14 if there is one tree, of more than `most` rules."""
+        room = taken(LIBRARY.ambiguity_trees_room(*self._table)).entries
+        row = (ctypes.c_uint16 * max(1, len(words)))(*map(self.code, words))
+        rules = (ctypes.c_uint16 * max(1, most))()
+        found = taken(LIBRARY.ambiguity_find_trees(
+            *self._table, row, len(words), (ctypes.c_uint32 * room)(), room, rules, most))
+        return Trees(FOUND[found.found], rules[:found.count] if found.found == ONE_TREE else None)
 
 
 class Joined(NamedTuple):

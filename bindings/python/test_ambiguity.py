@@ -1,9 +1,11 @@
-"""Compares the module ambiguity with the second program on the corpus, alone and joined, and with figures of remembered callers.
+"""Compares the module ambiguity with the second program on the corpus, alone and joined, with figures of remembered callers, and with
+its counts of trees.
 
     test_ambiguity.py FOLDER REPOSITORY     FOLDER holds the module that is tried
 """
 
 import os
+import random
 import sys
 
 FOLDER, ROOT = sys.argv[1:]
@@ -14,7 +16,8 @@ import ambiguity  # noqa: E402
 from corpus import WITHOUT, entries, found_in, text_in  # noqa: E402
 from joining import join, join_written, shown  # noqa: E402
 from searches import Potential, needed, search  # noqa: E402
-from tables import Refusal  # noqa: E402
+from tables import START, Refusal  # noqa: E402
+from trees import some_sentences, tree_count  # noqa: E402
 
 SMALL = 60                # states up to which the second program is quick
 STEPS = 3, 7              # which grammars of the corpus are joined
@@ -93,6 +96,47 @@ def compare_callers():
     assert refusal(many.check, 1, b"") == refusal(many.states_with, 2) == (8, 0)
 
 
+def row_of(rules, listed):
+    """The row of the tree with these rules; each is one of the nonterminal at its place."""
+    row, waiting, listed = [], [START], iter(listed)
+    while waiting:
+        code = waiting.pop()
+        if code < START:
+            row.append(code)
+            continue
+        rule = rules[next(listed) - 1]
+        assert rule.left == code
+        waiting += reversed(rule.right)
+    assert next(listed, None) is None
+    return tuple(row)
+
+
+def compare_trees(small):
+    """Sentences of the corpus, and such rows with two words swapped: as many trees as the second program counts."""
+    rng = random.Random(1)
+    answers = dict.fromkeys(["none", "one", "several"], 0)
+    for entry in small:
+        if entry.truth == WITHOUT:
+            continue
+        grammar, found = ambiguity.Grammar(text_in(entry.name)), found_in(text_in(entry.name)).grammar
+        for row in [()] + some_sentences(rng, found, 3, 9):
+            swapped = list(row)
+            rng.shuffle(swapped)
+            for codes in row, tuple(swapped):
+                trees = grammar.trees([grammar.names[code - 1] for code in codes])
+                assert trees.found == ["none", "one", "several"][tree_count(found, codes)], (entry.name, codes)
+                assert trees.rules is None or row_of(found.rules, trees.rules) == codes, (entry.name, codes)
+                assert (trees.found == "one") == (trees.rules is not None)
+                answers[trees.found] += 1
+    assert min(answers.values()) > 50, answers
+    grammar = ambiguity.Grammar(b"terminals=If,else,x\nnonterminals=S\nrule=S: If S\nrule=S: If S else S\nrule=S: x\n")
+    assert grammar.trees("IF x Else X".split()) == ("one", [2, 3, 3])
+    assert refusal(grammar.trees, ["x", "s"]) == refusal(grammar.trees, ["x", "y"]) == (22, 1)
+    assert refusal(grammar.trees, ["x"] * 65) == (22, 64) and grammar.trees(["x"] * 64).found == "none"
+    assert refusal(grammar.trees, ["if", "x"], 1) == (14, 0) and refusal(grammar.trees, ["x"], 0) == (14, 0)
+    return answers
+
+
 def compare_joined(robot, module):
     """Two texts, joined by both; 1 if they are refused."""
     expected, text = join(robot, module, ENOUGH), join_written(robot, module, ENOUGH)
@@ -165,7 +209,8 @@ def main():
     assert refusal(ambiguity.Grammar, mixed.replace(b"Step", b"Step,TAKE", 1)) == (18, 2)
     assert refusal(ambiguity.Grammar, b"") == (16, 1) and refusal(ambiguity.Grammar, b"\xff" * 262_145) == (16, 0)
     compare_callers()
-    print("%d grammars, %d pairs of them joined or refused (%d)" % (len(small), *compare_joins(small)))
+    trees = ", ".join("%s %d" % answer for answer in compare_trees(small).items())
+    print("%d grammars, %d pairs of them joined or refused (%d); trees of sentences: %s" % (len(small), *compare_joins(small), trees))
 
 
 if __name__ == "__main__":

@@ -30,6 +30,7 @@ impl Cause {
             Cause::NoSentence => "the start has no finite tree, so there is no sentence",
             Cause::KindsClash => "a name is a terminal in one text and a nonterminal in the other",
             Cause::TooManyCallers => "more callers are to be remembered than two",
+            Cause::RowWrong => "the row has more than 64 terminals, or a code that is none",
         }
     }
 }

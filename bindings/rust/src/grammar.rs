@@ -238,6 +238,14 @@ impl Grammar {
         let (names, first) = if code < START { (self.terminals(), 1) } else { (self.nonterminals(), START) };
         names.get(code.checked_sub(first)? as usize).map(String::as_str)
     }
+
+    /// The code of the symbol with a name, in any case of its ASCII letters; none for a name that is not declared.
+    #[must_use]
+    pub fn code(&self, name: &str) -> Option<Code> {
+        let place = |names: &[String]| names.iter().position(|known| known.eq_ignore_ascii_case(name));
+        let terminal = place(self.terminals()).map(|place| 1 + place as Code);
+        terminal.or_else(|| place(self.nonterminals()).map(|place| START + place as Code))
+    }
 }
 
 #[cfg(test)]
@@ -252,6 +260,8 @@ mod tests {
         assert_eq!(named.iter().map(|code| grammar.name(*code).unwrap()).collect::<Vec<_>>(), ["a", "b", "S", "T"]);
         assert_eq!((grammar.terminals().len(), grammar.nonterminals().len(), grammar.rules().len()), (2, 2, 2));
         assert_eq!(grammar.rules()[0], Rule { left: START, right: vec![1, START + 1] });
+        assert!(named.iter().all(|code| grammar.code(grammar.name(*code).unwrap()) == Some(*code)));
+        assert_eq!(["A", "t", "ab", "", "a "].map(|name| grammar.code(name)), [Some(1), Some(START + 1), None, None, None]);
     }
 
     #[test]

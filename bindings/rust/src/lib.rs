@@ -1,12 +1,14 @@
 //! The library for Rust: the table check, the step records, the certificate check, the witness check over indices and over records,
 //! the search, the reader and the writer of grammar text, what search and writer are to be lent, told beforehand, the report that the
-//! program prints, reading back of the two strings that it prints, and the join of a module's text to the robot's.
+//! program prints, reading back of the two strings that it prints, the join of a module's text to the robot's, and the derivation trees
+//! of one sentence.
 //! bindings/c/ambiguity.h says of each what is lent and what comes back; here slices stand for pointers, and enums for numbers. Rows that
 //! are written cannot overlap others: the borrow rules see to that.
 //!
-//! Every input is taken. A refusal changes no lent row. A written row may be longer than needed: its rest stays as it was. The stack
-//! that a call uses is measured and not proved: bindings/c/ambiguity.h has the figures, for reader, search, report, reading back and
-//! join `AMBIGUITY_READ_TEXT_STACK_BYTES` and so on, for all others `AMBIGUITY_STACK_BYTES`.
+//! Every input is taken. A refusal changes no lent row, but for the work row of [`find_trees`] in one case. A written row may be longer
+//! than needed: its rest stays as it was. The stack that a call uses is measured and not proved: bindings/c/ambiguity.h has the figures,
+//! for reader, search, report, reading back and join `AMBIGUITY_READ_TEXT_STACK_BYTES` and so on, for all others
+//! `AMBIGUITY_STACK_BYTES`.
 //!
 //! Names that differ only in the case of ASCII letters are the same name: in the lists and rules of a text, in two texts that are
 //! joined, among those that the writer is given, and in two lines that are read back. What is written has the declared spelling. Keys,
@@ -21,8 +23,8 @@
 //! number that it was made with. More than [`MAX_CALLERS`] are refused with 21 at 0, behind the causes of the table; then more than
 //! [`MAX_STATES`] states with these callers with 8 at 0.
 //!
-//! [`Grammar`] owns its rows: read a text, or two that are joined ([`join`]), search it, check a certificate, read two strings back. The
-//! functions below it lend rows.
+//! [`Grammar`] owns its rows: read a text, or two that are joined ([`join`]), search it, check a certificate, read two strings back, find
+//! the trees of a sentence. The functions below it lend rows.
 
 #![warn(missing_docs)]
 
@@ -37,6 +39,7 @@ mod raw;
 mod refusal;
 mod room;
 mod strings;
+mod trees;
 
 pub use grammar::{Code, Grammar, Rule, Searched, START};
 pub use joining::{join, join_texts, joined_name, joined_text, write_joined, JoinPart, JoinRefusal};
@@ -44,6 +47,7 @@ pub use letters::{Letter, Part, PartRefusal, ReadBack};
 pub use refusal::{Cause, Refusal};
 pub use room::{search_room, written_length, Room};
 pub use strings::Strings;
+pub use trees::{find_trees, trees_entries, trees_room, Trees, TreesFound, MAX_ROW, PLACES};
 
 /// Document 02's limit of terminals.
 pub const MAX_TERMINALS: usize = 2_000;

@@ -99,6 +99,21 @@ pub struct PartReply {
     pub length: u64,
 }
 
+#[repr(C)]
+pub struct TreesReply {
+    pub cause: u64,
+    pub at: u64,
+    pub found: u64,
+    pub count: u64,
+}
+
+#[repr(C)]
+pub struct TreesRoomReply {
+    pub cause: u64,
+    pub at: u64,
+    pub entries: u64,
+}
+
 extern "C" {
     pub fn ambiguity_check_table(t: usize, n: usize, table: *const u16, table_entries: usize) -> TableReply;
 
@@ -239,4 +254,19 @@ extern "C" {
         out: *mut u8,
         out_bytes: usize,
     ) -> WriteReply;
+
+    pub fn ambiguity_trees_room(t: usize, n: usize, table: *const u16, table_entries: usize) -> TreesRoomReply;
+
+    pub fn ambiguity_find_trees(
+        t: usize,
+        n: usize,
+        table: *const u16,
+        table_entries: usize,
+        row: *const u16,
+        row_entries: usize,
+        work: *mut u32,
+        work_entries: usize,
+        list: *mut u16,
+        list_entries: usize,
+    ) -> TreesReply;
 }

@@ -1,8 +1,8 @@
-//! Refusals: the causes of document 01, and 19 to 21 of document 02, each with its position.
+//! Refusals: the causes of document 01, and 19 to 22 of document 02, each with its position.
 
 use std::fmt;
 
-/// Why something is refused; the numbers are document 01's, and 19 to 21 are document 02's.
+/// Why something is refused; the numbers are document 01's, and 19 to 22 are document 02's.
 #[derive(Clone, Copy, Debug, PartialEq, Eq)]
 #[repr(u8)]
 pub enum Cause {
@@ -48,9 +48,11 @@ pub enum Cause {
     KindsClash = 20,
     /// More callers are to be remembered than [`MAX_CALLERS`](crate::MAX_CALLERS): at 0.
     TooManyCallers = 21,
+    /// A row of terminals has a code that is none, or one terminal more than [`MAX_ROW`](crate::MAX_ROW): at the first such place, from 0.
+    RowWrong = 22,
 }
 
-pub(crate) const CAUSES: [Cause; 21] = [
+pub(crate) const CAUSES: [Cause; 22] = [
     Cause::OutOfRange,
     Cause::Truncated,
     Cause::LeftUndeclared,
@@ -72,6 +74,7 @@ pub(crate) const CAUSES: [Cause; 21] = [
     Cause::NoSentence,
     Cause::KindsClash,
     Cause::TooManyCallers,
+    Cause::RowWrong,
 ];
 
 /// What is refused, and where; bindings/c/ambiguity.h says for each cause what the position counts.
@@ -84,7 +87,7 @@ pub struct Refusal {
 }
 
 impl Cause {
-    /// Its number, 1 to 21.
+    /// Its number, 1 to 22.
     #[must_use]
     pub fn number(self) -> u8 {
         self as u8
@@ -104,7 +107,7 @@ impl fmt::Display for Refusal {
 
 impl std::error::Error for Refusal {}
 
-/// The refusal of a reply, or what comes where nothing is refused. That a cause is at most 21 is proved (`CauseTheorems`).
+/// The refusal of a reply, or what comes where nothing is refused. That a cause is at most 22 is proved (`CauseTheorems`).
 pub(crate) fn or_else<T>(cause: u64, at: u64, given: impl FnOnce() -> T) -> Result<T, Refusal> {
     if cause == 0 {
         return Ok(given());

@@ -231,3 +231,47 @@ pub fn judged(request: &Request, source: Source) -> Answer {
         err: said + &headline,
     }
 }
+
+#[cfg(test)]
+mod tests {
+    use super::*;
+    use crate::confirmation::Counted;
+
+    /// A sentence that the library's entry does not confirm is called ambiguous nowhere: not by the status, in lines, in JSON or on the page.
+    #[test]
+    fn what_is_denied_is_potential() {
+        let text = b"terminals=a\nnonterminals=S\nrule=S: S\nrule=S: a\n";
+        let grammar = Grammar::read(text).unwrap();
+        let verdict = callers::verdict(&grammar, None).unwrap();
+        let source = Source { file: "cycle", text, origin: None };
+        let judged = |counted: Counted| {
+            let explanation = explanation::of_counted(&grammar, verdict.witness.as_ref().unwrap(), &|_| counted.clone());
+            Judged { source, grammar: &grammar, verdict: &verdict, warnings: &[], explanation: Some(explanation) }
+        };
+        let said = |judged: &Judged| [judged.headline(), judged.json(), judged.page()].concat();
+        let confirmed = judged(Counted::Several);
+        assert_eq!(confirmed.status(), Status::No);
+        for word in ["cycle:3:6: ambiguous: ", "\"verdict\":\"ambiguous\"", "\"confirmed\":true", "<strong>Ambiguous</strong>"]
+        {
+            assert!(said(&confirmed).contains(word), "{word}");
+        }
+        assert!(confirmed
+            .page()
+            .contains("<br/>Confirmed: the proved entry find_trees finds several trees of this sentence.\n"));
+        for (counted, word) in [(Counted::None, "none"), (Counted::One, "one")] {
+            let denied = judged(counted);
+            assert_eq!(denied.status(), Status::Potential);
+            let json = format!("\"denied\":{{\"sentence\":[\"a\"],\"trees\":\"{word}\"}}");
+            for word in [
+                "cycle:3:6: potential: ",
+                "\"verdict\":\"potential\"",
+                &json,
+                "<strong>Potentially ambiguous</strong>",
+                "find_trees answers",
+            ] {
+                assert!(said(&denied).contains(word), "{word}");
+            }
+            assert!(!said(&denied).contains("mbiguous: ") && !said(&denied).contains("<svg"), "{}", said(&denied));
+        }
+    }
+}

@@ -15,19 +15,28 @@ pub const VERSION: &str = include_str!("../../../VERSION");
 /// The exit status; of several files the worst one counts.
 #[derive(Clone, Copy, Debug, PartialEq, Eq)]
 pub enum Status {
-    /// Unambiguous, accepted, or joined.
+    /// Unambiguous, accepted, joined, or one tree of each sentence.
     Yes = 0,
-    /// Ambiguous, with two trees; or a certificate or two lines that are not accepted.
+    /// Ambiguous, with two trees; a certificate or two lines that are not accepted; or several trees of a sentence.
     No = 1,
     /// Bad use, or a file that cannot be read or written.
     Misuse = 2,
-    /// Potentially ambiguous, and no two trees are known.
+    /// Potentially ambiguous, and no two trees are known; or no tree of a sentence.
     Potential = 3,
-    /// A grammar's text that is refused.
+    /// A grammar's text, or a sentence, that is refused.
     Refused = 4,
 }
 
 impl Status {
+    /// The worse one.
+    pub fn worse(self, other: Status) -> Status {
+        if other.weight() > self.weight() {
+            other
+        } else {
+            self
+        }
+    }
+
     /// The worse, the larger.
     fn weight(self) -> usize {
         use Status::{Misuse, No, Potential, Refused, Yes};
@@ -71,6 +80,8 @@ pub struct Tool {
     pub files: usize,
     /// Whether no more files are taken than these.
     pub once: bool,
+    /// Whether the last of them may be left out; it is standard input then.
+    pub spare: bool,
 }
 
 /// Options and files of a command.
@@ -135,6 +146,9 @@ fn requested(tool: &Tool, words: Vec<OsString>) -> Result<Request, String> {
             _ => request.files.push(word),
         }
     }
+    if tool.spare && request.files.len() + 1 == tool.files {
+        request.files.push(OsString::from("-"));
+    }
     match contradiction(tool, &request) {
         _ if request.has_any(&COMMON) => Ok(request),
         Some(message) => Err(message),
@@ -191,7 +205,7 @@ pub fn run(tool: &Tool, answer: impl Fn(&Request, &[OsString]) -> Answer) -> Exi
         }
         said(turn)
     });
-    ExitCode::from(turns.max_by_key(|status| status.weight()).unwrap_or(Status::Misuse) as u8)
+    ExitCode::from(turns.reduce(Status::worse).unwrap_or(Status::Misuse) as u8)
 }
 
 /// Says an answer; gives its status, or that of output that fails.

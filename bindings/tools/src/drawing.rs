@@ -7,7 +7,7 @@ use ambiguity::{Grammar, START};
 use crate::layout;
 use crate::markup::escaped;
 use crate::tree::Node;
-use crate::words;
+use crate::words::{self, Naming};
 
 /// Sizes in pixels: a letter's width, that of a small one, the gap between two neighbours, the height of a level, the margin.
 const LETTER: usize = 8;
@@ -29,12 +29,12 @@ pub struct Drawing {
 /// What stands in a node's place.
 struct Label {
     text: String,
-    /// The line of the rule, under the left name; a leaf has none.
+    /// The line of the rule, or its number, under the left name; a leaf has none.
     line: Option<String>,
     class: &'static str,
 }
 
-fn label(grammar: &Grammar, node: Node) -> Label {
+fn label(grammar: &Grammar, node: Node, naming: Naming) -> Label {
     match node {
         Node::Leaf(code) => {
             let class = if code >= START { "open" } else { "leaf" };
@@ -43,7 +43,7 @@ fn label(grammar: &Grammar, node: Node) -> Label {
         Node::Rule(number) => {
             let rule = &grammar.rules()[number - 1];
             let empty = if rule.right.is_empty() { ", empty" } else { "" };
-            let line = Some(format!("line {}{empty}", words::line_of_rule(number)));
+            let line = Some(naming.of(&[number]) + empty);
             Label { text: words::symbol(grammar, rule.left).to_string(), line, class: "rule" }
         }
     }
@@ -68,8 +68,8 @@ struct Plan {
 }
 
 impl Plan {
-    fn new(grammar: &Grammar, tree: &[Node]) -> Plan {
-        let labels: Vec<Label> = tree.iter().map(|node| label(grammar, *node)).collect();
+    fn new(grammar: &Grammar, tree: &[Node], naming: Naming) -> Plan {
+        let labels: Vec<Label> = tree.iter().map(|node| label(grammar, *node, naming)).collect();
         let children = layout::children(grammar, tree);
         let mut depths = vec![0; tree.len()];
         for place in 0..tree.len() {
@@ -131,18 +131,60 @@ impl Plan {
     }
 }
 
-/// A tree in SVG; the node at `marked` is framed, and a broken line stands behind so many leaves.
-pub fn tree(grammar: &Grammar, tree: &[Node], title: &str, marked: Option<usize>, passed: usize) -> Drawing {
-    let plan = Plan::new(grammar, tree);
-    let width = plan.widths[0] + 2 * MARGIN;
-    let height = plan.height(plan.bottom) + 2 * HALF + MARGIN;
+/// The width and the height of a drawing of so many levels.
+fn size(width: usize, height: usize) -> (usize, usize) {
+    (width + 2 * MARGIN, height + 2 * HALF + MARGIN)
+}
+
+/// Where the largest parts of a tree begin that have a leaf and whose drawings are no larger than this: the tree itself, or parts of it
+/// from left to right.
+pub fn parts(grammar: &Grammar, tree: &[Node], naming: Naming, most: (usize, usize)) -> Vec<usize> {
+    let plan = Plan::new(grammar, tree, naming);
+    // By node how many levels are below it, and whether one of them is a leaf's; children stand behind their parents.
+    let mut below = vec![(0, false); tree.len()];
+    for place in (0..tree.len()).rev() {
+        let deepest = plan.children[place].iter().map(|child| below[*child].0 + 1).max().unwrap_or(0);
+        below[place] = (deepest, plan.is_leaf(place) || plan.children[place].iter().any(|child| below[*child].1));
+    }
+    let fits = |place: usize| {
+        let (deepest, leaves) = below[place];
+        let (width, height) = size(plan.widths[place], plan.height(deepest + usize::from(leaves)));
+        width <= most.0 && height <= most.1
+    };
+    let (mut parts, mut rest) = (Vec::new(), vec![0]);
+    while let Some(place) = rest.pop() {
+        match fits(place) {
+            _ if plan.is_leaf(place) || !below[place].1 && place > 0 => (),
+            true => parts.push(place),
+            false => rest.extend(plan.children[place].iter().rev()),
+        }
+    }
+    parts
+}
+
+/// What stands at a drawing beside the tree.
+#[derive(Clone, Copy)]
+pub struct Marks<'a> {
+    pub title: &'a str,
+    /// How nodes name their rules.
+    pub naming: Naming,
+    /// The place of a node that is framed.
+    pub framed: Option<usize>,
+    /// Behind how many leaves a broken line stands.
+    pub passed: Option<usize>,
+}
+
+/// A tree in SVG.
+pub fn tree(grammar: &Grammar, tree: &[Node], Marks { title, naming, framed, passed }: Marks) -> Drawing {
+    let plan = Plan::new(grammar, tree, naming);
+    let (width, height) = size(plan.widths[0], plan.height(plan.bottom));
     let mut svg = format!(
         "<svg xmlns=\"http://www.w3.org/2000/svg\" role=\"img\" aria-label=\"{}\" viewBox=\"0 0 {width} {height}\" \
          style=\"width:{width}px\">\n",
         escaped(title)
     );
     let mut put = |part: std::fmt::Arguments| svg.write_fmt(part).expect("a string takes every part");
-    if let Some(x) = plan.parting(passed) {
+    if let Some(x) = passed.and_then(|passed| plan.parting(passed)) {
         let top = plan.height(plan.bottom) - LEVEL / 2;
         put(format_args!("<line class=\"parting\" x1=\"{x}\" y1=\"{top}\" x2=\"{x}\" y2=\"{height}\"/>\n"));
     }
@@ -150,7 +192,7 @@ pub fn tree(grammar: &Grammar, tree: &[Node], title: &str, marked: Option<usize>
         edges(&plan, place, &mut put);
     }
     for place in 0..tree.len() {
-        node(&plan, place, marked == Some(place), &mut put);
+        node(&plan, place, framed == Some(place), &mut put);
     }
     svg.push_str("</svg>\n");
     Drawing { svg, width, height }

@@ -1,7 +1,9 @@
-//! Why a verdict is potential: where two readings part, and two real trees if they were found.
+//! Why a verdict is potential: where two readings part, and two real trees if they were found. A sentence is called ambiguous only if the
+//! library's proved entry finds several trees of it, or if it has more terminals than that entry takes.
 
 use ambiguity::{Code, Grammar, Step, START};
 
+use crate::confirmation::{self, Counted};
 use crate::layout::{self, WIDTH};
 use crate::pairs::{self, Extent, Field, Limits, Outcome};
 use crate::parting::{self, Parting};
@@ -10,24 +12,35 @@ use crate::{readings, words};
 
 /// What was found of two trees.
 pub enum Found {
-    /// The smallest part in which two trees differ, and a sentence that it stands in.
+    /// The smallest part in which two trees differ, and a sentence that it stands in; one that is shown is confirmed.
     Two(Phrase, Example),
     /// No two trees: how far they were looked for.
     Not(Extent),
+    /// Two trees of this sentence, of which the library's entry does not find several.
+    Denied(Vec<Code>, Counted),
+}
+
+/// Where other rules part, its phrase, and a sentence with that; one that is shown is confirmed.
+pub struct Other {
+    pub parting: Parting,
+    pub phrase: Phrase,
+    pub example: Example,
 }
 
 /// All that is said of a witness.
 pub struct Explanation {
     pub found: Found,
     pub parting: Parting,
-    /// Where other rules part, each with its phrase.
-    pub also: Vec<(Parting, Phrase)>,
+    pub also: Vec<Other>,
     /// The step records of the witness.
     pub steps: Vec<Step>,
 }
 
 /// Partings that are shown beside the first one.
 const MOST_ALSO: usize = 8;
+
+/// Symbols that are shown of a row that is too long.
+const FEW: usize = 40;
 
 /// Searches for them, each with a share of the limits of the first search.
 const MOST_TRIED: usize = 40;
@@ -37,6 +50,25 @@ const SHARE: usize = 10;
 /// the one that is more like the left string. Where the limits are met, trees of the rules that the witness uses are looked for too:
 /// a grammar of many rules has more pairs than are tried, and few of them are needed.
 pub fn of(grammar: &Grammar, witness: &[u32]) -> Explanation {
+    of_counted(grammar, witness, &|sentence| confirmation::counted(grammar, sentence))
+}
+
+/// The trees of a sentence, counted by the library's entry; in tests otherwise.
+pub(crate) type Count<'a> = &'a dyn Fn(&[Code]) -> Counted;
+
+/// The example of a phrase, or how many trees are counted of it where these are not several.
+fn confirmed(grammar: &Grammar, phrase: &Phrase, count: Count) -> Result<Example, (Vec<Code>, Counted)> {
+    match phrase.example(grammar) {
+        Example::Sentence(sentence) => match count(&sentence) {
+            Counted::Several => Ok(Example::Sentence(sentence)),
+            other => Err((sentence, other)),
+        },
+        Example::TooLong => Ok(Example::TooLong),
+    }
+}
+
+/// The explanation, where the trees of sentences are counted so.
+pub(crate) fn of_counted(grammar: &Grammar, witness: &[u32], count: Count) -> Explanation {
     let steps = readings::steps(grammar, witness);
     let strings = parting::of_witness(grammar, witness, &steps);
     let used = used_rules(grammar, witness);
@@ -53,9 +85,20 @@ pub fn of(grammar: &Grammar, witness: &[u32]) -> Explanation {
     match outcome {
         Outcome::Two { root, left, right, rules: parted, .. } => {
             let (parting, phrase) = placed(grammar, phrase::smallest(grammar, root, &left, &right), &strings);
-            let also = others(Field { grammar, root, rules }, parted, &parting, &strings);
-            let example = phrase.example(grammar);
-            Explanation { found: Found::Two(phrase, example), parting, also, steps }
+            match confirmed(grammar, &phrase, count) {
+                Ok(example) => {
+                    let mut also = Vec::new();
+                    for (parting, phrase) in others(Field { grammar, root, rules }, parted, &parting, &strings) {
+                        if let Ok(example) = confirmed(grammar, &phrase, count) {
+                            also.push(Other { parting, phrase, example });
+                        }
+                    }
+                    Explanation { found: Found::Two(phrase, example), parting, also, steps }
+                }
+                Err((sentence, counted)) => {
+                    Explanation { found: Found::Denied(sentence, counted), parting: strings, also: Vec::new(), steps }
+                }
+            }
         }
         Outcome::NotFound(extent) => Explanation { found: Found::Not(extent), parting: strings, also: Vec::new(), steps },
     }
@@ -116,8 +159,9 @@ fn named(grammar: &Grammar, row: &[Code]) -> String {
     }
 }
 
+/// The names of a row; of one that is too long some in front and some at the end.
 fn short(grammar: &Grammar, row: &[Code]) -> String {
-    words::short_row(grammar, row, phrase::LONGEST)
+    words::short_row(grammar, row, if row.len() > phrase::LONGEST { FEW } else { row.len() })
 }
 
 /// What is said of a phrase with two trees, without its trees.
@@ -154,6 +198,23 @@ pub fn not_found(extent: &Extent) -> String {
     }
 }
 
+/// Whether the library's entry confirms a sentence that is called ambiguous.
+pub fn confirmation(example: &Example) -> String {
+    match example {
+        Example::Sentence(_) => "confirmed: the proved entry find_trees finds several trees of this sentence".to_string(),
+        Example::TooLong => format!("not confirmed: the proved entry find_trees takes {} terminals at most", phrase::LONGEST),
+    }
+}
+
+/// What is said where the library's entry does not confirm the trees that were found.
+pub fn denied(grammar: &Grammar, sentence: &[Code], counted: &Counted) -> String {
+    format!(
+        "no sentence with two trees was found: two trees of {} were found, but the proved entry find_trees answers {counted}. \
+         This is a fault of the search for trees; please report it. The alarm may be false.",
+        named(grammar, sentence)
+    )
+}
+
 impl Explanation {
     /// The explanation in lines of a page's width.
     pub fn told(&self, grammar: &Grammar) -> String {
@@ -161,11 +222,12 @@ impl Explanation {
         let parting = paragraph(&self.parting.sentence(grammar));
         match &self.found {
             Found::Two(phrase, example) => {
-                let said = paragraph(&ambiguous(grammar, phrase, example));
+                let said = paragraph(&ambiguous(grammar, phrase, example)) + &paragraph(&confirmation(example));
                 let also: String = self.also.iter().map(|other| paragraph(&also_told(grammar, other))).collect();
                 format!("{said}{parting}{}{also}", layout::trees(grammar, &phrase.left, &phrase.right))
             }
             Found::Not(extent) => format!("{parting}{}", paragraph(&not_found(extent))),
+            Found::Denied(sentence, counted) => format!("{parting}{}", paragraph(&denied(grammar, sentence, counted))),
         }
     }
 
@@ -177,8 +239,75 @@ impl Explanation {
 }
 
 /// One of the other partings in a line.
-pub fn also_told(grammar: &Grammar, (parting, phrase): &(Parting, Phrase)) -> String {
+pub fn also_told(grammar: &Grammar, Other { parting, phrase, example }: &Other) -> String {
     let (side, _) = parting.sides();
     let row = if phrase.row.is_empty() { "(empty)".to_string() } else { short(grammar, &phrase.row) };
-    format!("also: line {}: {}, in `{row}`", words::line_of_rule(side.rule), parting.at_rule(grammar))
+    let confirmed = if *example == Example::TooLong { " (not confirmed)" } else { "" };
+    format!("also: line {}: {}, in `{row}`{confirmed}", words::line_of_rule(side.rule), parting.at_rule(grammar))
+}
+
+#[cfg(test)]
+mod tests {
+    use super::*;
+    use ambiguity::Searched;
+
+    /// The explanation of S: if S, S: if S else S, S: x, where so many trees are counted of every sentence.
+    fn explained(counted: Counted) -> (Grammar, Explanation) {
+        let text = b"terminals=if,else,x\nnonterminals=S\nrule=S: if S\nrule=S: if S else S\nrule=S: x\n";
+        let grammar = Grammar::read(text).unwrap();
+        let Ok(Searched::Potential { witness, .. }) = grammar.search(0) else { panic!("it is ambiguous") };
+        let explanation = of_counted(&grammar, &witness, &|_| counted.clone());
+        (grammar, explanation)
+    }
+
+    #[test]
+    fn several_trees_confirm() {
+        let (grammar, explanation) = explained(Counted::Several);
+        let told = explanation.told(&grammar);
+        let said = "ambiguous: `if if S else S` has two trees, for example `if if x else x`\n\
+                    confirmed: the proved entry find_trees finds several trees of this sentence\n";
+        assert!(told.starts_with(said), "{told}");
+        assert_eq!(explanation.headline(&grammar).0, "ambiguous");
+    }
+
+    /// Whatever else is counted, the sentence is not called ambiguous, and what was counted is told.
+    #[test]
+    fn other_counts_deny() {
+        let refusal = ambiguity::Refusal { cause: ambiguity::Cause::RowWrong, at: 3 };
+        for (counted, words) in
+            [(Counted::None, "no tree"), (Counted::One, "one tree"), (Counted::Refused(refusal), "refused=22 at=3")]
+        {
+            let (grammar, explanation) = explained(counted.clone());
+            assert!(matches!(&explanation.found, Found::Denied(sentence, found) if sentence.len() == 5 && *found == counted));
+            assert!(explanation.also.is_empty());
+            let told = explanation.told(&grammar).replace("\n  ", " ");
+            let said = format!(
+                "two trees of `if if x else x` were found, but the proved entry find_trees answers {words}. This is a fault"
+            );
+            assert!(told.contains(&said) && !told.contains("ambiguous:") && !told.contains("left tree"), "{told}");
+            assert_eq!(explanation.headline(&grammar).0, "potential");
+        }
+    }
+
+    /// Of the other partings those are left out that are not confirmed.
+    #[test]
+    fn others_are_confirmed_too() {
+        let text = b"terminals=n,plus,times\nnonterminals=E\nrule=E: E plus E\nrule=E: E times E\nrule=E: n\n";
+        let grammar = Grammar::read(text).unwrap();
+        let Ok(Searched::Potential { witness, .. }) = grammar.search(0) else { panic!("it is ambiguous") };
+        let asked = std::cell::RefCell::new(Vec::new());
+        let first = |row: &[Code]| {
+            asked.borrow_mut().push(row.to_vec());
+            if asked.borrow().len() == 1 {
+                Counted::Several
+            } else {
+                Counted::One
+            }
+        };
+        let all = of(&grammar, &witness);
+        assert!(!all.also.is_empty() && all.also.iter().all(|other| matches!(other.example, Example::Sentence(_))));
+        let denied = of_counted(&grammar, &witness, &first);
+        assert!(matches!(denied.found, Found::Two(..)) && denied.also.is_empty());
+        assert_eq!(asked.borrow().len(), 1 + all.also.len());
+    }
 }

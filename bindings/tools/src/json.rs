@@ -4,8 +4,9 @@ use ambiguity::{Code, Grammar, Refusal, Searched};
 
 use crate::callers::Verdict;
 use crate::command::VERSION;
+use crate::confirmation::Counted;
 use crate::diagnosis::Finding;
-use crate::explanation::{Explanation, Found};
+use crate::explanation::{Explanation, Found, Other};
 use crate::lines::{self, Form};
 use crate::parting::{Next, Parting, Side};
 use crate::phrase::{Example, Phrase};
@@ -75,36 +76,58 @@ fn parting(grammar: &Grammar, parting: &Parting) -> String {
     ])
 }
 
-fn phrase(grammar: &Grammar, phrase: &Phrase) -> Vec<(&'static str, String)> {
+/// A phrase with its two trees, a sentence with it, and whether the library's entry confirms that: it does wherever there is one.
+fn phrase(grammar: &Grammar, phrase: &Phrase, example: &Example) -> Vec<(&'static str, String)> {
+    let (sentence, confirmed) = match example {
+        Example::Sentence(sentence) => (row(grammar, sentence), true),
+        Example::TooLong => ("null".to_string(), false),
+    };
     vec![
         ("nonterminal", text(words::symbol(grammar, phrase.root))),
         ("phrase", row(grammar, &phrase.row)),
         ("left-tree", tree(grammar, &phrase.left)),
         ("right-tree", tree(grammar, &phrase.right)),
+        ("sentence", sentence),
+        ("confirmed", confirmed.to_string()),
     ]
+}
+
+/// How many trees the library's entry counts of a sentence that is not called ambiguous for it.
+fn denied(grammar: &Grammar, sentence: &[Code], counted: &Counted) -> String {
+    let trees = match counted {
+        Counted::None => "none",
+        Counted::One => "one",
+        Counted::Several => "several",
+        Counted::Refused(_) => "refused",
+    };
+    object(&[("sentence", row(grammar, sentence)), ("trees", text(trees))])
 }
 
 /// What is said of a potential verdict.
 fn explained(grammar: &Grammar, explanation: &Explanation) -> Vec<(&'static str, String)> {
     let mut members = vec![("parting", parting(grammar, &explanation.parting))];
-    if let Found::Two(found, example) = &explanation.found {
-        members.extend(phrase(grammar, found));
-        let sentence = match example {
-            Example::Sentence(sentence) => row(grammar, sentence),
-            Example::TooLong => "null".to_string(),
-        };
-        members.push(("sentence", sentence));
-        let also = explanation
-            .also
-            .iter()
-            .map(|(other, found)| object(&[vec![("parting", parting(grammar, other))], phrase(grammar, found)].concat()));
-        members.push(("also", list(also)));
+    match &explanation.found {
+        Found::Two(found, example) => {
+            members.extend(phrase(grammar, found, example));
+            let also = |other: &Other| {
+                let parting = vec![("parting", parting(grammar, &other.parting))];
+                object(&[parting, phrase(grammar, &other.phrase, &other.example)].concat())
+            };
+            members.push(("also", list(explanation.also.iter().map(also))));
+        }
+        Found::Denied(sentence, counted) => members.push(("denied", denied(grammar, sentence, counted))),
+        Found::Not(_) => (),
     }
     members
 }
 
 fn head(file: &str, verdict: &str) -> Vec<(&'static str, String)> {
-    vec![("version", text(VERSION.trim_end())), ("file", text(file)), ("verdict", text(verdict))]
+    told_head(file, "verdict", verdict)
+}
+
+/// Version, file, and what is told of it.
+fn told_head(file: &str, key: &'static str, told: &str) -> Vec<(&'static str, String)> {
+    vec![("version", text(VERSION.trim_end())), ("file", text(file)), (key, text(told))]
 }
 
 /// A file with a verdict. `strings` are the two lines of a potential one.
@@ -149,12 +172,41 @@ fn refused_head(file: &str, refusal: Refusal) -> Vec<(&'static str, String)> {
     [head(file, "refused"), numbers].concat()
 }
 
+/// Where something is wrong, and what.
+fn place(finding: &Finding) -> Vec<(&'static str, String)> {
+    let message = text(&finding.message);
+    vec![("line", finding.line.to_string()), ("column", finding.column.to_string()), ("message", message)]
+}
+
 /// A file that is refused.
 pub fn refused(file: &str, refusal: Refusal, finding: &Finding) -> String {
-    let mut members = refused_head(file, refusal);
-    members.extend([("line", finding.line.to_string()), ("column", finding.column.to_string())]);
-    members.push(("message", text(&finding.message)));
+    object(&[refused_head(file, refusal), place(finding)].concat()) + "\n"
+}
+
+/// The key of how many trees a sentence has.
+const TREES: &str = "trees";
+
+/// A sentence of a line that is not refused; with its one tree the rules of that.
+pub fn trees(
+    file: &str,
+    line: usize,
+    grammar: &Grammar,
+    sentence: &[Code],
+    found: &str,
+    one: Option<(&[Node], &[u16])>,
+) -> String {
+    let mut members = told_head(file, TREES, found);
+    members.extend([("line", line.to_string()), ("sentence", row(grammar, sentence))]);
+    if let Some((nodes, rules)) = one {
+        members.extend([("rules", list(rules.iter().map(u16::to_string))), ("tree", tree(grammar, nodes))]);
+    }
     object(&members) + "\n"
+}
+
+/// A sentence that is refused, or the grammar for which there are sentences.
+pub fn refused_sentence(file: &str, refusal: Refusal, finding: &Finding) -> String {
+    let numbers = vec![("refused", refusal.cause.number().to_string()), ("at", refusal.at.to_string())];
+    object(&[told_head(file, TREES, "refused"), numbers, place(finding)].concat()) + "\n"
 }
 
 /// A file that has too many states with the callers that are asked for: no place of it is at fault.

@@ -3,7 +3,7 @@
 use ambiguity::Grammar;
 
 use crate::tree::Node;
-use crate::words;
+use crate::words::{self, Naming};
 
 /// Columns of a page.
 pub const WIDTH: usize = 80;
@@ -30,7 +30,7 @@ pub fn wrapped(text: &str, width: usize, indent: usize) -> Vec<String> {
     lines
 }
 
-/// A line of a tree: a rule with its line in the text, or leaves that stand side by side.
+/// A line of a tree: a rule with its line in the text or its number, or leaves that stand side by side.
 #[derive(Debug, PartialEq, Eq)]
 pub struct Line {
     pub depth: usize,
@@ -44,7 +44,7 @@ enum Part {
 }
 
 /// A tree as lines. A rule whose children are all leaves shows them itself, and a rule with a single child stands before it.
-pub fn lines(grammar: &Grammar, tree: &[Node]) -> Vec<Line> {
+pub fn lines(grammar: &Grammar, tree: &[Node], naming: Naming) -> Vec<Line> {
     let children = children(grammar, tree);
     let mut lines = Vec::new();
     let mut rest = vec![(0, Part::Node(0))];
@@ -55,7 +55,7 @@ pub fn lines(grammar: &Grammar, tree: &[Node]) -> Vec<Line> {
                 let chain = chain(tree, &children, first);
                 let last = chain[chain.len() - 1];
                 rest.extend(parts(tree, &children[last]).into_iter().rev().map(|part| (depth + 1, part)));
-                chain_text(grammar, tree, &chain)
+                chain_text(grammar, tree, &chain, naming)
             }
         };
         lines.push(Line { depth, text });
@@ -73,15 +73,13 @@ fn chain(tree: &[Node], children: &[Vec<usize>], first: usize) -> Vec<usize> {
 }
 
 /// The rules of a chain: `A: B: b c  (lines 3, 5)`.
-fn chain_text(grammar: &Grammar, tree: &[Node], chain: &[usize]) -> String {
+fn chain_text(grammar: &Grammar, tree: &[Node], chain: &[usize], naming: Naming) -> String {
     let rules: Vec<usize> = chain.iter().filter_map(|place| rule_at(tree, *place)).collect();
     let Some((last, before)) = rules.split_last() else { return String::new() };
     let name = |number: &usize| format!("{}: ", words::symbol(grammar, grammar.rules()[number - 1].left));
     let names: String = before.iter().map(name).collect();
     let empty = if grammar.rules()[last - 1].right.is_empty() { " (empty)" } else { "" };
-    let lines: Vec<String> = rules.iter().map(|number| words::line_of_rule(*number).to_string()).collect();
-    let line = if before.is_empty() { "line" } else { "lines" };
-    format!("{names}{}{empty}  ({line} {})", words::rule(grammar, *last), lines.join(", "))
+    format!("{names}{}{empty}  ({})", words::rule(grammar, *last), naming.of(&rules))
 }
 
 fn rule_at(tree: &[Node], place: usize) -> Option<usize> {
@@ -144,12 +142,19 @@ const FRONT: usize = 60;
 const BACK: usize = 20;
 
 fn column(grammar: &Grammar, tree: &[Node], width: usize) -> Vec<String> {
-    let mut column: Vec<String> = lines(grammar, tree).iter().flat_map(|line| line.printed(width)).collect();
+    let lines = lines(grammar, tree, Naming::Lines);
+    let mut column: Vec<String> = lines.iter().flat_map(|line| line.printed(width)).collect();
     if column.len() > FRONT + BACK + 1 {
         let left_out = column.len() - FRONT - BACK;
         column.splice(FRONT..FRONT + left_out, [format!("... ({left_out} lines are left out; --json has all nodes)")]);
     }
     column
+}
+
+/// One tree, whole, with the numbers of its rules.
+pub fn tree(grammar: &Grammar, tree: &[Node]) -> String {
+    let lines = lines(grammar, tree, Naming::Rules);
+    lines.iter().flat_map(|line| line.printed(WIDTH)).map(|line| format!("{line}\n")).collect()
 }
 
 /// Two trees side by side if the page is wide enough, else one below the other.
@@ -211,8 +216,10 @@ mod tests {
         let text = b"terminals=x\nnonterminals=S,A,B\nrule=S: A\nrule=A: B\nrule=B: x A\nrule=A:\n";
         let grammar = Grammar::read(text).unwrap();
         let tree = [Node::Rule(1), Node::Rule(2), Node::Rule(3), Node::Leaf(1), Node::Rule(4)];
-        let lines: Vec<(usize, String)> = lines(&grammar, &tree).into_iter().map(|line| (line.depth, line.text)).collect();
+        let lines = lines(&grammar, &tree, Naming::Lines).into_iter();
+        let lines: Vec<(usize, String)> = lines.map(|line| (line.depth, line.text)).collect();
         let expected = [(0, "S: A: B: x A  (lines 3, 4, 5)"), (1, "x"), (1, "A: (empty)  (line 6)")];
         assert_eq!(lines, expected.map(|(depth, text)| (depth, text.to_string())));
+        assert_eq!(super::tree(&grammar, &tree), "S: A: B: x A  (rules 1, 2, 3)\n  x\n  A: (empty)  (rule 4)\n");
     }
 }

@@ -1,9 +1,11 @@
-//! What `ambig-certify`, `ambig-check` and `ambig-join` share. Verdicts are the library's; here they are put into words, lines and pages.
+//! What `ambig-certify`, `ambig-check`, `ambig-join` and `ambig-trees` share. Verdicts are the library's; here they are put into words, lines and pages.
 
+pub mod answers;
 pub mod callers;
 pub mod certify;
 pub mod codes;
 pub mod command;
+pub mod confirmation;
 pub mod diagnosis;
 pub mod drawing;
 pub mod explanation;
@@ -20,10 +22,12 @@ pub mod parting;
 pub mod phrase;
 pub mod readings;
 pub mod refusals;
+pub mod rows;
 pub mod sentences;
 pub mod shut;
 pub mod spots;
 pub mod strings;
 pub mod tree;
+pub mod trees_page;
 pub mod warnings;
 pub mod words;

@@ -4,18 +4,19 @@ use ambiguity::{Grammar, Searched};
 
 use crate::callers::Verdict;
 use crate::command::VERSION;
-use crate::drawing::{self, Drawing};
+use crate::drawing::{self, Drawing, Marks};
 use crate::explanation::{self, Explanation, Found};
 use crate::layout;
 use crate::lines::{self, Form};
 use crate::markup::{escaped, sentence};
 use crate::warnings::Told;
-use crate::{parting, strings, words};
+use crate::words::{self, Naming};
+use crate::{parting, strings};
 
 /// Sizes in pixels. Drawings wider than half a page stand one below the other; those that no page holds are shown as lines of text.
-const HALF_PAGE: usize = 400;
-const PAGE_WIDTH: usize = 670;
-const PAGE_HEIGHT: usize = 860;
+pub const HALF_PAGE: usize = 400;
+pub const PAGE_WIDTH: usize = 670;
+pub const PAGE_HEIGHT: usize = 860;
 
 /// A certificate of more lines stands in two columns; the lines of form 3 are too long for that.
 const ONE_COLUMN: usize = 60;
@@ -103,13 +104,23 @@ pub fn of(subject: &Subject) -> String {
     };
     let [verdict, first, second] = parts;
     let parts = [verdict, warnings_part(subject.warnings), first, second].concat();
-    let name = escaped(subject.file.rsplit('/').next().unwrap_or(subject.file));
+    let name = name(subject.file);
+    whole("ambig-certify", &name, &format!("Grammar {name}"), &parts)
+}
+
+/// A file's name without its folders, escaped.
+pub fn name(file: &str) -> String {
+    escaped(file.rsplit('/').next().unwrap_or(file))
+}
+
+/// A page with this title, this heading and these parts, made by a tool.
+pub fn whole(tool: &str, title: &str, heading: &str, parts: &str) -> String {
     let version = VERSION.trim_end();
     format!(
         "<!DOCTYPE html>\n<html xmlns=\"http://www.w3.org/1999/xhtml\" lang=\"en\">\n<head>\n<meta charset=\"utf-8\"/>\n\
          <meta name=\"viewport\" content=\"width=device-width, initial-scale=1\"/>\n\
-         <title>{name}</title>\n<style>\n{STYLE}</style>\n</head>\n<body>\n<h1>Grammar {name}</h1>\n{parts}\
-         <footer>ambig-certify {version}. Each line of the grammar ends with byte 10, the last one too.</footer>\n</body>\n</html>\n"
+         <title>{title}</title>\n<style>\n{STYLE}</style>\n</head>\n<body>\n<h1>{heading}</h1>\n{parts}\
+         <footer>{tool} {version}. Each line of the grammar ends with byte 10, the last one too.</footer>\n</body>\n</html>\n"
     )
 }
 
@@ -122,7 +133,8 @@ fn warnings_part(warnings: &[Told]) -> String {
     format!("<p class=\"warnings\"><strong>Warnings</strong>\n{}</p>\n", lines.collect::<String>())
 }
 
-fn banner(class: &str, title: &str, paragraphs: &[String]) -> String {
+/// A verdict: its title, and what is said of it.
+pub fn banner(class: &str, title: &str, paragraphs: &[String]) -> String {
     let paragraphs: String = paragraphs.iter().map(|text| format!("<br/>{}\n", sentence(text))).collect();
     format!("<p class=\"verdict {class}\"><strong>{title}</strong>\n{paragraphs}</p>\n")
 }
@@ -153,15 +165,20 @@ fn potential(grammar: &Grammar, verdict: &Verdict, explanation: &Explanation) ->
     let (title, said) = match &explanation.found {
         Found::Two(phrase, example) => {
             let said = explanation::ambiguous(grammar, phrase, example);
-            ("Ambiguous", capital(&said.replacen("ambiguous: ", "", 1)) + ".")
+            let confirmed = capital(&explanation::confirmation(example)) + ".";
+            ("Ambiguous", vec![capital(&said.replacen("ambiguous: ", "", 1)) + ".", confirmed])
         }
-        Found::Not(extent) => ("Potentially ambiguous", capital(&explanation::not_found(extent))),
+        Found::Not(extent) => ("Potentially ambiguous", vec![capital(&explanation::not_found(extent))]),
+        Found::Denied(sentence, counted) => {
+            ("Potentially ambiguous", vec![capital(&explanation::denied(grammar, sentence, counted))])
+        }
     };
     let parting = format!("The readings part {}.", explanation.parting.sentence(grammar));
-    banner("no", title, &[said, parting, figures, tried(verdict)])
+    banner("no", title, &[said, vec![parting, figures, tried(verdict)]].concat())
 }
 
-fn capital(text: &str) -> String {
+/// A text with its first letter as a capital.
+pub fn capital(text: &str) -> String {
     let mut letters = text.chars();
     letters.next().map_or(String::new(), |first| first.to_uppercase().chain(letters).collect())
 }
@@ -173,7 +190,7 @@ fn parting_lines(explanation: &Explanation) -> Vec<usize> {
 }
 
 /// The grammar's text, each name as it is declared; the lines are those of the file.
-fn grammar_part(grammar: &Grammar, marked: &[usize]) -> String {
+pub fn grammar_part(grammar: &Grammar, marked: &[usize]) -> String {
     let text = grammar.write();
     let rows = text.lines().enumerate().map(|(place, line)| {
         let class = if marked.contains(&(place + 1)) { " class=\"parting\"" } else { "" };
@@ -197,10 +214,18 @@ fn strings_part(lines: &str) -> String {
     format!("<h2>Two readings</h2>\n<pre class=\"strings\">{}</pre>\n<p>{}</p>\n", escaped(lines), sentence(STRINGS))
 }
 
+/// A drawing with what it shows.
+pub fn figure(caption: &str, Drawing { svg, .. }: &Drawing) -> String {
+    format!("<figure>\n<figcaption>{caption}</figcaption>\n{svg}</figure>\n")
+}
+
 fn trees_part(grammar: &Grammar, explanation: &Explanation) -> String {
     let Found::Two(phrase, _) = &explanation.found else { return String::new() };
     let parting = &explanation.parting;
-    let draw = |side: parting::Side, tree: &[_], title| drawing::tree(grammar, tree, title, side.node, parting.passed.len());
+    let draw = |side: parting::Side, tree: &[_], title| {
+        let passed = Some(parting.passed.len());
+        drawing::tree(grammar, tree, Marks { title, naming: Naming::Lines, framed: side.node, passed })
+    };
     let drawings = [draw(parting.left, &phrase.left, "left tree"), draw(parting.right, &phrase.right, "right tree")];
     let also = explanation
         .also
@@ -212,8 +237,6 @@ fn trees_part(grammar: &Grammar, explanation: &Explanation) -> String {
         return format!("<h2>Two trees</h2>\n<pre class=\"tree\">{lines}</pre>\n{also}");
     }
     let class = if drawings.iter().any(|drawing| drawing.width > HALF_PAGE) { "trees stacked" } else { "trees" };
-    let figure =
-        |title: &str, Drawing { svg, .. }: &Drawing| format!("<figure>\n<figcaption>{title}</figcaption>\n{svg}</figure>\n");
     let figures = figure("Left", &drawings[0]) + &figure("Right", &drawings[1]);
     let legend = if phrase.row.is_empty() { EMPTY_LEGEND } else { LEGEND };
     format!("<h2>Two trees</h2>\n<div class=\"{class}\">\n{figures}</div>\n<p>{legend}</p>\n{also}")

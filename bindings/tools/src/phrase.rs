@@ -1,13 +1,13 @@
 //! The smallest part of two trees in which they differ, and a sentence that it stands in.
 
-use ambiguity::{Code, Grammar, START};
+use ambiguity::{Code, Grammar, MAX_ROW, START};
 
 use crate::holes;
 use crate::sentences::{self, Around};
 use crate::tree::{self, Node, Tree};
 
-/// A sentence of more terminals is not shown.
-pub const LONGEST: usize = 40;
+/// A sentence of more terminals is not shown: the library's entry does not take it.
+pub const LONGEST: usize = MAX_ROW;
 
 /// A row with two trees of one nonterminal. Where that is not the start, it stands in a tree of some sentence.
 #[derive(Debug, PartialEq, Eq)]
@@ -19,6 +19,7 @@ pub struct Phrase {
 }
 
 /// A sentence of terminals that has two trees.
+#[derive(Debug, PartialEq, Eq)]
 pub enum Example {
     /// It is short enough to be shown.
     Sentence(Vec<Code>),
@@ -26,25 +27,12 @@ pub enum Example {
     TooLong,
 }
 
-/// The end of the subtree that begins at a place.
-fn end(grammar: &Grammar, tree: &[Node], start: usize) -> usize {
-    let (mut missing, mut place) = (1, start);
-    while missing > 0 {
-        missing -= 1;
-        if let Node::Rule(number) = tree[place] {
-            missing += grammar.rules()[number - 1].right.len();
-        }
-        place += 1;
-    }
-    place
-}
-
 /// The children of a tree's root, each as a tree.
 fn below<'a>(grammar: &Grammar, tree: &'a [Node]) -> Vec<&'a [Node]> {
     let mut children = Vec::new();
     let mut start = 1;
     while start < tree.len() {
-        let end = end(grammar, tree, start);
+        let end = tree::end(grammar, tree, start);
         children.push(&tree[start..end]);
         start = end;
     }

@@ -31,7 +31,7 @@ pub fn of_text(file: &str, text: &[u8], refusal: Refusal) -> String {
 }
 
 /// Findings in a file, of which the first has the library's number and position.
-fn of_findings(file: &str, findings: &[Finding], refusal: Refusal) -> String {
+pub fn of_findings(file: &str, findings: &[Finding], refusal: Refusal) -> String {
     let said = |(place, finding): (usize, &Finding)| {
         let numbers = if place == 0 { format!(" ({refusal})") } else { String::new() };
         error(file, finding.line, finding.column, &format!("{}{numbers}", finding.message))

@@ -87,11 +87,7 @@ fn replace(known: &mut Option<Shortest>, found: Option<Shortest>) -> bool {
 }
 
 fn leaves(tree: &[Node]) -> Vec<Code> {
-    let leaf = |node: &Node| match *node {
-        Node::Leaf(code) => Some(code),
-        Node::Rule(_) => None,
-    };
-    tree.iter().filter_map(leaf).collect()
+    tree.iter().filter_map(|node| node.leaf()).collect()
 }
 
 /// A short row of terminals with two trees: those of a common row with all its nonterminals filled in alike. As many nonterminals

@@ -1,6 +1,6 @@
 //! Derivation trees, and the test that two of them belong to one row. What finds the trees is elsewhere: nothing here relies on it.
 
-use ambiguity::{Code, Grammar};
+use ambiguity::{Code, Grammar, START};
 
 use crate::holes::{self, Marks};
 
@@ -9,6 +9,16 @@ use crate::holes::{self, Marks};
 pub enum Node {
     Rule(usize),
     Leaf(Code),
+}
+
+impl Node {
+    /// The symbol that stands for itself.
+    pub fn leaf(self) -> Option<Code> {
+        match self {
+            Node::Leaf(code) => Some(code),
+            Node::Rule(_) => None,
+        }
+    }
 }
 
 /// A tree as the list of its nodes, each before its children, children left to right.
@@ -56,6 +66,42 @@ pub fn row(grammar: &Grammar, root: Code, tree: &[Node]) -> Result<Vec<Code>, Fa
     }
 }
 
+/// The tree of the start that applies these rules, each node before its children: terminals stand for themselves.
+pub fn of_rules(grammar: &Grammar, rules: &[u16]) -> Result<Tree, Fault> {
+    let (mut tree, mut expected, mut rules) = (Tree::new(), vec![START], rules.iter());
+    while let Some(symbol) = expected.pop() {
+        if symbol < START {
+            tree.push(Node::Leaf(symbol));
+            continue;
+        }
+        let number = usize::from(*rules.next().ok_or(Fault::Length)?);
+        let rule = number.checked_sub(1).and_then(|place| grammar.rules().get(place)).ok_or(Fault::Node)?;
+        if rule.left != symbol {
+            return Err(Fault::Node);
+        }
+        tree.push(Node::Rule(number));
+        expected.extend(rule.right.iter().rev());
+    }
+    if rules.next().is_none() {
+        Ok(tree)
+    } else {
+        Err(Fault::Length)
+    }
+}
+
+/// The end of the subtree that begins at a place.
+pub fn end(grammar: &Grammar, tree: &[Node], start: usize) -> usize {
+    let (mut missing, mut place) = (1, start);
+    while missing > 0 {
+        missing -= 1;
+        if let Node::Rule(number) = tree[place] {
+            missing += grammar.rules()[number - 1].right.len();
+        }
+        place += 1;
+    }
+    place
+}
+
 /// The common row of two different trees with one root. Each nonterminal in it has a sentence that is not empty, so where the root
 /// is the start, or stands in a tree of some sentence, some sentence has two trees:
 /// for each such leaf the same subtree is put in either tree. They still differ then. For if they were equal, both copies of a
@@ -87,7 +133,6 @@ pub fn shared_row(grammar: &Grammar, visible: &Marks, root: Code, left: &[Node],
 mod tests {
     use super::Node::{Leaf, Rule};
     use super::*;
-    use ambiguity::START;
 
     const IF: Code = 1;
     const ELSE: Code = 2;
@@ -104,6 +149,24 @@ mod tests {
         let left = [Rule(2), Leaf(IF), Rule(1), Leaf(IF), Leaf(S), Leaf(ELSE), Leaf(S)];
         let right = [Rule(1), Leaf(IF), Rule(2), Leaf(IF), Leaf(S), Leaf(ELSE), Leaf(S)];
         assert_eq!(common_row(&dangling(), S, &left, &right), Ok(vec![IF, IF, S, ELSE, S]));
+    }
+
+    #[test]
+    fn trees_of_rules() {
+        let (if_, else_, x) = (Leaf(IF), Leaf(ELSE), Leaf(3));
+        let tree = of_rules(&dangling(), &[2, 1, 3, 3]).unwrap();
+        assert_eq!(tree, [Rule(2), if_, Rule(1), if_, Rule(3), x, else_, Rule(3), x]);
+        assert_eq!(row(&dangling(), S, &tree), Ok(vec![IF, IF, 3, ELSE, 3]));
+        assert_eq!((end(&dangling(), &tree, 2), end(&dangling(), &tree, 0), end(&dangling(), &tree, 1)), (6, 9, 2));
+        for (rules, fault) in [
+            (&[][..], Fault::Length),
+            (&[1], Fault::Length),
+            (&[3, 3], Fault::Length),
+            (&[6], Fault::Node),
+            (&[0], Fault::Node),
+        ] {
+            assert_eq!(of_rules(&dangling(), rules), Err(fault), "{rules:?}");
+        }
     }
 
     #[test]

@@ -42,6 +42,25 @@ pub fn line_of_rule(number: usize) -> usize {
     LISTS + number
 }
 
+/// How a tree names the rules that it applies: by their lines in the text, or by their numbers.
+#[derive(Clone, Copy, Debug, PartialEq, Eq)]
+pub enum Naming {
+    Lines,
+    Rules,
+}
+
+impl Naming {
+    /// `line 3`, `lines 3, 5`; `rule 1`, `rules 1, 3`.
+    pub fn of(self, rules: &[usize]) -> String {
+        let (word, number): (_, fn(usize) -> usize) = match self {
+            Naming::Lines => ("line", line_of_rule),
+            Naming::Rules => ("rule", |rule| rule),
+        };
+        let numbers: Vec<String> = rules.iter().map(|rule| number(*rule).to_string()).collect();
+        format!("{word}{} {}", if rules.len() == 1 { "" } else { "s" }, numbers.join(", "))
+    }
+}
+
 /// The left name and the right side of a rule. Rule 0 leads from the primed start to the start.
 fn sides(grammar: &Grammar, number: usize) -> (String, &[Code]) {
     match number.checked_sub(1) {

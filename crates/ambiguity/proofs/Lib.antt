@@ -7,10 +7,15 @@ pub mod Ascending
 pub mod StateOrder
 pub mod Callers
 pub mod Rooms
+pub mod Checks
 pub mod Steps
 pub mod Texts
 pub mod Joins
 pub mod Readings
 pub mod Reports
+pub mod Listed
+pub mod TreeAnswers
+pub mod RowChecks
+pub mod Trees
 pub mod Carried
 pub mod FrontPage

@@ -1,8 +1,9 @@
 -- What holds of the library, whatever the input: theorems over what the public entries promise. A promise is
 -- the entry's `ensures`; it determines the answer and all that was lent. Each promise is one definition:
 -- specs/Entries.antt says where. specs/Searches.antt, specs/Rooms.antt, specs/Texts.antt, specs/Joins.antt,
--- specs/Reports.antt and specs/Readings.antt have what follows for the search, for room told beforehand, for texts,
--- for two texts that are joined, for the program and for the two lines of a witness, specs/Carried.antt what holds
+-- specs/Reports.antt, specs/Readings.antt and specs/Trees.antt have what follows for the search, for room told
+-- beforehand, for texts, for two texts that are joined, for the program, for the two lines of a witness and for the
+-- trees of one sentence, specs/Carried.antt what holds
 -- of byte tables carried over, specs/Automata.antt and specs/Callers.antt whose moves the promises compute with,
 -- without callers and with them, proofs/FrontPage.antt the value of the record.
 -- Source: document 01 and document 02's requests; README.md has the demands. Of demand 1, that a refusal is the
@@ -64,6 +65,10 @@ use Rattle.ambiguity.specs.Automata.{AutomatonTheorems, IndexTheorems}
 use Rattle.ambiguity.specs.Rooms.{RoomTheorems, LengthTheorems}
 use Rattle.ambiguity.specs.Callers.{CallerTheorems, AcrossTheorems}
 use Rattle.ambiguity.specs.Carried.{CarriedTheorems}
+use Rattle.trees.specs.Promise.{FindsTrees, TreesRoomAnswer}
+use Rattle.trees.specs.declared.TreesFound.{TreesFound}
+use Rattle.trees.specs.declared.TreesRoom.{TreesRoom}
+use Rattle.ambiguity.specs.Trees.{TreesTheorems, ListedTheorems, TreesRoomTheorems}
 
 module _ (t n : ℕ) (table : List ℕ) where
   pub record TableTheorems (r : TableChecked) : Type 0 where
@@ -160,6 +165,11 @@ pub record FrontPage : Type 1 where
   pub readings : (text : List ℕ) (s : Source) → checkText limits text ≡ done s → ReadingTheorems s
   pub backs : (text lines left right : List ℕ) (r : ReadBack) (left′ right′ : List ℕ) → ReadsBack text lines left right r left′ right′
       → BackTheorems text lines left right r left′ right′
+  -- document 02, [12]: the trees of one sentence, and the room told beforehand for them
+  pub trees : (t n : ℕ) (table w work list : List ℕ) (r : TreesFound) (work′ list′ : List ℕ) → FindsTrees t n table w work list r work′ list′
+      → TreesTheorems t n table w work list r work′ list′
+  pub trees-rooms : (t n : ℕ) (table : List ℕ) (r : TreesRoom) → TreesRoomAnswer t n table r → TreesRoomTheorems t n table r
+  pub listed : (G : Grammar) → WellFormed limits G → ListedTheorems G
   -- document 02, [8]: a byte table that passed under document 01's limits, carried over
   pub carried : (t n : ℕ) (table : List ℕ) (G : Grammar) → checkTable byteLimits t n table ≡ done G → CarriedTheorems t n table G
   pub automata : (G : Grammar) → WellFormed limits G → AutomatonTheorems G

@@ -6,6 +6,7 @@ pub mod Texts
 pub mod Joins
 pub mod Readings
 pub mod Reports
+pub mod Trees
 pub mod Automata
 pub mod Carried
 pub mod FrontPage

@@ -10,10 +10,10 @@ use mathlib.Core.List.{List}
 use mathlib.Core.Logic.{inl, inr}
 use Rattle.grammar.specs.Limits.{limits}
 use Rattle.grammar.specs.Grammar.{Grammar}
-use Rattle.grammar.specs.Refusal.{Answer, done, refused, andThen, noSentence, kindsClash, tooManyCallers}
+use Rattle.grammar.specs.Refusal.{Answer, done, refused, andThen, noSentence, bufferTooShort, kindsClash, tooManyCallers, rowWrong}
 use Rattle.grammar.specs.TableCheck.{tableChecked}
 use Rattle.grammar.specs.declared.TableVerdict.the-variants.{Passed}
-use Rattle.grammar.proofs.Answers.{and-both, or-one}
+use Rattle.grammar.proofs.Answers.{no-answer, and-both, or-one}
 use Rattle.automaton.specs.Moves.{Moves}
 use Rattle.automaton.specs.CallerMoves.{movesWith}
 use Rattle.triples.specs.Verdict.{checkVerdict}
@@ -25,7 +25,8 @@ use Rattle.readings.specs.Promise.{stringsInto, readBackInto, readBack}
 use Rattle.readings.specs.declared.ReadBack.the-variants as back
 use Rattle.report.specs.Report.{reported}
 use Rattle.report.specs.declared.Reported.the-variants as report
-use Rattle.rooms.specs.Room.{Room, roomTold}
+use Rattle.rooms.specs.Room as searchRoom
+use Rattle.rooms.specs.Room.{Room}
 use Rattle.search.specs.Promise.{Lent, isPotential, Told, Answers}
 use Rattle.search.specs.declared.SearchVerdict.{SearchVerdict}
 use Rattle.steps.specs.Steps.{stepAnswer}
@@ -34,11 +35,14 @@ use Rattle.text.specs.Rules.{checkText}
 use Rattle.text.specs.Promise.{textRead, textLength, textWritten}
 use Rattle.text.specs.declared.TextLength.the-variants as length
 use Rattle.text.specs.declared.TextWritten.the-variants.{Written}
+use Rattle.trees.specs.Promise.{FindsTrees, refuses, no-tree, several-trees, one-tree, too-short, roomTold}
+use Rattle.trees.specs.declared.TreesFound.{TreesFound}
+use Rattle.trees.specs.declared.TreesRoom.the-variants.{Entries}
 use Rattle.witness_records.specs.Records.{triples}
-use Rattle.ambiguity_c.specs.Replies.{tableReply, stepReply, checkReply, searchReply, roomReply, readReply, writeReply, lengthReply, reportReply, readBackReply}
-use Rattle.ambiguity_c.specs.Causes.{Tells, JoinTells, CallerTells, IsRead, IsRoom, IsVerdict, IsStep, CauseTheorems}
+use Rattle.ambiguity_c.specs.Replies.{tableReply, stepReply, checkReply, searchReply, roomReply, readReply, writeReply, lengthReply, reportReply, readBackReply, treesReply, treesRoomReply}
+use Rattle.ambiguity_c.specs.Causes.{Tells, TellsOr, JoinTells, CallerTells, RowTells, IsRead, IsRoom, IsVerdict, IsStep, IsFound, CauseTheorems}
 use Rattle.grammar.proofs.Causes.{cause}
-use Rattle.ambiguity_c.proofs.Refusals.{isCause, Caused, isJoinCause, JoinCaused, isCallerCause, CallerCaused, join-into, joined-into, check-table, nth-step, check-witness, check-records, check-certificate, search-asked, search-room, check-text, read-into, text-from, write-into, report-into, strings-into}
+use Rattle.ambiguity_c.proofs.Refusals.{isCause, Caused, isCauseOr, CausedOr, JoinCaused, CallerCaused, join-into, joined-into, check-table, nth-step, check-witness, check-records, check-certificate, search-asked, search-room, check-text, read-into, text-from, write-into, report-into, strings-into, check-sentence, trees-room}
 
 -- nothing is refused
 tells-done : {X : Type 0} → X → Tells 0 X
@@ -52,17 +56,20 @@ tells-refused c h =
     let high : c ≤ noSentence = leb-true c noSentence (b .1) in
     record { known = high; zero = λ e. absurd (omega arith) }
 
--- with callers
-answer-told : {X : Type 0} → X → CallerTells 0 X
+-- with one other cause
+answer-told : {X : Type 0} {other : ℕ} → X → TellsOr other 0 X
 answer-told x = record { known = inl (omega arith); zero = λ e. x }
 
-refusal-told : {X : Type 0} (c : ℕ) → isCallerCause c ≡ true → CallerTells c X
-refusal-told c h = elim (or-one (isCause c) (eqb c tooManyCallers) h) [
+refusal-told : {X : Type 0} (other c : ℕ) → 1 ≤ other → isCauseOr other c ≡ true → TellsOr other c X
+refusal-told other c l h = elim (or-one (isCause c) (eqb c other) h) [
   | inl q ↦ let t = tells-refused c q in record { known = inl (t .known); zero = t .zero }
   | inr q ↦
-      let z : c ≡ tooManyCallers = eqb-true c tooManyCallers q in
+      let z : c ≡ other = eqb-true c other q in
       record { known = inr z; zero = λ e. absurd (omega arith) }
 ]
+
+caller-told : {X : Type 0} (c : ℕ) → isCauseOr tooManyCallers c ≡ true → CallerTells c X
+caller-told c = refusal-told tooManyCallers c (omega arith)
 
 table-tells : (o : Answer Grammar) → Caused o → Tells (tableReply (tableChecked o) .cause) (tableChecked o .verdict ≡ Passed)
 table-tells (done G) h = tells-done refl
@@ -71,11 +78,11 @@ table-tells (refused c p) (cause h) = tells-refused c h
 step-tells : (o : Answer (Option Step)) → CallerCaused o → CallerTells (stepReply (stepAnswer o) .cause) (IsStep (stepAnswer o))
 step-tells (done none) h = answer-told (inr (refl, refl))
 step-tells (done (some s)) h = answer-told (inl (refl, (s, refl)))
-step-tells (refused c p) (cause h) = refusal-told c h
+step-tells (refused c p) (cause h) = caller-told c h
 
 check-tells : (o : Answer Unit) → CallerCaused o → CallerTells (checkReply (checkVerdict o) .cause) (checkVerdict o ≡ Accepted)
 check-tells (done u) h = answer-told refl
-check-tells (refused c p) (cause h) = refusal-told c h
+check-tells (refused c p) (cause h) = caller-told c h
 
 verdict-tells : (o : Answer Unit) (v : CheckVerdict) → CallerCaused o → v ≡ checkVerdict o → CallerTells (checkReply v .cause) (v ≡ Accepted)
 verdict-tells o v h a = subst (λ v. CallerTells (checkReply v .cause) (v ≡ Accepted)) (sym a) (check-tells o h)
@@ -91,11 +98,11 @@ search-tells : (m : ℕ) (o : Answer Grammar) (before : Lent) (v : SearchVerdict
     → CallerTells (searchReply v .cause) (IsVerdict v)
 search-tells m (done G) before v after h a = told-tells (isPotential (movesWith limits G m)) (movesWith limits G m) before v after a
 search-tells m (refused c p) before v after (cause h) a =
-    subst (λ v. CallerTells (searchReply v .cause) (IsVerdict v)) (sym (a .0)) (refusal-told c h)
+    subst (λ v. CallerTells (searchReply v .cause) (IsVerdict v)) (sym (a .0)) (caller-told c h)
 
-room-tells : (o : Answer Room) → CallerCaused o → CallerTells (roomReply (roomTold o) .cause) (IsRoom (roomTold o))
+room-tells : (o : Answer Room) → CallerCaused o → CallerTells (roomReply (searchRoom.roomTold o) .cause) (IsRoom (searchRoom.roomTold o))
 room-tells (done r) h = answer-told refl
-room-tells (refused c p) (cause h) = refusal-told c h
+room-tells (refused c p) (cause h) = caller-told c h
 
 read-tells : (o : Answer Source) → Caused o → Tells (readReply (textRead o) .cause) (IsRead (textRead o))
 read-tells (done s) h = tells-done refl
@@ -133,21 +140,32 @@ unfolding readBackInto
 back-promised a b text lines = back-tells a b lines (checkText limits text) (check-text limits text)
 
 -- over two texts
-join-tells : {X : Type 0} (c : ℕ) → isJoinCause c ≡ true → JoinTells c X
-join-tells c h =
-    let b = and-both (leb 1 c) (leb c kindsClash) h in
-    let low : 1 ≤ c = leb-true 1 c (b .0) in
-    let high : c ≤ kindsClash = leb-true c kindsClash (b .1) in
-    record { known = high; zero = λ e. absurd (omega arith) }
-
 join-read-tells : (o : Answer Source) → JoinCaused o → JoinTells (readReply (textRead o) .cause) (IsRead (textRead o))
-join-read-tells (done s) h = record { known = omega arith; zero = λ e. refl }
-join-read-tells (refused c p) (cause h) = join-tells c h
+join-read-tells (done s) h = answer-told refl
+join-read-tells (refused c p) (cause h) = refusal-told kindsClash c (omega arith) h
 
 join-write-tells : (o : Answer (List ℕ)) → JoinCaused o
     → JoinTells (writeReply (textWritten o) .cause) (textWritten o ≡ Written (writeReply (textWritten o) .length))
-join-write-tells (done s) h = record { known = omega arith; zero = λ e. refl }
-join-write-tells (refused c p) (cause h) = join-tells c h
+join-write-tells (done s) h = answer-told refl
+join-write-tells (refused c p) (cause h) = refusal-told kindsClash c (omega arith) h
+
+-- of a row of terminals
+row-refused : (o : Answer Grammar) (c p : ℕ) → CausedOr rowWrong o → o ≡ refused c p → isCauseOr rowWrong c ≡ true
+row-refused (done G) c p h e = no-answer (sym e)
+row-refused (refused d q) c p (cause h) e = let z : d ≡ c = cc in subst (λ (c : ℕ). isCauseOr rowWrong c ≡ true) z h
+
+row-tells : (t n : ℕ) (table row work list : List ℕ) {v : TreesFound} {work′ list′ : List ℕ} → FindsTrees t n table row work list v work′ list′
+    → RowTells (treesReply v .cause) (IsFound v)
+row-tells t n table row work list (refuses c p e) =
+    refusal-told rowWrong c (omega arith) (row-refused _ c p (check-sentence limits t n table row work) e)
+row-tells t n table row work list (no-tree G e a) = answer-told (inl (refl, refl))
+row-tells t n table row work list (several-trees G e a) = answer-told (inr (inr (refl, refl)))
+row-tells t n table row work list (one-tree G e rules a h) = answer-told (inr (inl (refl, refl)))
+row-tells t n table row work list (too-short G e rules a h) = refusal-told rowWrong bufferTooShort (omega arith) refl
+
+trees-room-tells : (o : Answer ℕ) → Caused o → Tells (treesRoomReply (roomTold o) .cause) (roomTold o ≡ Entries (treesRoomReply (roomTold o) .entries))
+trees-room-tells (done e) h = tells-done refl
+trees-room-tells (refused c p) (cause h) = tells-refused c h
 
 pub cause-theorems : CauseTheorems
 cause-theorems = record {
@@ -178,4 +196,7 @@ cause-theorems = record {
   backs = λ text lines left right v left′ right′ a.
       subst (λ v. Tells (readBackReply v .cause) (v ≡ back.Read (readBackReply v .left) (readBackReply v .right))) (sym (a .answer))
       (back-promised _ _ text lines);
+  trees = λ t n table row work list v work′ list′ a. row-tells t n table row work list a;
+  trees-rooms = λ t n table v a.
+      subst (λ v. Tells (treesRoomReply v .cause) (v ≡ Entries (treesRoomReply v .entries))) (sym a) (trees-room-tells _ (trees-room limits t n table));
 }

@@ -7,7 +7,7 @@ use native.Mathlib.Omega.{arith}
 use borrow.Author.Tests.{leb-true, le-leb}
 use lib.Dec.{leb, eqb}
 use Rattle.grammar.specs.Limits.{Limits}
-use Rattle.grammar.specs.Refusal.{Answer, tooManyStates, certificateLength, spareBit, startMissing, endPresent, successorMissing, bufferTooShort, witnessWrong, malformed, nameUnknown, nameRepeated, noSentence, kindsClash, tooManyCallers}
+use Rattle.grammar.specs.Refusal.{Answer, tooManyStates, certificateLength, spareBit, startMissing, endPresent, successorMissing, bufferTooShort, witnessWrong, malformed, nameUnknown, nameRepeated, noSentence, kindsClash, tooManyCallers, rowWrong}
 use Rattle.grammar.specs.TableCheck.{checkTable}
 use Rattle.grammar.proofs.Answers.{and-both, both-and}
 use Rattle.grammar.proofs.Causes.{CausedBy, result, cause, unless, next, upTo, caused-more, stored-causes}
@@ -16,6 +16,7 @@ use Rattle.automaton.specs.Callers.{checkCallers, checkWith}
 use Rattle.automaton.specs.CallerMoves.{movesWith}
 use Rattle.triples.specs.Certificate.{checkBytes, checkCertificate}
 use Rattle.triples.specs.Witness.{checkOn, checkRow, checkWitness, checkWitnessRecords}
+use Rattle.trees.specs.Trees as trees
 use Rattle.modules.specs.Joined.{joinedText, refuseClash, joinTexts, joinedTableInto, joinedTextInto}
 use Rattle.report.specs.Report.{reportInto}
 use Rattle.rooms.specs.Room.{searchRoom}
@@ -47,22 +48,26 @@ pub check-table : (L : Limits) (t n : ℕ) (table : List ℕ) → Caused (checkT
 unfolding checkTable
 check-table L t n table = next _ _ (caused-more (more tooManyStates (omega arith)) _ (stored-causes L t n table)) (λ G. unless noSentence _ _ _ refl result)
 
+-- one other too
+abbrev pub isCauseOr : ℕ → ℕ → Bool
+isCauseOr other c = isCause c || eqb c other
+
+abbrev pub CausedOr : ℕ → {A : Type 0} → Answer A → Type 0
+CausedOr other o = CausedBy (isCauseOr other) o
+
+still : (other c : ℕ) → isCause c ≡ true → isCauseOr other c ≡ true
+still other c e = ap (λ (b : Bool). b || eqb c other) e
+
 -- ---- with callers, where 21 is a cause too
 
-abbrev pub isCallerCause : ℕ → Bool
-isCallerCause c = isCause c || eqb c tooManyCallers
-
 abbrev pub CallerCaused : {A : Type 0} → Answer A → Type 0
-CallerCaused o = CausedBy isCallerCause o
-
-still : (c : ℕ) → isCause c ≡ true → isCallerCause c ≡ true
-still c e = ap (λ (b : Bool). b || eqb c tooManyCallers) e
+CallerCaused o = CausedOr tooManyCallers o
 
 -- the refusals up to 8
 check-with : (L : Limits) (t n : ℕ) (table : List ℕ) (m : ℕ) → CallerCaused (checkWith L t n table m)
 unfolding checkWith checkCallers
 check-with L t n table m =
-    next _ _ (caused-more still _ (check-table L t n table)) (λ G. unless tooManyCallers _ _ _ refl (unless tooManyStates _ _ _ refl result))
+    next _ _ (caused-more (still tooManyCallers) _ (check-table L t n table)) (λ G. unless tooManyCallers _ _ _ refl (unless tooManyStates _ _ _ refl result))
 
 pub nth-step : (L : Limits) (t n : ℕ) (table : List ℕ) (m f p q k : ℕ) → CallerCaused (nthStep L t n table m f p q k)
 unfolding nthStep
@@ -79,7 +84,7 @@ check-bytes M bytes =
 
 pub check-certificate : (L : Limits) (t n : ℕ) (table : List ℕ) (m : ℕ) (bytes : List ℕ) → CallerCaused (checkCertificate L t n table m bytes)
 unfolding checkCertificate
-check-certificate L t n table m bytes = next _ _ (check-with L t n table m) (λ G. caused-more still _ (check-bytes (movesWith L G m) bytes))
+check-certificate L t n table m bytes = next _ _ (check-with L t n table m) (λ G. caused-more (still tooManyCallers) _ (check-bytes (movesWith L G m) bytes))
 
 check-on : (M : Moves) (i place : ℕ) (row : List ℕ) → Caused (checkOn M i place row)
 unfolding checkOn
@@ -93,11 +98,11 @@ check-row M (i ∷ is) = unless witnessWrong _ _ _ refl (check-on M i 1 is)
 
 pub check-witness : (L : Limits) (t n : ℕ) (table : List ℕ) (m : ℕ) (row : List ℕ) → CallerCaused (checkWitness L t n table m row)
 unfolding checkWitness
-check-witness L t n table m row = next _ _ (check-with L t n table m) (λ G. caused-more still _ (check-row (movesWith L G m) row))
+check-witness L t n table m row = next _ _ (check-with L t n table m) (λ G. caused-more (still tooManyCallers) _ (check-row (movesWith L G m) row))
 
 pub check-records : (L : Limits) (t n : ℕ) (table : List ℕ) (m : ℕ) (entries : List (ℕ × ℕ × ℕ)) → CallerCaused (checkWitnessRecords L t n table m entries)
 unfolding checkWitnessRecords
-check-records L t n table m entries = next _ _ (check-with L t n table m) (λ G. caused-more still _ (check-row (movesWith L G m) _))
+check-records L t n table m entries = next _ _ (check-with L t n table m) (λ G. caused-more (still tooManyCallers) _ (check-row (movesWith L G m) _))
 
 pub search-asked : (L : Limits) (t n : ℕ) (table : List ℕ) (m : ℕ) (l : Lent) → CallerCaused (searchable L t n table m l)
 unfolding searchable
@@ -155,24 +160,15 @@ strings-into L a b lines s = next _ _ (read-strings L _ _ _ lines) (λ p. unless
 
 -- ---- two texts, where 20 is a cause too
 
-abbrev pub isJoinCause : ℕ → Bool
-isJoinCause = upTo kindsClash
-
 abbrev pub JoinCaused : {A : Type 0} → Answer A → Type 0
-JoinCaused o = CausedBy isJoinCause o
-
-among : (c : ℕ) → isCause c ≡ true → isJoinCause c ≡ true
-among c e =
-    let b = and-both (leb 1 c) (leb c noSentence) e in
-    let low : c ≤ noSentence = leb-true c noSentence (b .1) in
-    both-and (leb 1 c) (leb c kindsClash) (b .0) (le-leb c kindsClash (omega arith))
+JoinCaused o = CausedOr kindsClash o
 
 join-texts : (L : Limits) (robot addon : List ℕ) → JoinCaused (joinTexts L robot addon)
 unfolding joinTexts refuseClash
 join-texts L robot addon =
-    next _ _ (caused-more among _ (check-text L robot)) (λ r.
-    next _ _ (caused-more (λ c h. among c (more nameRepeated (omega arith) c h)) _ (module-causes L addon)) (λ m.
-    unless kindsClash _ _ _ refl (unless kindsClash _ _ _ refl (caused-more among _ (check-text L (joinedText L r m))))))
+    next _ _ (caused-more (still kindsClash) _ (check-text L robot)) (λ r.
+    next _ _ (caused-more (λ c h. still kindsClash c (more nameRepeated (omega arith) c h)) _ (module-causes L addon)) (λ m.
+    unless kindsClash _ _ _ refl (unless kindsClash _ _ _ refl (caused-more (still kindsClash) _ (check-text L (joinedText L r m))))))
 
 pub join-into : (L : Limits) (e : ℕ) (robot addon : List ℕ) → JoinCaused (joinedTableInto L e robot addon)
 unfolding joinedTableInto
@@ -181,3 +177,14 @@ join-into L e robot addon = next _ _ (join-texts L robot addon) (λ s. unless bu
 pub joined-into : (L : Limits) (e : ℕ) (robot addon : List ℕ) → JoinCaused (joinedTextInto L e robot addon)
 unfolding joinedTextInto
 joined-into L e robot addon = next _ _ (join-texts L robot addon) (λ s. unless bufferTooShort _ _ _ refl result)
+
+-- ---- a row of terminals, where 22 is a cause too
+
+pub check-sentence : (L : Limits) (t n : ℕ) (table row work : List ℕ) → CausedOr rowWrong (trees.checkRow L t n table row work)
+unfolding trees.checkRow
+check-sentence L t n table row work =
+    next _ _ (caused-more (still rowWrong) _ (check-table L t n table)) (λ G. unless rowWrong _ _ _ refl (unless bufferTooShort _ _ _ refl result))
+
+pub trees-room : (L : Limits) (t n : ℕ) (table : List ℕ) → Caused (trees.treesRoom L t n table)
+unfolding trees.treesRoom
+trees-room L t n table = next _ _ (check-table L t n table) (λ G. result)

@@ -1,10 +1,10 @@
--- What the cause in a reply tells a caller: it is one of document 01's or document 02's 19, 20 and 21, or 0, and then nothing is refused.
+-- What the cause in a reply tells a caller: it is one of document 01's or document 02's 19 to 22, or 0, and then nothing is refused.
 -- proofs/Causes.antt has the value of the record. Assumes nothing.
 use Prim.Native.Nat.{ℕ, _≤_}
 use mathlib.Core.Path.{_≡_}
 use mathlib.Core.List.{List}
 use mathlib.Core.Logic.{_⊎_}
-use Rattle.grammar.specs.Refusal.{noSentence, kindsClash, tooManyCallers}
+use Rattle.grammar.specs.Refusal.{noSentence, kindsClash, tooManyCallers, rowWrong}
 use Rattle.grammar.specs.declared.TableChecked.{TableChecked}
 use Rattle.grammar.specs.declared.TableVerdict.the-variants.{Passed}
 use Rattle.grammar.specs.TableCheck.{TableAnswer}
@@ -34,25 +34,35 @@ use Rattle.text.specs.declared.TextRead.{TextRead}
 use Rattle.text.specs.declared.TextRead.the-variants.{Read}
 use Rattle.text.specs.declared.TextWritten.{TextWritten}
 use Rattle.text.specs.declared.TextWritten.the-variants.{Written}
+use Rattle.trees.specs.Promise.{FindsTrees, TreesRoomAnswer}
+use Rattle.trees.specs.declared.TreesFound.{TreesFound}
+use Rattle.trees.specs.declared.TreesFound.the-variants.{Nothing, One, Several}
+use Rattle.trees.specs.declared.TreesRoom.{TreesRoom}
+use Rattle.trees.specs.declared.TreesRoom.the-variants.{Entries}
 use Rattle.witness_records.specs.Records.{RecordsAnswer}
 use Rattle.witness_records.specs.declared.TripleRecord.{TripleRecord}
 use Rattle.ambiguity.specs.Entries.{Usize, StepAnswers}
-use Rattle.ambiguity_c.specs.Replies.{tableReply, stepReply, checkReply, searchReply, roomReply, readReply, writeReply, lengthReply, reportReply, readBackReply}
+use Rattle.ambiguity_c.specs.Replies.{tableReply, stepReply, checkReply, searchReply, roomReply, readReply, writeReply, lengthReply, reportReply, readBackReply, treesReply, treesRoomReply}
 
 -- the cause is none that the documents do not have, and 0 tells that something is answered
 pub record Tells (cause : ℕ) (Answered : Type 0) : Type 0 where
   pub known : cause ≤ noSentence
   pub zero : cause ≡ 0 → Answered
 
--- over two texts it may be 20 too
-pub record JoinTells (cause : ℕ) (Answered : Type 0) : Type 0 where
-  pub known : cause ≤ kindsClash
+-- it may be one other too
+pub record TellsOr (other cause : ℕ) (Answered : Type 0) : Type 0 where
+  pub known : (cause ≤ noSentence) ⊎ (cause ≡ other)
   pub zero : cause ≡ 0 → Answered
 
--- with callers it may be 21 too
-pub record CallerTells (cause : ℕ) (Answered : Type 0) : Type 0 where
-  pub known : (cause ≤ noSentence) ⊎ (cause ≡ tooManyCallers)
-  pub zero : cause ≡ 0 → Answered
+-- over two texts 20, with callers 21, of a row of terminals 22
+abbrev pub JoinTells : ℕ → Type 0 → Type 0
+JoinTells = TellsOr kindsClash
+
+abbrev pub CallerTells : ℕ → Type 0 → Type 0
+CallerTells = TellsOr tooManyCallers
+
+abbrev pub RowTells : ℕ → Type 0 → Type 0
+RowTells = TellsOr rowWrong
 
 -- the numbers of the reply are the answer
 abbrev pub IsRead : TextRead → Type 0
@@ -71,6 +81,13 @@ abbrev pub IsStep : StepAnswer → Type 0
 IsStep v =
     ((stepReply v .kind ≡ 1) × ((s : Step) × (v ≡ Record s)))
     ⊎ ((stepReply v .kind ≡ 2) × (v ≡ NoMore))
+
+-- 1 no tree, 2 one, or 3 several
+abbrev pub IsFound : TreesFound → Type 0
+IsFound v =
+    ((treesReply v .found ≡ 1) × (v ≡ Nothing))
+    ⊎ (((treesReply v .found ≡ 2) × (v ≡ One (treesReply v .count)))
+    ⊎ ((treesReply v .found ≡ 3) × (v ≡ Several)))
 
 -- whatever answers as the entries promise
 pub record CauseTheorems : Type 0 where
@@ -100,3 +117,7 @@ pub record CauseTheorems : Type 0 where
       → Tells (reportReply v .cause) (v ≡ report.Written (reportReply v .length))
   pub backs : (text lines left right : List ℕ) (v : ReadBack) (left′ right′ : List ℕ) → ReadsBack text lines left right v left′ right′
       → Tells (readBackReply v .cause) (v ≡ back.Read (readBackReply v .left) (readBackReply v .right))
+  pub trees : (t n : ℕ) (table row work list : List ℕ) (v : TreesFound) (work′ list′ : List ℕ) → FindsTrees t n table row work list v work′ list′
+      → RowTells (treesReply v .cause) (IsFound v)
+  pub trees-rooms : (t n : ℕ) (table : List ℕ) (v : TreesRoom) → TreesRoomAnswer t n table v
+      → Tells (treesRoomReply v .cause) (v ≡ Entries (treesRoomReply v .entries))

@@ -8,12 +8,14 @@ use Rattle.readings.specs.Promise.{ReadsBack}
 use Rattle.report.specs.Report.{Reports}
 use Rattle.search.specs.Promise.{Lent, Searches}
 use Rattle.text.specs.Promise.{ReadsText, WritesText}
-use Rattle.ambiguity_c.specs.Replies.{searchReply, readReply, writeReply, reportReply, readBackReply}
+use Rattle.trees.specs.Promise.{FindsTrees}
+use Rattle.ambiguity_c.specs.Replies.{searchReply, readReply, writeReply, reportReply, readBackReply, treesReply}
 use Rattle.ambiguity_c.specs.declared.SearchReply.{SearchReply}
 use Rattle.ambiguity_c.specs.declared.ReadReply.{ReadReply}
 use Rattle.ambiguity_c.specs.declared.WriteReply.{WriteReply}
 use Rattle.ambiguity_c.specs.declared.ReportReply.{ReportReply}
 use Rattle.ambiguity_c.specs.declared.ReadBackReply.{ReadBackReply}
+use Rattle.ambiguity_c.specs.declared.TreesReply.{TreesReply}
 
 -- r is the C form of an answer of which the promise holds
 pub record Replies {Verdict Reply : Type 0} (Promised : Verdict → Type 0) (reply : Verdict → Reply) (r : Reply) : Type 0 where
@@ -42,3 +44,6 @@ RepliesReport text out r out′ = Replies (λ v. Reports text out v out′) repo
 
 abbrev pub RepliesBack : List ℕ → List ℕ → List ℕ → List ℕ → ReadBackReply → List ℕ → List ℕ → Type 0
 RepliesBack text lines left right r left′ right′ = Replies (λ v. ReadsBack text lines left right v left′ right′) readBackReply r
+
+abbrev pub RepliesTrees : ℕ → ℕ → List ℕ → List ℕ → List ℕ → List ℕ → TreesReply → List ℕ → List ℕ → Type 0
+RepliesTrees t n table row work list r work′ list′ = Replies (λ v. FindsTrees t n table row work list v work′ list′) treesReply r

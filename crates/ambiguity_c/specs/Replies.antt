@@ -1,5 +1,5 @@
 -- The entries' answers as C has them: for each case of an enum document 01's number and values. `cause` 0 says that nothing is
--- refused; fields that a case does not have are 0. Source: document 01, "Causes of refusal"; document 02, [2], [5] and [10]. Assumes nothing.
+-- refused; fields that a case does not have are 0. Source: document 01, "Causes of refusal"; document 02, [2], [5], [10] and [12]. Assumes nothing.
 use Prim.Native.Nat.{ℕ}
 use Rattle.grammar.specs.declared.TableChecked.{TableChecked}
 use Rattle.grammar.specs.declared.TableVerdict.{TableVerdict}
@@ -22,6 +22,10 @@ use Rattle.text.specs.declared.TextRead.{TextRead}
 use Rattle.text.specs.declared.TextRead.the-variants as reader
 use Rattle.text.specs.declared.TextWritten.{TextWritten}
 use Rattle.text.specs.declared.TextWritten.the-variants as writer
+use Rattle.trees.specs.declared.TreesFound.{TreesFound}
+use Rattle.trees.specs.declared.TreesFound.the-variants as trees
+use Rattle.trees.specs.declared.TreesRoom.{TreesRoom}
+use Rattle.trees.specs.declared.TreesRoom.the-variants as workRow
 use Rattle.triples.specs.declared.CheckVerdict.{CheckVerdict}
 use Rattle.triples.specs.declared.CheckVerdict.the-variants as check
 use Rattle.triples.specs.declared.Move.{Move}
@@ -39,6 +43,8 @@ use Rattle.ambiguity_c.specs.declared.LengthReply.{LengthReply}
 use Rattle.ambiguity_c.specs.declared.PartReply.{PartReply}
 use Rattle.ambiguity_c.specs.declared.ReportReply.{ReportReply}
 use Rattle.ambiguity_c.specs.declared.ReadBackReply.{ReadBackReply}
+use Rattle.ambiguity_c.specs.declared.TreesReply.{TreesReply}
+use Rattle.ambiguity_c.specs.declared.TreesRoomReply.{TreesRoomReply}
 
 -- the table check: passed with Q, or refused
 abbrev pub verdictReply : TableVerdict → ℕ → TableReply
@@ -117,3 +123,15 @@ abbrev pub readBackReply : ReadBack → ReadBackReply
 readBackReply (back.Read l r) = record { cause = 0; at = 0; part = 0; left = l; right = r }
 readBackReply (back.GrammarRefused cause at) = record { cause = cause; at = at; part = 1; left = 0; right = 0 }
 readBackReply (back.Refused cause at) = record { cause = cause; at = at; part = 2; left = 0; right = 0 }
+
+-- document 02, [12]: 1 no tree, 2 one with the number of its rules, 3 several; 0 with a refusal
+abbrev pub treesReply : TreesFound → TreesReply
+treesReply trees.Nothing = record { cause = 0; at = 0; found = 1; count = 0 }
+treesReply (trees.One rules) = record { cause = 0; at = 0; found = 2; count = rules }
+treesReply trees.Several = record { cause = 0; at = 0; found = 3; count = 0 }
+treesReply (trees.Refused cause at) = record { cause = cause; at = at; found = 0; count = 0 }
+
+-- the entries of the work row for it
+abbrev pub treesRoomReply : TreesRoom → TreesRoomReply
+treesRoomReply (workRow.Entries e) = record { cause = 0; at = 0; entries = e }
+treesRoomReply (workRow.Refused cause at) = record { cause = cause; at = at; entries = 0 }

@@ -8,10 +8,11 @@ ghost use Rattle.rooms.specs.Room.{RoomAnswer};
 ghost use Rattle.search.specs.Promise.{lent};
 ghost use Rattle.steps.specs.Steps.{NthAnswer};
 ghost use Rattle.text.specs.Promise.{LengthAnswer};
+ghost use Rattle.trees.specs.Promise.{TreesRoomAnswer};
 ghost use Rattle.triples.specs.Verdict.{CertificateAnswer, WitnessAnswer};
 ghost use Rattle.witness_records.specs.Records.{RecordsAnswer};
-ghost use Rattle.ambiguity_c.specs.Replies.{tableReply, stepReply, checkReply, roomReply, lengthReply, partReply};
-ghost use Rattle.ambiguity_c.specs.Lent.{Replies, RepliesSearch, RepliesRead, RepliesWritten, RepliesJoin, RepliesJoined, RepliesReport, RepliesBack};
+ghost use Rattle.ambiguity_c.specs.Replies.{tableReply, stepReply, checkReply, roomReply, lengthReply, partReply, treesRoomReply};
+ghost use Rattle.ambiguity_c.specs.Lent.{Replies, RepliesSearch, RepliesRead, RepliesWritten, RepliesJoin, RepliesJoined, RepliesReport, RepliesBack, RepliesTrees};
 use ambiguity::TripleRecord;
 
 // In every reply `cause` is 0, or the number of a cause with its position `at`; what a case does not have is 0.
@@ -116,6 +117,23 @@ pub struct PartReply {
     pub text: u64,
     pub start: u64,
     pub length: u64,
+}
+
+// 0 refused, 1 no tree, 2 one, 3 several; how many rules the one tree has.
+#[repr(C)]
+pub struct TreesReply {
+    pub cause: u64,
+    pub at: u64,
+    pub found: u64,
+    pub count: u64,
+}
+
+// The entries of the work row.
+#[repr(C)]
+pub struct TreesRoomReply {
+    pub cause: u64,
+    pub at: u64,
+    pub entries: u64,
 }
 
 #[no_mangle]
@@ -305,4 +323,27 @@ pub extern "C" fn ambiguity_write_joined(robot: &[u8], addon: &[u8], out: &mut [
 {
     let answer = ambiguity::write_joined(robot, addon, out);
     replies::write_told(answer)
+}
+
+#[no_mangle]
+pub extern "C" fn ambiguity_find_trees<'a>(
+    t: usize,
+    n: usize,
+    table: &'a [u16],
+    row: &'a [u16],
+    work: &'a mut [u32],
+    list: &'a mut [u16],
+) -> TreesReply
+    ensures { λ r. ⌜ RepliesTrees t n (now (table .entry)) (now (row .entry)) (now (work .entry)) (now (list .entry)) r (now (work .exit)) (now (list .exit)) ⌝ }
+{
+    let answer = ambiguity::find_trees(t, n, table, row, work, list);
+    replies::trees_told(answer)
+}
+
+#[no_mangle]
+pub extern "C" fn ambiguity_trees_room(t: usize, n: usize, table: &[u16]) -> TreesRoomReply
+    ensures { λ r. ⌜ Replies (TreesRoomAnswer t n (now (table .entry))) treesRoomReply r ⌝ }
+{
+    let answer = ambiguity::trees_room(t, n, table);
+    replies::trees_room_told(answer)
 }

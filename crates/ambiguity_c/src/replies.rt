@@ -1,6 +1,6 @@
 // The answers of the entries, told in numbers: an arm for each case of specs/Replies.antt.
 ghost use mathlib.Core.Path.{_≡_};
-ghost use Rattle.ambiguity_c.specs.Replies.{verdictReply, moveReply, recordReply, noRecord, stepReply, checkReply, searchReply, readReply, writeReply, reportReply, readBackReply, roomReply, lengthReply, partReply};
+ghost use Rattle.ambiguity_c.specs.Replies.{verdictReply, moveReply, recordReply, noRecord, stepReply, checkReply, searchReply, readReply, writeReply, reportReply, readBackReply, roomReply, lengthReply, partReply, treesReply, treesRoomReply};
 use super::CheckReply;
 use super::LengthReply;
 use super::MoveReply;
@@ -12,6 +12,8 @@ use super::RoomReply;
 use super::SearchReply;
 use super::StepReply;
 use super::TableReply;
+use super::TreesReply;
+use super::TreesRoomReply;
 use super::WriteReply;
 use ambiguity::CheckVerdict;
 use ambiguity::Move;
@@ -26,6 +28,8 @@ use ambiguity::TableVerdict;
 use ambiguity::TextLength;
 use ambiguity::TextRead;
 use ambiguity::TextWritten;
+use ambiguity::TreesFound;
+use ambiguity::TreesRoom;
 
 pub fn table_told(verdict: TableVerdict, states: usize) -> TableReply
     ensures { λ r. ⌜ r ≡ verdictReply verdict states ⌝ }
@@ -310,6 +314,54 @@ pub fn part_told(place: Place) -> PartReply
             text: 0,
             start: 0,
             length: 0,
+        },
+    }
+}
+
+pub fn trees_told(answer: TreesFound) -> TreesReply
+    ensures { λ r. ⌜ r ≡ treesReply answer ⌝ }
+{
+    match answer {
+        TreesFound::Nothing => TreesReply {
+            cause: 0,
+            at: 0,
+            found: 1,
+            count: 0,
+        },
+        TreesFound::One(rules) => TreesReply {
+            cause: 0,
+            at: 0,
+            found: 2,
+            count: rules as u64,
+        },
+        TreesFound::Several => TreesReply {
+            cause: 0,
+            at: 0,
+            found: 3,
+            count: 0,
+        },
+        TreesFound::Refused(cause, at) => TreesReply {
+            cause: cause as u64,
+            at: at as u64,
+            found: 0,
+            count: 0,
+        },
+    }
+}
+
+pub fn trees_room_told(answer: TreesRoom) -> TreesRoomReply
+    ensures { λ r. ⌜ r ≡ treesRoomReply answer ⌝ }
+{
+    match answer {
+        TreesRoom::Entries(entries) => TreesRoomReply {
+            cause: 0,
+            at: 0,
+            entries: entries as u64,
+        },
+        TreesRoom::Refused(cause, at) => TreesRoomReply {
+            cause: cause as u64,
+            at: at as u64,
+            entries: 0,
         },
     }
 }

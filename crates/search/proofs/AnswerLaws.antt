@@ -3,12 +3,12 @@
 use mathlib.Core.Path.{_≡_, refl, ap, ap₂, sym, subst, _∙_}
 use mathlib.Core.Logic.{_↔_}
 use mathlib.Core.Bool.{Bool, true, false}
-use mathlib.Core.List.{List, [], _∷_, _++_}
+use mathlib.Core.List.{List, [], _∷_}
 use Prim.Native.Nat.{ℕ, zero, suc, _+_, _*_, _/_, _%_, _^_, _≤_, _<_}
 use native.Mathlib.Omega.{arith}
 use native.Mathlib.Nat.{pow-zero, pow-succ', div-one, div-div-eq-div-mul, mul-le-mul}
 use native.Mathlib.Decide.{ℕ-discrete}
-use lib.ListN.{length, getD, take, drop, replicate, length-replicate}
+use lib.ListN.{length, getD, take, drop, replicate}
 use lib.Seq.{length-take-le, getD-take, take-suc, drop-cons}
 use borrow.Author.Tests.{eq-eqb}
 use Rattle.grammar.specs.Basics.{choose, Mem, over, Distinct, more as fresh}
@@ -36,6 +36,7 @@ use Rattle.figures.proofs.Found.{Way, start, more}
 use Rattle.figures.proofs.Row.{onto, row-fewest}
 use Rattle.plans.specs.Plan.{Rows}
 use Rattle.plans.specs.Contracts.{Planned}
+use Rattle.clearing.proofs.Laws.{cleared-same}
 use Rattle.search.specs.Promise.{Told, isPotential, lent, cleared}
 use Rattle.explore.specs.State.{State, used, flagBase, plan, lookedIn, NextOf, Marked, Explored}
 use Rattle.search.specs.Finish.{Ahead, here, back, Answered}
@@ -268,11 +269,7 @@ module _ (M : Moves) (W : Regular M) (R : Rows) (targets : List ℕ) (t m Q : �
   -- a work row that is cleared, if it is as it was past its first 2Q² entries
   row-cleared : (old row : List ℕ) → drop (tripleCount Q) row ≡ drop (tripleCount Q) old
       → over (replicate (tripleCount Q) 0) row ≡ cleared (M .states) old
-  unfolding over
-  row-cleared old row e =
-      ap (λ (l : List ℕ). replicate (tripleCount Q) 0 ++ l)
-      (ap (λ (n : ℕ). drop n row) (length-replicate (tripleCount Q) 0) ∙ e ∙ ap (λ (n : ℕ). drop n old) (sym (length-replicate (tripleCount Q) 0)))
-      ∙ ap (λ (q : ℕ). cleared q old) (p .size)
+  row-cleared old row e = cleared-same (tripleCount Q) old row e ∙ ap (λ (q : ℕ). cleared q old) (p .size)
 
   -- the successors of the indices in the queue are those of the smallest closed set
   pub looked-is : lookedIn R targets t m Q (s .queue) (s .count) ≡ lookedAt M

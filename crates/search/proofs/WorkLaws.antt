@@ -2,19 +2,16 @@
 use Prim.Native.Nat.{ℕ, zero, suc, _+_, _*_, _/_, _%_, _^_, _≤_, _<_}
 use mathlib.Core.Path.{_≡_, refl, ap, ap₂, sym, subst, _∙_}
 use mathlib.Core.Bool.{false}
-use mathlib.Core.Logic.{inl, inr}
-use mathlib.Core.List.{List, [], _∷_, _++_, map}
+use mathlib.Core.List.{List, [], _∷_, map}
 use native.Mathlib.Omega.{arith}
 use native.Mathlib.Nat.{mul-le-mul, zero-div}
 use lib.Dec.{eqb}
-use lib.ListN.{length, getD, drop, replicate, length-map, length-replicate}
-use Rattle.grammar.specs.Basics.{over}
-use Rattle.grammar.proofs.Lists.{lt-or-le}
+use lib.ListN.{length, getD, drop, length-map}
 use Rattle.triples.specs.Index.{tripleCount}
 use Rattle.triples.specs.Certificate.{isSet}
 use Rattle.tops.specs.Tops.{top, low, tops, lows}
 use Rattle.tops.proofs.Laws.{getD-map}
-use Rattle.explore.specs.State.{flagBase, Zero}
+use Rattle.explore.specs.State.{Zero}
 
 drop-map : (f : ℕ → ℕ) (n : ℕ) (l : List ℕ) → drop n (map f l) ≡ map f (drop n l)
 drop-map f zero l = refl
@@ -45,31 +42,6 @@ row-is (x ∷ p) (y ∷ q) a b =
 pub rest-is : (n : ℕ) (p q : List ℕ) → drop n (lows p) ≡ drop n (lows q) → drop n (tops p) ≡ drop n (tops q) → drop n p ≡ drop n q
 rest-is n p q a b =
     row-is (drop n p) (drop n q) (sym (drop-map low n p) ∙ a ∙ drop-map low n q) (sym (drop-map top n p) ∙ b ∙ drop-map top n q)
-
-zeros-at : (n : ℕ) (l : List ℕ) (i : ℕ) → i < n → getD (replicate n 0 ++ l) i 0 ≡ 0
-zeros-at zero l i h = absurd (omega arith)
-zeros-at (suc n) l zero h = refl
-zeros-at (suc n) l (suc i) h = zeros-at n l i (omega arith)
-
-none : (m : ℕ) → _≡_ {A = List ℕ} (drop m []) []
-none zero = refl
-none (suc m) = refl
-
-past-zeros : (n m : ℕ) (l : List ℕ) → n ≤ m → drop m (replicate n 0 ++ drop n l) ≡ drop m l
-past-zeros zero m l h = refl
-past-zeros (suc n) zero l h = absurd (omega arith)
-past-zeros (suc n) (suc m) [] h = ap (λ (l : List ℕ). drop m (replicate n 0 ++ l)) (sym (none n)) ∙ past-zeros n m [] (omega arith) ∙ none m
-past-zeros (suc n) (suc m) (x ∷ l) h = past-zeros n m l (omega arith)
-
--- a front of zeros, and what is past it
-pub cleared-at : (n : ℕ) (row : List ℕ) (i : ℕ) → i < n → getD (over (replicate n 0) row) i 0 ≡ 0
-unfolding over
-cleared-at n row i h = zeros-at n (drop (length (replicate {A = ℕ} n 0)) row) i h
-
-pub cleared-rest : (n m : ℕ) (row : List ℕ) → n ≤ m → drop m (over (replicate n 0) row) ≡ drop m row
-unfolding over
-cleared-rest n m row h =
-    ap (λ (k : ℕ). drop m (replicate n 0 ++ drop k row)) (length-replicate n 0) ∙ past-zeros n m row h
 
 -- no bit of zeros is set
 clear-bit : (marks : List ℕ) (x : ℕ) → getD marks (x / 8) 0 ≡ 0 → isSet marks x ≡ false

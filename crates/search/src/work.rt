@@ -6,7 +6,7 @@ ghost use Rattle.explore.specs.State.{Laid};
 ghost use Rattle.search.specs.Finish.{Enough, Searched};
 use super::SearchVerdict;
 use super::finish::answer;
-use super::finish::clear;
+use clearing::clear;
 use grammar::MAX_STATES;
 use moves::CLASSES;
 

@@ -16,8 +16,10 @@ Reads grammar text from each FILE, standard input for -. If the verdict is
 unambiguous, no sentence has two derivation trees: prints the certificate as
 lines that ambig-check reads. If the verdict is potential: prints two strings
 as ambig does, looks for a phrase with two trees, and tells where two readings
-part. What is refused, the place of a potential verdict, and warnings about
-rules and names that no sentence uses, go to standard error.
+part; of a sentence that is called ambiguous the proved library confirms, up to
+64 terminals, that it has several trees. What is refused, the place of a
+potential verdict, and warnings about rules and names that no sentence uses, go
+to standard error.
 
 A state may remember the callers of its rule: at 0 none, which is tried first,
 then 1 and 2, where the states fit, until the verdict is unambiguous. A
@@ -77,6 +79,7 @@ file that cannot be read or written, 3 potential (no trees were found, or
     needs: &[],
     files: 1,
     once: false,
+    spare: false,
 };
 
 /// Bytes of a text that is to be fixed: one for people may have comments and code.

@@ -41,6 +41,7 @@ read or written, 4 the grammar is refused. Of several pairs the worst: 2, then
     needs: &[],
     files: 2,
     once: false,
+    spare: false,
 };
 
 /// Refused: numbers for scripts, or a message.

@@ -40,6 +40,7 @@ potential (no trees were found, or --quiet).
     needs: &[("--callers=0", "--certify"), ("--callers=1", "--certify"), ("--callers=2", "--certify")],
     files: 2,
     once: true,
+    spare: false,
 };
 
 /// The name of the joined text in messages.

@@ -6,6 +6,7 @@ pub mod foreign;
 mod joins;
 mod malformed;
 pub mod nearest;
+mod rows;
 mod strings;
 
 use std::collections::{HashMap, HashSet};
@@ -16,6 +17,7 @@ use crate::joins::Pair;
 use crate::words::{key, small, LISTS};
 
 pub use joins::of_join;
+pub use rows::Rows;
 pub use strings::of_strings;
 
 /// Symbols that a right side may have.
@@ -33,10 +35,10 @@ pub struct Finding {
 }
 
 /// A part of a line, with its place from 0.
-#[derive(Clone, Copy)]
-struct Word<'a> {
-    at: usize,
-    bytes: &'a [u8],
+#[derive(Clone, Copy, Debug, PartialEq, Eq)]
+pub struct Word<'a> {
+    pub at: usize,
+    pub bytes: &'a [u8],
 }
 
 impl Word<'_> {

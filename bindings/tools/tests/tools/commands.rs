@@ -1,12 +1,12 @@
 //! What the tools have in common: options, several files, standard input, exit statuses, lines for scripts.
 
-use crate::support::{certify, corpus, file, one_a, run, said, text, Ran, CERTIFY, CHECK, JOIN};
+use crate::support::{certify, corpus, file, one_a, run, said, text, Ran, CERTIFY, CHECK, JOIN, TREES};
 
 const VERSION: &str = include_str!("../../../../VERSION");
 
 #[test]
 fn help_and_version() {
-    for (tool, name) in [(CERTIFY, "ambig-certify"), (CHECK, "ambig-check"), (JOIN, "ambig-join")] {
+    for (tool, name) in [(CERTIFY, "ambig-certify"), (CHECK, "ambig-check"), (JOIN, "ambig-join"), (TREES, "ambig-trees")] {
         for word in ["--help", "-h"] {
             let ran = run(tool, &[word], b"");
             assert!(ran.status == 0 && ran.out.starts_with(&format!("usage: {name} [OPTION]")) && ran.err.is_empty());
@@ -85,8 +85,24 @@ fn bad_use() {
         assert_eq!((ran.status, ran.out.as_str()), (2, ""));
         assert_eq!(ran.err, format!("ambig-join: {said}\n{}", usage("ambig-join", "ROBOT MODULE")));
     }
+    for (words, said) in [
+        (&[][..], "files are missing"),
+        (&["-"], "standard input can be read once only"),
+        (&["-", "-"], "standard input can be read once only"),
+        (&[grammar, grammar, grammar], "there are too many files"),
+        (&["--htlm", grammar], "there is no option --htlm; is --html meant?"),
+        (&["--html", "--json", grammar], "--html and --json do not go together"),
+        (&["-q", "--html", grammar], "--html and --quiet do not go together"),
+        (&["--callers", "1", grammar], "there is no option --callers"),
+    ] {
+        let ran = run(TREES, words, b"");
+        assert_eq!((ran.status, ran.out.as_str()), (2, ""));
+        assert_eq!(ran.err, format!("ambig-trees: {said}\n{}", usage("ambig-trees", "GRAMMAR [SENTENCES]")));
+    }
     let missing = format!("{grammar}-that-is-not-there");
     for ran in [
+        run(TREES, &[&missing], b"a\n"),
+        run(TREES, &[grammar, &missing], b""),
         run(CERTIFY, &[&missing], b""),
         run(CHECK, &[&missing, "-"], b""),
         run(CHECK, &[grammar, &missing], b""),

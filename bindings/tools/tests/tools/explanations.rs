@@ -13,6 +13,7 @@ right=(0 (1 if S )1 else (3 x )3 )0
 looked=390
 tried=0,1,2
 ambiguous: `if if S else S` has two trees, for example `if if x else x`
+confirmed: the proved entry find_trees finds several trees of this sentence
 after `if if S`: left goes on with `else`, right ends `S: if S`, line 3
 left tree:                    right tree:
 S: if S  (line 3)             S: if S else S  (line 4)
@@ -28,6 +29,7 @@ right=(0 (1 S )1 )0
 looked=55
 tried=0,1,2
 ambiguous: `a` has two trees
+confirmed: the proved entry find_trees finds several trees of this sentence
 after `a`: left ends the sentence, right ends `S: S`, line 3
 left tree:        right tree:
 S: a  (line 4)    S: S: a  (lines 3, 4)
@@ -92,7 +94,8 @@ fn the_table_beside_bison() {
     for row in rows {
         let name = row[0].trim_start_matches("| ");
         let path = folder("bindings/tools/tests/beside-bison").join(format!("{name}.grammar"));
-        let explained = run(CERTIFY, &[path.to_str().unwrap()], b"").out.lines().skip(VERDICT).count();
+        let out = run(CERTIFY, &[path.to_str().unwrap()], b"").out;
+        let explained = out.lines().skip(VERDICT).filter(|line| !line.starts_with("confirmed:")).count();
         assert_eq!(explained.to_string(), row[1], "{name}");
         assert!(explained <= row[2].parse().unwrap(), "{name}");
     }

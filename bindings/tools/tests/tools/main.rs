@@ -12,3 +12,4 @@ mod parting_strings;
 mod spelling;
 mod strings;
 mod support;
+mod trees;

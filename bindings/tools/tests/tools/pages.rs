@@ -7,7 +7,7 @@ fn page(text: &str) -> String {
 }
 
 /// Every tag is closed in its place, and nothing is left unescaped.
-fn well_formed(page: &str) {
+pub fn well_formed(page: &str) {
     let mut open: Vec<&str> = Vec::new();
     let mut rest = page.strip_prefix("<!DOCTYPE html>\n").expect("a document type");
     while let Some((text, behind)) = rest.split_once('<') {

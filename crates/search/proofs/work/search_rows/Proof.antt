@@ -11,7 +11,8 @@ use Rattle.plans.specs.Plan.{Rows, rows}
 use Rattle.plans.proofs.PlanLaws.{square-of}
 use Rattle.search.specs.Promise.{lent, Told, isPotential}
 use Rattle.search.proofs.FinishLaws.{linked}
-use Rattle.search.proofs.WorkLaws.{cleared-at, cleared-rest, rest-is, zero-marks}
+use Rattle.clearing.proofs.Laws.{cleared-at, cleared-rest}
+use Rattle.search.proofs.WorkLaws.{rest-is, zero-marks}
 use Rattle.search.proofs.AnswerLaws.{told, looked-is}
 use Rattle.search.proofs.work.search_rows.Statement.{statement}
 use Rattle.search.proofs.work.search_rows.Tie as tie
@@ -19,7 +20,7 @@ use Rattle.search.proofs.work.search_rows.Reads as reads
 use Rattle.search.proofs.work.search_rows.Lts as lts
 use Rattle.explore.proofs.explore.Reads as explore-reads
 use Rattle.search.proofs.finish.answer.Reads as answer-reads
-use Rattle.search.proofs.finish.clear.Reads as clear-reads
+use Rattle.clearing.proofs.clear.Reads as clear-reads
 
 -- from a place back to an earlier one
 abbrev clear-start : tie.After-clear → tie.Start

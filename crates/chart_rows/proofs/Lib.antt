@@ -1,0 +1,5 @@
+pub mod Turns
+pub mod PlaceLaws
+pub mod ClassLaws
+pub mod Sheets
+pub mod Written

@@ -1,0 +1,3 @@
+pub mod DiagonalLaws
+pub mod SowLaws
+pub mod BegunLaws

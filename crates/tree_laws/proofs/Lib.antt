@@ -1,0 +1,13 @@
+pub mod AtLeast
+pub mod Spans
+pub mod Cap
+pub mod Chart
+pub mod Sound
+pub mod Verdict
+pub mod Laws
+pub mod Walk
+pub mod Fill
+pub mod Places
+pub mod Settled
+pub mod Looks
+pub mod Rises

@@ -1,0 +1,4 @@
+pub mod Spans
+pub mod Chart
+pub mod Filling
+pub mod Walk

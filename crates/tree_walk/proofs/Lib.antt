@@ -1,0 +1,6 @@
+pub mod Stack
+pub mod Stable
+pub mod Turns
+pub mod Opening
+pub mod Totals
+pub mod Answers
