@@ -119,7 +119,7 @@ enum ambiguity_kind { AMBIGUITY_REFUSED = 0, AMBIGUITY_RECORD = 1, AMBIGUITY_NO_
 enum ambiguity_verdict { AMBIGUITY_NO_VERDICT = 0, AMBIGUITY_UNAMBIGUOUS = 1, AMBIGUITY_POTENTIAL = 2 };
 
 /* How many derivation trees a row of terminals has; several may be infinitely many. */
-enum ambiguity_found { AMBIGUITY_NOT_FOUND = 0, AMBIGUITY_NO_TREE = 1, AMBIGUITY_ONE_TREE = 2, AMBIGUITY_SEVERAL_TREES = 3 };
+enum ambiguity_found { AMBIGUITY_NO_ANSWER = 0, AMBIGUITY_NO_TREE = 1, AMBIGUITY_ONE_TREE = 2, AMBIGUITY_SEVERAL_TREES = 3 };
 
 /* What reading back refuses: the grammar's text, or the two lines and the rows for them. */
 enum ambiguity_part { AMBIGUITY_NO_PART = 0, AMBIGUITY_GRAMMAR = 1, AMBIGUITY_LINES = 2 };
@@ -223,7 +223,7 @@ typedef struct {
 typedef struct {
     uint64_t cause;
     uint64_t at;
-    uint64_t found; /* an ambiguity_found; with a refusal AMBIGUITY_NOT_FOUND */
+    uint64_t found; /* an ambiguity_found; with a refusal AMBIGUITY_NO_ANSWER */
     uint64_t count; /* one tree: its rules; else 0 */
 } ambiguity_trees_reply;
 

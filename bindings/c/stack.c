@@ -331,7 +331,7 @@ static int measure_names(void)
 static int measure_found(const char *what, uint64_t found)
 {
     int wrong = measure(what, run_trees, AMBIGUITY_STACK_BYTES);
-    return wrong + (trees.found != found) + (trees.cause != (found == AMBIGUITY_NOT_FOUND ? AMBIGUITY_BUFFER_TOO_SHORT : 0));
+    return wrong + (trees.found != found) + (trees.cause != (found == AMBIGUITY_NO_ANSWER ? AMBIGUITY_BUFFER_TOO_SHORT : 0));
 }
 
 /* The largest grammar that ends so. With LAST_PAIRS, which has a state more, it has two fewer. */
@@ -353,7 +353,7 @@ static int measure_trees(void)
     wrong += measure_found("ambiguity_find_trees, none", AMBIGUITY_NO_TREE);
     wrong += read_largest(LAST_PAIRS, MOST - 2);
     list_entries = AMBIGUITY_MAX_ROW / 2 - 1;
-    wrong += measure_found("ambiguity_find_trees, a list too short", AMBIGUITY_NOT_FOUND);
+    wrong += measure_found("ambiguity_find_trees, a list too short", AMBIGUITY_NO_ANSWER);
     list_entries = AMBIGUITY_MAX_ROW / 2;
     wrong += measure_found("ambiguity_find_trees, one", AMBIGUITY_ONE_TREE) + (trees.count != list_entries);
     wrong += read_largest(LAST_TREES, MOST);

@@ -804,7 +804,7 @@ static void expect_answer(const char *what, struct asked in, const uint16_t *row
                           const uint16_t *rules, size_t count)
 {
     const ambiguity_trees_reply right = {AMBIGUITY_NOT_REFUSED, 0, found, count};
-    const ambiguity_trees_reply short_of = {AMBIGUITY_BUFFER_TOO_SHORT, 0, AMBIGUITY_NOT_FOUND, 0};
+    const ambiguity_trees_reply short_of = {AMBIGUITY_BUFFER_TOO_SHORT, 0, AMBIGUITY_NO_ANSWER, 0};
     ambiguity_trees_room_reply room = ambiguity_trees_room(in.t, in.n, in.table, in.entries);
     size_t work = (size_t)room.entries;
     expect_trees(what, in, row, row_entries, work, count, right, work, rules);
@@ -820,7 +820,7 @@ static void expect_answer(const char *what, struct asked in, const uint16_t *row
 /* 22 at a place, whatever is lent. */
 static void expect_row_refused(const char *what, struct asked in, const uint16_t *row, size_t row_entries, uint64_t at)
 {
-    const ambiguity_trees_reply right = {AMBIGUITY_ROW_WRONG, at, AMBIGUITY_NOT_FOUND, 0};
+    const ambiguity_trees_reply right = {AMBIGUITY_ROW_WRONG, at, AMBIGUITY_NO_ANSWER, 0};
     expect_trees(what, in, row, row_entries, TREES_WORK, TREES_LIST, right, 0, row);
     expect_trees(what, in, row, row_entries, 0, 0, right, 0, row);
 }
@@ -847,7 +847,7 @@ static void expect_rows_refused(struct asked in)
 static void expect_no_trees(const char *what, struct asked in, uint64_t cause, uint64_t at)
 {
     static const uint16_t none[] = {0};
-    const ambiguity_trees_reply right = {cause, at, AMBIGUITY_NOT_FOUND, 0};
+    const ambiguity_trees_reply right = {cause, at, AMBIGUITY_NO_ANSWER, 0};
     ambiguity_trees_room_reply room = ambiguity_trees_room(in.t, in.n, in.table, in.entries);
     expect(what, (ambiguity_check_reply){room.cause, room.at}, cause, at);
     wrong += room.entries != 0;
