@@ -77,9 +77,9 @@
  * not proved: where there is less, a call crashes. bindings/c/stack.c measures it, and prints the figure of each function.
  * The reader, the search, the report, which lends both of them their rows, reading back, which calls the reader, and the join, whose
  * second figure is for writing the joined text, have figures of their own; the first figure is for all others. */
-#define AMBIGUITY_STACK_BYTES 83968
+#define AMBIGUITY_STACK_BYTES 66560
 #define AMBIGUITY_READ_TEXT_STACK_BYTES 65536
-#define AMBIGUITY_SEARCH_STACK_BYTES 72704
+#define AMBIGUITY_SEARCH_STACK_BYTES 53248
 #define AMBIGUITY_REPORT_STACK_BYTES 372736
 #define AMBIGUITY_READ_BACK_STACK_BYTES 65536
 #define AMBIGUITY_JOIN_STACK_BYTES 126976

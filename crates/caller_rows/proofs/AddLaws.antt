@@ -47,7 +47,7 @@ module _ (G : Grammar) (m : ℕ) (g : CheckedGrammar) (live : List ℕ) (q : ℕ
 -- ---- the next level
 
 module _ (G : Grammar) (m : ℕ) (g : CheckedGrammar) (live : List ℕ) (q : ℕ) (ahead below ranks : List ℕ) (L : Level G m g live q ahead below ranks)
-    (first callers old widths : List ℕ) (states : ℕ) (Z : Sized G m g live q first callers old widths states) where
+    (first callers old widths : List ℕ) (states : ℕ) (Z : Sized G m (g .nonterminals) (g .count) (g .lefts) (g .lengths) live q first callers old widths states) where
   abbrev W : WellFormed limits G
   W = L .sizable .wellFormed
 
@@ -65,13 +65,13 @@ module _ (G : Grammar) (m : ℕ) (g : CheckedGrammar) (live : List ℕ) (q : ℕ
   states-by row X = level-states G (L .sizable .sentence) (suc m) (g .count) (g .lengths) row (written-from .rules-are) (written-from .lengths-are) X
 
   pub counted : states ≡ length (spots limits G (suc m))
-  counted = Z .count ∙ states-by widths chains-are
+  counted = Z .total ∙ states-by widths chains-are
 
   -- if these are not too many, it can be written
   pub ready : states ≤ limits .maxStates → g .count ≤ length widths → g .count ≤ length below
       → Levelled (g .lefts) (g .lengths) (g .codes) (g .count) q first callers below widths ranks
   ready h wide deep =
-      levelled G W g (L .sizable .same) m (g .nonterminals) q first callers below widths ranks (Z .cut) chains-are (L .ranked) wide deep (omega (arith, h, Z .count)) (L .room)
+      levelled G W g (L .sizable .same) m (g .nonterminals) q first callers below widths ranks (Z .cut) chains-are (L .ranked) wide deep (omega (arith, h, Z .total)) (L .room)
 
   -- and then
   module _ (before after : Six) (X : LevelWritten (g .lefts) (g .lengths) (g .codes) q first callers below widths ranks (g .count) before after) where
@@ -111,9 +111,9 @@ module _ (G : Grammar) (m : ℕ) (g : CheckedGrammar) (live : List ℕ) (q : ℕ
 -- ---- from the items up
 
 -- no callers: each rule has one chain, and its rank is 0
-pub level-zero : (G : Grammar) (g : CheckedGrammar) (live ahead : List ℕ) → Sizable G 0 g live (g .states) ahead → g .count ≤ limits .maxRules
-    → Level G 0 g live (g .states) ahead (replicate (limits .maxRules) 1) (replicate (limits .maxStates) 0)
-level-zero G g live ahead S few =
+pub level-zero : (G : Grammar) (g : CheckedGrammar) (live : List ℕ) (q : ℕ) (ahead : List ℕ) → Sizable G 0 g live q ahead → g .count ≤ limits .maxRules
+    → Level G 0 g live q ahead (replicate (limits .maxRules) 1) (replicate (limits .maxStates) 0)
+level-zero G g live q ahead S few =
     let wide = below-zero G (S .wellFormed) g (S .same) (replicate (limits .maxRules) 1) (λ i h. getD-replicate (limits .maxRules) i 1 0 (omega (arith, h, few))) in
     record {
       sizable = S;

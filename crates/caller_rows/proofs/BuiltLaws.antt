@@ -10,7 +10,6 @@ use lib.ListN.{length, getD, take}
 use Rattle.grammar.specs.Limits.{limits}
 use Rattle.grammar.specs.Grammar.{Grammar, WellFormed}
 use Rattle.grammar.specs.Live.{isLive}
-use Rattle.grammar.specs.Record.{IsRecord}
 use Rattle.grammar.specs.declared.CheckedGrammar.{CheckedGrammar}
 use Rattle.automaton.specs.Callers.{Spot, last, spots}
 use Rattle.automaton.specs.CallerMoves.{movesAt}
@@ -25,9 +24,10 @@ use Rattle.caller_laws.specs.Classes.{RowsAre}
 use Rattle.caller_laws.proofs.Classes as classes
 use Rattle.caller_laws.proofs.Shows.{caller-shows}
 use Rattle.caller_laws.proofs.Grow.{spots-grow}
-use Rattle.live.specs.Marks.{LiveOf}
+use Rattle.live.specs.Marks.{Answers}
+use Rattle.live.proofs.ColumnLaws.{lent-record}
 use Rattle.caller_rule.specs.RuleRows.{Six, six}
-use Rattle.caller_rows.specs.Levels.{Says, Sizable, Level, Added, Stands, Reaches}
+use Rattle.caller_rows.specs.Levels.{writtenFrom, sizedBy, Says, Sizable, Level, Added, Stands, Reaches}
 use Rattle.caller_rows.specs.Rows.{Begun, BuiltWith}
 use Rattle.caller_rows.specs.declared.Built.{Built}
 use Rattle.caller_rows.proofs.KeyLaws.{ahead-zero}
@@ -37,19 +37,34 @@ apart : limits .maxTerminals < limits .nonterminalBase
 apart = omega arith
 
 -- the items are the states without callers
-pub items-sizable : (G : Grammar) (g : CheckedGrammar) (some : Bool) (live ahead : List ℕ) → Begun G g ahead → LiveOf g some live → Sizable G 0 g live (g .states) ahead
-items-sizable G g some live ahead B A =
-    let r : IsRecord g = record { grammar = G; wellFormed = B .wellFormed; same = B .same } in
+pub items-sizable : (G : Grammar) (n q count used : ℕ) (lefts lengths codes ahead : List ℕ) (some : Bool) (live : List ℕ)
+    → Begun G n q count used lefts lengths codes ahead → Answers some live G → Sizable G 0 (writtenFrom G n count lefts lengths codes) live q ahead
+items-sizable G n q count used lefts lengths codes ahead some live B A =
+    let C = B .columns in
     record {
-      wellFormed = B .wellFormed;
-      same = B .same;
+      wellFormed = C .wellFormed;
+      same = ap (λ (g : CheckedGrammar). writtenFrom G (g .nonterminals) (g .count) (g .lefts) (g .lengths) (g .codes)) (C .same);
       sentence = B .sentence;
       some = some;
       lives = A;
-      states = read g G (B .same) .total ∙ sym (zero-states limits G);
-      few = few-states g r;
-      codes = ahead-zero G (B .wellFormed) (B .old) ahead (B .items);
+      states = read _ G (C .same) .total ∙ sym (zero-states limits G);
+      few = few-states _ (lent-record C);
+      codes = ahead-zero G (C .wellFormed) (B .old) ahead (B .items);
     }
+
+-- what a level is written from sizes it too
+pub sizable-by : (G : Grammar) (m n count : ℕ) (lefts lengths codes live : List ℕ) (q : ℕ) (ahead : List ℕ)
+    → Sizable G m (writtenFrom G n count lefts lengths codes) live q ahead → Sizable G m (sizedBy G n count lefts lengths) live q ahead
+sizable-by G m n count lefts lengths codes live q ahead S = record {
+  wellFormed = S .wellFormed;
+  same = ap (λ (g : CheckedGrammar). sizedBy G (g .nonterminals) (g .count) (g .lefts) (g .lengths)) (S .same);
+  sentence = S .sentence;
+  some = S .some;
+  lives = S .lives;
+  states = S .states;
+  few = S .few;
+  codes = S .codes;
+}
 
 -- the level with m callers has no fewer states than those before it, from level 1 on
 pub grown : (G : Grammar) → WellFormed limits G → (l d : ℕ) → length (spots limits G (suc l)) ≤ length (spots limits G (d + suc l))

@@ -17,7 +17,7 @@ use Rattle.grammar.proofs.Columns.{sizes}
 use Rattle.grammar.proofs.Derives.{rule-listed}
 use Rattle.automaton.specs.Callers.{chains, spots, numberOf}
 use Rattle.automaton.specs.CallerMoves.{spotAhead}
-use Rattle.live.specs.Marks.{rightAt, before, Columns, bit, LiveOf}
+use Rattle.live.specs.Marks.{rightAt, before, Columns, bit, Answers}
 use Rattle.live.proofs.PassLaws.{before-next, before-most}
 use Rattle.live.proofs.ColumnLaws.{held, columns-of}
 use Rattle.moves.specs.Tables.{places, segment}
@@ -167,15 +167,15 @@ module _ (G : Grammar) (W : WellFormed limits G) (g : CheckedGrammar) (same : g 
 
 module _ (G : Grammar) (W : WellFormed limits G) (g : CheckedGrammar) (same : g ≡ recordOf G) where
   -- what write_widths gives
-  pub widths-are : (m n q : ℕ) (first callers : List ℕ) (some : Bool) (live old widths : List ℕ) → Cut G m n q first callers → LiveOf g some live
+  pub widths-are : (m n q : ℕ) (first callers : List ℕ) (some : Bool) (live old widths : List ℕ) → Cut G m n q first callers → Answers some live G
       → Filled old widths (g .count) (widthAt (g .lefts) live first) → WidthsOf G (suc m) (g .count) widths
   widths-are m n q first callers some live old widths C A F i h =
       F .inside i h
-      ∙ chains-width G W g same m n q first callers C live i h (isLive limits G (suc i)) (A G W same .rules i (omega (arith, h, count-is G W g same)))
+      ∙ chains-width G W g same m n q first callers C live i h (isLive limits G (suc i)) (A .rules i (omega (arith, h, count-is G W g same)))
 
   -- what the level with m + 1 callers is written from, told by the automaton
   pub level-of : (m n q : ℕ) (first callers : List ℕ) (some : Bool) (live below old widths ranks : List ℕ) → Cut G m n q first callers
-      → LiveOf g some live → Filled old widths (g .count) (widthAt (g .lefts) live first) → WidthsOf G m (g .count) below → RanksOf G m ranks
+      → Answers some live G → Filled old widths (g .count) (widthAt (g .lefts) live first) → WidthsOf G m (g .count) below → RanksOf G m ranks
       → LevelOf G m (g .lefts) (g .lengths) (g .codes) (g .count) q first callers below widths ranks
   level-of m n q first callers some live below old widths ranks C A F B R =
       let X = widths-are m n q first callers some live old widths C A F in

@@ -13,7 +13,8 @@ use Rattle.grammar.specs.declared.CheckedGrammar.{CheckedGrammar}
 use Rattle.grammar.specs.Live.{isLive}
 use Rattle.automaton.specs.Callers.{Spot, first, last, spot, chainsOf, spots, numberOf}
 use Rattle.automaton.specs.CallerMoves.{spotAhead, spotAfter}
-use Rattle.live.specs.Marks.{rightAt, LiveOf}
+use Rattle.live.specs.Marks.{rightAt, Answers}
+use Rattle.live.specs.Lent.{withColumns}
 use Rattle.moves.specs.Tables.{places, segment}
 use Rattle.caller_laws.specs.Classes.{callerOf, memberOf, targetOf, ruleAt, rank}
 use Rattle.caller_rows.specs.Contracts.{Filled, widthAt, startOf}
@@ -52,6 +53,13 @@ pub record Says (G : Grammar) (m : ℕ) (rows : Six) : Type 0 where
 
 -- ---- from one level to the next
 
+-- the record of a grammar with these columns in place of its own: those that a level is written from, and those that it is sized by
+abbrev pub writtenFrom : Grammar → ℕ → ℕ → List ℕ → List ℕ → List ℕ → CheckedGrammar
+writtenFrom G n count lefts lengths codes = withColumns G n (recordOf G .states) count (recordOf G .used) lefts lengths codes
+
+abbrev pub sizedBy : Grammar → ℕ → ℕ → List ℕ → List ℕ → CheckedGrammar
+sizedBy G n count lefts lengths = writtenFrom G n count lefts lengths (recordOf G .codes)
+
 -- the row of codes ahead is that of the states with m callers
 abbrev pub AheadOf : Grammar → ℕ → List ℕ → Type 0
 AheadOf G m ahead = (p : ℕ) → p < length (spots limits G m) → getD ahead p 0 ≡ spotAhead limits G (getD (spots limits G m) p last)
@@ -88,16 +96,16 @@ pub record Sizable (G : Grammar) (m : ℕ) (g : CheckedGrammar) (live : List ℕ
   pub same : g ≡ recordOf G
   pub sentence : isLive limits G 0 ≡ true
   pub some : Bool
-  pub lives : LiveOf g some live
+  pub lives : Answers some live G
   pub states : q ≡ length (spots limits G m)
   pub few : q ≤ limits .maxStates
   pub codes : AheadOf G m ahead
 
 -- these sorted, and of each rule the number of its callers, and of them all the states with one caller more
-pub record Sized (G : Grammar) (m : ℕ) (g : CheckedGrammar) (live : List ℕ) (q : ℕ) (first callers old widths : List ℕ) (states : ℕ) : Type 0 where
-  pub cut : Cut G m (g .nonterminals) q first callers
-  pub filled : Filled old widths (g .count) (widthAt (g .lefts) live first)
-  pub count : states ≡ startOf (g .lengths) widths (g .count)
+pub record Sized (G : Grammar) (m n count : ℕ) (lefts lengths live : List ℕ) (q : ℕ) (first callers old widths : List ℕ) (states : ℕ) : Type 0 where
+  pub cut : Cut G m n q first callers
+  pub filled : Filled old widths count (widthAt lefts live first)
+  pub total : states ≡ startOf lengths widths count
   pub first-size : length first ≡ limits .maxNonterminals + 3
   pub widths-size : length widths ≡ limits .maxRules
 

@@ -7,20 +7,18 @@ use mathlib.Core.List.{List}
 use lib.ListN.{length}
 use Rattle.grammar.specs.Basics.{over}
 use Rattle.grammar.specs.Limits.{limits}
-use Rattle.grammar.specs.Grammar.{Grammar, WellFormed}
+use Rattle.grammar.specs.Grammar.{Grammar}
 use Rattle.grammar.specs.Live.{isLive}
-use Rattle.grammar.specs.Record.{recordOf}
-use Rattle.grammar.specs.declared.CheckedGrammar.{CheckedGrammar}
 use Rattle.automaton.specs.PositionMoves.{aheadRow}
 use Rattle.automaton.specs.CallerMoves.{movesAt}
+use Rattle.live.specs.Lent.{ColumnsOf}
 use Rattle.moves.specs.Tables.{Tables}
 use Rattle.moves.specs.Shows.{Shows}
 use Rattle.caller_rows.specs.declared.Built.{Built}
 
--- the record of a grammar with a sentence, and the codes ahead of its items, as crate moves writes them over the front of a row
-pub record Begun (G : Grammar) (g : CheckedGrammar) (ahead : List ℕ) : Type 0 where
-  pub wellFormed : WellFormed limits G
-  pub same : g ≡ recordOf G
+-- the columns of a grammar with a sentence, and the codes ahead of its items, as crate moves writes them over the front of a row
+pub record Begun (G : Grammar) (n q count used : ℕ) (lefts lengths codes ahead : List ℕ) : Type 0 where
+  pub columns : ColumnsOf G n q count used lefts lengths codes
   pub sentence : isLive limits G 0 ≡ true
   pub old : List ℕ
   pub items : ahead ≡ over (aheadRow limits G (isLive limits G)) old

@@ -14,9 +14,8 @@ ghost use lib.ListN.{length, getD, take};
 ghost use Rattle.grammar.specs.Limits.{limits};
 ghost use Rattle.grammar.specs.Grammar.{Grammar};
 ghost use Rattle.moves.specs.Tables.{tables, Sorted};
-ghost use Rattle.caller_rows.specs.Levels.{Sizable, Reaches};
+ghost use Rattle.caller_rows.specs.Levels.{writtenFrom, Sizable, Reaches};
 ghost use Rattle.caller_rows.specs.Rows.{Begun, BuiltWith};
-use grammar::CheckedGrammar;
 use grammar::MAX_RULES;
 use grammar::MAX_STATES;
 use live::live_rules;
@@ -30,30 +29,40 @@ pub struct Built {
     pub kinds: u16,
 }
 
-// The levels up to m callers, or up to the first with too many states. Each rule has one chain of no callers, and its rank is 0.
-fn add_levels(
-    g: CheckedGrammar,
+// The levels above the items up to m callers, or up to the first with too many states. Each rule has one chain of no callers, and its
+// rank is 0.
+fn add_levels<'a>(
+    lefts: &'a [u16; MAX_RULES],
+    lengths: &'a [u16; MAX_RULES],
+    codes: &'a [u16; MAX_STATES],
+    count: usize,
+    n: u16,
+    items: usize,
     m: usize,
-    live: &[u8; MAX_RULES],
+    live: &'a [u8; MAX_RULES],
     ahead: &mut [u16; MAX_STATES],
     number: &mut [u16; MAX_STATES],
     member: &mut [u16; MAX_STATES],
     target: &mut [u16; MAX_STATES],
     after: &mut [u16; MAX_STATES],
 ) -> Built
-    requires { ⌜ ((G : Grammar) × Sizable G 0 g (now live) (g .states) (now ahead)) ⌝ }
-    ensures { λ r. ⌜ ((G : Grammar) → Sizable G 0 g (now (live .entry)) (g .states) (now (ahead .entry))
+    requires { ⌜ ((G : Grammar) × Sizable G 0 (writtenFrom G n count (now lefts) (now lengths) (now codes)) (now live) items (now ahead)) ⌝ }
+    ensures { λ r. ⌜ ((G : Grammar) → Sizable G 0 (writtenFrom G n count (now (lefts .entry)) (now (lengths .entry)) (now (codes .entry))) (now (live .entry)) items (now (ahead .entry))
         → Reaches G m (r .states) (r .kinds) (now (ahead .exit)) (now (number .exit)) (now (member .exit)) (now (target .exit)) (now (after .exit))) ⌝ }
 {
     let mut below = [1u16; MAX_RULES];
     let mut ranks = [0u16; MAX_STATES];
     let mut kinds = 0;
-    let mut q = g.states;
+    let mut q = items;
     let mut l = 0;
     while l < m {
         kinds = q as u16;
         q = add_level(
-            g,
+            lefts,
+            lengths,
+            codes,
+            count,
+            n,
             live,
             q,
             &mut below,
@@ -83,10 +92,16 @@ fn sort_targets(target: &[u16], q: usize, kinds: u16, first: &mut [u16], targets
     moves::sort(&target[..q], laid, first, targets);
 }
 
-// The rows of a checked grammar with m callers, m at least 1, where `ahead` has the codes ahead of the items, from crate moves. A row
-// of fewer entries than MAX_STATES is not cleared behind them.
-pub fn build(
-    g: CheckedGrammar,
+// The rows with m callers, m at least 1, of the checked grammar whose columns these are, with n nonterminals and q items, where `ahead`
+// has the codes ahead of the items, from crate moves. A row of fewer entries than MAX_STATES is not cleared behind them.
+pub fn build<'a>(
+    lefts: &'a [u16; MAX_RULES],
+    lengths: &'a [u16; MAX_RULES],
+    codes: &'a [u16; MAX_STATES],
+    count: usize,
+    used: usize,
+    n: u16,
+    q: usize,
     m: usize,
     ahead: &mut [u16; MAX_STATES],
     number: &mut [u16; MAX_STATES],
@@ -97,16 +112,30 @@ pub fn build(
     after: &mut [u16; MAX_STATES],
 ) -> Built
     requires { ⌜ 1 ≤ m ⌝ }
-    requires { ⌜ ((G : Grammar) × Begun G g (now ahead)) ⌝ }
-    ensures { λ r. ⌜ ((G : Grammar) → Begun G g (now (ahead .entry)) → BuiltWith G m r
+    requires { ⌜ ((G : Grammar) × Begun G n q count used (now lefts) (now lengths) (now codes) (now ahead)) ⌝ }
+    ensures { λ r. ⌜ ((G : Grammar) → Begun G n q count used (now (lefts .entry)) (now (lengths .entry)) (now (codes .entry)) (now (ahead .entry)) → BuiltWith G m r
         (tables (now (ahead .exit)) (now (number .exit)) (now (member .exit)) (now (target .exit)) (now (first .exit)) (now (targets .exit)) (now (after .exit)))) ⌝ }
 {
-    let live = live_rules(g);
-    let b = add_levels(g, m, &live.rules, ahead, number, member, target, after);
-    let q = b.states;
-    if MAX_STATES < q {
+    let live = live_rules(lefts, lengths, codes, count, used);
+    let b = add_levels(
+        lefts,
+        lengths,
+        codes,
+        count,
+        n,
+        q,
+        m,
+        &live.rules,
+        ahead,
+        number,
+        member,
+        target,
+        after,
+    );
+    let states = b.states;
+    if MAX_STATES < states {
         return b;
     }
-    sort_targets(target, q, b.kinds, first, targets);
+    sort_targets(target, states, b.kinds, first, targets);
     b
 }

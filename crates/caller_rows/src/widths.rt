@@ -7,10 +7,9 @@ ghost use Rattle.grammar.specs.Basics.{choose};
 ghost use Rattle.grammar.specs.Limits.{limits};
 ghost use Rattle.grammar.specs.Grammar.{Grammar};
 ghost use Rattle.caller_rows.specs.Contracts.{Filled, Segmented, widthOf, widthAt, mostProduct, startOf};
-ghost use Rattle.caller_rows.specs.Levels.{Sizable, Sized};
+ghost use Rattle.caller_rows.specs.Levels.{sizedBy, Sizable, Sized};
 use super::ranks::wide;
 use super::ranks::write_keys;
-use grammar::CheckedGrammar;
 use grammar::MAX_NONTERMINALS;
 use grammar::MAX_RULES;
 use grammar::MAX_STATES;
@@ -91,7 +90,10 @@ fn state_count<'a>(lengths: &'a [u16], count: usize, widths: &'a [u16]) -> usize
 // Sorts the q states of the level below by the nonterminal ahead of them, so that the callers of each rule lie together; writes how
 // many each rule has; and counts the states of the level.
 pub fn size_level<'a>(
-    g: CheckedGrammar,
+    lefts: &'a [u16; MAX_RULES],
+    lengths: &'a [u16; MAX_RULES],
+    count: usize,
+    n: u16,
     live: &'a [u8; MAX_RULES],
     ahead: &'a [u16; MAX_STATES],
     q: usize,
@@ -99,19 +101,17 @@ pub fn size_level<'a>(
     callers: &mut [u16; MAX_STATES],
     widths: &mut [u16; MAX_RULES],
 ) -> usize
-    requires { ⌜ ((G : Grammar) × (m : ℕ) × Sizable G m g (now live) q (now ahead)) ⌝ }
+    requires { ⌜ ((G : Grammar) × (m : ℕ) × Sizable G m (sizedBy G n count (now lefts) (now lengths)) (now live) q (now ahead)) ⌝ }
     requires { ⌜ ((k : ℕ) → getD (now callers) k 0 < limits .maxStates) ⌝ }
-    ensures { λ r. ⌜ ((G : Grammar) (m : ℕ) → Sizable G m g (now (live .entry)) q (now (ahead .entry))
-        → Sized G m g (now (live .entry)) q (now (first .exit)) (now (callers .exit)) (now (widths .entry)) (now (widths .exit)) r) ⌝ }
+    ensures { λ r. ⌜ ((G : Grammar) (m : ℕ) → Sizable G m (sizedBy G n count (now (lefts .entry)) (now (lengths .entry))) (now (live .entry)) q (now (ahead .entry))
+        → Sized G m n count (now (lefts .entry)) (now (lengths .entry)) (now (live .entry)) q (now (first .exit)) (now (callers .exit)) (now (widths .entry)) (now (widths .exit)) r) ⌝ }
 {
-    let count = g.count;
-    let n = g.nonterminals;
     let mut keys = [0u16; MAX_STATES];
     write_keys(ahead, q, n, &mut keys);
     let kinds = wide(n) + 2;
     moves::sort(&keys[..q], kinds, first, callers);
-    write_widths(&g.lefts, count, live, first, widths);
-    state_count(&g.lengths, count, widths)
+    write_widths(lefts, count, live, first, widths);
+    state_count(lengths, count, widths)
 }
 
 // The numbers of callers, handed on to the next level.

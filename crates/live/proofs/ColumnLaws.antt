@@ -16,6 +16,7 @@ use Rattle.grammar.proofs.Derives.{rule-listed}
 use Rattle.grammar.proofs.Lists.{mem-either}
 use Rattle.grammar.proofs.Lists.{no-element}
 use Rattle.live.specs.Marks.{Small, before, leftAt, rightAt, Columns}
+use Rattle.live.specs.Lent.{withColumns, ColumnsOf}
 
 abbrev line : List Rule → ℕ → Rule
 line rs i = getD rs i (record { left = 0; right = [] })
@@ -114,3 +115,16 @@ columns-of g r = subst (λ (g : CheckedGrammar). Columns (g .lefts) (g .lengths)
           (λ k. below-zeros (limits .nonterminalBase + limits .maxNonterminals) (limits .maxStates - length (codes (G .rules))) (omega arith) x k)
           (mem-either (codes (G .rules)) (replicate (limits .maxStates - length (codes (G .rules))) 0) m));
     }
+
+-- ---- columns that are lent
+
+-- with them the record is the grammar's
+pub lent-record : {G : Grammar} {n q count used : ℕ} {ls ns cs : List ℕ} → ColumnsOf G n q count used ls ns cs → IsRecord (withColumns G n q count used ls ns cs)
+lent-record {G = G} C = record { grammar = G; wellFormed = C .wellFormed; same = C .same }
+
+-- and those of a record are its grammar's
+pub lent-of : (g : CheckedGrammar) (G : Grammar) → WellFormed limits G → g ≡ recordOf G
+    → ColumnsOf G (g .nonterminals) (g .states) (g .count) (g .used) (g .lefts) (g .lengths) (g .codes)
+lent-of g G w e =
+    subst (λ (g : CheckedGrammar). ColumnsOf G (g .nonterminals) (g .states) (g .count) (g .used) (g .lefts) (g .lengths) (g .codes)) (sym e)
+    (record { wellFormed = w; same = refl })

@@ -8,11 +8,13 @@ ghost use Prim.Native.Nat.{ℕ, _+_, _≤_, _<_};
 ghost use mathlib.Core.Bool.{_&&_};
 ghost use lib.ListN.{length, getD};
 ghost use Rattle.grammar.specs.Limits.{limits};
-ghost use Rattle.grammar.specs.Record.{IsRecord};
-ghost use Rattle.live.specs.Marks.{marked, allMarked, Small, leftAt, rightAt, Columns, bit, SentenceOf, LiveOf};
-use grammar::CheckedGrammar;
+ghost use Rattle.grammar.specs.Grammar.{Grammar};
+ghost use Rattle.grammar.specs.Live.{hasSentence};
+ghost use Rattle.live.specs.Marks.{marked, allMarked, Small, leftAt, rightAt, Columns, bit, Answers};
+ghost use Rattle.live.specs.Lent.{ColumnsOf};
 use grammar::MAX_NONTERMINALS;
 use grammar::MAX_RULES;
+use grammar::MAX_STATES;
 use marks::all_marked;
 use marks::is_marked;
 use passes::mark_productive;
@@ -72,42 +74,43 @@ fn write_live<'a>(
     }
 }
 
-// Is there a sentence of a checked grammar?
-pub fn has_sentence(g: CheckedGrammar) -> bool
-    requires { ⌜ IsRecord g ⌝ }
-    ensures { λ r. ⌜ SentenceOf g r ⌝ }
+// Is there a sentence of the checked grammar whose columns these are?
+pub fn has_sentence<'a>(
+    lefts: &'a [u16; MAX_RULES],
+    lengths: &'a [u16; MAX_RULES],
+    codes: &'a [u16; MAX_STATES],
+    count: usize,
+    used: usize,
+) -> bool
+    requires { ⌜ ((G : Grammar) × (n : ℕ) × (q : ℕ) × ColumnsOf G n q count used (now lefts) (now lengths) (now codes)) ⌝ }
+    ensures { λ r. ⌜ ((G : Grammar) (n q : ℕ) → ColumnsOf G n q count used (now (lefts .entry)) (now (lengths .entry)) (now (codes .entry)) → r ≡ hasSentence limits G) ⌝ }
 {
-    let count = g.count;
-    let used = g.used;
     let mut productive = [0u8; MAX_NONTERMINALS];
-    mark_productive(&g.lefts, &g.lengths, &g.codes, count, used, &mut productive);
+    mark_productive(lefts, lengths, codes, count, used, &mut productive);
     0 < productive[0]
 }
 
-// Which rules of a checked grammar are live, and is there a sentence?
-pub fn live_rules(g: CheckedGrammar) -> LiveRules
-    requires { ⌜ IsRecord g ⌝ }
-    ensures { λ r. ⌜ LiveOf g (r .sentence) (r .rules) ⌝ }
+// Which rules of that grammar are live, and is there a sentence?
+pub fn live_rules<'a>(
+    lefts: &'a [u16; MAX_RULES],
+    lengths: &'a [u16; MAX_RULES],
+    codes: &'a [u16; MAX_STATES],
+    count: usize,
+    used: usize,
+) -> LiveRules
+    requires { ⌜ ((G : Grammar) × (n : ℕ) × (q : ℕ) × ColumnsOf G n q count used (now lefts) (now lengths) (now codes)) ⌝ }
+    ensures { λ r. ⌜ ((G : Grammar) (n q : ℕ) → ColumnsOf G n q count used (now (lefts .entry)) (now (lengths .entry)) (now (codes .entry)) → Answers (r .sentence) (r .rules) G) ⌝ }
 {
-    let count = g.count;
-    let used = g.used;
     let mut productive = [0u8; MAX_NONTERMINALS];
-    mark_productive(&g.lefts, &g.lengths, &g.codes, count, used, &mut productive);
+    mark_productive(lefts, lengths, codes, count, used, &mut productive);
     let mut reached = [0u8; MAX_NONTERMINALS];
     reached[0] = 1;
-    mark_reachable(
-        &g.lefts,
-        &g.lengths,
-        &g.codes,
-        count,
-        &productive,
-        &mut reached,
-    );
+    mark_reachable(lefts, lengths, codes, count, &productive, &mut reached);
     let mut rules = [0u8; MAX_RULES];
     write_live(
-        &g.lefts,
-        &g.lengths,
-        &g.codes,
+        lefts,
+        lengths,
+        codes,
         count,
         &productive,
         &reached,

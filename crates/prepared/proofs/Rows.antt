@@ -1,12 +1,12 @@
 -- What is built for a record is prepared for the grammar that it stands for, and for the table of that grammar. Assumes nothing.
 use Prim.Native.Nat.{ℕ, zero, suc, _+_, _≤_, _<_}
 use mathlib.Core.Path.{_≡_, refl, sym, ap, ap₂, subst, subst₂, _∙_}
+use mathlib.Core.Bool.{true}
 use mathlib.Core.List.{List}
 use native.Mathlib.Omega.{arith}
 use lib.ListN.{length}
 use Rattle.grammar.specs.Limits.{limits}
 use Rattle.grammar.specs.Grammar.{Grammar, WellFormed}
-use Rattle.grammar.specs.Record.{recordOf, IsRecord}
 use Rattle.grammar.specs.Live.{isLive}
 use Rattle.grammar.specs.Refusal.{Answer, done, refused, tooManyStates}
 use Rattle.grammar.specs.TableCheck.{checkTable}
@@ -21,8 +21,9 @@ use Rattle.triple_laws.proofs.Position.{position-regular}
 use Rattle.triple_laws.proofs.CallerPosition.{with-regular}
 use Rattle.triple_laws.proofs.CallerZero.{zero-states}
 use Rattle.triple_laws.proofs.CallerChecks.{many-states, within, table-stops, table-goes}
+use Rattle.live.proofs.ColumnLaws.{lent-of}
 use Rattle.table_check.proofs.Callers.{PassedTable}
-use Rattle.moves.specs.Tables.{Tables, Built, BuiltOf}
+use Rattle.moves.specs.Tables.{Tables, Built}
 use Rattle.moves.specs.Shows.{Shows}
 use Rattle.moves.proofs.Columns.{read}
 use Rattle.moves.proofs.Shows.{built-shows}
@@ -69,39 +70,38 @@ prepares-of t n table m w rows G c p = record {
 }
 
 -- the record of a table that passed
-pub checked-of : (t n : ℕ) (table : List ℕ) (g : CheckedGrammar) (p : PassedTable t n table g) → IsChecked (p .grammar) g
+pub checked-of : (t n : ℕ) (table : List ℕ) (g : CheckedGrammar) (p : PassedTable t n table g)
+    → IsChecked (p .grammar) (g .terminals) (g .nonterminals) (g .states) (g .count) (g .used) (g .lefts) (g .lengths) (g .codes)
 unfolding isLive
 checked-of t n table g p = record {
-  wellFormed = p .wellFormed;
-  same = p .same;
+  columns = lent-of g (p .grammar) (p .wellFormed) (p .same);
+  terminals = read g (p .grammar) (p .same) .terminals;
   sentence = passed-stored limits t n table (p .grammar) (p .checked) .1;
 }
 
-module _ (G : Grammar) (g : CheckedGrammar) (k : IsChecked G g) where
-  pub record-of : IsRecord g
-  record-of = record { grammar = G; wellFormed = k .wellFormed; same = k .same }
-
+module _ (G : Grammar) (t n q count used : ℕ) (lefts lengths codes : List ℕ) (k : IsChecked G t n q count used lefts lengths codes) where
   -- the rows of crate moves are what the callers are added to
-  pub begun-of : (old new : Tables) → Built G old new → Begun G g (new .ahead)
-  begun-of old new b = record { wellFormed = k .wellFormed; same = k .same; sentence = k .sentence; old = old .ahead; items = b .ahead }
+  pub begun-of : (old new : Tables) → Built G old new → Begun G n q count used lefts lengths codes (new .ahead)
+  begun-of old new b = record { columns = k .columns; sentence = k .sentence; old = old .ahead; items = b .ahead }
 
   -- and without callers they are those of the automaton
-  pub without : (m : ℕ) → m ≡ 0 → (w : Prepared) (old new : Tables) → BuiltOf g old new → w .verdict ≡ Passed → w .terminals ≡ g .terminals
-      → w .kinds ≡ g .nonterminals + 1 → w .states ≡ g .states → length (new .targets) ≡ limits .maxStates → PreparesFor G m w new
-  without m z w old new b v t n q long =
-      let r = read g G (k .same) in
-      let R = position-regular limits G (k .wellFormed) (omega arith) in
-      let size : w .states ≡ movesOf limits G .states = q ∙ r .total in
+  pub without : (m : ℕ) → m ≡ 0 → (w : Prepared) (old new : Tables) → Built G old new → w .verdict ≡ Passed → w .terminals ≡ t
+      → w .kinds ≡ n + 1 → w .states ≡ q → length (new .targets) ≡ limits .maxStates → PreparesFor G m w new
+  without m z w old new b v e f h long =
+      let W = k .columns .wellFormed in
+      let r = read _ G (k .columns .same) in
+      let R = position-regular limits G W (omega arith) in
+      let size : w .states ≡ movesOf limits G .states = h ∙ r .total in
       let p : PreparesFor G 0 w new = record {
-        sized = record { least = omega (arith, size, R .four); most = omega (arith, size, k .wellFormed .size) };
+        sized = record { least = omega (arith, size, R .four); most = omega (arith, size, W .size) };
         refused-as = λ d p e. no-pass (sym e ∙ v);
-        passed-as = λ e. (
-          within limits G 0 (omega arith) (omega (arith, zero-states limits G, k .wellFormed .size)),
+        passed-as = λ _. (
+          within limits G 0 (omega arith) (omega (arith, zero-states limits G, W .size)),
           record {
             regular = R;
             size = size;
-            shows = subst₂ (λ (t n : ℕ). Shows (movesOf limits G) t n new) (sym (t ∙ r .terminals)) (sym (n ∙ ap (λ n. n + 1) (r .nonterminals)))
-                (built-shows G (k .wellFormed) old new (b G (k .wellFormed) (k .same)));
+            shows = subst₂ (λ (t n : ℕ). Shows (movesOf limits G) t n new) (sym (e ∙ k .terminals)) (sym (f ∙ ap (λ n. n + 1) (r .nonterminals)))
+                (built-shows G W old new b);
             long = long;
           },
         );
@@ -113,20 +113,19 @@ some-callers : (G : Grammar) (m : ℕ) → 1 ≤ m → movesAt limits G m ≡ mo
 some-callers G zero h = absurd (omega arith)
 some-callers G (suc m) h = refl
 
-module _ (G : Grammar) (g : CheckedGrammar) (ahead : List ℕ) (k : Begun G g ahead) (m : ℕ) (some : 1 ≤ m) (few : m ≤ mostCallers) (b : callers.Built)
+module _ (G : Grammar) (W : WellFormed limits G) (sentence : isLive limits G 0 ≡ true) (m : ℕ) (some : 1 ≤ m) (few : m ≤ mostCallers) (b : callers.Built)
     (rows : Tables) (built : BuiltWith G m b rows) where
   -- too many states
   pub too-many : limits .maxStates < b .states → checkCallers limits G m ≡ refused tooManyStates 0
   too-many h = many-states limits G m few (built .many h)
 
   -- or rows that show the moves
-  pub with-callers : (w : Prepared) → b .states ≤ limits .maxStates → w .verdict ≡ Passed → w .terminals ≡ g .terminals
+  pub with-callers : (w : Prepared) → b .states ≤ limits .maxStates → w .verdict ≡ Passed → w .terminals ≡ G .terminals
       → w .kinds ≡ b .kinds → w .states ≡ b .states → PreparesFor G m w rows
   with-callers w h v t n q =
-      let r = read g G (k .same) in
       let f = built .fits h in
       let e = some-callers G m some in
-      let R = with-regular limits G (k .wellFormed) (omega arith) (k .sentence) m in
+      let R = with-regular limits G W (omega arith) sentence m in
       let size : w .states ≡ movesWith limits G m .states = q ∙ f .0 ∙ ap (λ (M : Moves). M .states) e in
       record {
         sized = record { least = omega (arith, size, R .four); most = omega (arith, q, h) };
@@ -136,7 +135,7 @@ module _ (G : Grammar) (g : CheckedGrammar) (ahead : List ℕ) (k : Begun G g ah
           record {
             regular = R;
             size = size;
-            shows = subst₂ (λ (t n : ℕ). Shows (movesWith limits G m) t n rows) (sym (t ∙ r .terminals)) (sym n)
+            shows = subst₂ (λ (t n : ℕ). Shows (movesWith limits G m) t n rows) (sym t) (sym n)
                 (subst (λ (M : Moves). Shows M (G .terminals) (b .kinds) rows) e (f .1));
             long = f .2;
           },

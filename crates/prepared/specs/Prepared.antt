@@ -6,15 +6,14 @@ use mathlib.Core.Bool.{true}
 use mathlib.Core.List.{List}
 use lib.ListN.{length}
 use Rattle.grammar.specs.Limits.{limits}
-use Rattle.grammar.specs.Grammar.{Grammar, WellFormed}
+use Rattle.grammar.specs.Grammar.{Grammar}
 use Rattle.grammar.specs.Live.{isLive}
-use Rattle.grammar.specs.Record.{recordOf}
-use Rattle.grammar.specs.declared.CheckedGrammar.{CheckedGrammar}
 use Rattle.grammar.specs.Refusal.{done, refused}
 use Rattle.grammar.specs.declared.TableVerdict.the-variants.{Passed, Refused}
 use Rattle.automaton.specs.Moves.{Moves, Regular}
 use Rattle.automaton.specs.Callers.{checkCallers, checkWith}
 use Rattle.automaton.specs.CallerMoves.{movesWith}
+use Rattle.live.specs.Lent.{ColumnsOf}
 use Rattle.moves.specs.Tables.{Tables}
 use Rattle.moves.specs.Shows.{Shows}
 use Rattle.prepared.specs.declared.Prepared.{Prepared}
@@ -31,10 +30,10 @@ pub record RowsOf (M : Moves) (w : Prepared) (rows : Tables) : Type 0 where
   pub shows : Shows M (w .terminals) (w .kinds) rows
   pub long : length (rows .targets) ≡ limits .maxStates
 
--- the record is that of a well-formed grammar with a sentence
-pub record IsChecked (G : Grammar) (g : CheckedGrammar) : Type 0 where
-  pub wellFormed : WellFormed limits G
-  pub same : g ≡ recordOf G
+-- t, n, Q and the columns are those of a grammar with a sentence
+pub record IsChecked (G : Grammar) (t n q count used : ℕ) (lefts lengths codes : List ℕ) : Type 0 where
+  pub columns : ColumnsOf G n q count used lefts lengths codes
+  pub terminals : t ≡ G .terminals
   pub sentence : isLive limits G 0 ≡ true
 
 -- 21 or 8, or the rows of a grammar with m callers

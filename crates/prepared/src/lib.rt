@@ -8,8 +8,8 @@ ghost use Rattle.automaton.specs.Callers.{mostCallers};
 ghost use Rattle.moves.specs.Tables.{tables};
 ghost use Rattle.caller_rows.specs.Rows.{Begun};
 ghost use Rattle.prepared.specs.Prepared.{IsChecked, PreparesFor, Prepares};
-use grammar::CheckedGrammar;
 use grammar::MAX_CALLERS;
+use grammar::MAX_RULES;
 use grammar::MAX_STATES;
 use grammar::TOO_MANY_CALLERS;
 use grammar::TOO_MANY_STATES;
@@ -37,8 +37,15 @@ fn stopped(cause: u8, at: usize) -> Prepared
 }
 
 // With callers: the rows of crate caller_rows, or 8 where they have too many states.
-fn add_callers(
-    g: CheckedGrammar,
+fn add_callers<'a>(
+    lefts: &'a [u16; MAX_RULES],
+    lengths: &'a [u16; MAX_RULES],
+    codes: &'a [u16; MAX_STATES],
+    count: usize,
+    used: usize,
+    t: u16,
+    n: u16,
+    q: usize,
     callers: usize,
     ahead: &mut [u16; MAX_STATES],
     number: &mut [u16; MAX_STATES],
@@ -49,12 +56,18 @@ fn add_callers(
     after: &mut [u16; MAX_STATES],
 ) -> Prepared
     requires { ⌜ (1 ≤ callers) × (callers ≤ mostCallers) ⌝ }
-    requires { ⌜ ((G : Grammar) × Begun G g (now ahead)) ⌝ }
-    ensures { λ w. ⌜ ((G : Grammar) → Begun G g (now (ahead .entry)) → PreparesFor G callers w
+    requires { ⌜ ((G : Grammar) × (t ≡ G .terminals) × Begun G n q count used (now lefts) (now lengths) (now codes) (now ahead)) ⌝ }
+    ensures { λ w. ⌜ ((G : Grammar) → t ≡ G .terminals → Begun G n q count used (now (lefts .entry)) (now (lengths .entry)) (now (codes .entry)) (now (ahead .entry)) → PreparesFor G callers w
         (tables (now (ahead .exit)) (now (number .exit)) (now (member .exit)) (now (target .exit)) (now (first .exit)) (now (targets .exit)) (now (after .exit)))) ⌝ }
 {
     let b = caller_rows::build(
-        g,
+        lefts,
+        lengths,
+        codes,
+        count,
+        used,
+        n,
+        q,
         callers,
         ahead,
         number,
@@ -67,20 +80,27 @@ fn add_callers(
     if MAX_STATES < b.states {
         return stopped(TOO_MANY_STATES, 0);
     }
-    let terminals = g.terminals;
     let kinds = b.kinds;
     let states = b.states;
     Prepared {
         verdict: TableVerdict::Passed,
-        terminals,
+        terminals: t,
         kinds,
         states,
     }
 }
 
-// The rows of a checked grammar: 21 first, then the rows of crate moves, or with callers those that are built from them.
-fn prepare_rows(
-    g: CheckedGrammar,
+// The rows of the checked grammar whose columns these are: 21 first, then the rows of crate moves, or with callers those that are built
+// from them.
+fn prepare_rows<'a>(
+    lefts: &'a [u16; MAX_RULES],
+    lengths: &'a [u16; MAX_RULES],
+    codes: &'a [u16; MAX_STATES],
+    count: usize,
+    used: usize,
+    t: u16,
+    n: u16,
+    q: usize,
     callers: usize,
     ahead: &mut [u16; MAX_STATES],
     number: &mut [u16; MAX_STATES],
@@ -90,17 +110,39 @@ fn prepare_rows(
     targets: &mut [u16; MAX_STATES],
     after: &mut [u16; MAX_STATES],
 ) -> Prepared
-    requires { ⌜ ((G : Grammar) × IsChecked G g) ⌝ }
-    ensures { λ w. ⌜ ((G : Grammar) → IsChecked G g → PreparesFor G callers w
+    requires { ⌜ ((G : Grammar) × IsChecked G t n q count used (now lefts) (now lengths) (now codes)) ⌝ }
+    ensures { λ w. ⌜ ((G : Grammar) → IsChecked G t n q count used (now (lefts .entry)) (now (lengths .entry)) (now (codes .entry)) → PreparesFor G callers w
         (tables (now (ahead .exit)) (now (number .exit)) (now (member .exit)) (now (target .exit)) (now (first .exit)) (now (targets .exit)) (now (after .exit)))) ⌝ }
 {
     if MAX_CALLERS < callers {
         return stopped(TOO_MANY_CALLERS, 0);
     }
-    moves::build(g, ahead, number, member, target, first, targets, after);
+    moves::build(
+        lefts,
+        lengths,
+        codes,
+        count,
+        used,
+        n,
+        q,
+        ahead,
+        number,
+        member,
+        target,
+        first,
+        targets,
+        after,
+    );
     if 0 < callers {
         return add_callers(
-            g,
+            lefts,
+            lengths,
+            codes,
+            count,
+            used,
+            t,
+            n,
+            q,
             callers,
             ahead,
             number,
@@ -111,18 +153,17 @@ fn prepare_rows(
             after,
         );
     }
-    let terminals = g.terminals;
-    let kinds = g.nonterminals + 1;
-    let states = g.states;
+    let kinds = n + 1;
     Prepared {
         verdict: TableVerdict::Passed,
-        terminals,
+        terminals: t,
         kinds,
-        states,
+        states: q,
     }
 }
 
-// The table check, then 21 and 8, then the rows.
+// The table check, then 21 and 8, then the rows. The columns are lent from where the check left them, since a record that is handed on
+// by value is copied.
 pub fn prepare(
     t: usize,
     n: usize,
@@ -146,9 +187,20 @@ pub fn prepare(
             return stopped(cause, at);
         }
         TableVerdict::Passed => {
-            let g = checked.grammar;
+            let count = checked.grammar.count;
+            let used = checked.grammar.used;
+            let terminals = checked.grammar.terminals;
+            let nonterminals = checked.grammar.nonterminals;
+            let states = checked.grammar.states;
             return prepare_rows(
-                g,
+                &checked.grammar.lefts,
+                &checked.grammar.lengths,
+                &checked.grammar.codes,
+                count,
+                used,
+                terminals,
+                nonterminals,
+                states,
                 callers,
                 ahead,
                 number,

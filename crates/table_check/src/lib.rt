@@ -3,6 +3,7 @@ mod earlier;
 mod reading;
 
 pub use earlier::same_rule;
+pub use reading::read_rule;
 ghost use mathlib.Core.Path.{_≡_};
 ghost use Prim.Native.Nat.{_+_, _≤_};
 ghost use lib.ListN.{length};
@@ -28,7 +29,6 @@ use grammar::TableChecked;
 use grammar::TableVerdict;
 use live::has_sentence;
 use reading::code;
-use reading::read_rule;
 
 // One rule of the table: its length, or the refusal.
 pub enum RuleRead {
@@ -117,9 +117,11 @@ fn refuse(cause: u8, at: usize) -> TableChecked
     }
 }
 
-// 1 to 8: the record of the grammar that the table stores, or the first refusal in document 01's order with an empty record.
-fn check_stored(t: usize, n: usize, table: &[u16]) -> TableChecked
-    ensures { λ r. ⌜ r ≡ tableChecked (storedTable limits t n (now (table .entry))) ⌝ }
+// 1 to 8: the record of the grammar that the table stores, or the first refusal in document 01's order with an empty record; then 19
+// for a grammar without a sentence, where the whole check is asked for. One function does all, so that the record is copied only as it
+// is returned.
+pub fn check_up_to(t: usize, n: usize, table: &[u16], whole: bool) -> TableChecked
+    ensures { λ r. ⌜ r ≡ tableChecked (choose whole (checkTable limits t n (now (table .entry))) (storedTable limits t n (now (table .entry)))) ⌝ }
 {
     if !in_range(t, n) {
         return refuse(OUT_OF_RANGE, 0);
@@ -158,32 +160,16 @@ fn check_stored(t: usize, n: usize, table: &[u16]) -> TableChecked
             }
         }
     }
+    if whole {
+        let count = g.count;
+        let used = g.used;
+        if !has_sentence(&g.lefts, &g.lengths, &g.codes, count, used) {
+            return refuse(NO_SENTENCE, 0);
+        }
+    }
     TableChecked {
         verdict: TableVerdict::Passed,
         grammar: g,
-    }
-}
-
-// Then 19 for a grammar without a sentence, where the whole check is asked for. It alone calls check_stored, whose record is then its own.
-pub fn check_up_to(t: usize, n: usize, table: &[u16], whole: bool) -> TableChecked
-    ensures { λ r. ⌜ r ≡ tableChecked (choose whole (checkTable limits t n (now (table .entry))) (storedTable limits t n (now (table .entry)))) ⌝ }
-{
-    let checked = check_stored(t, n, table);
-    let verdict = checked.verdict;
-    match verdict {
-        TableVerdict::Refused(cause, at) => {
-            return refuse(cause, at);
-        }
-        TableVerdict::Passed => {
-            if whole {
-                let g = checked.grammar;
-                if has_sentence(g) {
-                    return checked;
-                }
-                return refuse(NO_SENTENCE, 0);
-            }
-            return checked;
-        }
     }
 }
 

@@ -4,7 +4,7 @@ use Prim.Native.Nat.{ℕ, suc, _-_, _≤_}
 use mathlib.Core.Path.{_≡_, _∙_}
 use Rattle.grammar.specs.Grammar.{Grammar}
 use Rattle.moves.proofs.Built.{columns-of}
-use Rattle.caller_rows.specs.Levels.{Sizable, Level, Stands}
+use Rattle.caller_rows.specs.Levels.{writtenFrom, Sizable, Level, Stands}
 use Rattle.caller_rows.proofs.AddLaws.{record-of, level-zero}
 use Rattle.caller_rows.proofs.BuiltLaws.{too-many, next-at, next-stands}
 use borrow.Author.Needs.{needs}
@@ -12,13 +12,13 @@ use Rattle.caller_rows.proofs.add_levels.Statement.{statement}
 use Rattle.caller_rows.proofs.add_levels.Tie as tie
 
 abbrev Inv-loop : tie.InvT-loop
-Inv-loop g m live ahead₀ number₀ member₀ target₀ after₀ below₀ ranks₀ kinds₀ q₀ l₀ ahead number member target after below ranks kinds q l =
+Inv-loop lefts lengths codes count n items m live ahead₀ number₀ member₀ target₀ after₀ below₀ ranks₀ kinds₀ q₀ l₀ ahead number member target after below ranks kinds q l =
     (l ≤ m)
-    × ((G : Grammar) → Sizable G 0 g live (g .states) ahead₀ → Level G l g live q ahead below ranks)
-    × ((G : Grammar) → Sizable G 0 g live (g .states) ahead₀ → (k : ℕ) → l ≡ suc k → Stands G k q kinds ahead number member target after)
+    × ((G : Grammar) → Sizable G 0 (writtenFrom G n count lefts lengths codes) live items ahead₀ → Level G l (writtenFrom G n count lefts lengths codes) live q ahead below ranks)
+    × ((G : Grammar) → Sizable G 0 (writtenFrom G n count lefts lengths codes) live items ahead₀ → (k : ℕ) → l ≡ suc k → Stands G k q kinds ahead number member target after)
 
 abbrev μ-loop : tie.MeasureT-loop
-μ-loop g m live ahead₀ number₀ member₀ target₀ after₀ below₀ ranks₀ kinds₀ q₀ l₀ ahead number member target after below ranks kinds q l = m - l
+μ-loop lefts lengths codes count n items m live ahead₀ number₀ member₀ target₀ after₀ below₀ ranks₀ kinds₀ q₀ l₀ ahead number member target after below ranks kinds q l = m - l
 
 -- from a place back to an earlier one
 abbrev turn-of-add-level-arg5 : tie.After-add-level-arg5 Inv-loop μ-loop → tie.In-loop Inv-loop μ-loop
@@ -31,7 +31,7 @@ turn c = c .before .before .before .before .before .before .before .before
 loop-holds : tie.Need-loop-holds Inv-loop μ-loop
 loop-holds c = (
   omega arith,
-  λ G S. level-zero G _ _ _ S (columns-of _ (record-of G 0 _ _ _ _ S) .few),
+  λ G S. level-zero G _ _ _ _ S (columns-of _ (record-of G 0 _ _ _ _ S) .few),
   λ G S k e. absurd (omega (arith, e)),
 )
 

@@ -5,15 +5,19 @@ use Rattle.prepared.proofs.Rows.{stopped-by, prepares-of, checked-of}
 use Rattle.prepared.proofs.prepare.Statement.{statement}
 use Rattle.prepared.proofs.prepare.Tie as tie
 
--- from the record's grammar back to the call of the table check, and from there to the function's entry
-abbrev checkedAt : tie.After-g → tie.After-check-table
+-- from the record back to the call of the table check, and from there to the function's entry
+abbrev checkedAt : tie.After-checked → tie.After-check-table
 checkedAt c = c .before .before .before
 
 abbrev entry : tie.After-check-table → tie.Start
 entry c = c .before .before
 
+-- from the last row that is lent back to the record
+abbrev lent : tie.After-prepare-rows-arg10 → tie.After-checked
+lent c = c .before .before .before .before .before .before .before .before .before .before
+
 -- the table passes with the grammar of the record
-passed : (c : tie.After-g) → let a = entry (checkedAt c) .args in PassedTable (a .t) (a .n) (a .table .now) (checkedAt c .check-table .result .grammar)
+passed : (c : tie.After-checked) → let a = entry (checkedAt c) .args in PassedTable (a .t) (a .n) (a .table .now) (checkedAt c .check-table .result .grammar)
 passed c =
     let a = entry (checkedAt c) .args in
     let k = checkedAt c .check-table in
@@ -41,12 +45,12 @@ enum-told c = search needs
 
 prepare-rows-requires : tie.Need-prepare-rows-requires
 prepare-rows-requires c κs =
-    let p = passed (c .before .before .before .before .before .before .before) in
+    let p = passed (lent c) in
     (p .grammar, checked-of _ _ _ _ p)
 
 returns-2 : tie.Need-returns-2
 returns-2 c =
-    let g = c .before .before .before .before .before .before .before .before in
+    let g = lent (c .before) in
     let a = entry (checkedAt g) .args in
     let p = passed g in
     prepares-of (a .t) (a .n) (a .table .now) (a .callers) _ _ (p .grammar) (p .checked) (c .prepare-rows .ensures (p .grammar) (checked-of _ _ _ _ p))

@@ -6,8 +6,9 @@ use mathlib.Core.Path.{_≡_, refl}
 use Rattle.grammar.specs.Refusal.{tooManyCallers}
 use Rattle.grammar.specs.Limits.{limits}
 use Rattle.triple_laws.proofs.CallerChecks.{many-callers}
+use Rattle.live.proofs.ColumnLaws.{lent-record}
 use Rattle.moves.proofs.Built.{few-nonterminals, room-of}
-use Rattle.prepared.proofs.Rows.{stopped-for, record-of, begun-of, without}
+use Rattle.prepared.proofs.Rows.{stopped-for, begun-of, without}
 use Rattle.prepared.proofs.prepare_rows.Statement.{statement}
 use Rattle.prepared.proofs.prepare_rows.Tie as tie
 
@@ -29,8 +30,7 @@ returns c =
 build-requires : tie.Need-build-requires
 build-requires c κs =
     let p = c .before .before .before .before .before .before .before .before .pre in
-    let r = record-of (p .0) _ (p .1) in
-    (r, room-of _ _ r (search needs) (search needs) (search needs) (search needs) (search needs) (search needs) (search needs))
+    ((p .0, p .1 .columns), room-of _ _ (lent-record (p .1 .columns)) (search needs) (search needs) (search needs) (search needs) (search needs) (search needs) (search needs))
 
 add-callers-requires : tie.Need-add-callers-requires
 add-callers-requires c κs =
@@ -39,27 +39,27 @@ add-callers-requires c κs =
     let e = start (tested w) in
     let p = e .pre in (
       (omega (arith, t .if2 .taken), tested w .if1 .left),
-      (p .0, begun-of (p .0) _ (p .1) _ _ (w .build .ensures (p .0) (p .1 .wellFormed) (p .1 .same))),
+      (p .0, p .1 .terminals, begun-of _ _ _ _ _ _ _ _ _ (p .1) _ _ (w .build .ensures (p .0) (p .1 .columns))),
     )
 
 returns-2 : tie.Need-returns-2
 returns-2 c =
     let w = c .before .before .before .before .before .before .before .before .before in
-    λ G k. c .add-callers .ensures G (begun-of G _ k _ _ (w .build .ensures G (k .wellFormed) (k .same)))
+    λ G k. c .add-callers .ensures G (k .terminals) (begun-of _ _ _ _ _ _ _ _ _ k _ _ (w .build .ensures G (k .columns)))
 
 add-kinds : tie.Need-add-kinds
 add-kinds c =
-    let p = start (tested (c .before .before)) .pre in
-    omega (arith, few-nonterminals _ (record-of (p .0) _ (p .1)))
+    let p = start (tested (c .before)) .pre in
+    omega (arith, few-nonterminals _ (lent-record (p .1 .columns)))
 
 returns-3 : tie.Need-returns-3
 returns-3 c =
-    let w = c .before .before in
+    let w = c .before in
     let e = start (tested w) in
-    let z : e .args .callers ≡ 0 = omega (arith, c .before .if2 .left) in
-    let long : length (w .build .last .1 .1 .1 .1 .1 .1 .0) ≡ limits .maxStates
-    = omega (arith, w .build .kept .1 .1 .1 .1 .1 .1 .0, w .before .before .build-arg6 .given) in
-    λ G k. without G _ k _ z _ _ _ (w .build .ensures) refl refl refl refl long
+    let z : e .args .callers ≡ 0 = omega (arith, c .if2 .left) in
+    let long : length (w .build .last .1 .1 .1 .1 .1 .1 .1 .1 .1 .1 .1 .1 .0) ≡ limits .maxStates
+    = omega (arith, w .build .kept .1 .1 .1 .1 .1 .1 .1 .1 .1 .1 .1 .1 .0, w .before .before .build-arg6 .given) in
+    λ G k. without _ _ _ _ _ _ _ _ _ k _ z _ _ _ (w .build .ensures G (k .columns)) refl refl refl refl long
 
 pub prepare-rows-spec : {M : Type 1} → statement M
 prepare-rows-spec =
