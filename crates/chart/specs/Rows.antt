@@ -2,7 +2,7 @@
 -- the left side of the rule that it begins (0 where it begins none) and the next lower state before the same nonterminal; of each
 -- nonterminal, counted from the start, the highest state before it and its home, the state whose plane of the work row has its counts.
 -- Assumes nothing.
-use Prim.Native.Nat.{ℕ, suc, _+_, _-_, _*_, _≤_, _<_}
+use Prim.Native.Nat.{ℕ, suc, _+_, _-_, _*_, _/_, _≤_, _<_}
 use mathlib.Core.Path.{_≡_}
 use mathlib.Core.Bool.{_&&_}
 use mathlib.Core.List.{List, [], _∷_}
@@ -83,6 +83,18 @@ pub record Mentioning (ahead : List ℕ) (Q c top p : ℕ) (flags flags' : List 
   pub kept : (h : ℕ) → getD flags' h 0 ≡ 0 → getD flags h 0 ≡ 0
   pub above : (h : ℕ) → top + 1 < h → getD flags' h 0 ≡ getD flags h 0
   pub size : length flags' ≡ length flags
+
+-- how many flags share a byte
+abbrev pub block : ℕ
+block = 32
+
+-- where the byte of a block is 0, no flag of it is set
+pub record Covered (Q : ℕ) (flags blocks : List ℕ) : Type 0 where
+  pub unset : (h : ℕ) → h < Q → getD blocks (h / block) 0 ≡ 0 → getD flags h 0 ≡ 0
+
+-- no flag is set from q on
+abbrev pub Clear : (Q : ℕ) (flags : List ℕ) (q : ℕ) → Type 0
+Clear Q flags q = (h : ℕ) → q ≤ h → h < Q → getD flags h 0 ≡ 0
 
 -- how far the counts of a row are from 2, together: a rise makes this less
 unfoldable pub slack : List ℕ → ℕ

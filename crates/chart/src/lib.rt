@@ -11,7 +11,7 @@ ghost use Rattle.grammar.specs.Grammar.{start};
 ghost use Rattle.trees.specs.Trees.{places};
 ghost use Rattle.tree_laws.specs.Chart.{cap};
 ghost use Rattle.counts.specs.Counts.{itemCell, wholeCell};
-ghost use Rattle.chart.specs.Rows.{planeOf, homeOf, madeAt, Ready, Linked, Wired, Span, Settles, Flagged, slack};
+ghost use Rattle.chart.specs.Rows.{planeOf, homeOf, madeAt, Ready, Linked, Wired, Span, Settles, block, Flagged, Covered, slack};
 ghost use Rattle.chart.specs.Filling.{Looks};
 use counts::plus;
 use counts::ways;
@@ -21,6 +21,9 @@ use grammar::NONTERMINAL_BASE;
 
 // The plane of all ends' counts: that of state 3, the end after S.
 pub const ENDS: usize = 3;
+
+// How many flags share a byte that says whether one of them may be set.
+pub const BLOCK: usize = 32;
 
 // A cell of a row as a number.
 pub fn wide(x: u16) -> usize
@@ -147,7 +150,7 @@ fn raise(work: &mut [u32], m: usize, states: usize, h: usize, i: usize, j: usize
     work[at] = plus(work[at], rise);
 }
 
-// Sets the flags just past the states before a nonterminal; where the scan of the flags is to go on from.
+// Sets the flags just past the states before a nonterminal, and their blocks' bytes; where the scan of the flags is to go on from.
 fn mention<'a>(
     flags: &'a mut [u8],
     ahead: &'a [u16; MAX_STATES],
@@ -156,18 +159,21 @@ fn mention<'a>(
     states: usize,
     c: usize,
     q: usize,
+    blocks: &'a mut [u8],
 ) -> usize
     requires { ⌜ Linked states (now ahead) (now next) (now head) ⌝ }
     requires { ⌜ c < limits .maxNonterminals ⌝ }
     requires { ⌜ q ≤ states ⌝ }
-    requires { ⌜ states ≤ length (now flags) ⌝ }
+    requires { ⌜ (states ≤ length (now flags)) × (states ≤ block * length (now blocks)) ⌝ }
     ensures { λ r. ⌜ Flagged (now (ahead .entry)) states c (getD (now (head .entry)) c 0) (now (flags .entry)) (now (flags .exit)) ⌝ }
     ensures { λ r. ⌜ (q ≤ r) × (getD (now (head .entry)) c 0 + 2 ≤ r) × (r ≤ states) ⌝ }
+    ensures { λ r. ⌜ (Covered states (now (flags .entry)) (now (blocks .entry)) → Covered states (now (flags .exit)) (now (blocks .exit))) ⌝ }
 {
     let top = wide(head[c]);
     let mut p = top;
     while 0 < p {
         flags[p + 1] = 1;
+        blocks[(p + 1) / BLOCK] = 1;
         p = wide(next[p]);
     }
     if q < top + 2 {
@@ -191,14 +197,16 @@ pub fn look<'a>(
     q: usize,
     i: usize,
     j: usize,
+    blocks: &'a mut [u8],
 ) -> usize
     requires { ⌜ Wired states (now ahead) (now lead) (now next) (now head) (now home) ⌝ }
     requires { ⌜ Span (now work) states (length (now row) + 1) i j ⌝ }
     requires { ⌜ (1 ≤ q) × (q < states) ⌝ }
-    requires { ⌜ (states ≤ length (now active)) × (states ≤ length (now flags)) ⌝ }
+    requires { ⌜ (states ≤ length (now active)) × (states ≤ length (now flags)) × (states ≤ block * length (now blocks)) ⌝ }
     ensures { λ r. ⌜ Looks states (now (ahead .entry)) (now (lead .entry)) (now (home .entry)) (now (row .entry)) (now (work .entry)) (now (work .exit))
         (now (active .entry)) (now (active .exit)) (now (flags .entry)) (now (flags .exit)) q r i j ⌝ }
     ensures { λ r. ⌜ (r ≤ states) × (slack (now (work .exit)) * (limits .maxStates + 1) + r ≤ slack (now (work .entry)) * (limits .maxStates + 1) + q) ⌝ }
+    ensures { λ r. ⌜ (Covered states (now (flags .entry)) (now (blocks .entry)) → Covered states (now (flags .exit)) (now (blocks .exit))) ⌝ }
 {
     let p = q - 1;
     flags[q] = 0;
@@ -213,6 +221,7 @@ pub fn look<'a>(
     let b = lead[p];
     if b == 0 {
         flags[p] = 1;
+        blocks[p / BLOCK] = 1;
         return q;
     }
     let h = home_of(home, b);
@@ -225,5 +234,6 @@ pub fn look<'a>(
         states,
         wide(b - NONTERMINAL_BASE),
         q,
+        blocks,
     )
 }

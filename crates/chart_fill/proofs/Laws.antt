@@ -1,16 +1,17 @@
 -- From span to span. Assumes nothing.
-use Prim.Native.Nat.{ℕ, suc, _+_, _-_, _≤_, _<_}
+use Prim.Native.Nat.{ℕ, suc, _+_, _-_, _*_, _/_, _≤_, _<_}
 use mathlib.Core.Path.{_≡_, sym, ap, _∙_}
 use mathlib.Core.List.{List, []}
 use mathlib.Core.Logic.{inl, inr}
 use native.Mathlib.Omega.{arith}
 use native.Mathlib.Decide.{ℕ-discrete}
-use lib.ListN.{length, getD, set}
+use lib.ListN.{length, getD, set, replicate, getD-replicate}
 use lib.Seq.{getD-set-same, getD-set-other}
 use Rattle.grammar.specs.Limits.{limits}
 use Rattle.grammar.specs.Grammar.{Grammar}
 use Rattle.tree_laws.specs.Chart.{Places}
 use Rattle.tree_laws.proofs.Looks.{look-begins, look-ends, column-begins}
+use Rattle.chart.specs.Rows.{block, Covered, Clear}
 use Rattle.chart.specs.Filling.{Sheet, chartOf, Working, Filled, Begun, Complete}
 use Rattle.chart.proofs.Reading.{either, end-code}
 
@@ -27,16 +28,11 @@ module _ {G : Grammar} {P : Places limits G} {Q : ℕ} {ahead lead home : List �
     looking = look-begins limits G w P Q (chartOf G P Q home w row) (λ p. getD active p 0) i j (λ p x α e. S .range p x α e .1) (either G P Q ahead lead home w S) h (F .past) (F .column);
   }
 
-  -- a flag that is not set is passed
-  pub span-down : {row active flags : List ℕ} (q : ℕ) {i j : ℕ} → getD flags (q - 1) 0 ≡ 0 → Working G P Q home w row active flags q i j → Working G P Q home w row active flags (q - 1) i j
-  span-down {flags = flags} q e W = record {
+  -- flags that are not set are passed
+  pub span-down : {row active flags : List ℕ} {q i j : ℕ} (r : ℕ) → Clear Q flags r → Working G P Q home w row active flags q i j → Working G P Q home w row active flags r i j
+  span-down r c W = record {
     counted = W .counted;
-    looking = record {
-      past = W .looking .past;
-      column = W .looking .column;
-      quiet = W .looking .quiet;
-      high = λ h a b. elim (ℕ-discrete h (q - 1)) [ yes f ↦ ap (λ z. getD flags z 0) f ∙ e | no f ↦ W .looking .high h (omega arith) b ];
-    };
+    looking = record { past = W .looking .past; column = W .looking .column; quiet = W .looking .quiet; high = c };
   }
 
   -- it ends where no flag is left
@@ -76,3 +72,32 @@ mark-more ahead marks p v h e m s g z = elim (ℕ-discrete s p) [
   | yes f ↦ ap (λ k. getD (set marks p v) k 0) f ∙ getD-set-same marks p v 0 h ∙ e (ap (λ k. getD ahead k 0) (sym f) ∙ z)
   | no f ↦ getD-set-other marks p s v 0 f ∙ m s (omega arith) z
 ]
+
+-- one flag more that is not set
+pub clear-more : (flags : List ℕ) (p q : ℕ) → getD flags (p - 1) 0 ≡ 0 → ((h : ℕ) → p ≤ h → h < q → getD flags h 0 ≡ 0) → (h : ℕ) → p - 1 ≤ h → h < q → getD flags h 0 ≡ 0
+clear-more flags p q e c h a b = elim (ℕ-discrete h (p - 1)) [ yes f ↦ ap (λ z. getD flags z 0) f ∙ e | no f ↦ c h (omega arith) b ]
+
+-- none is set up to q, and none from q on
+pub clear-from : {Q : ℕ} (flags : List ℕ) (r q : ℕ) → ((h : ℕ) → r ≤ h → h < q → getD flags h 0 ≡ 0) → Clear Q flags q → Clear Q flags r
+clear-from flags r q c d h a b = elim (ℕ-discrete (q - h) 0) [ yes f ↦ d h (omega arith) b | no f ↦ c h a (omega arith) ]
+
+module _ {Q : ℕ} {flags blocks : List ℕ} (b : ℕ) (C : Covered Q flags blocks) where
+  -- a block whose byte is 0 is passed over
+  pub block-passed : (p : ℕ) → b ≡ (p - 1) / block → getD blocks b 0 ≡ 0 → Clear Q flags p → Clear Q flags (b * block)
+  block-passed p e z d h a g = elim (ℕ-discrete (p - h) 0) [
+    | yes f ↦ d h (omega arith) g
+    | no f ↦ C .unset h g (let k : h / block ≡ b = omega arith in ap (λ i. getD blocks i 0) k ∙ z)
+  ]
+
+  -- the byte of a block is cleared where none of its flags is left
+  pub block-cleared : Clear Q flags (b * block) → Covered Q flags (set blocks b 0)
+  block-cleared d = record {
+    unset = λ h g z. elim (ℕ-discrete (h / block) b) [
+      | yes f ↦ d h (omega arith) g
+      | no f ↦ C .unset h g (sym (getD-set-other blocks b (h / block) 0 0 f) ∙ z)
+    ];
+  }
+
+-- at first every byte is 1
+pub all-covered : (Q n : ℕ) (flags : List ℕ) → Q ≤ block * n → Covered Q flags (replicate n 1)
+all-covered Q n flags l = record { unset = λ h g z. absurd (omega (arith, z, getD-replicate {A = ℕ} n (h / block) 1 0 (omega arith))) }

@@ -2,15 +2,17 @@
 use Prim.Native.Nat.{suc, _+_, _-_, _<_}
 use mathlib.Core.Path.{_∙_}
 use native.Mathlib.Omega.{arith}
-use lib.ListN.{length, getD, length-set}
+use lib.ListN.{length, getD, set, length-set}
 use borrow.Author.Needs.{needs}
 use Rattle.grammar.specs.Limits.{limits}
 use Rattle.grammar.specs.Grammar.{Grammar}
 use Rattle.tree_laws.specs.Chart.{Places}
 use Rattle.counts.specs.Counts.{itemCell}
+use Rattle.chart.specs.Rows.{Covered}
 use Rattle.chart.specs.Filling.{Sheet, Working}
 use Rattle.chart.proofs.Cells.{cell-fits}
 use Rattle.chart.proofs.MadeLaws.{home-in, span-at}
+use Rattle.chart.proofs.Covers.{cover-drop, cover-set}
 use Rattle.chart.proofs.Slack.{settles-slack, settles-keeps, raise-slack}
 use Rattle.chart.proofs.Staying.{LookAt, looks-end, looks-none}
 use Rattle.chart.proofs.Rising.{rises-item}
@@ -20,7 +22,7 @@ use Rattle.chart.proofs.look.Tie as tie
 
 -- from a place back to an earlier one
 abbrev tested-start : tie.After-if12 → tie.Start
-tested-start t = t .before .before .before .before .before
+tested-start t = t .before .before .before .before .before .before
 
 abbrev settled-start : tie.After-settle → tie.Start
 settled-start s = tested-start (s .before .before .before)
@@ -39,7 +41,7 @@ look-at e G P S K = record {
   wired = e .pre .0;
   span = e .pre .1 .0;
   inside = e .pre .1 .1 .0;
-  long = e .pre .1 .1 .1;
+  long = (e .pre .1 .1 .1 .0, e .pre .1 .1 .1 .1);
   working = K;
 }
 
@@ -49,6 +51,10 @@ fits e =
     let a = e .args in
     cell-fits (length (a .row .now) + 1) (a .states) (a .q - 1) (a .i) (a .j) (length (a .work .now)) (omega (arith, e .pre .1 .1 .0))
     (omega (arith, e .pre .1 .0 .rises, e .pre .1 .0 .inside)) (e .pre .1 .0 .inside) (e .pre .1 .0 .cells)
+
+-- the blocks' bytes where the flag is dropped
+dropped : (e : tie.Start) → let a = e .args in Covered (a .states) (a .flags .now) (a .blocks .now) → Covered (a .states) (set (a .flags .now) (a .q) 0) (a .blocks .now)
+dropped e C = cover-drop (e .args .q) (omega (arith, e .pre .1 .1 .0, e .pre .1 .1 .1)) C
 
 sub-p : tie.Need-sub-p
 sub-p c = search needs
@@ -66,7 +72,7 @@ same-length : tie.Need-same-length
 same-length c = search needs
 
 returns : tie.Need-returns
-returns c = let e = tested-start (c .before) in (λ G P S K. looks-end (look-at e G P S K) (c .if1 .taken), (omega (arith, e .pre .1 .1 .0), omega arith))
+returns c = let e = tested-start (c .before) in (λ G P S K. looks-end (look-at e G P S K) (c .if1 .taken), ((omega (arith, e .pre .1 .1 .0), omega arith), dropped e))
 
 settle-requires : tie.Need-settle-requires
 settle-requires c κs = search needs
@@ -82,7 +88,7 @@ returns-2 c =
     let s = c .before .before .before in
     let e = settled-start s in (
       λ G P S K. looks-none (look-at e G P S K) (s .settle .last .0) (s .settle .result) (s .settle .ensures) (c .if2 .taken),
-      (omega (arith, e .pre .1 .1 .0), omega (arith, settles-keeps (s .settle .ensures))),
+      ((omega (arith, e .pre .1 .1 .0), omega (arith, settles-keeps (s .settle .ensures))), dropped e),
     )
 
 slice-write-active : tie.Need-slice-write-active
@@ -99,6 +105,11 @@ slice-write-flags-2 c =
     let e = settled-start (c .before .before .before .before .before) in
     omega (arith, length-set (e .args .flags .now) (e .args .q) 0, e .pre .1 .1 .0, e .pre .1 .1 .1)
 
+slice-write-blocks : tie.Need-slice-write-blocks
+slice-write-blocks c =
+    let e = settled-start (c .before .before .before .before .before) in
+    omega (arith, e .pre .1 .1 .0, e .pre .1 .1 .1)
+
 same-length-4 : tie.Need-same-length-4
 same-length-4 c = search needs
 
@@ -108,6 +119,9 @@ same-length-5 c = search needs
 same-length-6 : tie.Need-same-length-6
 same-length-6 c = search needs
 
+same-length-7 : tie.Need-same-length-7
+same-length-7 c = search needs
+
 returns-3 : tie.Need-returns-3
 returns-3 c =
     let s = c .before .before .before .before .before in
@@ -115,8 +129,8 @@ returns-3 c =
     let rose = c .before .before .if2 .left in (
       λ G P S K. rises-item (look-at e G P S K) (s .settle .last .0) (s .settle .result) (s .settle .ensures) (omega (arith, rose)) (s .before .before .if1 .left) (c .if3 .taken),
       (
-        omega (arith, e .pre .1 .1 .0),
-        omega (arith, settles-slack (s .settle .ensures) (fits e) (omega (arith, rose))),
+        (omega (arith, e .pre .1 .1 .0), omega (arith, settles-slack (s .settle .ensures) (fits e) (omega (arith, rose)))),
+        λ C. cover-set (e .args .q - 1) (omega (arith, e .pre .1 .1 .0, e .pre .1 .1 .1)) (dropped e C),
       ),
     )
 
@@ -153,47 +167,53 @@ wide-requires c κs = search needs
 
 mention-requires : tie.Need-mention-requires
 mention-requires c κs =
-    let e = settled-start (raised-settled (c .before .before .before .before)) in
+    let e = settled-start (raised-settled (c .before .before .before .before .before)) in
     let a = e .args in (
       e .pre .0 .linked,
       (
-        omega (arith, c .wide .ensures, e .pre .0 .lead-high (a .q - 1) (omega (arith, e .pre .1 .1 .0))),
-        (omega (arith, e .pre .1 .1 .0), omega (arith, length-set (a .flags .now) (a .q) 0, e .pre .1 .1 .1)),
+        omega (arith, c .before .wide .ensures, e .pre .0 .lead-high (a .q - 1) (omega (arith, e .pre .1 .1 .0))),
+        (omega (arith, e .pre .1 .1 .0), (omega (arith, length-set (a .flags .now) (a .q) 0, e .pre .1 .1 .1), e .pre .1 .1 .1 .2)),
       ),
     )
-
-same-length-7 : tie.Need-same-length-7
-same-length-7 c = search needs
 
 same-length-8 : tie.Need-same-length-8
 same-length-8 c = search needs
 
 same-length-9 : tie.Need-same-length-9
-same-length-9 c =
-    let w = c .before .before in
-    let e = settled-start (raised-settled (w .before .before .before .before .before)) in
+same-length-9 c = search needs
+
+same-length-10 : tie.Need-same-length-10
+same-length-10 c =
+    let w = c .before .before .before .before in
+    let e = settled-start (raised-settled (w .before .before .before .before .before .before)) in
     w .mention .kept .0 ∙ length-set (e .args .flags .now) (e .args .q) 0
+
+same-length-11 : tie.Need-same-length-11
+same-length-11 c = search needs
 
 returns-4 : tie.Need-returns-4
 returns-4 c =
-    let w = c .before .before in
-    let r = w .before .before .before .before .before in
+    let w = c .before .before .before .before in
+    let r = w .before .before .before .before .before .before in
     let h = r .before .before in
     let s = raised-settled r in
     let e = settled-start s in
     let rose = h .before .before .before .if2 .left in (
       λ G P S K. rises-whole (look-at e G P S K) (s .settle .last .0) (r .raise .last .0) (s .settle .result) (h .home-of .result) (s .settle .ensures) (omega (arith, rose))
-          (s .before .before .if1 .left) (h .before .if3 .left) (h .home-of .ensures) (r .raise .ensures) (w .mention .last .0) (w .before .wide .result) _ (w .mention .result)
-          (w .before .wide .ensures) (w .mention .ensures .0) (w .mention .ensures .1 .0) (w .mention .ensures .1 .1),
+          (s .before .before .if1 .left) (h .before .if3 .left) (h .home-of .ensures) (r .raise .ensures) (w .mention .last .0) (w .before .before .wide .result) _ (w .mention .result)
+          (w .before .before .wide .ensures) (w .mention .ensures .0) (w .mention .ensures .1 .0 .0) (w .mention .ensures .1 .0 .1),
       (
-        w .mention .ensures .1 .2,
-        omega (
-          arith,
-          settles-slack (s .settle .ensures) (fits e) (omega (arith, rose)),
-          raise-slack (s .settle .last .0) _ (s .settle .result) (r .raise .ensures),
-          w .mention .ensures .1 .2,
-          e .pre .0 .ready .few,
+        (
+          w .mention .ensures .1 .0 .2,
+          omega (
+            arith,
+            settles-slack (s .settle .ensures) (fits e) (omega (arith, rose)),
+            raise-slack (s .settle .last .0) _ (s .settle .result) (r .raise .ensures),
+            w .mention .ensures .1 .0 .2,
+            e .pre .0 .ready .few,
+          ),
         ),
+        λ C. w .mention .ensures .1 .1 (dropped e C),
       ),
     )
 
@@ -215,9 +235,11 @@ look-spec =
     mul-b
     element-copy-out-b
     slice-write-flags-2
+    slice-write-blocks
     same-length-4
     same-length-5
     same-length-6
+    same-length-7
     returns-3
     home-of-requires
     add-raise
@@ -225,7 +247,8 @@ look-spec =
     sub-wide
     wide-requires
     mention-requires
-    same-length-7
     same-length-8
     same-length-9
+    same-length-10
+    same-length-11
     returns-4)
