@@ -200,6 +200,7 @@ def check_potential(text, told):
     rows = [tree_row(text, told["nonterminal"], told[side]) for side in ("left-tree", "right-tree")]
     assert rows == [told["phrase"]] * 2 and told["left-tree"] != told["right-tree"]
     assert has_two_trees(text, " ".join(told["sentence"]) or EMPTY) and told["confirmed"] is True
+    assert told["more"] in (None, "shown", "limit") and (told["more"] != "shown" or len(told["also"]) == 8)
     return 1
 
 

@@ -27,11 +27,32 @@ pub struct Other {
     pub example: Example,
 }
 
+/// Why other pairs of rules may part that are not shown.
+#[derive(Clone, Copy, Debug, PartialEq, Eq)]
+pub enum More {
+    /// So many are shown as are ever shown.
+    Shown,
+    /// The search for them met its limit.
+    Limit,
+}
+
+impl More {
+    /// What is said behind the pairs that are shown.
+    pub fn told(self) -> &'static str {
+        match self {
+            More::Shown => "more: other pairs of rules part too; nine are shown",
+            More::Limit => "more: other pairs of rules may part; the search for them ended at its limit",
+        }
+    }
+}
+
 /// All that is said of a witness.
 pub struct Explanation {
     pub found: Found,
     pub parting: Parting,
     pub also: Vec<Other>,
+    /// Whether other pairs of rules may part that are not shown.
+    pub more: Option<More>,
     /// The step records of the witness.
     pub steps: Vec<Step>,
 }
@@ -42,9 +63,8 @@ const MOST_ALSO: usize = 8;
 /// Symbols that are shown of a row that is too long.
 const FEW: usize = 40;
 
-/// Searches for them, each with a share of the limits of the first search.
+/// Searches for them, all together with the limits of the first search.
 const MOST_TRIED: usize = 40;
-const SHARE: usize = 10;
 
 /// Looks for two trees, and says where they part; where none are found, where the strings of the witness part. Left of the trees is
 /// the one that is more like the left string. Where the limits are met, trees of the rules that the witness uses are looked for too:
@@ -75,7 +95,7 @@ pub(crate) fn of_counted(grammar: &Grammar, witness: &[u32], count: Count) -> Ex
     let (outcome, rules) = match pairs::look(grammar, Limits::default()) {
         Outcome::NotFound(extent @ Extent::Limit { .. }) => {
             let field = Field { grammar, root: START, rules: Some(&used) };
-            match pairs::look_from(field, Limits::default(), &[], &mut 0) {
+            match pairs::look_from(field, Limits::default(), &[], &mut Limits::default()) {
                 Outcome::NotFound(_) => (Outcome::NotFound(extent), None),
                 two => (two, field.rules),
             }
@@ -88,19 +108,26 @@ pub(crate) fn of_counted(grammar: &Grammar, witness: &[u32], count: Count) -> Ex
             match confirmed(grammar, &phrase, count) {
                 Ok(example) => {
                     let mut also = Vec::new();
-                    for (parting, phrase) in others(Field { grammar, root, rules }, parted, &parting, &strings) {
+                    let (others, more) = others(Field { grammar, root, rules }, parted, &parting, &strings);
+                    for (parting, phrase) in others {
                         if let Ok(example) = confirmed(grammar, &phrase, count) {
                             also.push(Other { parting, phrase, example });
                         }
                     }
-                    Explanation { found: Found::Two(phrase, example), parting, also, steps }
+                    Explanation { found: Found::Two(phrase, example), parting, also, more, steps }
                 }
-                Err((sentence, counted)) => {
-                    Explanation { found: Found::Denied(sentence, counted), parting: strings, also: Vec::new(), steps }
-                }
+                Err((sentence, counted)) => Explanation {
+                    found: Found::Denied(sentence, counted),
+                    parting: strings,
+                    also: Vec::new(),
+                    more: None,
+                    steps,
+                },
             }
         }
-        Outcome::NotFound(extent) => Explanation { found: Found::Not(extent), parting: strings, also: Vec::new(), steps },
+        Outcome::NotFound(extent) => {
+            Explanation { found: Found::Not(extent), parting: strings, also: Vec::new(), more: None, steps }
+        }
     }
 }
 
@@ -130,24 +157,32 @@ fn placed(grammar: &Grammar, mut phrase: Phrase, strings: &Parting) -> (Parting,
 }
 
 /// Phrases that part between other pairs of rules, one for each pair. The walks that are found part at pairs that no earlier walks
-/// part at; as trees they may part between rules that are known, since what trees have in common is folded.
-fn others(field: Field, rules: (usize, usize), first: &Parting, strings: &Parting) -> Vec<(Parting, Phrase)> {
+/// part at; as trees they may part between rules that are known, since what trees have in common is folded. It is told, too, whether
+/// there may be more.
+fn others(field: Field, rules: (usize, usize), first: &Parting, strings: &Parting) -> (Vec<(Parting, Phrase)>, Option<More>) {
     let Field { grammar, root, .. } = field;
-    let limits = Limits::default().share(SHARE);
-    let mut triples = limits.triples;
+    let mut limits = Limits::default();
     let mut tried = vec![rules];
     let mut shown = vec![first.rules()];
     let mut found = Vec::new();
-    while found.len() < MOST_ALSO && tried.len() < MOST_TRIED && triples > 0 {
-        let Outcome::Two { left, right, rules, .. } = pairs::look_from(field, limits, &tried, &mut triples) else { break };
-        tried.push(rules);
-        let (parting, phrase) = placed(grammar, phrase::smallest(grammar, root, &left, &right), strings);
-        if !shown.contains(&parting.rules()) {
-            shown.push(parting.rules());
-            found.push((parting, phrase));
+    while tried.len() < MOST_TRIED && !limits.is_spent() {
+        match pairs::look_from(field, limits, &tried, &mut limits) {
+            Outcome::Two { left, right, rules, .. } => {
+                tried.push(rules);
+                let (parting, phrase) = placed(grammar, phrase::smallest(grammar, root, &left, &right), strings);
+                if !shown.contains(&parting.rules()) {
+                    if found.len() == MOST_ALSO {
+                        return (found, Some(More::Shown));
+                    }
+                    shown.push(parting.rules());
+                    found.push((parting, phrase));
+                }
+            }
+            Outcome::NotFound(Extent::All { .. }) => return (found, None),
+            Outcome::NotFound(_) => break,
         }
     }
-    found
+    (found, Some(More::Limit))
 }
 
 /// A row in words.
@@ -224,7 +259,8 @@ impl Explanation {
             Found::Two(phrase, example) => {
                 let said = paragraph(&ambiguous(grammar, phrase, example)) + &paragraph(&confirmation(example));
                 let also: String = self.also.iter().map(|other| paragraph(&also_told(grammar, other))).collect();
-                format!("{said}{parting}{}{also}", layout::trees(grammar, &phrase.left, &phrase.right))
+                let more = self.more.map_or(String::new(), |more| paragraph(more.told()));
+                format!("{said}{parting}{}{also}{more}", layout::trees(grammar, &phrase.left, &phrase.right))
             }
             Found::Not(extent) => format!("{parting}{}", paragraph(&not_found(extent))),
             Found::Denied(sentence, counted) => format!("{parting}{}", paragraph(&denied(grammar, sentence, counted))),

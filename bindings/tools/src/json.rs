@@ -6,7 +6,7 @@ use crate::callers::Verdict;
 use crate::command::VERSION;
 use crate::confirmation::Counted;
 use crate::diagnosis::Finding;
-use crate::explanation::{Explanation, Found, Other};
+use crate::explanation::{Explanation, Found, More, Other};
 use crate::lines::{self, Form};
 use crate::parting::{Next, Parting, Side};
 use crate::phrase::{Example, Phrase};
@@ -114,6 +114,8 @@ fn explained(grammar: &Grammar, explanation: &Explanation) -> Vec<(&'static str,
                 object(&[parting, phrase(grammar, &other.phrase, &other.example)].concat())
             };
             members.push(("also", list(explanation.also.iter().map(also))));
+            let more = |more| text(if more == More::Shown { "shown" } else { "limit" });
+            members.push(("more", explanation.more.map_or("null".to_string(), more)));
         }
         Found::Denied(sentence, counted) => members.push(("denied", denied(grammar, sentence, counted))),
         Found::Not(_) => (),

@@ -231,7 +231,8 @@ fn trees_part(grammar: &Grammar, explanation: &Explanation) -> String {
         .also
         .iter()
         .map(|other| format!("<p>{}.</p>\n", sentence(&capital(&explanation::also_told(grammar, other)))));
-    let also: String = also.collect();
+    let more = explanation.more.map(|more| format!("<p>{}.</p>\n", capital(more.told())));
+    let also: String = also.chain(more).collect();
     if drawings.iter().any(|drawing| drawing.width > PAGE_WIDTH || drawing.height > PAGE_HEIGHT) {
         let lines = escaped(&layout::trees(grammar, &phrase.left, &phrase.right));
         return format!("<h2>Two trees</h2>\n<pre class=\"tree\">{lines}</pre>\n{also}");

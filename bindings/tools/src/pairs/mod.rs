@@ -61,18 +61,18 @@ pub struct Field<'a> {
 /// Looks for two trees of the start; where the limits are met, also for two trees of each other nonterminal that some sentence uses,
 /// which share the limits once more, one after the other until the triples are used up.
 pub fn look(grammar: &Grammar, limits: Limits) -> Outcome {
-    let found = look_from(Field { grammar, root: START, rules: None }, limits, &[], &mut 0);
+    let found = look_from(Field { grammar, root: START, rules: None }, limits, &[], &mut limits.clone());
     if matches!(found, Outcome::Two { .. } | Outcome::NotFound(Extent::All { .. })) {
         return found;
     }
     let others = holes::other_live(grammar);
     let share = limits.share(others.len().max(1));
-    let mut triples = limits.triples;
+    let mut left = limits;
     for root in others {
-        if triples == 0 {
+        if left.triples == 0 {
             break;
         }
-        let elsewhere = look_from(Field { grammar, root, rules: None }, share, &[], &mut triples);
+        let elsewhere = look_from(Field { grammar, root, rules: None }, share, &[], &mut left);
         if matches!(elsewhere, Outcome::Two { .. }) {
             return elsewhere;
         }
@@ -81,10 +81,10 @@ pub fn look(grammar: &Grammar, limits: Limits) -> Outcome {
 }
 
 /// Looks for two trees of one root that do not part between two known rules. Those that are found are shown only if the check
-/// confirms them. The triples whose distances are found are taken off `triples`.
-pub fn look_from(field: Field, limits: Limits, known: &[(usize, usize)], triples: &mut usize) -> Outcome {
+/// confirms them. What the search uses is taken off `left`.
+pub fn look_from(field: Field, limits: Limits, known: &[(usize, usize)], left: &mut Limits) -> Outcome {
     let Field { grammar, root, rules } = field;
-    let found = match search::search(&Items::new(grammar, root, rules), limits, known, triples) {
+    let found = match search::search(&Items::new(grammar, root, rules), limits, known, left) {
         Ok((left, right, rules)) => finishing::finished(grammar, root, left, right).map(|trees| (trees, rules)),
         Err(extent) => return Outcome::NotFound(extent),
     };

@@ -34,6 +34,18 @@ impl Limits {
     pub fn share(self, parts: usize) -> Limits {
         Limits { pairs: self.pairs / parts, moves: self.moves / parts, ..self }
     }
+
+    /// Whether nothing of one of them is left.
+    pub fn is_spent(self) -> bool {
+        self.pairs == 0 || self.moves == 0 || self.triples == 0
+    }
+
+    /// Takes off what a search used.
+    fn spend(&mut self, pairs: usize, moves: usize, triples: usize) {
+        self.pairs = self.pairs.saturating_sub(pairs);
+        self.moves = self.moves.saturating_sub(moves);
+        self.triples = self.triples.saturating_sub(triples);
+    }
 }
 
 /// Which side moves: before the next symbol, a left move may follow only left moves.
@@ -86,11 +98,11 @@ struct Search<'a> {
 /// Two trees, and the two rules at which their walks part, the smaller number first.
 pub type Parted = (Tree, Tree, (usize, usize));
 
-/// The two trees of a cheapest pair of walks that do not part between known rules, or how far the search looked. `triples` are those
-/// that may still be found; those that were are taken off.
-pub fn search(items: &Items, limits: Limits, known: &[(usize, usize)], triples: &mut usize) -> Result<Parted, Extent> {
+/// The two trees of a cheapest pair of walks that do not part between known rules, or how far the search looked. What it used is taken
+/// off `left`.
+pub fn search(items: &Items, limits: Limits, known: &[(usize, usize)], left: &mut Limits) -> Result<Parted, Extent> {
     let distances = Distances::new(items, known);
-    *triples = triples.saturating_sub(distances.found());
+    let triples = distances.found();
     let mut search = Search {
         items,
         limits,
@@ -103,31 +115,37 @@ pub fn search(items: &Items, limits: Limits, known: &[(usize, usize)], triples: 
         queue: Vec::new(),
         tried: 0,
     };
-    let first = search.stacks.push(EMPTY, FIRST);
-    search.add(Pair { layer: 0, turn: Turn::Left, left: first, right: first }, 0, None);
-    let mut total = 0;
-    while total < search.queue.len() {
-        let Some(number) = search.queue[total].pop() else {
-            total += 1;
-            continue;
-        };
-        if search.full || search.tried > limits.moves {
-            return Err(Extent::Limit { pairs: search.kept.len(), moves: total });
-        }
-        let kept = &mut search.kept[number as usize];
-        if std::mem::replace(&mut kept.done, true) {
-            continue;
-        }
-        let pair = kept.pair;
-        if (pair.layer, pair.left, pair.right) == (1, EMPTY, EMPTY) {
-            return Ok(search.trees(number));
-        }
-        search.expand(number, pair);
-    }
-    Err(Extent::All { pairs: search.kept.len() })
+    let found = search.run();
+    left.spend(search.kept.len(), search.tried, triples);
+    found
 }
 
 impl Search<'_> {
+    fn run(&mut self) -> Result<Parted, Extent> {
+        let first = self.stacks.push(EMPTY, FIRST);
+        self.add(Pair { layer: 0, turn: Turn::Left, left: first, right: first }, 0, None);
+        let mut total = 0;
+        while total < self.queue.len() {
+            let Some(number) = self.queue[total].pop() else {
+                total += 1;
+                continue;
+            };
+            if self.full || self.tried > self.limits.moves {
+                return Err(Extent::Limit { pairs: self.kept.len(), moves: total });
+            }
+            let kept = &mut self.kept[number as usize];
+            if std::mem::replace(&mut kept.done, true) {
+                continue;
+            }
+            let pair = kept.pair;
+            if (pair.layer, pair.left, pair.right) == (1, EMPTY, EMPTY) {
+                return Ok(self.trees(number));
+            }
+            self.expand(number, pair);
+        }
+        Err(Extent::All { pairs: self.kept.len() })
+    }
+
     /// At least so many moves are left: those of the triple's distance, and those that close both stacks. Each symbol is passed by
     /// both sides in one move, and in layer 0 the parting may close two rules in one.
     fn ahead(&self, pair: Pair) -> Option<u32> {

@@ -374,7 +374,45 @@ fn all_ambiguities() {
     let operators: Vec<String> = (0..9).map(|i| format!("E: E o{i} E")).chain(["E: x".to_string()]).collect();
     let names: Vec<String> = (0..9).map(|i| format!("o{i}")).collect();
     let many = text(&format!("x,{}", names.join(",")), "E", &operators.iter().map(String::as_str).collect::<Vec<_>>());
-    assert_eq!(certify(&many).out.matches("\nalso: ").count(), 8);
+    let many = certify(&many).out;
+    assert_eq!(many.matches("\nalso: ").count(), 8);
+    assert!(many.ends_with("\nmore: other pairs of rules part too; nine are shown\n"), "{many}");
+}
+
+/// Calls without brackets, in which rules part in five ways: the list is whole, and where it may not be, that is told.
+#[test]
+fn whole_lists_and_others() {
+    let calls = text(
+        "nl,id,eq,if,lparen,rparen,comma,minus,num",
+        "Prog,Stmt,Call,Args,Expr,Primary",
+        &[
+            "Prog: Stmt",
+            "Prog: Prog nl Stmt",
+            "Stmt: Call",
+            "Stmt: id eq Expr",
+            "Stmt: Stmt if Expr",
+            "Call: id Args",
+            "Call: id lparen Args rparen",
+            "Args: Expr",
+            "Args: Args comma Expr",
+            "Expr: Primary",
+            "Expr: Expr minus Primary",
+            "Expr: Call",
+            "Primary: id",
+            "Primary: num",
+            "Primary: minus num",
+            "Primary: lparen Expr rparen",
+        ],
+    );
+    let out = certify(&calls).out;
+    assert_eq!((out.matches("\nalso: ").count(), out.matches("\nmore: ").count()), (4, 0), "{out}");
+    let json = |text: &str| run(CERTIFY, &["--json", "-"], text.as_bytes()).out;
+    assert!(json(&calls).contains("\"more\":null"));
+    let hidden = corpus().into_iter().find(|entry| entry.name == "left-hidden").unwrap().text;
+    let told = "other pairs of rules may part; the search for them ended at its limit";
+    assert!(certify(&hidden).out.ends_with(&format!("\nmore: {told}\n")));
+    assert!(json(&hidden).contains("\"more\":\"limit\""));
+    assert!(run(CERTIFY, &["--html", "-"], hidden.as_bytes()).out.contains(&format!("<p>More: {told}.</p>")));
 }
 
 /// Where every pair was tried, the tool says what that means. With one caller this grammar has a certificate.
