@@ -97,6 +97,8 @@ impl Parser {
                     directive = word;
                 }
                 Token::Name(name) if directive == "start" => start = Some(name),
+                // `_("if")` is a word that is translated.
+                Token::Name(name) if name == "_" => (),
                 Token::Name(name) if ["token", "left", "right", "nonassoc", "precedence"].contains(&&directive[..]) => {
                     let is_number = name.chars().all(|letter| letter.is_ascii_digit());
                     if !is_number && !self.draft.terminals.contains(&name) {
@@ -114,10 +116,17 @@ impl Parser {
         }
     }
 
-    /// Whether a rule begins here: a name, and what defines.
-    fn begins_rule(&self) -> bool {
-        let next = self.tokens.get(self.at + 1).map(|placed| &placed.token);
-        matches!(self.token(), Some(Token::Name(_))) && next == Some(&Token::Defines)
+    /// The left side of a rule that begins here, and how many tokens it has: a name, in bison with another one in square brackets, and
+    /// what defines.
+    fn left_side(&self) -> Option<(String, usize)> {
+        let tokens: Vec<&Token> = self.tokens[self.at..].iter().take(5).map(|placed| &placed.token).collect();
+        match tokens[..] {
+            [Token::Name(left), Token::Defines, ..] => Some((left.clone(), 2)),
+            [Token::Name(left), Token::Mark('['), Token::Name(_), Token::Mark(']'), Token::Defines] if self.bison => {
+                Some((left.clone(), 5))
+            }
+            _ => None,
+        }
     }
 
     fn rules(&mut self) -> Result<(), Finding> {
@@ -130,11 +139,10 @@ impl Parser {
                 self.draft.note(line, "what stands behind the second '%%' is left out");
                 break;
             }
-            if !self.begins_rule() {
+            let Some((left, length)) = self.left_side() else {
                 return self.fault("a rule is expected here: a name, and ':', '=', '::=' or '->'");
-            }
-            let Some(Token::Name(left)) = self.token().cloned() else { unreachable!("a rule begins with a name") };
-            self.at += 2;
+            };
+            self.at += length;
             if !self.draft.nonterminals.contains(&left) {
                 self.draft.nonterminals.push(left.clone());
             }
@@ -156,7 +164,7 @@ impl Parser {
         let mut choices = vec![Vec::new()];
         loop {
             let line = self.line();
-            if self.begins_rule() && ends.contains(&';') {
+            if self.left_side().is_some() && ends.contains(&';') {
                 return Ok(choices);
             }
             let Some(token) = self.token().cloned() else {
@@ -212,9 +220,9 @@ impl Parser {
                     let group = Part::Group { choices: inner, may_lack: open != '(', repeats: open == '{' };
                     choices.last_mut().expect("there is always one").push(group);
                 }
-                _ => {
+                other => {
                     self.at -= 1;
-                    return self.fault("this is not understood here");
+                    return self.fault(&format!("{other} is not understood here"));
                 }
             }
         }

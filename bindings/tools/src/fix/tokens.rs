@@ -1,5 +1,8 @@
 //! Words and marks of other notations, with their places; comments are left out, and so are actions of bison.
 
+use std::fmt;
+
+use crate::command::printable;
 use crate::diagnosis::Finding;
 
 #[derive(Clone, Debug, PartialEq, Eq)]
@@ -18,6 +21,20 @@ pub enum Token {
     Action,
     /// A type of bison, `<name>`.
     Type,
+}
+
+impl fmt::Display for Token {
+    /// What is shown of it in a message.
+    fn fmt(&self, out: &mut fmt::Formatter) -> fmt::Result {
+        match self {
+            Token::Name(word) | Token::Quoted(word) => write!(out, "'{}'", printable(word)),
+            Token::Directive(word) => write!(out, "'%{}'", printable(word)),
+            Token::Defines => write!(out, "a mark that defines"),
+            Token::Mark(mark) => write!(out, "'{}'", printable(&mark.to_string())),
+            Token::Action => write!(out, "an action"),
+            Token::Type => write!(out, "a type"),
+        }
+    }
 }
 
 #[derive(Clone, Debug)]

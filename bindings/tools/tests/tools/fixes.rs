@@ -91,10 +91,12 @@ fn what_is_still_wrong() {
         ("terminals=a\nnonterminals=S\nrule=S a\n", "<stdin>:3:1: error: no colon is found; a rule is 'rule=S: a b'\n"),
         ("terminals=a\nhello\nrule=S: a\n", "<stdin>:2:1: error: no '=' is found; a line is 'terminals=a,b', "),
         ("{ \"a\": 1 }\n", "<stdin>:1:1: error: this looks like JSON; slips of grammar text, BNF, EBNF"),
-        ("S = a , ? any letter ? ;\n", "<stdin>:1:9: error: this is not understood here\n"),
-        ("S = 3 * a ;\n", "<stdin>:1:7: error: this is not understood here\n"),
-        ("S = a - b ;\n", "<stdin>:1:7: error: this is not understood here\n"),
-        ("S = ( a | b ;\n", "<stdin>:1:13: error: this is not understood here\n"),
+        ("S = a , ? any letter ? ;\n", "<stdin>:1:9: error: '?' is not understood here\n"),
+        ("S = 3 * a ;\n", "<stdin>:1:7: error: '*' is not understood here\n"),
+        ("S = a - b ;\n", "<stdin>:1:7: error: '-' is not understood here\n"),
+        ("S = ( a | b ;\n", "<stdin>:1:13: error: ';' is not understood here\n"),
+        ("S = = b ;\n", "<stdin>:1:5: error: a mark that defines is not understood here\n"),
+        ("%%\ns: A %type B;\n", "<stdin>:2:6: error: '%type' is not understood here\n"),
         ("S = \"a ;\n", "<stdin>:1:5: error: a quote does not end in its line\n"),
         ("%token A\nS: A;\n", "error: '%%' is not found, behind which the rules stand\n"),
         ("%%\ns: A { x ;\n", "error: an action in braces does not end\n"),
@@ -144,6 +146,16 @@ fn grammars_for_bison() {
     {
         assert!(err.contains(change), "{change}: {err}");
     }
+}
+
+/// What bison takes since its versions 2.5 and 3.6: a name in square brackets behind a left side too, and words that are translated.
+#[test]
+fn names_and_words_of_new_bison() {
+    let grammar = "%token IF _(\"if\") NUM \"number\"\n%%\nexp[res]: \"if\" exp[l] { $res = $l; }\n\
+                   | \"number\"\nother[x]: exp[left.side];\n";
+    let (status, out, err) = fixed(grammar);
+    assert_eq!((status, out), (0, text("IF,NUM", "exp,other", &["exp: IF exp", "exp: NUM", "other: exp"])), "{err}");
+    assert!(err.contains("names in square brackets are left out"), "{err}");
 }
 
 /// Long names stay distinct, and a table tells old and new ones.
