@@ -384,6 +384,33 @@ def sentences(tools):
     return "%d sentences" % count
 
 
+def told_first(out):
+    """What is said of two trees before they are shown: the phrase with its sentence, and where the readings part."""
+    said = " ".join(out.partition("ambiguous: ")[2].partition("left tree:")[0].split())
+    return re.sub(r"confirmed: .* of this sentence ", "", said)
+
+
+def partings(tools):
+    """The second program names the rule to look at as ambig-certify does: of a false alarm, and of two trees of the same phrase."""
+    found = dict.fromkeys(["potential", "ambiguous", "another phrase"], 0)
+    for entry in entries():
+        if entry.verdict != POTENTIAL or entry.truth == WITHOUT or entry.states > SMALL:
+            continue
+        text = text_in(entry.name)
+        out, said, status = ran([tools.certify, "-"], text)
+        answer = certified(text)
+        if status == 0:
+            assert answer.parting is None, entry.name
+        elif status == 1 and told_first(out) != told_first(answer.printed):
+            assert answer.parting.message.startswith("ambiguous: "), entry.name
+            found["another phrase"] += 1
+        else:
+            assert "<stdin>:%d:%d: %s" % answer.parting in said.split("\n"), (entry.name, answer.parting, said)
+            found["ambiguous" if status == 1 else "potential"] += 1
+    assert found["potential"] > 2 and found["ambiguous"] > 10, found
+    return ", ".join("%s %d" % count for count in found.items())
+
+
 def random_text(rng):
     """A small grammar, often with empty rules and rules that no sentence uses."""
     terminals, nonterminals = ["a", "b"][:rng.randrange(1, 3)], ["S", "P", "Q", "R"][:rng.randrange(1, 5)]
@@ -455,7 +482,7 @@ def main(folder, ambig):
     tools = Tools(folder, ambig)
     failed = 0
     for test in (as_ambig, messages, with_callers, certificates, same_certificates, json_lines, strings, spelling, joins,
-                 sentences, random_grammars, trees):
+                 sentences, partings, random_grammars, trees):
         try:
             print("%s: %s" % (test(tools), test.__doc__.strip()))
         except AssertionError as error:

@@ -1,11 +1,12 @@
 """Two trees of a sentence as lines, beginning at the smallest part in which they differ.
 
-`explanation` says what ambig-certify says of such a pair, in its words; the
-trees stand one below the other.
+`explained` says what ambig-certify says of such a pair, in its words; the
+trees stand one below the other. `headline` is the place of the rule to look at.
 """
 
 from typing import List, NamedTuple, Sequence, Set, Tuple
 
+from places import Place
 from readings import NamedGrammar, Pair
 from tables import START, Grammar
 from triples import CLOSING, OPENING, SYMBOL, Move
@@ -13,6 +14,31 @@ from two_trees import Tree, TwoTrees
 
 LISTS = 2                 # lines in front of the rules
 INDENT = "  "
+MOST_PASSED = 16          # symbols that are shown of those before a parting
+COLUMN = len("rule=") + 1
+
+
+class Side(NamedTuple):
+    """What a reading does next, and the rule that ends or goes on with a symbol; 0 for the end of what is read."""
+
+    move: Move
+    rule: int
+
+
+class Parting(NamedTuple):
+    """What is read, the symbols before two readings part, and what either side does next."""
+
+    root: int
+    passed: List[int]
+    left: Side
+    right: Side
+
+
+class Explained(NamedTuple):
+    """Lines about two trees, and where they part."""
+
+    lines: str
+    parting: Parting
 
 
 class Part(NamedTuple):
@@ -90,37 +116,58 @@ def folded(grammar: Grammar, tree: Tree, other: Tree) -> Tree:
     return tuple(nodes) + tree[done:]
 
 
-def walk(grammar: Grammar, tree: Tree) -> List[Move]:
-    """The symbols and the closings of a tree in order."""
-    ends = ends_of(grammar, tree)
-    closed: List[List[int]] = [[] for _ in range(len(tree) + 1)]
-    for place in reversed(range(len(tree))):
-        if tree[place] > 0:
-            closed[ends[place]].append(tree[place])
-    moves: List[Move] = []
-    for place, node in enumerate(tree):
-        moves += [(CLOSING, rule) for rule in closed[place]]
+def walk(grammar: Grammar, tree: Tree) -> List[Side]:
+    """The symbols and the closings of a tree in order; last comes the closing of rule 0."""
+    moves: List[Side] = []
+    waiting = [(0, 1)]    # the open rules, each with the number of children that are still to come
+    for node in tree:
+        rule, missing = waiting.pop()
+        waiting.append((rule, missing - 1))
         if node < 0:
-            moves.append((SYMBOL, -node))
-    return moves + [(CLOSING, rule) for rule in closed[len(tree)]] + [(CLOSING, 0)]
+            moves.append(Side((SYMBOL, -node), rule))
+        else:
+            waiting.append((node, len(grammar.rules[node - 1].right)))
+        while waiting and waiting[-1][1] == 0:
+            rule, _ = waiting.pop()
+            moves.append(Side((CLOSING, rule), rule))
+    return moves
 
 
-def parting(left: Sequence[Move], right: Sequence[Move]) -> Tuple[Move, Move]:
-    """What either side does first that the other does not, openings dropped."""
-    sides = ([move for move in side if move[0] != OPENING] for side in (left, right))
-    return next(pair for pair in zip(*sides) if pair[0] != pair[1])
+def string_walk(string: Sequence[Move]) -> List[Side]:
+    """The symbols and the closings of a string. Up to its first closing a symbol is one of the rule that was opened last."""
+    moves: List[Side] = []
+    rule = 0
+    for move in string:
+        if move[0] == OPENING:
+            rule = move[1]
+        else:
+            moves.append(Side(move, move[1] if move[0] == CLOSING else rule))
+    return moves
 
 
-def likeness(one: Move, other: Move) -> int:
-    return 2 * (one == other) + (one[0] == other[0])
+def parted(root: int, left: Sequence[Side], right: Sequence[Side]) -> Parting:
+    """What either side does first that the other does not."""
+    place = next(place for place, pair in enumerate(zip(left, right)) if pair[0].move != pair[1].move)
+    passed = [side.move[1] for side in left[:place] if side.move[0] == SYMBOL]
+    return Parting(root, passed, left[place], right[place])
 
 
-def is_mirrored(grammar: Grammar, left: Tree, right: Tree, strings: Pair) -> bool:
+def of_trees(grammar: Grammar, root: int, left: Tree, right: Tree) -> Parting:
+    return parted(root, walk(grammar, left), walk(grammar, right))
+
+
+def of_strings(strings: Pair) -> Parting:
+    return parted(START, string_walk(strings.left), string_walk(strings.right))
+
+
+def likeness(one: Side, other: Side) -> int:
+    return 4 * (one.move == other.move) + 2 * (one.rule == other.rule) + (one.move[0] == other.move[0])
+
+
+def is_mirrored(trees: Parting, strings: Parting) -> bool:
     """Whether the left tree is more like the right string, and the right one like the left."""
-    trees = parting(walk(grammar, left), walk(grammar, right))
-    letters = parting(*strings)
-    same = likeness(trees[0], letters[0]) + likeness(trees[1], letters[1])
-    return likeness(trees[0], letters[1]) + likeness(trees[1], letters[0]) > same
+    same = likeness(trees.left, strings.left) + likeness(trees.right, strings.right)
+    return likeness(trees.left, strings.right) + likeness(trees.right, strings.left) > same
 
 
 def names_of(named: NamedGrammar, codes: Sequence[int]) -> str:
@@ -165,13 +212,58 @@ def quoted(named: NamedGrammar, row: Sequence[int]) -> str:
     return "`%s`" % names_of(named, row) if row else "the empty sentence"
 
 
-def explanation(named: NamedGrammar, found: TwoTrees, strings: Pair) -> str:
+def after(named: NamedGrammar, passed: Sequence[int]) -> str:
+    """Where two readings part; of many symbols those at both ends are shown."""
+    if not passed:
+        return "at the beginning"
+    if len(passed) <= MOST_PASSED:
+        return "after `%s`" % names_of(named, passed)
+    half = MOST_PASSED // 2
+    return "after `%s ... %s`" % (names_of(named, passed[:half]), names_of(named, passed[-half:]))
+
+
+def whole(named: NamedGrammar, root: int) -> str:
+    """What rule 0 ends."""
+    return "the sentence" if root == START else "the " + names_of(named, [root])
+
+
+def sentence_of(named: NamedGrammar, parting: Parting) -> str:
+    """What both sides do at the parting."""
+    told = []
+    for (kind, number), _ in parting.left, parting.right:
+        if kind == SYMBOL:
+            told.append("goes on with `%s`" % names_of(named, [number]))
+        elif number == 0:
+            told.append("ends " + whole(named, parting.root))
+        else:
+            rule = named.grammar.rules[number - 1]
+            right = " " + names_of(named, rule.right) if rule.right else ""
+            told.append("ends `%s:%s`, line %d" % (names_of(named, [rule.left]), right, LISTS + number))
+    return "%s: left %s, right %s" % (after(named, parting.passed), *told)
+
+
+def headline(named: NamedGrammar, word: str, parting: Parting) -> Place:
+    """The place of a rule that ends, and what is said there."""
+    side, other = parting.left, parting.right
+    if side.move[0] != CLOSING or side.rule == 0:
+        side, other = other, side
+    if other.move == (CLOSING, 0):
+        what = whole(named, parting.root) + " ends"
+    else:
+        goes_on = " goes on with `%s`" % names_of(named, [other.move[1]]) if other.move[0] == SYMBOL else " ends"
+        what = "line %d%s" % (LISTS + other.rule, goes_on)
+    message = "%s: %s this rule ends, or %s" % (word, after(named, parting.passed), what)
+    return Place(LISTS + side.rule, COLUMN, message.replace("`", "'"))
+
+
+def explained(named: NamedGrammar, found: TwoTrees, strings: Pair) -> Explained:
     """What is said of a sentence with two trees; left and right are those of the two strings."""
     grammar = named.grammar
     code, left, right = smallest(grammar, found.left, found.right)
     left, right = folded(grammar, left, right), folded(grammar, right, left)
-    if is_mirrored(grammar, left, right, strings):
+    if is_mirrored(of_trees(grammar, code, left, right), of_strings(strings)):
         left, right = right, left
+    parting = of_trees(grammar, code, left, right)
     row, sentence = row_of(left), list(found.sentence)
     if code == START:
         what = quoted(named, row)
@@ -180,7 +272,7 @@ def explanation(named: NamedGrammar, found: TwoTrees, strings: Pair) -> str:
         name = names_of(named, [code])
         what = "the %s %s" % (name, quoted(named, row)) if row else "an empty " + name
         example = ", in a sentence: " + quoted(named, sentence)
-    lines = ["ambiguous: %s has two trees%s" % (what, example)]
+    lines = ["ambiguous: %s has two trees%s" % (what, example), sentence_of(named, parting)]
     for title, tree in ("left tree:", left), ("right tree:", right):
         lines += [title] + tree_lines(named, tree)
-    return "".join(line + "\n" for line in lines)
+    return Explained("".join(line + "\n" for line in lines), parting)

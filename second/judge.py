@@ -12,7 +12,7 @@ from typing import List, NamedTuple, Optional, Sequence, Union
 from callers import MOST_CALLERS, TOO_MANY_CALLERS, refusal_at, states_at
 from certificates import check_certificate
 from corpus import Found, found_in
-from explained import explanation
+from explained import explained, headline, of_strings
 from places import Place, place_of
 from printed import CHECKED, MOST_BYTES, RUNS, Malformed, has_form, lines_of, read_in
 from readings import named_of, sides, witness_lines
@@ -39,13 +39,14 @@ YES, NO, MISUSE, POTENTIAL, REFUSED = range(5)
 
 
 class Answer(NamedTuple):
-    """What is printed, the exit status, and where the fault is: in the grammar, or in the certificate; a note."""
+    """What is printed, the exit status, and where the fault is: in the grammar, or in the certificate; a note; where readings part."""
 
     printed: str
     status: int
     grammar_fault: Optional[Place] = None
     certificate_fault: Optional[Malformed] = None
     note: Optional[str] = None
+    parting: Optional[Place] = None
 
 
 def refused(refusal: Refusal) -> str:
@@ -143,18 +144,20 @@ def answered(text: bytes, m: Optional[int], certify: bool) -> Answer:
         form = CHECKED if has_form(states_at(found.grammar, answer.m), CHECKED) else RUNS
         return Answer(lines_of(found, answer.result.certificate, form, answer.m).decode("ascii"), YES)
     if certify:
-        return explained(text, found, answer, lines)
+        return with_trees(text, found, answer, lines)
     return Answer(lines, POTENTIAL, note=note_of(answer))
 
 
-def explained(text: bytes, found: Found, answer: Judged, lines: str) -> Answer:
+def with_trees(text: bytes, found: Found, answer: Judged, lines: str) -> Answer:
     """A potential verdict, with two trees if they are found."""
+    named = named_of(text, found.text)
+    strings = sides(triples_of(found.grammar, answer.m), answer.result.witness)
     trees = two_trees(found.grammar)
     if trees is None:
         lines += "no sentence with two trees was found: the alarm may be false\n"
-        return Answer(lines, POTENTIAL, note=note_of(answer))
-    strings = sides(triples_of(found.grammar, answer.m), answer.result.witness)
-    return Answer(lines + explanation(named_of(text, found.text), trees, strings), NO)
+        return Answer(lines, POTENTIAL, note=note_of(answer), parting=headline(named, "potential", of_strings(strings)))
+    told = explained(named, trees, strings)
+    return Answer(lines + told.lines, NO, parting=headline(named, "ambiguous", told.parting))
 
 
 def checked(text: bytes, lines: bytes) -> Answer:
@@ -256,6 +259,8 @@ def run(words: Sequence[str]) -> int:
     for path, fault in [(asked.grammar, answer.grammar_fault), (asked.certificate, answer.certificate_fault)]:
         if fault is not None and not asked.quiet:
             print("%s:%d:%d: error: %s" % (shown(path), fault.line, fault.column, fault.message), file=sys.stderr)
+    if answer.parting is not None and not asked.quiet:
+        print("%s:%d:%d: %s" % (shown(asked.grammar), *answer.parting), file=sys.stderr)
     if answer.note is not None and not asked.quiet:
         print("%s: %s" % (shown(asked.grammar), answer.note), file=sys.stderr)
     return answer.status if said(answer.printed) else MISUSE

@@ -54,7 +54,7 @@ class CertificateTest(unittest.TestCase):
         for form, lines in [(PLAIN, LINES), (CHECKED, LINES_CHECKED)]:
             self.assertEqual(lines_of(found, ONE_A_BYTES, form), lines)
             self.assertEqual(certificate_in(found, lines), ONE_A_BYTES)
-            self.assertEqual(checked(EXAMPLE, lines), ("accepted\n", 0, None, None, None))
+            self.assertEqual(checked(EXAMPLE, lines), ("accepted\n", 0, None, None, None, None))
             self.assertEqual(checked(EXAMPLE[:-1], lines)[0], "refused=16\nat=3\n")
 
     def test_the_corpus(self):
@@ -83,10 +83,10 @@ class CertificateTest(unittest.TestCase):
             self.assertEqual(checked(text, lines)[0], "accepted\n")
             lines = lines.replace(b"states=512", b"states=513")
             if form != RUNS:
-                printed_, _, _, fault, _ = checked(longer, lines)
+                printed_, _, _, fault, *_ = checked(longer, lines)
                 self.assertEqual((printed_, fault[:2]), ("malformed\n", (1, 18)))
                 self.assertIn("form %d has at most 512 states; the grammar has 513" % form, fault.message)
-        printed_, status, _, _, _ = judge_certified(longer)
+        printed_, status, *_ = judge_certified(longer)
         self.assertTrue(printed_.startswith("certificate-form=3\nstates=513\n"))
         self.assertEqual((status, checked(longer, printed_.encode())[0]), (0, "accepted\n"))
 
@@ -143,7 +143,7 @@ class CertificateTest(unittest.TestCase):
                 (b"0000:", b"00\xb20:", 5, 1), (b"=11", b"=\xb2", 4, 6), (b"=11", b"=" + b"1" * 9999, 4, 6), (LINES, b"", 1, 1)]:
             lines = LINES.replace(old, new, 1)
             self.assertNotEqual(lines, LINES)
-            printed_, _, _, fault, _ = checked(EXAMPLE, lines)
+            printed_, _, _, fault, *_ = checked(EXAMPLE, lines)
             self.assertEqual((printed_, fault[:2]), ("malformed\n", (line, column)), lines)
         wrong = certificate_in(found_in(EXAMPLE), LINES_CHECKED.replace(b"form=2", b"form=1"))
         self.assertEqual(wrong[:2], (1, 18))

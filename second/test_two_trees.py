@@ -4,7 +4,7 @@ import re
 import unittest
 
 from corpus import AMBIGUOUS, FALSE_ALARM, entries, found_in, text_in
-from explained import explanation, folded, is_mirrored, parting, row_of, smallest, walk
+from explained import explained, folded, is_mirrored, of_strings, of_trees, row_of, smallest
 from judge import certified
 from readings import named_in, sides
 from searches import needed, search
@@ -15,6 +15,7 @@ from two_trees import two_trees
 
 IF = b"terminals=if,else,x\nnonterminals=S\nrule=S: if S\nrule=S: if S else S\nrule=S: x\n"
 TOLD = """ambiguous: `if if S else S` has two trees, for example `if if x else x`
+after `if if S`: left goes on with `else`, right ends `S: if S`, line 3
 left tree:
 S: if S  (line 3)
   if
@@ -74,10 +75,12 @@ class TwoTreesTest(unittest.TestCase):
         short = folded(grammar, left, right), folded(grammar, right, left)
         self.assertNotEqual(*short)
         self.assertEqual(row_by_rules(grammar, short[0], code), row_by_rules(grammar, short[1], code))
-        if is_mirrored(grammar, *short, strings):
+        letters = of_strings(strings)
+        if is_mirrored(of_trees(grammar, code, *short), letters):
             short = short[::-1]
-        self.assertFalse(is_mirrored(grammar, *short, strings))
-        ends = [[move[0] for move in pair] for pair in (parting(*strings), parting(*(walk(grammar, tree) for tree in short)))]
+        trees = of_trees(grammar, code, *short)
+        self.assertFalse(is_mirrored(trees, letters))
+        ends = [[side.move[0] for side in (parting.left, parting.right)] for parting in (letters, trees)]
         self.assertTrue(len(set(ends[0])) == 1 or len(set(ends[1])) == 1 or ends[0] == ends[1])
 
     def test_false_alarms(self):
@@ -89,9 +92,18 @@ class TwoTreesTest(unittest.TestCase):
     def test_explanation(self):
         found = found_in(IF)
         trees = two_trees(found.grammar)
-        self.assertEqual(explanation(named_in(IF), trees, strings_of(found)), TOLD)
+        self.assertEqual(explained(named_in(IF), trees, strings_of(found)).lines, TOLD)
         mirrored = trees._replace(left=trees.right, right=trees.left)
-        self.assertEqual(explanation(named_in(IF), mirrored, strings_of(found)), TOLD)
+        self.assertEqual(explained(named_in(IF), mirrored, strings_of(found)).lines, TOLD)
+
+    def test_places(self):
+        """The place of the rule to look at, with two trees and without them."""
+        self.assertEqual(certified(IF).parting,
+                         (3, 6, "ambiguous: after 'if if S' this rule ends, or line 4 goes on with 'else'"))
+        self.assertEqual(certified(text_in("row-odd-a")).parting[2].split(":")[0], "potential")
+        self.assertIsNone(certified(text_in("row-a")).parting)
+        cycle = b"terminals=a\nnonterminals=S\nrule=S: S\nrule=S: a\n"
+        self.assertEqual(certified(cycle).parting, (3, 6, "ambiguous: after 'a' this rule ends, or the sentence ends"))
 
     def test_the_declared_spelling(self):
         """Document 02, [9]: the trees have each name as it is declared."""
