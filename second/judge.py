@@ -209,6 +209,7 @@ def parser() -> argparse.ArgumentParser:
     words.add_argument("-m", "--callers", metavar="M", type=callers_of, default=None,
                        help="judge remembering M callers, 0, 1 or 2, alone")
     words.add_argument("-q", "--quiet", action="store_true", help="say nothing on standard error")
+    words.add_argument("--titled", action="store_true", help="print a line 'file=' with the grammar's file first")
     words.add_argument("-V", "--version", action="version", version="judge.py " + version())
     return words
 
@@ -263,7 +264,8 @@ def run(words: Sequence[str]) -> int:
         print("%s:%d:%d: %s" % (shown(asked.grammar), *answer.parting), file=sys.stderr)
     if answer.note is not None and not asked.quiet:
         print("%s: %s" % (shown(asked.grammar), answer.note), file=sys.stderr)
-    return answer.status if said(answer.printed) else MISUSE
+    title = "file=%s\n" % shown(asked.grammar) if asked.titled else ""
+    return answer.status if said(title + answer.printed) else MISUSE
 
 
 if __name__ == "__main__":
