@@ -2,8 +2,10 @@
 
 mod support;
 
-use ambiguity::{Cause, Code, Grammar, Letter, Names, Part, PartRefusal, Read, ReadBack, Refusal, Rule, Table};
-use ambiguity::{MAX_REPORT_BYTES, MAX_TEXT_BYTES};
+use ambiguity::{
+    Cause, Code, Grammar, Letter, Names, Part, PartRefusal, Read, ReadBack, Refusal, Rule, Searched, Table, Trees,
+};
+use ambiguity::{MAX_CALLERS, MAX_REPORT_BYTES, MAX_TEXT_BYTES};
 use support::{grammar, refused, A, S};
 
 const NESTED: &str = "terminals=x,y\nnonterminals=S,A\nrule=S: x A\nrule=S:\nrule=A: y S y\n";
@@ -265,4 +267,18 @@ fn long_lines() {
         assert!(row[..500_000].chunks(4).all(|letters| letters == four));
         assert!(row[500_000..].iter().all(|entry| *entry == 0));
     }
+}
+
+/// A thread with 128 KiB of stack reads a grammar, searches it, checks the certificate and finds a tree.
+#[test]
+fn a_thread_with_little_stack() {
+    let judged = || {
+        let grammar = Grammar::read(NESTED.as_bytes()).unwrap();
+        for callers in 0..=MAX_CALLERS {
+            let Ok(Searched::Unambiguous { certificate, .. }) = grammar.search(callers) else { panic!("it is unambiguous") };
+            assert_eq!(grammar.check(callers, &certificate), Ok(()));
+        }
+        assert_eq!(grammar.trees(&[1, 2, 2], 3), Ok(Trees::One(vec![1, 3, 2])));
+    };
+    std::thread::Builder::new().stack_size(128 << 10).spawn(judged).unwrap().join().unwrap();
 }
