@@ -55,6 +55,7 @@ svg polyline { fill: none; stroke: #888; }
 svg .mark { fill: #fbe3c8; stroke: #b35900; stroke-width: 1.5; }
 svg .parting { stroke: #b35900; stroke-dasharray: 5 4; }
 footer { margin-top: 8mm; font-size: 9pt; color: #555; }
+@media screen { pre { overflow-x: auto; } }
 @media print { svg { max-width: 100%; height: auto; } pre.tree { white-space: pre-wrap; } }
 @media print { body { margin: 0; padding: 0; max-width: none; } * { print-color-adjust: exact; } }
 ";

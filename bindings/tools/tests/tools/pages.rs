@@ -33,6 +33,8 @@ fn a_certificate_on_a_page() {
     assert!(page.contains(&format!("<pre class=\"one\">{}</pre>", certify(&one_a()).out)));
     assert!(page.contains("<meta name=\"viewport\" content=\"width=device-width, initial-scale=1\"/>"));
     assert!(page.contains("<code>ambig-check GRAMMAR CERTIFICATE</code>") && !page.contains("Warnings"));
+    // Lines of a certificate are wider than a phone: they are scrolled in their box, and the page is not.
+    assert!(page.contains("\n@media screen { pre { overflow-x: auto; } }\n"));
 }
 
 #[test]
