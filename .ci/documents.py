@@ -7,7 +7,7 @@ folder that shows the repository and keeps what they write. A block fenced with
 ```text behind it is what they print, standard error and standard output. `rt` is
 stood in for: the gate has run it, and the stand-in looks whether what it builds
 is there. cargo is run in the repository itself, so that it builds nothing twice. A
-command that .ci/run has word for word is run there and not again.
+command that .ci/run has, word for word up to ` -- `, is run there and not again.
 """
 
 import os
@@ -68,9 +68,9 @@ def blocks(document: str) -> List[Block]:
 
 
 def run_elsewhere(commands: str, gate: str) -> bool:
-    """Whether every line is a command of the gate, or the gate itself."""
-    lines = [line for line in commands.split("\n") if line]
-    return all(line in gate.split("\n") or line == "bash .ci/run" for line in lines)
+    """Whether every line is a command of the gate, which may say there what a test prints, or the gate itself."""
+    run = [line.split(" -- ")[0] for line in gate.split("\n")]
+    return all(line in run or line == "bash .ci/run" for line in commands.split("\n") if line)
 
 
 def script(found: List[Block], gate: str, out: str) -> str:
