@@ -1,6 +1,6 @@
 """Compares the tools with the program ambig and with the second program, judge.py.
 
-    agree.py TOOLS AMBIG     TOOLS is the folder of ambig-certify, ambig-check, ambig-join and ambig-trees
+    agree.py TOOLS AMBIG     TOOLS is the folder of ambig-certify, ambig-check, ambig-join, ambig-trees and ambig-draft
 
 Prints a line for each comparison and exits with 1 if one fails.
 """
@@ -19,6 +19,7 @@ ROOT = os.path.dirname(os.path.dirname(os.path.abspath(__file__)))
 sys.path.insert(0, os.path.join(ROOT, "second"))
 sys.dont_write_bytecode = True
 
+from callers import MOST_CALLERS, states_at  # noqa: E402
 from corpus import AMBIGUOUS, EMPTY, POTENTIAL, WITHOUT, coded, entries, found_in, text_in  # noqa: E402
 from joining import join_written, read_alone  # noqa: E402
 from judge import certified, checked, verdict  # noqa: E402
@@ -44,6 +45,9 @@ SHORT = 4                 # terminals of a short sentence
 PAIRS = 600               # texts that are joined
 MAX_ROW = 64              # terminals of a sentence
 ROWS = 5                  # sentences of a grammar, and as many rows of the same words
+SESSIONS = 40             # of a draft
+EDITS = 25                # steps of each
+MARKS = 8
 
 
 def ran(words, text):
@@ -69,6 +73,7 @@ class Tools:
         self.check = os.path.join(folder, "ambig-check")
         self.join = os.path.join(folder, "ambig-join")
         self.trees = os.path.join(folder, "ambig-trees")
+        self.draft = os.path.join(folder, "ambig-draft")
         self.ambig = ambig
 
 
@@ -478,11 +483,66 @@ def trees(tools):
     return ", ".join("%s %d" % count for count in found.items())
 
 
+def edit(rng, rules, marks):
+    """A line of a session, the rules after it, and what is refused. A rule is a tuple of names, the left one first."""
+    end = sum(1 + len(rule) for rule in rules)
+    kind = rng.choice(["add", "add", "withdraw", "mark", "return"])
+    if kind == "add":
+        left, right = rng.choice("SSSTTTbX"), rng.choices("aabbSTc", k=rng.randrange(4))
+        rule = left, *right
+        line = "add %s%s%s" % (left, rng.choice([":", " ->"]), "".join(" " + name for name in right))
+        refused = (3, end) if left in "bX" else (5, end + 2 + right.index("c")) if "c" in right else (6, end) if rule in rules else None
+        return line, rules if refused else rules + [rule], refused
+    number = rng.randrange(MARKS + 2)
+    line = "%s %d" % (kind, number)
+    if kind == "withdraw" and 1 <= number <= len(rules):
+        return line, rules[:number - 1] + rules[number:], None
+    if kind == "mark" and 1 <= number <= MARKS:
+        marks[number] = rules
+        return line, rules, None
+    if kind == "return" and number in marks:
+        return line, marks[number], None
+    return line, rules, (23, number)
+
+
+def is_quick(text):
+    """The second program judges the text quickly: it has no sentence, or few states with the most callers."""
+    found = found_in(text)
+    return found is None or states_at(found.grammar, MOST_CALLERS) <= SMALL
+
+
+def drafts(tools):
+    """After each line of a session the draft is that of its history, and is judged as the second program judges the text of these rules."""
+    rng = random.Random(13)
+    answers = dict.fromkeys(["refused", "done", "unambiguous", "potential", "no sentence"], 0)
+    for _ in range(SESSIONS):
+        lines, expected, rules, marks = ["terminals a b", "nonterminals S T"], "", [], {}
+        for _ in range(EDITS):
+            line, rules, refused = edit(rng, rules, marks)
+            lines += [in_case(rng, line.encode()).decode(), "text"]
+            answers["refused" if refused else "done"] += 1
+            if refused:
+                expected += "line=%d\nrefused=%d\nat=%d\n" % (len(lines) - 1, *refused)
+            text = "terminals=a,b\nnonterminals=S,T\n"
+            text += "".join("rule=%s:%s\n" % (rule[0], "".join(" " + name for name in rule[1:])) for rule in rules)
+            without = found_in(text.encode()) is None
+            expected += "line=%d\nrefused=19\nat=0\n" % len(lines) if without else text
+            if is_quick(text.encode()):
+                lines.append("judge")
+                printed = verdict(text.encode()).printed
+                expected += "line=%d\n%s" % (len(lines), printed) if without else printed
+                answers["no sentence" if without else "potential" if "potential" in printed else "unambiguous"] += 1
+        out, err, _ = ran([tools.draft, "--quiet"], "\n".join(lines).encode())
+        assert (out, err) == (expected, ""), "\n".join(lines)
+    assert min(answers.values()) > SESSIONS, answers
+    return ", ".join("%s %d" % count for count in answers.items())
+
+
 def main(folder, ambig):
     tools = Tools(folder, ambig)
     failed = 0
     for test in (as_ambig, messages, with_callers, certificates, same_certificates, json_lines, strings, spelling, joins,
-                 sentences, partings, random_grammars, trees):
+                 sentences, partings, random_grammars, trees, drafts):
         try:
             print("%s: %s" % (test(tools), test.__doc__.strip()))
         except AssertionError as error:

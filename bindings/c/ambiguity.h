@@ -1,13 +1,14 @@
 /* The library for C: the table check, the step records, the certificate check, the witness check over indices and over records, the
  * search, the reader and the writer of grammar text, what search and writer are to be lent, told beforehand, the report that the program
- * prints, reading back of the two strings that it prints, the join of a module's text to the robot's, and the derivation trees of one
- * sentence. Each function answers as its entry promises; crates/ambiguity_c/src/lib.rt has the promises, proved.
- * "Document 01" is the paper that the library follows: it has the tables, the certificates and the causes of refusal. Causes 19 to 22,
- * the codes of 16 bits, the limits, names in any case, modules, remembered callers and the trees of one sentence are document 02's, which
- * has the requests after it.
+ * prints, reading back of the two strings that it prints, the join of a module's text to the robot's, the derivation trees of one
+ * sentence, and a draft: a grammar while it is edited, with marks to return to. Each function answers as its entry promises;
+ * crates/ambiguity_c/src/lib.rt has the promises, proved.
+ * "Document 01" is the paper that the library follows: it has the tables, the certificates and the causes of refusal. Causes 19 to 23,
+ * the codes of 16 bits, the limits, names in any case, modules, remembered callers, the trees of one sentence and drafts are document
+ * 02's, which has the requests after it.
  *
  * What holds of every function:
- * - Every input is taken: what is wrong is refused, with a cause from 1 to 22 and a position. `cause` 0 says that nothing is
+ * - Every input is taken: what is wrong is refused, with a cause from 1 to 23 and a position. `cause` 0 says that nothing is
  *   refused. A refusal changes no lent row, but for the work row of ambiguity_find_trees, which tells when. A field that an answer does
  *   not have is 0.
  * - A row is lent as a pointer and its number of entries. The pointer is never NULL, also at 0 entries, and is aligned as its
@@ -32,7 +33,7 @@
 #endif
 
 /* The version of the whole: library, header, wrapper, tools. The first number changes when a caller has to. */
-#define AMBIGUITY_VERSION "5.1.0"
+#define AMBIGUITY_VERSION "5.2.0"
 #define AMBIGUITY_VERSION_MAJOR 5
 
 /* The limits of document 02. A right side has at most 12 codes. */
@@ -61,6 +62,12 @@
 /* Enough for any grammar: entries of its table (a rule takes one more than its states), and symbols. */
 #define AMBIGUITY_MAX_TABLE_ENTRIES (AMBIGUITY_MAX_STATES - 4 + AMBIGUITY_MAX_RULES)
 #define AMBIGUITY_MAX_NAMES (AMBIGUITY_MAX_TERMINALS + AMBIGUITY_MAX_NONTERMINALS)
+
+/* A draft's marks are 1 to AMBIGUITY_MARKS. Its row has t and n, then a block for the draft and one for each mark: the entries of a
+ * block, and of the whole row. ambiguity_draft_room tells the same at run time. */
+#define AMBIGUITY_MARKS 8
+#define AMBIGUITY_DRAFT_BLOCK (1 + AMBIGUITY_MAX_RULES + AMBIGUITY_MAX_STATES)
+#define AMBIGUITY_DRAFT_ENTRIES (2 + (1 + AMBIGUITY_MARKS) * AMBIGUITY_DRAFT_BLOCK)
 
 /* What the report takes of a text, and the bytes that are always enough for it: 64, and 16 for each letter of two strings with at
  * most AMBIGUITY_ROW_ENTRIES(AMBIGUITY_MAX_REPORT_STATES) letters each. A report without strings has at most 64. */
@@ -109,7 +116,8 @@ enum ambiguity_cause {
     AMBIGUITY_NO_SENTENCE = 19,       /* the start, the first nonterminal, has no finite tree: at 0 */
     AMBIGUITY_KINDS_CLASH = 20,       /* name a terminal in one text and a nonterminal in the other: at the module's line */
     AMBIGUITY_TOO_MANY_CALLERS = 21,  /* more than 2 callers are to be remembered: at 0 */
-    AMBIGUITY_ROW_WRONG = 22          /* a 65th terminal, or a code that is no terminal: at the first such place of the row, from 0 */
+    AMBIGUITY_ROW_WRONG = 22,         /* a 65th terminal, or a code that is no terminal: at the first such place of the row, from 0 */
+    AMBIGUITY_NOT_PRESENT = 23        /* no such mark, an empty mark, no rule of this number: at the number; no draft in the row: at 0 */
 };
 
 enum ambiguity_moved { AMBIGUITY_STILL = 0, AMBIGUITY_OPENING = 1, AMBIGUITY_CLOSING = 2, AMBIGUITY_SYMBOL = 3 };
@@ -232,6 +240,28 @@ typedef struct {
     uint64_t at;
     uint64_t entries; /* of the work row */
 } ambiguity_trees_room_reply;
+
+typedef struct {
+    uint64_t cause; /* 0: done */
+    uint64_t at;
+} ambiguity_draft_reply;
+
+typedef struct {
+    uint64_t cause;
+    uint64_t at;
+    uint64_t terminals;    /* t */
+    uint64_t nonterminals; /* n */
+    uint64_t rules;
+    uint64_t entries;      /* of the table */
+    uint64_t states;       /* Q at 0 callers: 4, and for each rule its codes and 1 */
+} ambiguity_draft_counts_reply;
+
+typedef struct {
+    uint64_t cause;
+    uint64_t at;
+    uint64_t start;   /* where in the row the table begins, from 0: 3 */
+    uint64_t entries; /* of the table */
+} ambiguity_draft_table_reply;
 
 #ifdef __cplusplus
 extern "C" {
@@ -400,6 +430,64 @@ ambiguity_trees_room_reply ambiguity_trees_room(size_t t, size_t n, const uint16
 ambiguity_trees_reply ambiguity_find_trees(size_t t, size_t n, const uint16_t *table, size_t table_entries, const uint16_t *row,
                                            size_t row_entries, uint32_t *work, size_t work_entries, uint16_t *list,
                                            size_t list_entries);
+
+/* Drafts. A draft is a grammar while it is edited: t, n, rules, and eight marks, 1 to AMBIGUITY_MARKS, each empty or with the rules as
+ * they were when it was set. A rule is added at the end or withdrawn by its number, a mark is set, and returning to a mark brings its
+ * rules back; all marks stay then. A draft may lack rules and sentences: 19 comes when its table is checked. After any history of calls
+ * from ambiguity_new_draft on the rules are those that the history gives; a refused call changes nothing.
+ *
+ *     static uint16_t draft[AMBIGUITY_DRAFT_ENTRIES];
+ *     ambiguity_new_draft(t, n, table, 0, draft, AMBIGUITY_DRAFT_ENTRIES);      no rules yet
+ *     ambiguity_add_rule(draft, AMBIGUITY_DRAFT_ENTRIES, rule, rule_entries);
+ *     ambiguity_draft_table_reply there = ambiguity_draft_table(draft, AMBIGUITY_DRAFT_ENTRIES);
+ *     ambiguity_check_table(t, n, draft + there.start, there.entries);          and so the search and the rest
+ *
+ * The row is the caller's, and all that there is of a draft: it may be copied, stored and lent again. Entries 0 and 1 are t and n; then
+ * come blocks of AMBIGUITY_DRAFT_BLOCK entries each, from entry 2 on the draft's, and from entry 2 + k * AMBIGUITY_DRAFT_BLOCK on that
+ * of mark k. A block's first entry is one more than the number of its rules, and 0 if the mark is empty; a mark of a draft without rules
+ * is not empty. The table of these rules follows. What lies past the table in a block is never read, and entries past
+ * AMBIGUITY_DRAFT_ENTRIES are neither read nor written. A call that is done writes the first entry and the table of the block that it
+ * changes, and nothing else.
+ *
+ * Any row may be lent. A block holds rules if its first entry c is not 0 and c - 1 rules, walked by their lengths, lie whole in it; a
+ * row holds a draft if the draft's block holds rules. A row that ambiguity_new_draft made, and other calls changed, always does; of
+ * another one t, n and the numbers that are told may pass the limits, so no memory is to be set aside by them. Every function behind
+ * ambiguity_new_draft refuses a row of fewer than AMBIGUITY_DRAFT_ENTRIES entries with 14 at 0, then one that holds no draft with 23 at
+ * 0, then what its own comment has. */
+
+/* How many entries the row of a draft is to have: AMBIGUITY_DRAFT_ENTRIES. */
+size_t ambiguity_draft_room(void);
+
+/* Begins a draft from t, n and a table, perhaps without entries; all marks are empty. The row may hold anything before. Refuses the
+ * table as ambiguity_check_table does, with 1, then for each rule 7, 2, 3, 4, 2, 5, 6, 8, but never with 19; then with 14 at 0 a row
+ * that is too short. Done, entries 0 and 1, the draft's block and the first entry of each mark are written. */
+ambiguity_draft_reply ambiguity_new_draft(size_t t, size_t n, const uint16_t *table, size_t table_entries, uint16_t *draft,
+                                          size_t draft_entries);
+
+/* Adds a rule behind the last one: the rule that the given entries begin with, its left code, the length of its right side and the codes
+ * of that. Entries past its last code are not read. Refuses with 7, then 2, 3, 4, 2, 5, 6, 8, as the table check does where this rule
+ * follows the draft's table; offsets count on from the end of that table, so that its number of entries is the rule's offset. Adding
+ * nothing is 2 there. The draft's own rules are not tried again: of a row that no ambiguity_new_draft made, the rule is tried alone, 7
+ * if there are AMBIGUITY_MAX_RULES rules or more, 6 if it equals one of them, 8 if it has too many states together with them. */
+ambiguity_draft_reply ambiguity_add_rule(uint16_t *draft, size_t draft_entries, const uint16_t *rule, size_t rule_entries);
+
+/* Withdraws the rule of a number, from 1; later rules move down by one number. Refuses with 23, at the number given, if there is no such
+ * rule. */
+ambiguity_draft_reply ambiguity_withdraw_rule(uint16_t *draft, size_t draft_entries, size_t number);
+
+/* Keeps the rules under a mark, whose former rules are lost. Refuses with 23, at the number given, if it is not 1 to AMBIGUITY_MARKS. */
+ambiguity_draft_reply ambiguity_set_mark(uint16_t *draft, size_t draft_entries, size_t mark);
+
+/* Brings the rules of a mark back; the draft's own are lost unless a mark keeps them. All marks stay as they are. Refuses with 23, at
+ * the number given, if it is not 1 to AMBIGUITY_MARKS, or if the mark is empty. */
+ambiguity_draft_reply ambiguity_return_to_mark(uint16_t *draft, size_t draft_entries, size_t mark);
+
+/* t, n, how many rules there are, the entries of their table, and Q. Refuses with 14 and 23 at 0 alone; the row is only read. */
+ambiguity_draft_counts_reply ambiguity_draft_counts(const uint16_t *draft, size_t draft_entries);
+
+/* Where the table stands in the row: `entries` entries from `start` on, to be lent to whatever takes a table, with t and n. Refuses with
+ * 14 and 23 at 0 alone; the row is only read. */
+ambiguity_draft_table_reply ambiguity_draft_table(const uint16_t *draft, size_t draft_entries);
 
 #ifdef __cplusplus
 }

@@ -31,6 +31,7 @@ static inline const char *ambiguity_cause_text(uint64_t cause)
     case AMBIGUITY_KINDS_CLASH: return "a name is a terminal in one text and a nonterminal in the other";
     case AMBIGUITY_TOO_MANY_CALLERS: return "more callers are to be remembered than two";
     case AMBIGUITY_ROW_WRONG: return "the row has more than 64 terminals, or a code that is none";
+    case AMBIGUITY_NOT_PRESENT: return "no such mark, rule or draft";
     default: return "a cause that this header does not know";
     }
 }

@@ -3,7 +3,7 @@
  * function calls itself, so the largest grammar, with the most names, has the deepest calls that there are. Functions that take callers
  * are measured with 0, 1 and 2. A line with more names than the limit is read another way, which is measured too, in the robot's text and
  * in a module's. The report takes no more than 48 states; its two strings are read back. Trees are found of the longest rows: none, one,
- * also where the list is too short for it, and several. */
+ * also where the list is too short for it, and several. A draft begins from the longest table, is marked, and gets its last rule back. */
 #define _XOPEN_SOURCE 700
 #include <pthread.h>
 #include <stdio.h>
@@ -45,6 +45,11 @@ static uint16_t list[AMBIGUITY_MAX_ROW];
 static size_t list_entries;
 static ambiguity_trees_reply trees;
 static ambiguity_trees_room_reply trees_room;
+static uint16_t draft[AMBIGUITY_DRAFT_ENTRIES];
+static uint16_t rule[14];
+static ambiguity_draft_reply drafted;
+static ambiguity_draft_counts_reply counts;
+static ambiguity_draft_table_reply place;
 static ambiguity_read_back_reply read_back;
 static ambiguity_read_reply grammar;
 static ambiguity_read_reply joined;
@@ -144,6 +149,25 @@ static void run_trees(void)
     trees = ambiguity_find_trees(grammar.terminals, grammar.nonterminals, table, grammar.entries, sentence, AMBIGUITY_MAX_ROW, work,
                                  AMBIGUITY_TREES_ENTRIES(MOST), list, list_entries);
 }
+
+static void run_draft_room(void) { place.entries = ambiguity_draft_room(); }
+
+static void run_new_draft(void)
+{
+    drafted = ambiguity_new_draft(grammar.terminals, grammar.nonterminals, table, grammar.entries, draft, AMBIGUITY_DRAFT_ENTRIES);
+}
+
+static void run_add(void) { drafted = ambiguity_add_rule(draft, AMBIGUITY_DRAFT_ENTRIES, rule, sizeof rule / sizeof *rule); }
+
+static void run_withdraw(void) { drafted = ambiguity_withdraw_rule(draft, AMBIGUITY_DRAFT_ENTRIES, counts.rules); }
+
+static void run_mark(void) { drafted = ambiguity_set_mark(draft, AMBIGUITY_DRAFT_ENTRIES, AMBIGUITY_MARKS); }
+
+static void run_return(void) { drafted = ambiguity_return_to_mark(draft, AMBIGUITY_DRAFT_ENTRIES, AMBIGUITY_MARKS); }
+
+static void run_counts(void) { counts = ambiguity_draft_counts(draft, AMBIGUITY_DRAFT_ENTRIES); }
+
+static void run_draft_table(void) { place = ambiguity_draft_table(draft, AMBIGUITY_DRAFT_ENTRIES); }
 
 static void run_report(void) { ambiguity_report(text, strlen((char *)text), out, sizeof out); }
 
@@ -360,6 +384,31 @@ static int measure_trees(void)
     return wrong + measure_found("ambiguity_find_trees, several", AMBIGUITY_SEVERAL_TREES);
 }
 
+/* A call about a draft, which is refused with this cause or done. */
+static int measure_draft(const char *what, void (*run)(void), uint64_t cause)
+{
+    drafted = (ambiguity_draft_reply){0, 0};
+    return measure(what, run, AMBIGUITY_STACK_BYTES) + (drafted.cause != cause);
+}
+
+/* The draft of the largest grammar has no room for a rule more: with its last one withdrawn, which has two codes, it has room for that. */
+static int measure_drafts(void)
+{
+    int wrong = read_largest(LAST, MOST);
+    memcpy(rule, table + grammar.entries - 4, 4 * sizeof *rule);
+    wrong += measure("ambiguity_draft_room", run_draft_room, AMBIGUITY_STACK_BYTES) + (place.entries != AMBIGUITY_DRAFT_ENTRIES);
+    wrong += measure_draft("ambiguity_new_draft", run_new_draft, AMBIGUITY_NOT_REFUSED);
+    wrong += measure("ambiguity_draft_counts", run_counts, AMBIGUITY_STACK_BYTES) + (counts.states != MOST);
+    wrong += measure("ambiguity_draft_table", run_draft_table, AMBIGUITY_STACK_BYTES) + (place.entries != grammar.entries);
+    wrong += measure_draft("ambiguity_set_mark", run_mark, AMBIGUITY_NOT_REFUSED);
+    wrong += measure_draft("ambiguity_add_rule, refused", run_add, AMBIGUITY_RULE_REPEATED);
+    rule[0] = AMBIGUITY_START + 1;
+    wrong += measure_draft("ambiguity_add_rule, too many states", run_add, AMBIGUITY_TOO_MANY_STATES);
+    wrong += measure_draft("ambiguity_withdraw_rule", run_withdraw, AMBIGUITY_NOT_REFUSED);
+    wrong += measure_draft("ambiguity_add_rule", run_add, AMBIGUITY_NOT_REFUSED);
+    return wrong + measure_draft("ambiguity_return_to_mark", run_return, AMBIGUITY_NOT_REFUSED);
+}
+
 /* Of the largest grammar, whose start has one caller, so that it has as many states whatever the callers, all that takes them. */
 static int measure_callers(void)
 {
@@ -389,5 +438,6 @@ int main(void)
     wrong += measure_long_texts();
     wrong += measure_joins();
     wrong += measure_trees();
+    wrong += measure_drafts();
     return wrong != 0;
 }

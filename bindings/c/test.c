@@ -1,9 +1,10 @@
 /* The certificate check on document 01's cases of S -> a, the witness check over records on those of S -> S; S -> a, the report,
  * and reading its two strings back; searches and texts lent just what is told beforehand, and one less, with 0, 1 and 2 callers; names in
  * any case; a heating module joined to the robot's text, with each kind of refusal; the trees of one sentence, none, one and several, with
- * each kind of refusal, and rows that are lent exactly, one less and more; all seventeen functions on grammars without a sentence; too
- * many callers and too many chains of them, and certificates of another number of callers; and tables and texts at the limits and just
- * past them. Exits with 0 if every answer is document 01's and document 02's. */
+ * each kind of refusal, and rows that are lent exactly, one less and more; a draft with its marks, every entry of its row after each call,
+ * with each kind of refusal, full drafts, and rows that no new draft made; all functions that take a whole grammar on grammars without a
+ * sentence; too many callers and too many chains of them, and certificates of another number of callers; and tables and texts at the limits
+ * and just past them. Exits with 0 if every answer is document 01's and document 02's. */
 #include <stdio.h>
 #include <string.h>
 
@@ -896,6 +897,275 @@ static void expect_longest(void)
                   AMBIGUITY_MAX_ROW + 1);
 }
 
+/* A draft's row with entries behind it, and what that row is to be after each call, put down here by hand. */
+#define DRAFT_ROW (AMBIGUITY_DRAFT_ENTRIES + 3)
+#define BLOCK AMBIGUITY_DRAFT_BLOCK
+#define ADD(rule) ambiguity_add_rule(draft, DRAFT_ROW, rule, ENTRIES(rule))
+
+static uint16_t draft[DRAFT_ROW], draft_right[DRAFT_ROW];
+
+_Static_assert(AMBIGUITY_DRAFT_BLOCK == 1425 && AMBIGUITY_DRAFT_ENTRIES == 12827, "document 02's limits give these lengths");
+_Static_assert(AMBIGUITY_MAX_TABLE_ENTRIES < AMBIGUITY_DRAFT_BLOCK, "a block holds the longest table");
+_Static_assert(sizeof(ambiguity_draft_reply) == 16 && sizeof(ambiguity_draft_counts_reply) == 56
+                   && sizeof(ambiguity_draft_table_reply) == 32,
+               "replies are numbers of 64 bits");
+
+/* Block k is to have these rules. */
+static void put_block(size_t k, const uint16_t *table, size_t entries, unsigned rules)
+{
+    uint16_t *block = draft_right + 2 + k * BLOCK;
+    block[0] = (uint16_t)(rules + 1);
+    memcpy(block + 1, table, entries * sizeof *table);
+}
+
+/* A call answers so, and leaves the whole row as it is to be. */
+static void expect_draft(const char *what, ambiguity_draft_reply reply, uint64_t cause, uint64_t at)
+{
+    int right = reply.cause == cause && reply.at == at && memcmp(draft, draft_right, sizeof draft) == 0;
+    printf("%s: %s, cause %llu at %llu\n", right ? "ok" : "WRONG", what, (unsigned long long)reply.cause,
+           (unsigned long long)reply.at);
+    wrong += !right;
+}
+
+/* The draft has these counts; its table stands at 3. Nothing is written. */
+static void expect_counts(const char *what, uint64_t t, uint64_t n, uint64_t rules, uint64_t entries, uint64_t states)
+{
+    ambiguity_draft_counts_reply counts = ambiguity_draft_counts(draft, DRAFT_ROW);
+    ambiguity_draft_table_reply table = ambiguity_draft_table(draft, DRAFT_ROW);
+    int right = counts.cause == 0 && counts.at == 0 && counts.terminals == t && counts.nonterminals == n && counts.rules == rules
+        && counts.entries == entries && counts.states == states && table.cause == 0 && table.at == 0 && table.start == 3
+        && table.entries == entries && memcmp(draft, draft_right, sizeof draft) == 0;
+    printf("%s: %s, %llu rules, %llu entries, %llu states\n", right ? "ok" : "WRONG", what, (unsigned long long)counts.rules,
+           (unsigned long long)counts.entries, (unsigned long long)counts.states);
+    wrong += !right;
+}
+
+/* The row holds a number in each entry, so that each that is written shows. */
+static void fill_draft(unsigned first)
+{
+    size_t i;
+    for (i = 0; i < DRAFT_ROW; i++)
+        draft[i] = draft_right[i] = (uint16_t)(first + 7 * i);
+}
+
+/* A new draft with this table is to be there. */
+static void put_draft(size_t t, size_t n, const uint16_t *table, size_t entries, unsigned rules)
+{
+    size_t k;
+    draft_right[0] = (uint16_t)t;
+    draft_right[1] = (uint16_t)n;
+    put_block(0, table, entries, rules);
+    for (k = 1; k <= AMBIGUITY_MARKS; k++)
+        draft_right[2 + k * BLOCK] = 0;
+}
+
+/* All functions that take a draft refuse a row of so many entries, and change nothing; so do numbers that are no marks and no rules. */
+static void expect_no_draft(const char *what, size_t entries, uint64_t cause)
+{
+    static const size_t numbers[] = {0, 1, 8, 9, SIZE_MAX};
+    ambiguity_draft_counts_reply counts = ambiguity_draft_counts(draft, entries);
+    ambiguity_draft_table_reply table = ambiguity_draft_table(draft, entries);
+    size_t i;
+    expect_draft(what, (ambiguity_draft_reply){counts.cause, counts.at}, cause, 0);
+    expect_draft(what, (ambiguity_draft_reply){table.cause, table.at}, cause, 0);
+    wrong += (counts.terminals | counts.nonterminals | counts.rules | counts.entries | counts.states | table.start | table.entries) != 0;
+    expect_draft(what, ambiguity_add_rule(draft, entries, TABLE, ENTRIES(TABLE)), cause, 0);
+    expect_draft(what, ambiguity_add_rule(draft, entries, TABLE, 0), cause, 0);
+    for (i = 0; i < ENTRIES(numbers); i++) {
+        expect_draft(what, ambiguity_withdraw_rule(draft, entries, numbers[i]), cause, 0);
+        expect_draft(what, ambiguity_set_mark(draft, entries, numbers[i]), cause, 0);
+        expect_draft(what, ambiguity_return_to_mark(draft, entries, numbers[i]), cause, 0);
+    }
+}
+
+/* A class: S -> a S b; S -> ; S -> A; A -> a; with marks. The codes are a, b; S, A. */
+static void expect_history(void)
+{
+    static const uint16_t first[] = {S, 3, 1, S, 2, 65535, 13, 0}, second[] = {S, 0}, third[] = {S, 1, S + 1}, fourth[] = {S + 1, 1, 1, 9};
+    static const uint16_t all[] = {S, 3, 1, S, 2, S, 0, S, 1, S + 1, S + 1, 1, 1};
+    static const uint16_t without_second[] = {S, 3, 1, S, 2, S, 1, S + 1, S + 1, 1, 1};
+    fill_draft(5);
+    put_draft(2, 2, all, 0, 0);
+    expect_draft("a draft without rules", ambiguity_new_draft(2, 2, all, 0, draft, DRAFT_ROW), 0, 0);
+    expect_counts("it", 2, 2, 0, 0, 4);
+    expect_draft("there is no rule 1", ambiguity_withdraw_rule(draft, DRAFT_ROW, 1), AMBIGUITY_NOT_PRESENT, 1);
+    put_block(8, all, 0, 0);
+    expect_draft("mark 8, no rules", ambiguity_set_mark(draft, DRAFT_ROW, 8), 0, 0);
+    put_block(0, all, 5, 1);
+    expect_draft("S -> a S b, entries past it are not read", ADD(first), 0, 0);
+    put_block(0, all, 7, 2);
+    expect_draft("S -> ", ADD(second), 0, 0);
+    put_block(1, all, 7, 2);
+    expect_draft("mark 1, two rules", ambiguity_set_mark(draft, AMBIGUITY_DRAFT_ENTRIES, 1), 0, 0);
+    put_block(0, all, 10, 3);
+    expect_draft("S -> A", ADD(third), 0, 0);
+    put_block(0, all, 13, 4);
+    expect_draft("A -> a", ADD(fourth), 0, 0);
+    expect_counts("four rules", 2, 2, 4, 13, 13);
+    expect_draft("S -> A again", ADD(third), AMBIGUITY_RULE_REPEATED, 13);
+    put_block(1, all, 13, 4);
+    expect_draft("mark 1 again, four rules", ambiguity_set_mark(draft, DRAFT_ROW, 1), 0, 0);
+    put_block(0, without_second, 11, 3);
+    expect_draft("rule 2 withdrawn, later ones move down", ambiguity_withdraw_rule(draft, DRAFT_ROW, 2), 0, 0);
+    expect_counts("three rules", 2, 2, 3, 11, 12);
+    put_block(0, without_second, 8, 2);
+    expect_draft("the last rule withdrawn", ambiguity_withdraw_rule(draft, DRAFT_ROW, 3), 0, 0);
+    put_block(0, without_second + 5, 3, 1);
+    expect_draft("the first rule withdrawn", ambiguity_withdraw_rule(draft, DRAFT_ROW, 1), 0, 0);
+    expect_draft("a return to an empty mark", ambiguity_return_to_mark(draft, DRAFT_ROW, 2), AMBIGUITY_NOT_PRESENT, 2);
+    put_block(0, all, 13, 4);
+    expect_draft("a return to mark 1", ambiguity_return_to_mark(draft, DRAFT_ROW, 1), 0, 0);
+    put_block(0, all, 0, 0);
+    expect_draft("a return to mark 8, no rules", ambiguity_return_to_mark(draft, DRAFT_ROW, 8), 0, 0);
+    put_block(0, all, 13, 4);
+    expect_draft("mark 1 is still there", ambiguity_return_to_mark(draft, DRAFT_ROW, 1), 0, 0);
+}
+
+/* What is refused of the draft that stands there, four rules of 13 entries. */
+static void expect_steps_refused(void)
+{
+    static const size_t no_marks[] = {0, 9, 65537, SIZE_MAX}, no_rules[] = {0, 5, 65537, SIZE_MAX};
+    static const uint16_t of_terminal[] = {1, 0}, undeclared_left[] = {S + 2, 99}, longer[] = {S, 13}, cut[] = {S, 2, 0};
+    static const uint16_t undeclared[] = {S, 3, 1, S + 2, 3}, no_code[] = {S, 1, 0}, fourth[] = {S + 1, 1, 1};
+    size_t i;
+    for (i = 0; i < 4; i++) {
+        expect_draft("no such mark", ambiguity_set_mark(draft, DRAFT_ROW, no_marks[i]), AMBIGUITY_NOT_PRESENT, no_marks[i]);
+        expect_draft("no mark to return to", ambiguity_return_to_mark(draft, DRAFT_ROW, no_marks[i]), AMBIGUITY_NOT_PRESENT, no_marks[i]);
+        expect_draft("no such rule", ambiguity_withdraw_rule(draft, DRAFT_ROW, no_rules[i]), AMBIGUITY_NOT_PRESENT, no_rules[i]);
+    }
+    expect_draft("no entry to add", ambiguity_add_rule(draft, DRAFT_ROW, longer, 0), AMBIGUITY_TRUNCATED, 13);
+    expect_draft("one entry to add", ambiguity_add_rule(draft, DRAFT_ROW, of_terminal, 1), AMBIGUITY_TRUNCATED, 13);
+    expect_draft("a terminal on the left", ADD(of_terminal), AMBIGUITY_LEFT_UNDECLARED, 13);
+    expect_draft("an undeclared left code, and too long", ADD(undeclared_left), AMBIGUITY_LEFT_UNDECLARED, 13);
+    expect_draft("thirteen codes, and cut", ADD(longer), AMBIGUITY_RULE_TOO_LONG, 13);
+    expect_draft("a rule cut, and a code undeclared", ADD(cut), AMBIGUITY_TRUNCATED, 13);
+    expect_draft("the first undeclared code", ADD(undeclared), AMBIGUITY_CODE_UNDECLARED, 16);
+    expect_draft("the code 0", ADD(no_code), AMBIGUITY_CODE_UNDECLARED, 15);
+    expect_draft("a rule that is there", ADD(fourth), AMBIGUITY_RULE_REPEATED, 13);
+    expect_no_draft("a row one entry short", AMBIGUITY_DRAFT_ENTRIES - 1, AMBIGUITY_BUFFER_TOO_SHORT);
+    expect_no_draft("a row of no entries", 0, AMBIGUITY_BUFFER_TOO_SHORT);
+}
+
+static ambiguity_draft_reply new_draft(size_t t, size_t n, const uint16_t *table, size_t entries, size_t lent)
+{
+    return ambiguity_new_draft(t, n, table, entries, draft, lent);
+}
+
+/* A new draft's table is tried as by the table check, but for 19; then the row has to be long enough. */
+static void expect_new_drafts(void)
+{
+    static const uint16_t cut[] = {S, 0, S, 2, 1}, left[] = {S, 0, 1, 99}, long_rule[] = {S, 0, S, 13}, code[] = {S, 2, 1, 9};
+    static const uint16_t twice[] = {S, 1, 1, S, 1, 1, S, 9};
+    size_t lent, turn;
+    fill_draft(11);
+    for (turn = 0; turn < 2; turn++) {
+        lent = turn == 0 ? 0 : DRAFT_ROW;
+        expect_draft("no nonterminal", new_draft(1, 0, TABLE, 3, lent), AMBIGUITY_OUT_OF_RANGE, 0);
+        expect_draft("a terminal too many", new_draft(2001, 1, cut, 5, lent), AMBIGUITY_OUT_OF_RANGE, 0);
+        expect_draft("2^64 - 1 nonterminals", new_draft(0, SIZE_MAX, cut, 0, lent), AMBIGUITY_OUT_OF_RANGE, 0);
+        expect_draft("a table cut", new_draft(1, 1, cut, ENTRIES(cut), lent), AMBIGUITY_TRUNCATED, 2);
+        expect_draft("one entry of a rule", new_draft(1, 1, cut, 3, lent), AMBIGUITY_TRUNCATED, 2);
+        expect_draft("a left code undeclared", new_draft(1, 1, left, ENTRIES(left), lent), AMBIGUITY_LEFT_UNDECLARED, 2);
+        expect_draft("thirteen codes", new_draft(1, 1, long_rule, ENTRIES(long_rule), lent), AMBIGUITY_RULE_TOO_LONG, 2);
+        expect_draft("a code undeclared", new_draft(1, 1, code, ENTRIES(code), lent), AMBIGUITY_CODE_UNDECLARED, 3);
+        expect_draft("a rule twice", new_draft(1, 1, twice, ENTRIES(twice), lent), AMBIGUITY_RULE_REPEATED, 3);
+    }
+    for (lent = 0; lent < AMBIGUITY_DRAFT_ENTRIES; lent += 6413)
+        expect_draft("a row too short", new_draft(1, 1, TABLE, 3, lent), AMBIGUITY_BUFFER_TOO_SHORT, 0);
+    put_draft(0, 1, ENDLESS, 3, 1);
+    expect_draft("S -> S, which has no sentence", new_draft(0, 1, ENDLESS, 3, AMBIGUITY_DRAFT_ENTRIES), 0, 0);
+    expect("its table has no sentence", check_table(0, 1, draft + 3, 3), AMBIGUITY_NO_SENTENCE, 0);
+    put_draft(8, 3, CHANNELS, ENTRIES(CHANNELS), 7);
+    expect_draft("a new draft in the same row", new_draft(8, 3, CHANNELS, ENTRIES(CHANNELS), DRAFT_ROW), 0, 0);
+    expect_counts("the command set", 8, 3, 7, ENTRIES(CHANNELS), 27);
+    expect("its table", check_table(8, 3, draft + 3, ENTRIES(CHANNELS)), AMBIGUITY_NOT_REFUSED, 0);
+}
+
+/* 400 rules, and 1024 states: full drafts, to which nothing is added until a rule is withdrawn. */
+static void expect_full_drafts(void)
+{
+    static uint16_t units[400 * 3], longs[79 * 14];
+    static const uint16_t more[] = {S, 1, 401}, empty[] = {S, 0}, other[] = {S, 5, 1, 1, 1, 1, 1};
+    uint16_t *end = units;
+    unsigned code, left;
+    for (code = 1; code <= 400; code++)
+        end = put_rule(end, S, 1, code);
+    put_draft(401, 1, units, 399 * 3, 399);
+    expect_draft("399 rules", new_draft(401, 1, units, 399 * 3, DRAFT_ROW), 0, 0);
+    put_block(0, units, 400 * 3, 400);
+    expect_draft("the 400th", ambiguity_add_rule(draft, DRAFT_ROW, units + 399 * 3, 3), 0, 0);
+    expect_counts("400 rules", 401, 1, 400, 1200, 804);
+    expect_draft("a 401st rule", ADD(more), AMBIGUITY_TOO_MANY_RULES, 1200);
+    expect_draft("a 401st rule of no entries", ambiguity_add_rule(draft, DRAFT_ROW, more, 0), AMBIGUITY_TOO_MANY_RULES, 1200);
+    put_block(0, units, 399 * 3, 399);
+    expect_draft("the last one withdrawn", ambiguity_withdraw_rule(draft, DRAFT_ROW, 400), 0, 0);
+    draft_right[2] = 401;
+    memcpy(draft_right + 3 + 399 * 3, more, sizeof more);
+    expect_draft("another in its place", ADD(more), 0, 0);
+    end = longs;
+    for (left = S; left < S + 78; left++)
+        end = put_rule(end, left, 12, 1);
+    put_rule(end, S, 5, 1);
+    put_draft(1, 78, longs, 78 * 14 + 7, 79);
+    expect_draft("1024 states", new_draft(1, 78, longs, 78 * 14 + 7, DRAFT_ROW), 0, 0);
+    expect_counts("79 rules", 1, 78, 79, 78 * 14 + 7, 1024);
+    expect_draft("a state too many", ADD(empty), AMBIGUITY_TOO_MANY_STATES, 78 * 14 + 7);
+    expect_draft("a rule that is there comes before", ADD(other), AMBIGUITY_RULE_REPEATED, 78 * 14 + 7);
+    put_rule(end, S, 6, 1);
+    expect_draft("1025 states", new_draft(1, 78, longs, 78 * 14 + 8, DRAFT_ROW), AMBIGUITY_TOO_MANY_STATES, 78 * 14);
+}
+
+/* Rows that no new draft made: each holds one draft or none. */
+static void expect_other_rows(void)
+{
+    static const uint16_t empty[] = {S, 0}, undeclared[] = {S, 1, 5}, strange[] = {9, 2, 7, 8};
+    size_t i;
+    memset(draft_right, 0, sizeof draft_right);
+    memcpy(draft, draft_right, sizeof draft);
+    expect_no_draft("a row of zeros", DRAFT_ROW, AMBIGUITY_NOT_PRESENT);
+    draft[2] = draft_right[2] = 2;
+    draft[4] = draft_right[4] = BLOCK - 2;
+    expect_no_draft("a rule that is one code too long for its block", DRAFT_ROW, AMBIGUITY_NOT_PRESENT);
+    draft[4] = draft_right[4] = BLOCK - 3;
+    expect_counts("a rule that just fits its block", 0, 0, 1, BLOCK - 1, BLOCK + 2);
+    draft[2] = draft_right[2] = 3;
+    expect_no_draft("a second rule behind it", DRAFT_ROW, AMBIGUITY_NOT_PRESENT);
+    draft[4] = draft_right[4] = 0;
+    draft[2] = draft_right[2] = 713;
+    expect_counts("712 empty rules", 0, 0, 712, 1424, 716);
+    expect_draft("one more", ADD(empty), AMBIGUITY_TOO_MANY_RULES, 1424);
+    draft[2] = draft_right[2] = 714;
+    expect_no_draft("a 713th rule, which does not fit", DRAFT_ROW, AMBIGUITY_NOT_PRESENT);
+    draft_right[0] = 5;
+    draft_right[1] = 1;
+    put_block(0, strange, 4, 1);
+    memcpy(draft, draft_right, sizeof draft);
+    expect_counts("a rule with other codes", 5, 1, 1, 4, 7);
+    draft_right[2] = 3;
+    memcpy(draft_right + 7, undeclared, sizeof undeclared);
+    expect_draft("the added rule alone is tried", ADD(undeclared), 0, 0);
+    expect_draft("it is there now", ADD(undeclared), AMBIGUITY_RULE_REPEATED, 7);
+    for (i = 1; i <= 4; i++)
+        draft[2 + i * BLOCK] = draft_right[2 + i * BLOCK] = (uint16_t)(i == 1 ? 65535 : i == 2 ? 714 : i == 3 ? 713 : 1);
+    expect_draft("a mark with too many rules", ambiguity_return_to_mark(draft, DRAFT_ROW, 1), AMBIGUITY_NOT_PRESENT, 1);
+    expect_draft("a mark with a rule too many", ambiguity_return_to_mark(draft, DRAFT_ROW, 2), AMBIGUITY_NOT_PRESENT, 2);
+    draft_right[2] = 713;
+    memcpy(draft_right + 3, draft + 3 + 3 * BLOCK, (BLOCK - 1) * sizeof *draft);
+    expect_draft("a mark that just fits", ambiguity_return_to_mark(draft, DRAFT_ROW, 3), 0, 0);
+    draft_right[2] = 1;
+    expect_draft("a mark without rules", ambiguity_return_to_mark(draft, DRAFT_ROW, 4), 0, 0);
+}
+
+static void expect_drafts(void)
+{
+    expect("the room of a draft", (ambiguity_check_reply){0, ambiguity_draft_room()}, 0, AMBIGUITY_DRAFT_ENTRIES);
+    expect_history();
+    expect_steps_refused();
+    expect_new_drafts();
+    expect_full_drafts();
+    expect_other_rows();
+}
+
 int main(void)
 {
     uint8_t longer[BYTES + 1] = {0};
@@ -935,6 +1205,7 @@ int main(void)
     expect_joins();
     expect_sentences();
     expect_longest();
+    expect_drafts();
     expect_report(ENDLESS_TEXT, "refused=19\nat=0\n");
     expect_without_sentence();
     expect_order();

@@ -6,17 +6,22 @@
         grammar.check(0, found.certificate)
     trees = grammar.trees(["a"])
     joined = ambiguity.join(robot, module)
+    draft = grammar.draft()
+    draft.mark(1)
+    draft.add([ambiguity.START, 0])
 
 Every verdict is the library's. What it refuses is raised as Refused, with the
 cause's number and the position. `search` and `check` take `callers`, how many
 callers a state of the automaton remembers: 0, or 1 and then 2 where a potential
 verdict may be a false alarm. Each number has its own states and certificates,
 and a certificate is checked with the number that it was made with; `states_with`
-tells how many states there are. The shared library is looked for in the file
-that the variable AMBIGUITY_SO names, in ../lib and in ../../target/shared beside
-this file, and then where the loader looks.
+tells how many states there are. A `Draft` is a grammar while it is edited, with
+eight marks to return to. The shared library is looked for in the file that the
+variable AMBIGUITY_SO names, in ../lib and in ../../target/shared beside this
+file, and then where the loader looks.
 """
 
+import array
 import ctypes
 import os
 from typing import List, NamedTuple, Optional, Sequence
@@ -26,12 +31,14 @@ MAX_NAMES = 4000
 MAX_TEXT_BYTES = 262144
 MAX_CALLERS = 2           # that a state remembers
 MAX_RULES = 65536         # that are listed of a tree
+MAX_SYMBOLS = 2000        # terminals of a grammar, and so nonterminals
+MARKS = 8                 # of a draft, 1 to 8
 START = 32768             # the code of the first nonterminal
 UNAMBIGUOUS = 1
 ONE_TREE = 2
 FOUND = "refused", "none", "one", "several"
 MODULE = 2                # of two texts that are joined; the robot's is 1
-BUFFER_TOO_SHORT, NO_SENTENCE, TOO_MANY_CALLERS = 14, 19, 21
+BUFFER_TOO_SHORT, NO_SENTENCE, TOO_MANY_CALLERS, NOT_PRESENT = 14, 19, 21, 23
 HERE = os.path.dirname(os.path.abspath(__file__))
 
 Numbers = ctypes.c_uint64
@@ -53,6 +60,9 @@ CHECK = reply()
 WRITE = reply("length")
 TREES_ROOM = reply("entries")
 TREES = reply("found", "count")
+DRAFT = reply()
+DRAFT_COUNTS = reply("terminals", "nonterminals", "rules", "entries", "states")
+DRAFT_TABLE = reply("start", "entries")
 TABLE = [Size, Size, Codes, Size]
 CALLERS = TABLE + [Size]
 TEXTS = [Bytes, Size, Bytes, Size]
@@ -80,6 +90,14 @@ def opened() -> ctypes.CDLL:
         "ambiguity_join_texts": (READ, TEXTS + [Codes, Size]),
         "ambiguity_joined_name": (PART, TEXTS + [Size]),
         "ambiguity_write_joined": (WRITE, TEXTS + [Bytes, Size]),
+        "ambiguity_draft_room": (Size, []),
+        "ambiguity_new_draft": (DRAFT, TABLE + [Codes, Size]),
+        "ambiguity_add_rule": (DRAFT, [Codes, Size, Codes, Size]),
+        "ambiguity_withdraw_rule": (DRAFT, [Codes, Size, Size]),
+        "ambiguity_set_mark": (DRAFT, [Codes, Size, Size]),
+        "ambiguity_return_to_mark": (DRAFT, [Codes, Size, Size]),
+        "ambiguity_draft_counts": (DRAFT_COUNTS, [Codes, Size]),
+        "ambiguity_draft_table": (DRAFT_TABLE, [Codes, Size]),
         "ambiguity_version": (ctypes.c_char_p, []),
         "ambiguity_cause_words": (ctypes.c_char_p, [Numbers]),
     }
@@ -98,7 +116,7 @@ def version() -> str:
 
 
 class Refused(ValueError):
-    """What the library refuses: `cause` is a number from 1 to 22, `at` a position. Where two texts are joined, `part` says what is
+    """What the library refuses: `cause` is a number from 1 to 23, `at` a position. Where two texts are joined, `part` says what is
     refused: "robot", "module" or "join"."""
 
     def __init__(self, cause: int, at: int, part: Optional[str] = None) -> None:
@@ -136,6 +154,19 @@ def taken(answer):
 def small(callers: int) -> int:
     """A number of callers that ctypes does not cut: too large or too small a one is refused as three are."""
     return callers if 0 <= callers <= MAX_CALLERS else MAX_CALLERS + 1
+
+
+def numbered(number: int) -> int:
+    """The number of a mark or a rule that ctypes does not cut: one that is not of 64 bits is refused, as all that are too large are."""
+    if not 0 <= number < 2 ** 64:
+        raise Refused(NOT_PRESENT, number)
+    return number
+
+
+def lent_entries(entries: Sequence[int]):
+    """Entries as a row of 16 bits and its length; a row of none has a place too. Raises OverflowError for an entry of more bits."""
+    row = array.array("H", entries)
+    return (ctypes.c_uint16 * max(1, len(row)))(*row), len(row)
 
 
 def lent(data: bytes):
@@ -184,6 +215,10 @@ class Grammar:
         """Raises Refused unless the certificate is acceptable with so many callers: then no sentence has two derivation trees."""
         taken(LIBRARY.ambiguity_check_certificate(*self._table, small(callers), lent(certificate), len(certificate)))
 
+    def draft(self) -> "Draft":
+        """A new draft with the grammar's symbols and rules."""
+        terminals, nonterminals, table, entries = self._table
+        return Draft(terminals, nonterminals, table[:entries])
 
     def code(self, name: str) -> int:
         """The code of a symbol by its name, in any case of its ASCII letters; 0, which is no code, for a name that is not declared."""
@@ -198,6 +233,64 @@ class Grammar:
         found = taken(LIBRARY.ambiguity_find_trees(
             *self._table, row, len(words), (ctypes.c_uint32 * room)(), room, rules, most))
         return Trees(FOUND[found.found], rules[:found.count] if found.found == ONE_TREE else None)
+
+
+class Counts(NamedTuple):
+    """How much a draft has: t, n, its rules, the entries of their table, and Q at 0 callers."""
+
+    terminals: int
+    nonterminals: int
+    rules: int
+    entries: int
+    states: int
+
+
+class Draft:
+    """A grammar while it is edited: t, n, the rules as a table of codes, perhaps without entries, and eight marks, empty at first. A rule is
+    its left code, the length of its right side and the codes of that; rules are numbered from 1. A draft may lack sentences. What is
+    refused changes nothing."""
+
+    def __init__(self, terminals: int, nonterminals: int, table: Sequence[int] = ()) -> None:
+        room = LIBRARY.ambiguity_draft_room()
+        self._row = (ctypes.c_uint16 * room)(), room
+        # Numbers that ctypes would cut are refused as all that are too large are.
+        symbols = (count if 0 <= count <= MAX_SYMBOLS else MAX_SYMBOLS + 1 for count in (terminals, nonterminals))
+        taken(LIBRARY.ambiguity_new_draft(*symbols, *lent_entries(table), *self._row))
+
+    def add(self, rule: Sequence[int]) -> None:
+        """Adds a rule behind the last one; entries past its last code are not read. Raises Refused with 7, 2, 3, 4, 2, 5, 6, 8, as for a
+        rule that follows the draft's table: positions count on from the end of that."""
+        taken(LIBRARY.ambiguity_add_rule(*self._row, *lent_entries(rule)))
+
+    def withdraw(self, number: int) -> None:
+        """Withdraws a rule; later ones move down by one number. Raises Refused with 23 at the number if there is no such rule."""
+        taken(LIBRARY.ambiguity_withdraw_rule(*self._row, numbered(number)))
+
+    def mark(self, mark: int) -> None:
+        """Keeps the rules under a mark, 1 to 8. Raises Refused with 23 at any other number."""
+        taken(LIBRARY.ambiguity_set_mark(*self._row, numbered(mark)))
+
+    def return_to(self, mark: int) -> None:
+        """Brings the rules of a mark back; all marks stay. Raises Refused with 23 at the number if it is no mark's, or the mark is empty."""
+        taken(LIBRARY.ambiguity_return_to_mark(*self._row, numbered(mark)))
+
+    def counts(self) -> Counts:
+        """How much the draft has."""
+        counts = taken(LIBRARY.ambiguity_draft_counts(*self._row))
+        return Counts(*(getattr(counts, name) for name in Counts._fields))
+
+    def table(self) -> List[int]:
+        """The entries of the rules' table."""
+        place = taken(LIBRARY.ambiguity_draft_table(*self._row))
+        return self._row[0][place.start:place.start + place.entries]
+
+    def rules(self) -> List[List[int]]:
+        """The rules one by one, each with its left code and length."""
+        table, rules = self.table(), []
+        while table:
+            rules.append(table[:2 + table[1]])
+            table = table[2 + table[1]:]
+        return rules
 
 
 class Joined(NamedTuple):

@@ -1,5 +1,5 @@
 """Compares the module ambiguity with the second program on the corpus, alone and joined, with figures of remembered callers, and with
-its counts of trees.
+its counts of trees; and drafts with rules that are kept in lists.
 
     test_ambiguity.py FOLDER REPOSITORY     FOLDER holds the module that is tried
 """
@@ -22,6 +22,8 @@ from trees import some_sentences, tree_count  # noqa: E402
 SMALL = 60                # states up to which the second program is quick
 STEPS = 3, 7              # which grammars of the corpus are joined
 ENOUGH = 262_144          # entries and bytes for what is joined
+EDITS = 4000              # steps of each history of a draft
+OTHER_NUMBERS = -1, 9, 2 ** 32 + 1, 2 ** 64 - 1, 2 ** 64, 2 ** 64 + 1, 2 ** 65 + 8
 
 
 def refusal(call, *words):
@@ -137,6 +139,74 @@ def compare_trees(small):
     return answers
 
 
+def stepped(rules, marks, name, number):
+    """The rules after a step of a draft, and what is refused; `rules` is a list of rules, `marks` what each mark keeps."""
+    if name == "withdraw":
+        present = 1 <= number <= len(rules)
+        return (rules[:number - 1] + rules[number:], None) if present else (rules, (23, number))
+    if name == "mark" and 1 <= number <= 8:
+        marks[number] = rules
+        return rules, None
+    if name == "return_to" and number in marks:
+        return marks[number], None
+    return rules, (23, number)
+
+
+def added(rules, rule):
+    """The rules with one more of two terminals and two nonterminals, and what is refused; there are too few for 7 and 8."""
+    end = sum(map(len, rules))
+    if not START <= rule[0] < START + 2:
+        return rules, (3, end)
+    faults = [place for place, code in enumerate(rule[2:2 + rule[1]], 2) if code not in (1, 2, START, START + 1)]
+    if faults:
+        return rules, (5, end + faults[0])
+    rule = rule[:2 + rule[1]]
+    return (rules, (6, end)) if rule in rules else (rules + [rule], None)
+
+
+def compare_drafts():
+    """A history of steps, in which everything is refused at times; then what ctypes would cut, and full drafts."""
+    rng = random.Random(13)
+    draft, rules, marks, answers = ambiguity.Draft(2, 2), [], {}, {}
+    for _ in range(EDITS):
+        name = rng.choice(["add", "add", "add", "withdraw", "withdraw", "mark", "return_to"])
+        if name == "add":
+            length = rng.randrange(3)
+            rule = [START + rng.randrange(5) // 2, length] + [rng.choice([1, 2, START, START + 1, 3]) for _ in range(length)]
+            rules, expected = added(rules, rule)
+            found = refusal(draft.add, rule + [rng.randrange(65536)] * rng.randrange(3))
+        else:
+            number = rng.choice([rng.randrange(10), rng.randrange(10), rng.randrange(10), rng.choice(OTHER_NUMBERS)])
+            rules, expected = stepped(rules, marks, name, number)
+            found = refusal(getattr(draft, name), number)
+        assert found == expected and draft.rules() == rules, (name, found, expected)
+        table = sum(rules, [])
+        assert draft.table() == table and draft.counts() == (2, 2, len(rules), len(table), 4 + len(table) - len(rules))
+        answers[name, found is None] = answers.get((name, found is None), 0) + 1
+    assert len(answers) == 8 and min(answers.values()) > 100, answers
+    assert refusal(draft.add, []) == refusal(draft.add, [START]) == (2, len(draft.table()))
+    assert refusal(draft.add, [START, 13]) == (4, len(draft.table()))
+    for wide in [START, 1, 65536 + 1], [START, 1, -1]:
+        try:
+            draft.add(wide)
+            raise AssertionError(wide)
+        except OverflowError:
+            assert draft.rules() == rules
+    for count in 2001, -1, 2 ** 64, 2 ** 64 + 1:
+        assert refusal(ambiguity.Draft, count, 1) == refusal(ambiguity.Draft, 1, count) == (1, 0), count
+    assert refusal(ambiguity.Draft, 0, 0) == (1, 0) and refusal(ambiguity.Draft, 1, 1, [START, 1, 2]) == (5, 2)
+    full = ambiguity.Draft(401, 1, [entry for code in range(1, 401) for entry in (START, 1, code)])
+    assert refusal(full.add, [START, 1, 401]) == (7, 1200) and full.counts().rules == 400
+    long = ambiguity.Draft(1, 78, [entry for left in range(78) for entry in [START + left, 12] + [1] * 12])
+    assert refusal(long.add, [START, 6] + [1] * 6) == (8, 1092) and refusal(long.add, [START, 5] + [1] * 5) is None
+    assert long.counts() == (1, 78, 79, 1099, 1024)
+    grammar = ambiguity.Grammar(b"terminals=a\nnonterminals=S\nrule=S: a\n")
+    draft = grammar.draft()
+    assert draft.rules() == [[START, 1, 1]] and refusal(draft.return_to, 1) == (23, 1)
+    assert str(ambiguity.Refused(23, 9)) == "refused=23 at=9: no such mark, rule or draft"
+    return sum(answers.values())
+
+
 def compare_joined(robot, module):
     """Two texts, joined by both; 1 if they are refused."""
     expected, text = join(robot, module, ENOUGH), join_written(robot, module, ENOUGH)
@@ -209,8 +279,10 @@ def main():
     assert refusal(ambiguity.Grammar, mixed.replace(b"Step", b"Step,TAKE", 1)) == (18, 2)
     assert refusal(ambiguity.Grammar, b"") == (16, 1) and refusal(ambiguity.Grammar, b"\xff" * 262_145) == (16, 0)
     compare_callers()
+    steps = compare_drafts()
     trees = ", ".join("%s %d" % answer for answer in compare_trees(small).items())
-    print("%d grammars, %d pairs of them joined or refused (%d); trees of sentences: %s" % (len(small), *compare_joins(small), trees))
+    print("%d grammars, %d pairs of them joined or refused (%d); trees of sentences: %s; %d steps of a draft" % (
+        len(small), *compare_joins(small), trees, steps))
 
 
 if __name__ == "__main__":

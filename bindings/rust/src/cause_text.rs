@@ -31,6 +31,7 @@ impl Cause {
             Cause::KindsClash => "a name is a terminal in one text and a nonterminal in the other",
             Cause::TooManyCallers => "more callers are to be remembered than two",
             Cause::RowWrong => "the row has more than 64 terminals, or a code that is none",
+            Cause::NotPresent => "no such mark, rule or draft",
         }
     }
 }

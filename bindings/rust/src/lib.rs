@@ -1,7 +1,7 @@
 //! The library for Rust: the table check, the step records, the certificate check, the witness check over indices and over records,
 //! the search, the reader and the writer of grammar text, what search and writer are to be lent, told beforehand, the report that the
-//! program prints, reading back of the two strings that it prints, the join of a module's text to the robot's, and the derivation trees
-//! of one sentence.
+//! program prints, reading back of the two strings that it prints, the join of a module's text to the robot's, the derivation trees of
+//! one sentence, and drafts: grammars while they are edited, with marks to return to.
 //! bindings/c/ambiguity.h says of each what is lent and what comes back; here slices stand for pointers, and enums for numbers. Rows that
 //! are written cannot overlap others: the borrow rules see to that.
 //!
@@ -24,7 +24,7 @@
 //! [`MAX_STATES`] states with these callers with 8 at 0.
 //!
 //! [`Grammar`] owns its rows: read a text, or two that are joined ([`join`]), search it, check a certificate, read two strings back, find
-//! the trees of a sentence. The functions below it lend rows.
+//! the trees of a sentence. So does [`Draft`]: add and withdraw rules, set a mark and return to it. The functions below them lend rows.
 
 #![warn(missing_docs)]
 
@@ -32,6 +32,7 @@
 compile_error!("the archive is for x86-64 with the System V calling convention");
 
 mod cause_text;
+mod drafts;
 mod grammar;
 mod joining;
 mod letters;
@@ -41,6 +42,10 @@ mod room;
 mod strings;
 mod trees;
 
+pub use drafts::{
+    add_rule, draft_counts, draft_room, draft_table, new_draft, return_to_mark, set_mark, withdraw_rule, Counts, Draft,
+};
+pub use drafts::{DRAFT_BLOCK, DRAFT_ENTRIES, MARKS};
 pub use grammar::{Code, Grammar, Rule, Searched, START};
 pub use joining::{join, join_texts, joined_name, joined_text, write_joined, JoinPart, JoinRefusal};
 pub use letters::{Letter, Part, PartRefusal, ReadBack};

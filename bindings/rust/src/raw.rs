@@ -114,6 +114,31 @@ pub struct TreesRoomReply {
     pub entries: u64,
 }
 
+#[repr(C)]
+pub struct DraftReply {
+    pub cause: u64,
+    pub at: u64,
+}
+
+#[repr(C)]
+pub struct DraftCountsReply {
+    pub cause: u64,
+    pub at: u64,
+    pub terminals: u64,
+    pub nonterminals: u64,
+    pub rules: u64,
+    pub entries: u64,
+    pub states: u64,
+}
+
+#[repr(C)]
+pub struct DraftTableReply {
+    pub cause: u64,
+    pub at: u64,
+    pub start: u64,
+    pub entries: u64,
+}
+
 extern "C" {
     pub fn ambiguity_check_table(t: usize, n: usize, table: *const u16, table_entries: usize) -> TableReply;
 
@@ -269,4 +294,27 @@ extern "C" {
         list: *mut u16,
         list_entries: usize,
     ) -> TreesReply;
+
+    pub fn ambiguity_draft_room() -> usize;
+
+    pub fn ambiguity_new_draft(
+        t: usize,
+        n: usize,
+        table: *const u16,
+        table_entries: usize,
+        draft: *mut u16,
+        draft_entries: usize,
+    ) -> DraftReply;
+
+    pub fn ambiguity_add_rule(draft: *mut u16, draft_entries: usize, rule: *const u16, rule_entries: usize) -> DraftReply;
+
+    pub fn ambiguity_withdraw_rule(draft: *mut u16, draft_entries: usize, number: usize) -> DraftReply;
+
+    pub fn ambiguity_set_mark(draft: *mut u16, draft_entries: usize, mark: usize) -> DraftReply;
+
+    pub fn ambiguity_return_to_mark(draft: *mut u16, draft_entries: usize, mark: usize) -> DraftReply;
+
+    pub fn ambiguity_draft_counts(draft: *const u16, draft_entries: usize) -> DraftCountsReply;
+
+    pub fn ambiguity_draft_table(draft: *const u16, draft_entries: usize) -> DraftTableReply;
 }

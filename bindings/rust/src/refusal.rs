@@ -1,8 +1,8 @@
-//! Refusals: the causes of document 01, and 19 to 22 of document 02, each with its position.
+//! Refusals: the causes of document 01, and 19 to 23 of document 02, each with its position.
 
 use std::fmt;
 
-/// Why something is refused; the numbers are document 01's, and 19 to 22 are document 02's.
+/// Why something is refused; the numbers are document 01's, and 19 to 23 are document 02's.
 #[derive(Clone, Copy, Debug, PartialEq, Eq)]
 #[repr(u8)]
 pub enum Cause {
@@ -50,9 +50,11 @@ pub enum Cause {
     TooManyCallers = 21,
     /// A row of terminals has a code that is none, or one terminal more than [`MAX_ROW`](crate::MAX_ROW): at the first such place, from 0.
     RowWrong = 22,
+    /// A number that is no mark's, an empty mark, or a number that no rule has: at the number given. A row that holds no draft: at 0.
+    NotPresent = 23,
 }
 
-pub(crate) const CAUSES: [Cause; 22] = [
+pub(crate) const CAUSES: [Cause; 23] = [
     Cause::OutOfRange,
     Cause::Truncated,
     Cause::LeftUndeclared,
@@ -75,6 +77,7 @@ pub(crate) const CAUSES: [Cause; 22] = [
     Cause::KindsClash,
     Cause::TooManyCallers,
     Cause::RowWrong,
+    Cause::NotPresent,
 ];
 
 /// What is refused, and where; bindings/c/ambiguity.h says for each cause what the position counts.
@@ -87,7 +90,7 @@ pub struct Refusal {
 }
 
 impl Cause {
-    /// Its number, 1 to 22.
+    /// Its number, 1 to 23.
     #[must_use]
     pub fn number(self) -> u8 {
         self as u8
@@ -107,7 +110,7 @@ impl fmt::Display for Refusal {
 
 impl std::error::Error for Refusal {}
 
-/// The refusal of a reply, or what comes where nothing is refused. That a cause is at most 22 is proved (`CauseTheorems`).
+/// The refusal of a reply, or what comes where nothing is refused. That a cause is at most 23 is proved (`CauseTheorems`).
 pub(crate) fn or_else<T>(cause: u64, at: u64, given: impl FnOnce() -> T) -> Result<T, Refusal> {
     if cause == 0 {
         return Ok(given());

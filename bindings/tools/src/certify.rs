@@ -39,33 +39,17 @@ struct Judged<'a> {
 impl Judged<'_> {
     /// The lines that the program `ambig` prints for a verdict; where callers are remembered, one more.
     fn lines(&self) -> String {
-        let Verdict { callers, states, searched, .. } = self.verdict;
-        let head = format!("states={states}\n{}", callers::line(*callers));
-        match searched {
-            Searched::Unambiguous { size, .. } => format!("{head}verdict=unambiguous\nreached={size}\n"),
-            Searched::Potential { .. } => format!("{head}verdict=potential\n{}", self.strings()),
-        }
+        lines(self.source.text, self.grammar, self.verdict)
     }
 
     /// The two lines of a potential verdict.
     fn strings(&self) -> String {
-        let witness = self.verdict.witness.as_ref();
-        witness.map_or(String::new(), |witness| strings::printed(self.source.text, self.grammar, witness))
+        two_strings(self.source.text, self.grammar, self.verdict)
     }
 
     /// These lines, and how much the search looked at.
     fn long_lines(&self) -> String {
         format!("{}looked={}\n", self.lines(), self.verdict.searched.looked())
-    }
-
-    /// With how many callers the verdict is potential, and with how many there are too many states.
-    fn tried(&self) -> String {
-        let Verdict { tried, too_many_states, .. } = self.verdict;
-        let line = |key: &str, numbers: &[usize]| match numbers {
-            [] => String::new(),
-            numbers => format!("{key}={}\n", callers::listed(numbers)),
-        };
-        line("tried", tried) + &line("too-many-states", too_many_states)
     }
 
     fn json(&self) -> String {
@@ -99,7 +83,7 @@ impl Judged<'_> {
                     true => format!("\n{}", readings::told(self.grammar, witness, &explanation.steps)),
                     false => String::new(),
                 };
-                self.long_lines() + &self.tried() + &explanation.told(self.grammar) + &steps
+                self.long_lines() + &tried(self.verdict) + &explanation.told(self.grammar) + &steps
             }
             (Searched::Potential { .. }, ..) => self.long_lines(),
         }
@@ -157,6 +141,31 @@ impl Judged<'_> {
             _ => Status::Potential,
         }
     }
+}
+
+/// The lines that the program `ambig` prints for the verdict of a text; where callers are remembered, one more.
+pub fn lines(text: &[u8], grammar: &Grammar, verdict: &Verdict) -> String {
+    let Verdict { callers, states, searched, .. } = verdict;
+    let head = format!("states={states}\n{}", callers::line(*callers));
+    match searched {
+        Searched::Unambiguous { size, .. } => format!("{head}verdict=unambiguous\nreached={size}\n"),
+        Searched::Potential { .. } => format!("{head}verdict=potential\n{}", two_strings(text, grammar, verdict)),
+    }
+}
+
+/// The two lines of a potential verdict.
+fn two_strings(text: &[u8], grammar: &Grammar, verdict: &Verdict) -> String {
+    let witness = verdict.witness.as_ref();
+    witness.map_or(String::new(), |witness| strings::printed(text, grammar, witness))
+}
+
+/// With how many callers a verdict is potential, and with how many there are too many states.
+pub fn tried(verdict: &Verdict) -> String {
+    let line = |key: &str, numbers: &[usize]| match numbers {
+        [] => String::new(),
+        numbers => format!("{key}={}\n", callers::listed(numbers)),
+    };
+    line("tried", &verdict.tried) + &line("too-many-states", &verdict.too_many_states)
 }
 
 /// The form of a certificate that is asked for, or the usual one.

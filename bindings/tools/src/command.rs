@@ -15,7 +15,7 @@ pub const VERSION: &str = include_str!("../../../VERSION");
 /// The exit status; of several files the worst one counts.
 #[derive(Clone, Copy, Debug, PartialEq, Eq)]
 pub enum Status {
-    /// Unambiguous, accepted, joined, or one tree of each sentence.
+    /// Unambiguous, accepted, joined, one tree of each sentence, or every line of a session followed.
     Yes = 0,
     /// Ambiguous, with two trees; a certificate or two lines that are not accepted; or several trees of a sentence.
     No = 1,
@@ -23,7 +23,7 @@ pub enum Status {
     Misuse = 2,
     /// Potentially ambiguous, and no two trees are known; or no tree of a sentence.
     Potential = 3,
-    /// A grammar's text, or a sentence, that is refused.
+    /// A grammar's text, a sentence, or a line of a session, that is refused.
     Refused = 4,
 }
 
@@ -209,7 +209,7 @@ pub fn run(tool: &Tool, answer: impl Fn(&Request, &[OsString]) -> Answer) -> Exi
 }
 
 /// Says an answer; gives its status, or that of output that fails.
-fn said(answer: Answer) -> Status {
+pub fn said(answer: Answer) -> Status {
     // Where standard error is shut, the status alone tells.
     let _ = io::stderr().write_all(answer.err.as_bytes());
     if answer.out.is_empty() {

@@ -254,7 +254,7 @@ impl Explanation {
     /// The explanation in lines of a page's width.
     pub fn told(&self, grammar: &Grammar) -> String {
         let paragraph = |text: &str| layout::wrapped(text, WIDTH, 2).join("\n") + "\n";
-        let parting = paragraph(&self.parting.sentence(grammar));
+        let parting = paragraph(&self.parting.sentence(grammar, words::Naming::Lines));
         match &self.found {
             Found::Two(phrase, example) => {
                 let said = paragraph(&ambiguous(grammar, phrase, example)) + &paragraph(&confirmation(example));

@@ -1,4 +1,4 @@
-//! What `ambig-certify`, `ambig-check`, `ambig-join` and `ambig-trees` share. Verdicts are the library's; here they are put into words, lines and pages.
+//! What `ambig-certify`, `ambig-check`, `ambig-join`, `ambig-trees` and `ambig-draft` share. Verdicts are the library's; here they are put into words, lines and pages.
 
 pub mod answers;
 pub mod callers;
@@ -7,6 +7,7 @@ pub mod codes;
 pub mod command;
 pub mod confirmation;
 pub mod diagnosis;
+pub mod drafts;
 pub mod drawing;
 pub mod explanation;
 pub mod fix;

@@ -174,7 +174,7 @@ fn potential(grammar: &Grammar, verdict: &Verdict, explanation: &Explanation) ->
             ("Potentially ambiguous", vec![capital(&explanation::denied(grammar, sentence, counted))])
         }
     };
-    let parting = format!("The readings part {}.", explanation.parting.sentence(grammar));
+    let parting = format!("The readings part {}.", explanation.parting.sentence(grammar, Naming::Lines));
     banner("no", title, &[said, vec![parting, figures, tried(verdict)]].concat())
 }
 

@@ -3,7 +3,7 @@
 use ambiguity::{Code, Grammar, Move, Step, START};
 
 use crate::tree::Node;
-use crate::words;
+use crate::words::{self, Naming};
 
 /// Symbols that are shown of those before a parting.
 const MOST_PASSED: usize = 16;
@@ -140,11 +140,11 @@ impl Parting {
     }
 
     /// ``after `if S`: left goes on with `else`, right ends `S: if S`, line 3``
-    pub fn sentence(&self, grammar: &Grammar) -> String {
+    pub fn sentence(&self, grammar: &Grammar, naming: Naming) -> String {
         let next = |side: Side| match side.next {
             Next::Symbol(code) => format!("goes on with `{}`", words::symbol(grammar, code)),
             Next::Closing(0) => format!("ends {}", self.whole(grammar)),
-            Next::Closing(rule) => format!("ends `{}`, line {}", words::rule(grammar, rule), words::line_of_rule(rule)),
+            Next::Closing(rule) => format!("ends `{}`, {}", words::rule(grammar, rule), naming.of(&[rule])),
         };
         format!("{}: left {}, right {}", self.place(grammar), next(self.left), next(self.right))
     }
@@ -173,10 +173,11 @@ mod tests {
         let grammar = Grammar::read(text).unwrap();
         let left = [Rule(1), Leaf(1), Rule(2), Leaf(1), Leaf(START), Leaf(2), Leaf(START)];
         let right = [Rule(2), Leaf(1), Rule(1), Leaf(1), Leaf(START), Leaf(2), Leaf(START)];
-        let said = of_trees(&grammar, START, &left, &right).sentence(&grammar);
+        let said = of_trees(&grammar, START, &left, &right).sentence(&grammar, Naming::Lines);
         assert_eq!(said, "after `if if S`: left goes on with `else`, right ends `S: if S`, line 3");
-        let said = of_trees(&grammar, START, &[Rule(3), Leaf(3)], &[Rule(4), Rule(3), Leaf(3)]).sentence(&grammar);
-        assert_eq!(said, "after `x`: left ends the sentence, right ends `S: S`, line 6");
+        let said =
+            of_trees(&grammar, START, &[Rule(3), Leaf(3)], &[Rule(4), Rule(3), Leaf(3)]).sentence(&grammar, Naming::Rules);
+        assert_eq!(said, "after `x`: left ends the sentence, right ends `S: S`, rule 4");
     }
 
     /// A side is known by what it does, by its rule, and by whether that ends.
@@ -199,7 +200,7 @@ mod tests {
     #[test]
     fn at_the_beginning() {
         let grammar = Grammar::read(b"terminals=\nnonterminals=S,A,B\nrule=S: A\nrule=S: B\nrule=A:\nrule=B:\n").unwrap();
-        let said = of_trees(&grammar, START, &[Rule(1), Rule(3)], &[Rule(2), Rule(4)]).sentence(&grammar);
+        let said = of_trees(&grammar, START, &[Rule(1), Rule(3)], &[Rule(2), Rule(4)]).sentence(&grammar, Naming::Lines);
         assert_eq!(said, "at the beginning: left ends `A:`, line 5, right ends `B:`, line 6");
     }
 }

@@ -30,6 +30,8 @@ use Rattle.ambiguity.proofs.Texts.{text-theorems}
 use Rattle.ambiguity.proofs.Joins.{join-theorems, shown-theorems, place-theorems, joined-theorems}
 use Rattle.ambiguity.proofs.Trees.{trees-theorems, trees-room-theorems}
 use Rattle.ambiguity.proofs.Listed.{listed-theorems}
+use Rattle.ambiguity.proofs.Drafts.{begin-theorems, edit-theorems, table-place-theorems, draft-theorems}
+use Rattle.drafts.proofs.Theorems.{all-marks}
 use Rattle.ambiguity.proofs.Carried.{carried-theorems}
 use Rattle.ambiguity.specs.Automata.{AutomatonTheorems, IndexTheorems}
 use Rattle.ambiguity.specs.FrontPage.{TableTheorems, FrontPage}
@@ -92,6 +94,10 @@ front-page = record {
   trees = trees-theorems;
   trees-rooms = trees-room-theorems;
   listed = listed-theorems;
+  drafts-begun = begin-theorems;
+  drafts-edited = edit-theorems;
+  draft-tables = table-place-theorems;
+  drafts = λ row d e. draft-theorems d (all-marks row d e);
   carried = carried-theorems;
   automata = automaton-theorems;
   indices = index-theorems;

@@ -17,5 +17,6 @@ pub mod Listed
 pub mod TreeAnswers
 pub mod RowChecks
 pub mod Trees
+pub mod Drafts
 pub mod Carried
 pub mod FrontPage

@@ -6,8 +6,9 @@
 -- search/specs/Promise.antt; RoomAnswer in rooms/specs/Room.antt; ReadsText, WritesText and LengthAnswer in
 -- text/specs/Promise.antt; JoinsTexts, WritesJoined, ShowsPlace and ShowsName in modules/specs/Promise.antt;
 -- Reports in report/specs/Report.antt; ReadsBack in readings/specs/Promise.antt; FindsTrees and TreesRoomAnswer in
--- trees/specs/Promise.antt. That a refusal is the first in the documents' order is in the definitions that the
--- promises equal.
+-- trees/specs/Promise.antt; BeginsDraft and EditsDraft in drafts/specs/Promise.antt, ShowsTable, CountsDraft and
+-- PlacesTable in drafts/specs/Reading.antt. That a refusal is the first in the documents' order is in the definitions
+-- that the promises equal.
 -- Source: document 01; document 02, [4], [11]. Assumes nothing.
 use Prim.Native.Nat.{ℕ, _≤_, _<_}
 use mathlib.Core.Path.{_≡_}

@@ -1,11 +1,11 @@
 -- What holds of the library, whatever the input: theorems over what the public entries promise. A promise is
 -- the entry's `ensures`; it determines the answer and all that was lent. Each promise is one definition:
 -- specs/Entries.antt says where. specs/Searches.antt, specs/Rooms.antt, specs/Texts.antt, specs/Joins.antt,
--- specs/Reports.antt, specs/Readings.antt and specs/Trees.antt have what follows for the search, for room told
--- beforehand, for texts, for two texts that are joined, for the program, for the two lines of a witness and for the
--- trees of one sentence, specs/Carried.antt what holds
--- of byte tables carried over, specs/Automata.antt and specs/Callers.antt whose moves the promises compute with,
--- without callers and with them, proofs/FrontPage.antt the value of the record.
+-- specs/Reports.antt, specs/Readings.antt, specs/Trees.antt and specs/Drafts.antt have what follows for the search,
+-- for room told beforehand, for texts, for two texts that are joined, for the program, for the two lines of a witness,
+-- for the trees of one sentence and for a grammar while it is edited, specs/Carried.antt what holds of byte tables
+-- carried over, specs/Automata.antt and specs/Callers.antt whose moves the promises compute with, without callers and
+-- with them, proofs/FrontPage.antt the value of the record.
 -- Source: document 01 and document 02's requests; README.md has the demands. Of demand 1, that a refusal is the
 -- first in the documents' order is in the definitions that the promises equal.
 -- Assumes nothing.
@@ -69,6 +69,12 @@ use Rattle.trees.specs.Promise.{FindsTrees, TreesRoomAnswer}
 use Rattle.trees.specs.declared.TreesFound.{TreesFound}
 use Rattle.trees.specs.declared.TreesRoom.{TreesRoom}
 use Rattle.ambiguity.specs.Trees.{TreesTheorems, ListedTheorems, TreesRoomTheorems}
+use Rattle.drafts.specs.Draft.{Draft, Edit}
+use Rattle.drafts.specs.Row.{draftIn}
+use Rattle.drafts.specs.Promise.{BeginsDraft, EditsDraft}
+use Rattle.drafts.specs.Reading.{ShowsTable}
+use Rattle.drafts.specs.declared.DraftAnswer.{DraftAnswer}
+use Rattle.ambiguity.specs.Drafts.{BeginTheorems, EditTheorems, PlaceTheorems, DraftTheorems}
 
 module _ (t n : ℕ) (table : List ℕ) where
   pub record TableTheorems (r : TableChecked) : Type 0 where
@@ -170,6 +176,12 @@ pub record FrontPage : Type 1 where
       → TreesTheorems t n table w work list r work′ list′
   pub trees-rooms : (t n : ℕ) (table : List ℕ) (r : TreesRoom) → TreesRoomAnswer t n table r → TreesRoomTheorems t n table r
   pub listed : (G : Grammar) → WellFormed limits G → ListedTheorems G
+  -- document 02, [13]: a grammar while it is edited, in a row: begun, edited, read out; and what an edit does to a draft
+  pub drafts-begun : (t n : ℕ) (table before : List ℕ) (r : DraftAnswer) (row : List ℕ) → BeginsDraft t n table before r row
+      → BeginTheorems t n table before r row
+  pub drafts-edited : (before : List ℕ) (s : Edit) (r : DraftAnswer) (row : List ℕ) → EditsDraft before s r row → EditTheorems before s r row
+  pub draft-tables : (row part : List ℕ) → ShowsTable row part → PlaceTheorems row part
+  pub drafts : (row : List ℕ) (d : Draft) → draftIn row ≡ done d → DraftTheorems d
   -- document 02, [8]: a byte table that passed under document 01's limits, carried over
   pub carried : (t n : ℕ) (table : List ℕ) (G : Grammar) → checkTable byteLimits t n table ≡ done G → CarriedTheorems t n table G
   pub automata : (G : Grammar) → WellFormed limits G → AutomatonTheorems G

@@ -7,6 +7,7 @@ pub mod Joins
 pub mod Readings
 pub mod Reports
 pub mod Trees
+pub mod Drafts
 pub mod Automata
 pub mod Carried
 pub mod FrontPage

@@ -1,5 +1,17 @@
 // The front page: what this crate passes on is the library. specs/FrontPage.antt states what follows from the entries' promises.
 pub use certificate_check::check_certificate;
+pub use drafts::DraftAnswer;
+pub use drafts::DraftCounts;
+pub use drafts::TablePlace;
+pub use drafts::add_rule;
+pub use drafts::draft_counts;
+pub use drafts::draft_room;
+pub use drafts::draft_table;
+pub use drafts::new_draft;
+pub use drafts::return_to_mark;
+pub use drafts::set_mark;
+pub use drafts::table_place;
+pub use drafts::withdraw_rule;
 pub use grammar::CheckedGrammar;
 pub use grammar::TableChecked;
 pub use grammar::TableVerdict;

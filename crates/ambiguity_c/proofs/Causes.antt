@@ -10,10 +10,15 @@ use mathlib.Core.List.{List}
 use mathlib.Core.Logic.{inl, inr}
 use Rattle.grammar.specs.Limits.{limits}
 use Rattle.grammar.specs.Grammar.{Grammar}
-use Rattle.grammar.specs.Refusal.{Answer, done, refused, andThen, noSentence, bufferTooShort, kindsClash, tooManyCallers, rowWrong}
+use Rattle.grammar.specs.Refusal.{Answer, done, refused, andThen, noSentence, bufferTooShort, kindsClash, tooManyCallers, rowWrong, notPresent}
 use Rattle.grammar.specs.TableCheck.{tableChecked}
 use Rattle.grammar.specs.declared.TableVerdict.the-variants.{Passed}
 use Rattle.grammar.proofs.Answers.{no-answer, and-both, or-one}
+use Rattle.drafts.specs.Draft.{Draft}
+use Rattle.drafts.specs.Promise.{answered}
+use Rattle.drafts.specs.Reading.{counted, placed}
+use Rattle.drafts.specs.declared.DraftAnswer.the-variants as edit
+use Rattle.drafts.specs.declared.TablePlace.the-variants as tablePlace
 use Rattle.automaton.specs.Moves.{Moves}
 use Rattle.automaton.specs.CallerMoves.{movesWith}
 use Rattle.triples.specs.Verdict.{checkVerdict}
@@ -39,10 +44,10 @@ use Rattle.trees.specs.Promise.{FindsTrees, refuses, no-tree, several-trees, on
 use Rattle.trees.specs.declared.TreesFound.{TreesFound}
 use Rattle.trees.specs.declared.TreesRoom.the-variants.{Entries}
 use Rattle.witness_records.specs.Records.{triples}
-use Rattle.ambiguity_c.specs.Replies.{tableReply, stepReply, checkReply, searchReply, roomReply, readReply, writeReply, lengthReply, reportReply, readBackReply, treesReply, treesRoomReply}
-use Rattle.ambiguity_c.specs.Causes.{Tells, TellsOr, JoinTells, CallerTells, RowTells, IsRead, IsRoom, IsVerdict, IsStep, IsFound, CauseTheorems}
+use Rattle.ambiguity_c.specs.Replies.{tableReply, stepReply, checkReply, searchReply, roomReply, readReply, writeReply, lengthReply, reportReply, readBackReply, treesReply, treesRoomReply, draftReply, draftCountsReply, draftTableReply}
+use Rattle.ambiguity_c.specs.Causes.{Tells, TellsOr, JoinTells, CallerTells, RowTells, DraftTells, IsRead, IsRoom, IsVerdict, IsStep, IsFound, IsCounts, CauseTheorems}
 use Rattle.grammar.proofs.Causes.{cause}
-use Rattle.ambiguity_c.proofs.Refusals.{isCause, Caused, isCauseOr, CausedOr, JoinCaused, CallerCaused, join-into, joined-into, check-table, nth-step, check-witness, check-records, check-certificate, search-asked, search-room, check-text, read-into, text-from, write-into, report-into, strings-into, check-sentence, trees-room}
+use Rattle.ambiguity_c.proofs.Refusals.{isCause, Caused, isCauseOr, CausedOr, JoinCaused, CallerCaused, join-into, joined-into, check-table, nth-step, check-witness, check-records, check-certificate, search-asked, search-room, check-text, read-into, text-from, write-into, report-into, strings-into, check-sentence, trees-room, DraftCaused, new-draft, draft-in, edit-row}
 
 -- nothing is refused
 tells-done : {X : Type 0} → X → Tells 0 X
@@ -167,6 +172,27 @@ trees-room-tells : (o : Answer ℕ) → Caused o → Tells (treesRoomReply (room
 trees-room-tells (done e) h = tells-done refl
 trees-room-tells (refused c p) (cause h) = tells-refused c h
 
+-- of a draft
+begun-tells : (o : Answer (List ℕ)) → Caused o → Tells (draftReply (answered o) .cause) (answered o ≡ edit.Done)
+begun-tells (done row) h = tells-done refl
+begun-tells (refused c p) (cause h) = tells-refused c h
+
+draft-told : {X : Type 0} (c : ℕ) → isCauseOr notPresent c ≡ true → DraftTells c X
+draft-told c = refusal-told notPresent c (omega arith)
+
+edited-tells : (o : Answer (List ℕ)) → DraftCaused o → DraftTells (draftReply (answered o) .cause) (answered o ≡ edit.Done)
+edited-tells (done row) h = answer-told refl
+edited-tells (refused c p) (cause h) = draft-told c h
+
+counted-tells : (o : Answer Draft) → DraftCaused o → DraftTells (draftCountsReply (counted o) .cause) (IsCounts (counted o))
+counted-tells (done d) h = answer-told refl
+counted-tells (refused c p) (cause h) = draft-told c h
+
+placed-tells : (o : Answer Draft) → DraftCaused o → let v = placed o in
+    DraftTells (draftTableReply v .cause) (v ≡ tablePlace.Stands (draftTableReply v .start) (draftTableReply v .entries))
+placed-tells (done d) h = answer-told refl
+placed-tells (refused c p) (cause h) = draft-told c h
+
 pub cause-theorems : CauseTheorems
 cause-theorems = record {
   tables = λ t n table r a.
@@ -199,4 +225,12 @@ cause-theorems = record {
   trees = λ t n table row work list v work′ list′ a. row-tells t n table row work list a;
   trees-rooms = λ t n table v a.
       subst (λ v. Tells (treesRoomReply v .cause) (v ≡ Entries (treesRoomReply v .entries))) (sym a) (trees-room-tells _ (trees-room limits t n table));
+  drafts-begun = λ t n table draft v draft′ a.
+      subst (λ v. Tells (draftReply v .cause) (v ≡ edit.Done)) (sym (a .answer)) (begun-tells _ (new-draft t n table draft));
+  drafts-edited = λ draft s v draft′ a.
+      subst (λ v. DraftTells (draftReply v .cause) (v ≡ edit.Done)) (sym (a .answer)) (edited-tells _ (edit-row draft s));
+  draft-counts = λ draft v a. subst (λ v. DraftTells (draftCountsReply v .cause) (IsCounts v)) (sym a) (counted-tells _ (draft-in draft));
+  draft-tables = λ draft v a.
+      subst (λ v. DraftTells (draftTableReply v .cause) (v ≡ tablePlace.Stands (draftTableReply v .start) (draftTableReply v .entries))) (sym a)
+      (placed-tells _ (draft-in draft));
 }

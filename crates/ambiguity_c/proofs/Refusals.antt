@@ -2,15 +2,19 @@
 use Prim.Native.Nat.{ℕ, suc, _+_, _≤_}
 use mathlib.Core.Path.{_≡_, refl, ap}
 use mathlib.Core.Bool.{Bool, true, _||_}
-use mathlib.Core.List.{List, [], _∷_}
+use mathlib.Core.List.{List, [], _∷_, _++_}
+use mathlib.Core.Option.{Option, none, some}
 use native.Mathlib.Omega.{arith}
 use borrow.Author.Tests.{leb-true, le-leb}
 use lib.Dec.{leb, eqb}
-use Rattle.grammar.specs.Limits.{Limits}
-use Rattle.grammar.specs.Refusal.{Answer, tooManyStates, certificateLength, spareBit, startMissing, endPresent, successorMissing, bufferTooShort, witnessWrong, malformed, nameUnknown, nameRepeated, noSentence, kindsClash, tooManyCallers, rowWrong}
+use Rattle.grammar.specs.Limits.{Limits, limits}
+use Rattle.grammar.specs.Grammar.{Rule}
+use Rattle.grammar.specs.Refusal.{Answer, tooManyStates, certificateLength, spareBit, startMissing, endPresent, successorMissing, bufferTooShort, witnessWrong, malformed, nameUnknown, nameRepeated, noSentence, kindsClash, tooManyCallers, rowWrong, tooManyRules, notPresent}
 use Rattle.grammar.specs.TableCheck.{checkTable}
 use Rattle.grammar.proofs.Answers.{and-both, both-and}
-use Rattle.grammar.proofs.Causes.{CausedBy, result, cause, unless, next, upTo, caused-more, stored-causes}
+use Rattle.grammar.proofs.Causes.{CausedBy, result, cause, unless, next, upTo, caused-more, stored-causes, next-causes}
+use Rattle.drafts.specs.Draft.{Draft, Edit, add, withdraw, mark, return, restored, kept, newDraft, addRule, taken}
+use Rattle.drafts.specs.Row.{draftOr, rulesIn, blockOf, draftIn, stepped, newRow}
 use Rattle.automaton.specs.Moves.{Moves}
 use Rattle.automaton.specs.Callers.{checkCallers, checkWith}
 use Rattle.automaton.specs.CallerMoves.{movesWith}
@@ -188,3 +192,38 @@ check-sentence L t n table row work =
 pub trees-room : (L : Limits) (t n : ℕ) (table : List ℕ) → Caused (trees.treesRoom L t n table)
 unfolding trees.treesRoom
 trees-room L t n table = next _ _ (check-table L t n table) (λ G. result)
+
+-- ---- a draft, where 23 is a cause too, but for a new one
+
+pub new-draft : (t n : ℕ) (table row : List ℕ) → Caused (newRow t n table row)
+unfolding newRow newDraft
+new-draft t n table row =
+    next _ _ (next _ _ (caused-more (more tooManyStates (omega arith)) _ (stored-causes limits t n table)) (λ G. result)) (λ d. unless bufferTooShort _ _ _ refl result)
+
+abbrev pub DraftCaused : {A : Type 0} → Answer A → Type 0
+DraftCaused o = CausedOr notPresent o
+
+draft-or : (row : List ℕ) (o : Option (List Rule)) → DraftCaused (draftOr row o)
+draft-or row none = cause refl
+draft-or row (some rules) = result
+
+pub draft-in : (row : List ℕ) → DraftCaused (draftIn row)
+unfolding draftIn
+draft-in row = unless bufferTooShort _ _ _ refl (draft-or row (rulesIn (blockOf row 0)))
+
+restored-causes : (d : Draft) (k : ℕ) (o : Option (List Rule)) → DraftCaused (restored d k o)
+restored-causes d k none = cause refl
+restored-causes d k (some rules) = result
+
+edit-causes : (d : Draft) (s : Edit) → DraftCaused (taken limits d s)
+unfolding taken addRule
+edit-causes d (add entries) =
+    unless tooManyRules _ _ _ refl
+    (next _ _ (caused-more (λ c h. still notPresent c (more tooManyStates (omega arith) c h)) _ (next-causes limits _ _ _ (d .rules) _)) (λ k. result))
+edit-causes d (withdraw i) = unless notPresent _ _ _ refl result
+edit-causes d (mark k) = unless notPresent _ _ _ refl result
+edit-causes d (return k) = unless notPresent _ _ _ refl (restored-causes d k (kept d k))
+
+pub edit-row : (row : List ℕ) (s : Edit) → DraftCaused (stepped row s)
+unfolding stepped
+edit-row row s = next _ _ (draft-in row) (λ d. next _ _ (edit-causes d s) (λ e. result))

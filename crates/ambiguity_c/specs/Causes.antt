@@ -1,10 +1,19 @@
--- What the cause in a reply tells a caller: it is one of document 01's or document 02's 19 to 22, or 0, and then nothing is refused.
+-- What the cause in a reply tells a caller: it is one of document 01's or document 02's 19 to 23, or 0, and then nothing is refused.
 -- proofs/Causes.antt has the value of the record. Assumes nothing.
 use Prim.Native.Nat.{ℕ, _≤_}
 use mathlib.Core.Path.{_≡_}
 use mathlib.Core.List.{List}
 use mathlib.Core.Logic.{_⊎_}
-use Rattle.grammar.specs.Refusal.{noSentence, kindsClash, tooManyCallers, rowWrong}
+use Rattle.grammar.specs.Refusal.{noSentence, kindsClash, tooManyCallers, rowWrong, notPresent}
+use Rattle.drafts.specs.Draft as drafts
+use Rattle.drafts.specs.Promise.{BeginsDraft, EditsDraft}
+use Rattle.drafts.specs.Reading.{CountsDraft, PlacesTable}
+use Rattle.drafts.specs.declared.DraftAnswer.{DraftAnswer}
+use Rattle.drafts.specs.declared.DraftAnswer.the-variants as edit
+use Rattle.drafts.specs.declared.DraftCounts.{DraftCounts}
+use Rattle.drafts.specs.declared.DraftCounts.the-variants as counts
+use Rattle.drafts.specs.declared.TablePlace.{TablePlace}
+use Rattle.drafts.specs.declared.TablePlace.the-variants as tablePlace
 use Rattle.grammar.specs.declared.TableChecked.{TableChecked}
 use Rattle.grammar.specs.declared.TableVerdict.the-variants.{Passed}
 use Rattle.grammar.specs.TableCheck.{TableAnswer}
@@ -42,7 +51,7 @@ use Rattle.trees.specs.declared.TreesRoom.the-variants.{Entries}
 use Rattle.witness_records.specs.Records.{RecordsAnswer}
 use Rattle.witness_records.specs.declared.TripleRecord.{TripleRecord}
 use Rattle.ambiguity.specs.Entries.{Usize, StepAnswers}
-use Rattle.ambiguity_c.specs.Replies.{tableReply, stepReply, checkReply, searchReply, roomReply, readReply, writeReply, lengthReply, reportReply, readBackReply, treesReply, treesRoomReply}
+use Rattle.ambiguity_c.specs.Replies.{tableReply, stepReply, checkReply, searchReply, roomReply, readReply, writeReply, lengthReply, reportReply, readBackReply, treesReply, treesRoomReply, draftReply, draftCountsReply, draftTableReply}
 
 -- the cause is none that the documents do not have, and 0 tells that something is answered
 pub record Tells (cause : ℕ) (Answered : Type 0) : Type 0 where
@@ -54,7 +63,7 @@ pub record TellsOr (other cause : ℕ) (Answered : Type 0) : Type 0 where
   pub known : (cause ≤ noSentence) ⊎ (cause ≡ other)
   pub zero : cause ≡ 0 → Answered
 
--- over two texts 20, with callers 21, of a row of terminals 22
+-- over two texts 20, with callers 21, of a row of terminals 22, of a draft 23
 abbrev pub JoinTells : ℕ → Type 0 → Type 0
 JoinTells = TellsOr kindsClash
 
@@ -63,6 +72,9 @@ CallerTells = TellsOr tooManyCallers
 
 abbrev pub RowTells : ℕ → Type 0 → Type 0
 RowTells = TellsOr rowWrong
+
+abbrev pub DraftTells : ℕ → Type 0 → Type 0
+DraftTells = TellsOr notPresent
 
 -- the numbers of the reply are the answer
 abbrev pub IsRead : TextRead → Type 0
@@ -88,6 +100,11 @@ IsFound v =
     ((treesReply v .found ≡ 1) × (v ≡ Nothing))
     ⊎ (((treesReply v .found ≡ 2) × (v ≡ One (treesReply v .count)))
     ⊎ ((treesReply v .found ≡ 3) × (v ≡ Several)))
+
+abbrev pub IsCounts : DraftCounts → Type 0
+IsCounts v =
+    let r = draftCountsReply v in
+    v ≡ counts.Counts (r .terminals) (r .nonterminals) (r .rules) (r .entries) (r .states)
 
 -- whatever answers as the entries promise
 pub record CauseTheorems : Type 0 where
@@ -121,3 +138,10 @@ pub record CauseTheorems : Type 0 where
       → RowTells (treesReply v .cause) (IsFound v)
   pub trees-rooms : (t n : ℕ) (table : List ℕ) (v : TreesRoom) → TreesRoomAnswer t n table v
       → Tells (treesRoomReply v .cause) (v ≡ Entries (treesRoomReply v .entries))
+  pub drafts-begun : (t n : ℕ) (table draft : List ℕ) (v : DraftAnswer) (draft′ : List ℕ) → BeginsDraft t n table draft v draft′
+      → Tells (draftReply v .cause) (v ≡ edit.Done)
+  pub drafts-edited : (draft : List ℕ) (s : drafts.Edit) (v : DraftAnswer) (draft′ : List ℕ) → EditsDraft draft s v draft′
+      → DraftTells (draftReply v .cause) (v ≡ edit.Done)
+  pub draft-counts : (draft : List ℕ) (v : DraftCounts) → CountsDraft draft v → DraftTells (draftCountsReply v .cause) (IsCounts v)
+  pub draft-tables : (draft : List ℕ) (v : TablePlace) → PlacesTable draft v
+      → DraftTells (draftTableReply v .cause) (v ≡ tablePlace.Stands (draftTableReply v .start) (draftTableReply v .entries))

@@ -3,19 +3,22 @@
 use Prim.Native.Nat.{ℕ}
 use mathlib.Core.Path.{_≡_}
 use mathlib.Core.List.{List}
+use Rattle.drafts.specs.Draft.{Edit}
+use Rattle.drafts.specs.Promise.{BeginsDraft, EditsDraft}
 use Rattle.modules.specs.Promise.{JoinsTexts, WritesJoined}
 use Rattle.readings.specs.Promise.{ReadsBack}
 use Rattle.report.specs.Report.{Reports}
 use Rattle.search.specs.Promise.{Lent, Searches}
 use Rattle.text.specs.Promise.{ReadsText, WritesText}
 use Rattle.trees.specs.Promise.{FindsTrees}
-use Rattle.ambiguity_c.specs.Replies.{searchReply, readReply, writeReply, reportReply, readBackReply, treesReply}
+use Rattle.ambiguity_c.specs.Replies.{searchReply, readReply, writeReply, reportReply, readBackReply, treesReply, draftReply}
 use Rattle.ambiguity_c.specs.declared.SearchReply.{SearchReply}
 use Rattle.ambiguity_c.specs.declared.ReadReply.{ReadReply}
 use Rattle.ambiguity_c.specs.declared.WriteReply.{WriteReply}
 use Rattle.ambiguity_c.specs.declared.ReportReply.{ReportReply}
 use Rattle.ambiguity_c.specs.declared.ReadBackReply.{ReadBackReply}
 use Rattle.ambiguity_c.specs.declared.TreesReply.{TreesReply}
+use Rattle.ambiguity_c.specs.declared.DraftReply.{DraftReply}
 
 -- r is the C form of an answer of which the promise holds
 pub record Replies {Verdict Reply : Type 0} (Promised : Verdict → Type 0) (reply : Verdict → Reply) (r : Reply) : Type 0 where
@@ -47,3 +50,9 @@ RepliesBack text lines left right r left′ right′ = Replies (λ v. ReadsBack 
 
 abbrev pub RepliesTrees : ℕ → ℕ → List ℕ → List ℕ → List ℕ → List ℕ → TreesReply → List ℕ → List ℕ → Type 0
 RepliesTrees t n table row work list r work′ list′ = Replies (λ v. FindsTrees t n table row work list v work′ list′) treesReply r
+
+abbrev pub RepliesBegun : ℕ → ℕ → List ℕ → List ℕ → DraftReply → List ℕ → Type 0
+RepliesBegun t n table draft r draft′ = Replies (λ v. BeginsDraft t n table draft v draft′) draftReply r
+
+abbrev pub RepliesEdited : List ℕ → Edit → DraftReply → List ℕ → Type 0
+RepliesEdited draft s r draft′ = Replies (λ v. EditsDraft draft s v draft′) draftReply r

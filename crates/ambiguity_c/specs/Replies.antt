@@ -1,6 +1,13 @@
 -- The entries' answers as C has them: for each case of an enum document 01's number and values. `cause` 0 says that nothing is
--- refused; fields that a case does not have are 0. Source: document 01, "Causes of refusal"; document 02, [2], [5], [10] and [12]. Assumes nothing.
+-- refused; fields that a case does not have are 0. Source: document 01, "Causes of refusal"; document 02, [2], [5], [10], [12] and [13].
+-- Assumes nothing.
 use Prim.Native.Nat.{ℕ}
+use Rattle.drafts.specs.declared.DraftAnswer.{DraftAnswer}
+use Rattle.drafts.specs.declared.DraftAnswer.the-variants as edit
+use Rattle.drafts.specs.declared.DraftCounts.{DraftCounts}
+use Rattle.drafts.specs.declared.DraftCounts.the-variants as counts
+use Rattle.drafts.specs.declared.TablePlace.{TablePlace}
+use Rattle.drafts.specs.declared.TablePlace.the-variants as tablePlace
 use Rattle.grammar.specs.declared.TableChecked.{TableChecked}
 use Rattle.grammar.specs.declared.TableVerdict.{TableVerdict}
 use Rattle.grammar.specs.declared.TableVerdict.the-variants as table
@@ -45,6 +52,9 @@ use Rattle.ambiguity_c.specs.declared.ReportReply.{ReportReply}
 use Rattle.ambiguity_c.specs.declared.ReadBackReply.{ReadBackReply}
 use Rattle.ambiguity_c.specs.declared.TreesReply.{TreesReply}
 use Rattle.ambiguity_c.specs.declared.TreesRoomReply.{TreesRoomReply}
+use Rattle.ambiguity_c.specs.declared.DraftReply.{DraftReply}
+use Rattle.ambiguity_c.specs.declared.DraftCountsReply.{DraftCountsReply}
+use Rattle.ambiguity_c.specs.declared.DraftTableReply.{DraftTableReply}
 
 -- the table check: passed with Q, or refused
 abbrev pub verdictReply : TableVerdict → ℕ → TableReply
@@ -135,3 +145,18 @@ treesReply (trees.Refused cause at) = record { cause = cause; at = at; found = 0
 abbrev pub treesRoomReply : TreesRoom → TreesRoomReply
 treesRoomReply (workRow.Entries e) = record { cause = 0; at = 0; entries = e }
 treesRoomReply (workRow.Refused cause at) = record { cause = cause; at = at; entries = 0 }
+
+-- document 02, [13]: a new draft, and each step
+abbrev pub draftReply : DraftAnswer → DraftReply
+draftReply edit.Done = record { cause = 0; at = 0 }
+draftReply (edit.Refused cause at) = record { cause = cause; at = at }
+
+-- t, n, the number of rules, the entries of their table and Q
+abbrev pub draftCountsReply : DraftCounts → DraftCountsReply
+draftCountsReply (counts.Counts t n r e q) = record { cause = 0; at = 0; terminals = t; nonterminals = n; rules = r; entries = e; states = q }
+draftCountsReply (counts.Refused cause at) = record { cause = cause; at = at; terminals = 0; nonterminals = 0; rules = 0; entries = 0; states = 0 }
+
+-- where the table begins in the row, and its entries
+abbrev pub draftTableReply : TablePlace → DraftTableReply
+draftTableReply (tablePlace.Stands s e) = record { cause = 0; at = 0; start = s; entries = e }
+draftTableReply (tablePlace.Refused cause at) = record { cause = cause; at = at; start = 0; entries = 0 }

@@ -2,6 +2,10 @@
 // a caller beyond the form of what is lent. bindings/c/ambiguity.h declares these functions.
 mod replies;
 
+ghost use mathlib.Core.Path.{_≡_};
+ghost use Rattle.drafts.specs.Draft.{add, withdraw, mark, return};
+ghost use Rattle.drafts.specs.Reading.{CountsDraft, PlacesTable};
+ghost use Rattle.drafts.specs.Row.{draftRoom};
 ghost use Rattle.grammar.specs.TableCheck.{TableAnswer};
 ghost use Rattle.modules.specs.Promise.{ShowsPlace};
 ghost use Rattle.rooms.specs.Room.{RoomAnswer};
@@ -11,8 +15,8 @@ ghost use Rattle.text.specs.Promise.{LengthAnswer};
 ghost use Rattle.trees.specs.Promise.{TreesRoomAnswer};
 ghost use Rattle.triples.specs.Verdict.{CertificateAnswer, WitnessAnswer};
 ghost use Rattle.witness_records.specs.Records.{RecordsAnswer};
-ghost use Rattle.ambiguity_c.specs.Replies.{tableReply, stepReply, checkReply, roomReply, lengthReply, partReply, treesRoomReply};
-ghost use Rattle.ambiguity_c.specs.Lent.{Replies, RepliesSearch, RepliesRead, RepliesWritten, RepliesJoin, RepliesJoined, RepliesReport, RepliesBack, RepliesTrees};
+ghost use Rattle.ambiguity_c.specs.Replies.{tableReply, stepReply, checkReply, roomReply, lengthReply, partReply, treesRoomReply, draftCountsReply, draftTableReply};
+ghost use Rattle.ambiguity_c.specs.Lent.{Replies, RepliesSearch, RepliesRead, RepliesWritten, RepliesJoin, RepliesJoined, RepliesReport, RepliesBack, RepliesTrees, RepliesBegun, RepliesEdited};
 use ambiguity::TripleRecord;
 
 // In every reply `cause` is 0, or the number of a cause with its position `at`; what a case does not have is 0.
@@ -133,6 +137,33 @@ pub struct TreesReply {
 pub struct TreesRoomReply {
     pub cause: u64,
     pub at: u64,
+    pub entries: u64,
+}
+
+#[repr(C)]
+pub struct DraftReply {
+    pub cause: u64,
+    pub at: u64,
+}
+
+// t, n, the number of rules, the entries of their table, Q.
+#[repr(C)]
+pub struct DraftCountsReply {
+    pub cause: u64,
+    pub at: u64,
+    pub terminals: u64,
+    pub nonterminals: u64,
+    pub rules: u64,
+    pub entries: u64,
+    pub states: u64,
+}
+
+// Where in the row the draft's table stands.
+#[repr(C)]
+pub struct DraftTableReply {
+    pub cause: u64,
+    pub at: u64,
+    pub start: u64,
     pub entries: u64,
 }
 
@@ -346,4 +377,72 @@ pub extern "C" fn ambiguity_trees_room(t: usize, n: usize, table: &[u16]) -> Tre
 {
     let answer = ambiguity::trees_room(t, n, table);
     replies::trees_room_told(answer)
+}
+
+#[no_mangle]
+pub extern "C" fn ambiguity_draft_room() -> usize
+    ensures { λ r. ⌜ r ≡ draftRoom ⌝ }
+{
+    ambiguity::draft_room()
+}
+
+#[no_mangle]
+pub extern "C" fn ambiguity_new_draft(
+    t: usize,
+    n: usize,
+    table: &[u16],
+    draft: &mut [u16],
+) -> DraftReply
+    ensures { λ r. ⌜ RepliesBegun t n (now (table .entry)) (now (draft .entry)) r (now (draft .exit)) ⌝ }
+{
+    let answer = ambiguity::new_draft(t, n, table, draft);
+    replies::draft_told(answer)
+}
+
+#[no_mangle]
+pub extern "C" fn ambiguity_add_rule(draft: &mut [u16], rule: &[u16]) -> DraftReply
+    ensures { λ r. ⌜ RepliesEdited (now (draft .entry)) (add (now (rule .entry))) r (now (draft .exit)) ⌝ }
+{
+    let answer = ambiguity::add_rule(draft, rule);
+    replies::draft_told(answer)
+}
+
+#[no_mangle]
+pub extern "C" fn ambiguity_withdraw_rule(draft: &mut [u16], number: usize) -> DraftReply
+    ensures { λ r. ⌜ RepliesEdited (now (draft .entry)) (withdraw number) r (now (draft .exit)) ⌝ }
+{
+    let answer = ambiguity::withdraw_rule(draft, number);
+    replies::draft_told(answer)
+}
+
+#[no_mangle]
+pub extern "C" fn ambiguity_set_mark(draft: &mut [u16], number: usize) -> DraftReply
+    ensures { λ r. ⌜ RepliesEdited (now (draft .entry)) (mark number) r (now (draft .exit)) ⌝ }
+{
+    let answer = ambiguity::set_mark(draft, number);
+    replies::draft_told(answer)
+}
+
+#[no_mangle]
+pub extern "C" fn ambiguity_return_to_mark(draft: &mut [u16], number: usize) -> DraftReply
+    ensures { λ r. ⌜ RepliesEdited (now (draft .entry)) (return number) r (now (draft .exit)) ⌝ }
+{
+    let answer = ambiguity::return_to_mark(draft, number);
+    replies::draft_told(answer)
+}
+
+#[no_mangle]
+pub extern "C" fn ambiguity_draft_counts(draft: &[u16]) -> DraftCountsReply
+    ensures { λ r. ⌜ Replies (CountsDraft (now (draft .entry))) draftCountsReply r ⌝ }
+{
+    let answer = ambiguity::draft_counts(draft);
+    replies::draft_counts_told(answer)
+}
+
+#[no_mangle]
+pub extern "C" fn ambiguity_draft_table(draft: &[u16]) -> DraftTableReply
+    ensures { λ r. ⌜ Replies (PlacesTable (now (draft .entry))) draftTableReply r ⌝ }
+{
+    let answer = ambiguity::table_place(draft);
+    replies::draft_table_told(answer)
 }

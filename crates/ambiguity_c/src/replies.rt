@@ -1,7 +1,10 @@
 // The answers of the entries, told in numbers: an arm for each case of specs/Replies.antt.
 ghost use mathlib.Core.Path.{_≡_};
-ghost use Rattle.ambiguity_c.specs.Replies.{verdictReply, moveReply, recordReply, noRecord, stepReply, checkReply, searchReply, readReply, writeReply, reportReply, readBackReply, roomReply, lengthReply, partReply, treesReply, treesRoomReply};
+ghost use Rattle.ambiguity_c.specs.Replies.{verdictReply, moveReply, recordReply, noRecord, stepReply, checkReply, searchReply, readReply, writeReply, reportReply, readBackReply, roomReply, lengthReply, partReply, treesReply, treesRoomReply, draftReply, draftCountsReply, draftTableReply};
 use super::CheckReply;
+use super::DraftCountsReply;
+use super::DraftReply;
+use super::DraftTableReply;
 use super::LengthReply;
 use super::MoveReply;
 use super::PartReply;
@@ -16,6 +19,8 @@ use super::TreesReply;
 use super::TreesRoomReply;
 use super::WriteReply;
 use ambiguity::CheckVerdict;
+use ambiguity::DraftAnswer;
+use ambiguity::DraftCounts;
 use ambiguity::Move;
 use ambiguity::Place;
 use ambiguity::ReadBack;
@@ -24,6 +29,7 @@ use ambiguity::SearchRoom;
 use ambiguity::SearchVerdict;
 use ambiguity::Step;
 use ambiguity::StepAnswer;
+use ambiguity::TablePlace;
 use ambiguity::TableVerdict;
 use ambiguity::TextLength;
 use ambiguity::TextRead;
@@ -361,6 +367,68 @@ pub fn trees_room_told(answer: TreesRoom) -> TreesRoomReply
         TreesRoom::Refused(cause, at) => TreesRoomReply {
             cause: cause as u64,
             at: at as u64,
+            entries: 0,
+        },
+    }
+}
+
+pub fn draft_told(answer: DraftAnswer) -> DraftReply
+    ensures { λ r. ⌜ r ≡ draftReply answer ⌝ }
+{
+    match answer {
+        DraftAnswer::Done => DraftReply { cause: 0, at: 0 },
+        DraftAnswer::Refused(cause, at) => DraftReply {
+            cause: cause as u64,
+            at: at as u64,
+        },
+    }
+}
+
+pub fn draft_counts_told(answer: DraftCounts) -> DraftCountsReply
+    ensures { λ r. ⌜ r ≡ draftCountsReply answer ⌝ }
+{
+    match answer {
+        DraftCounts::Counts {
+            terminals,
+            nonterminals,
+            rules,
+            entries,
+            states,
+        } => DraftCountsReply {
+            cause: 0,
+            at: 0,
+            terminals: terminals as u64,
+            nonterminals: nonterminals as u64,
+            rules: rules as u64,
+            entries: entries as u64,
+            states: states as u64,
+        },
+        DraftCounts::Refused(cause, at) => DraftCountsReply {
+            cause: cause as u64,
+            at: at as u64,
+            terminals: 0,
+            nonterminals: 0,
+            rules: 0,
+            entries: 0,
+            states: 0,
+        },
+    }
+}
+
+pub fn draft_table_told(answer: TablePlace) -> DraftTableReply
+    ensures { λ r. ⌜ r ≡ draftTableReply answer ⌝ }
+{
+    match answer {
+        TablePlace::Stands { start, entries } => DraftTableReply {
+            cause: 0,
+            at: 0,
+            start: start as u64,
+            entries: entries as u64,
+        },
+        TablePlace::Refused(cause, at) => DraftTableReply {
+            cause: cause as u64,
+            at: at as u64,
+            start: 0,
             entries: 0,
         },
     }

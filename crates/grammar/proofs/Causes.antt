@@ -51,7 +51,7 @@ module _ (L : Limits) (t n : ℕ) (table : List ℕ) where
       (unless truncated _ _ _ refl
       (unless codeUndeclared _ _ _ refl result))))
 
-  next-causes : (earlier : List Rule) (at : ℕ) → CausedBy (upTo 8) (nextRule L t n table earlier at)
+  pub next-causes : (earlier : List Rule) (at : ℕ) → CausedBy (upTo 8) (nextRule L t n table earlier at)
   unfolding nextRule
   next-causes earlier at = next _ _ (read-causes at) (λ k. unless ruleRepeated _ _ _ refl (unless tooManyStates _ _ _ refl result))
 

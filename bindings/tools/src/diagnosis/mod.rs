@@ -1,6 +1,7 @@
-//! What is wrong with a grammar's text or with the lines of two strings, where, and what to do. The library's refusal decides; the
-//! text is looked at only to put it into words.
+//! What is wrong with a grammar's text, with the lines of two strings, with a sentence or with an edit, where, and what to do. The
+//! library's refusal decides; the text is looked at only to put it into words.
 
+mod drafts;
 mod endless;
 pub mod foreign;
 mod joins;
@@ -16,6 +17,7 @@ use ambiguity::{Cause, Refusal, MAX_NONTERMINALS, MAX_RULES, MAX_STATES, MAX_TER
 use crate::joins::Pair;
 use crate::words::{key, small, LISTS};
 
+pub use drafts::{of_added, of_lists, of_mark, of_rule_number};
 pub use joins::of_join;
 pub use rows::Rows;
 pub use strings::of_strings;
@@ -43,7 +45,7 @@ pub struct Word<'a> {
 
 impl Word<'_> {
     /// The word in quotes; bytes that do not print are escaped, and a long word is cut.
-    fn quoted(&self) -> String {
+    pub fn quoted(&self) -> String {
         match self.bytes.get(..MAX_SHOWN) {
             Some(front) if front.len() < self.bytes.len() => format!("'{}...'", front.escape_ascii()),
             _ => format!("'{}'", self.bytes.escape_ascii()),

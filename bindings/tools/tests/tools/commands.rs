@@ -1,12 +1,18 @@
 //! What the tools have in common: options, several files, standard input, exit statuses, lines for scripts.
 
-use crate::support::{certify, corpus, file, one_a, run, said, text, Ran, CERTIFY, CHECK, JOIN, TREES};
+use crate::support::{certify, corpus, file, one_a, run, said, text, Ran, CERTIFY, CHECK, DRAFT, JOIN, TREES};
 
 const VERSION: &str = include_str!("../../../../VERSION");
 
 #[test]
 fn help_and_version() {
-    for (tool, name) in [(CERTIFY, "ambig-certify"), (CHECK, "ambig-check"), (JOIN, "ambig-join"), (TREES, "ambig-trees")] {
+    for (tool, name) in [
+        (CERTIFY, "ambig-certify"),
+        (CHECK, "ambig-check"),
+        (DRAFT, "ambig-draft"),
+        (JOIN, "ambig-join"),
+        (TREES, "ambig-trees"),
+    ] {
         for word in ["--help", "-h"] {
             let ran = run(tool, &[word], b"");
             assert!(ran.status == 0 && ran.out.starts_with(&format!("usage: {name} [OPTION]")) && ran.err.is_empty());
@@ -99,8 +105,19 @@ fn bad_use() {
         assert_eq!((ran.status, ran.out.as_str()), (2, ""));
         assert_eq!(ran.err, format!("ambig-trees: {said}\n{}", usage("ambig-trees", "GRAMMAR [SENTENCES]")));
     }
+    for (words, said) in [
+        (&[grammar, grammar][..], "there are too many files"),
+        (&["-", grammar], "there are too many files"),
+        (&["--quite", grammar], "there is no option --quite; is --quiet meant?"),
+        (&["--html", grammar], "there is no option --html"),
+    ] {
+        let ran = run(DRAFT, words, b"");
+        assert_eq!((ran.status, ran.out.as_str()), (2, ""));
+        assert_eq!(ran.err, format!("ambig-draft: {said}\n{}", usage("ambig-draft", "[GRAMMAR]")));
+    }
     let missing = format!("{grammar}-that-is-not-there");
     for ran in [
+        run(DRAFT, &[&missing], b"list\n"),
         run(TREES, &[&missing], b"a\n"),
         run(TREES, &[grammar, &missing], b""),
         run(CERTIFY, &[&missing], b""),
@@ -213,9 +230,14 @@ fn names_with_line_breaks_and_escapes() {
 #[test]
 fn a_closed_standard_output() {
     let (good, wrong) = (file("closed", &one_a()), file("closed-wrong", "terminals\n"));
-    for (tool, grammars, status) in
-        [(CERTIFY, vec![&good], 2), (CERTIFY, vec![&wrong], 4), (JOIN, vec![&good, &good], 2), (JOIN, vec![&good, &wrong], 4)]
-    {
+    for (tool, grammars, status) in [
+        (CERTIFY, vec![&good], 2),
+        (CERTIFY, vec![&wrong], 4),
+        (JOIN, vec![&good, &good], 2),
+        (JOIN, vec![&good, &wrong], 4),
+        (DRAFT, vec![&good], 2),
+        (DRAFT, vec![&wrong], 4),
+    ] {
         let files: String = grammars.iter().map(|file| format!(" '{file}'")).collect();
         let command = format!("'{tool}'{files} >&-");
         let ran = run("/bin/sh", &["-c", &command], b"");

@@ -3,6 +3,7 @@
 mod callers;
 mod certificates;
 mod commands;
+mod drafts;
 mod explanations;
 mod fixes;
 mod joins;
