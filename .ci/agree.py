@@ -1,6 +1,6 @@
 """Compares the tools with the program ambig and with the second program, judge.py.
 
-    agree.py TOOLS AMBIG     TOOLS is the folder of ambig-certify, ambig-check, ambig-join, ambig-trees and ambig-draft
+    agree.py TOOLS AMBIG     TOOLS is the folder of ambig-certify, ambig-check, ambig-join, ambig-trees, ambig-draft and ambig-plan
 
 Prints a line for each comparison and exits with 1 if one fails.
 """
@@ -48,6 +48,9 @@ ROWS = 5                  # sentences of a grammar, and as many rows of the same
 SESSIONS = 40             # of a draft
 EDITS = 25                # steps of each
 MARKS = 8
+METHODS = 150             # of the eight-channel command set
+CHANNELS = (b"terminals=take,vol,give,repeat,num,close,ch,sep\nnonterminals=P,K,L\nrule=P:\nrule=P: P K\nrule=K: take L vol\n"
+            b"rule=K: give L vol\nrule=K: repeat num P close\nrule=L: ch\nrule=L: L sep ch\n")
 
 
 def ran(words, text):
@@ -74,6 +77,7 @@ class Tools:
         self.join = os.path.join(folder, "ambig-join")
         self.trees = os.path.join(folder, "ambig-trees")
         self.draft = os.path.join(folder, "ambig-draft")
+        self.plan = os.path.join(folder, "ambig-plan")
         self.ambig = ambig
 
 
@@ -538,11 +542,89 @@ def drafts(tools):
     return ", ".join("%s %d" % count for count in answers.items())
 
 
+def closed(grammar, items, before):
+    """Earley's items at a place, with all that follow from them; those of the places before are given. An item is a rule, the place of its
+    dot and where it began."""
+    items, size = set(items), 0
+    while size < len(items):
+        size = len(items)
+        for rule, dot, began in list(items):
+            if dot < len(rule.right):
+                items |= {(other, 0, len(before)) for other in grammar.rules if other.left == rule.right[dot]}
+                continue
+            callers = items if began == len(before) else before[began]
+            items |= {(caller, at + 1, from_) for caller, at, from_ in list(callers) if caller.right[at:at + 1] == (rule.left,)}
+    return items
+
+
+def front_of(grammar, row):
+    """How long the longest front is that some sentence begins with, which terminals may follow it, and whether it is a sentence. All
+    nonterminals have sentences."""
+    before, items = [], {(rule, 0, 0) for rule in grammar.rules if rule.left == START}
+    for code in row + (None,):
+        items = closed(grammar, items, before)
+        before.append(items)
+        nexts = {rule.right[dot] for rule, dot, _ in items if dot < len(rule.right)}
+        if code not in nexts:
+            ends = any(rule.left == START and dot == len(rule.right) and began == 0 for rule, dot, began in items)
+            return len(before) - 1, {next_ for next_ in nexts if next_ < START}, ends
+        items = {(rule, dot + 1, began) for rule, dot, began in items if rule.right[dot:dot + 1] == (code,)}
+
+
+def near(rng, row):
+    """A row with a word added, taken away or replaced, two swapped, or cut."""
+    row, place = list(row), rng.randrange(len(row) + 1)
+    kind = rng.randrange(3)
+    if kind == 0:
+        row[place:place + rng.randrange(2)] = [rng.randrange(1, 9)] * rng.randrange(2)
+    elif kind == 1:
+        row[place:place + 2] = row[place:place + 2][::-1]
+    else:
+        del row[place:]
+    return tuple(row)
+
+
+def plans(tools):
+    """Methods of the eight-channel command set, and rows near them, have a plan or none as the second program counts their trees; the rules of
+    a plan give the method again; a fault stands behind the longest front that a general recogniser finds, with what it expects there."""
+    rng = random.Random(14)
+    read = found_in(CHANNELS)
+    methods = [row for row in some_sentences(rng, read.grammar, METHODS, 30) if len(row) <= MAX_ROW]
+    methods += [sum(some_sentences(rng, read.grammar, 9, 9), ())[:MAX_ROW] for _ in range(METHODS // 3)]
+    rows = methods + [near(rng, row)[:MAX_ROW] for row in methods * 2]
+    lines = "".join(" ".join(read.names[code - 1] for code in row) + "\n" for row in rows)
+    told = ran([tools.plan, "--json"], in_case(rng, lines.encode()))[0].splitlines()
+    quiet = ran([tools.plan, "--quiet"], lines.encode())[0]
+    answers, right = dict.fromkeys(["none", "one"], 0), ""
+    for number, (row, line) in enumerate(itertools.zip_longest(rows, map(json.loads, told)), 1):
+        place, expected, ends = front_of(read.grammar, row)
+        found = ["none", "one"][tree_count(read.grammar, row)]
+        answers[found] += 1
+        right += "line=%d\ntrees=%s\n" % (number, found)
+        assert line["trees"] == found and coded(read, " ".join(line["sentence"]) or EMPTY) == row, (row, line)
+        if found == "one":
+            assert (place, ends) == (len(row), True) and row_of_rules(read.grammar, line["rules"]) == row, (row, line)
+            assert tree_row(CHANNELS, "P", line["tree"]) == line["sentence"], (row, line)
+            right += "rules=%s\n" % ",".join(map(str, line["rules"]))
+            continue
+        words = [read.names.index(name) + 1 for name in line["expected"]]
+        assert (line["fault"], set(words), line["may-end"]) == (place, expected, ends), (row, line)
+        right += "fault=%d\n" % place
+    assert quiet == right
+    with tempfile.NamedTemporaryFile() as file:
+        file.write(CHANNELS)
+        file.flush()
+        trees_told = ran([tools.trees, "--quiet", file.name], lines.encode())[0]
+    assert re.sub("fault=.*\n", "", quiet) == trees_told
+    assert min(answers.values()) > METHODS, answers
+    return ", ".join("%s %d" % count for count in answers.items())
+
+
 def main(folder, ambig):
     tools = Tools(folder, ambig)
     failed = 0
     for test in (as_ambig, messages, with_callers, certificates, same_certificates, json_lines, strings, spelling, joins,
-                 sentences, partings, random_grammars, trees, drafts):
+                 sentences, partings, random_grammars, trees, drafts, plans):
         try:
             print("%s: %s" % (test(tools), test.__doc__.strip()))
         except AssertionError as error:

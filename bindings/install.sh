@@ -34,7 +34,7 @@ archive=target/staticlib/libambiguity_c.a
 tools=target/rust/release
 
 [ -f $archive ] || fail "$archive is not there: build it with 'rt staticlib ambiguity_c'"
-for tool in ambig-certify ambig-check ambig-draft ambig-join ambig-trees; do
+for tool in ambig-certify ambig-check ambig-draft ambig-join ambig-plan ambig-trees; do
     [ -f $tools/$tool ] || fail "$tools/$tool is not there: build it with cargo, see bindings/README.md, Tools"
 done
 
@@ -49,7 +49,7 @@ filled() { # filled FILE TARGET: a file with the version and the prefix put in
 mkdir -p "$to/bin" "$to/lib/pkgconfig" "$to/lib/cmake/ambiguity" "$to/include" "$to/share/man/man1"
 install -m 644 "$archive" "$to/lib/"
 install -m 644 bindings/c/ambiguity.h bindings/c/ambiguity_cause_text.h bindings/c/ambiguity_shared.h "$to/include/"
-install -m 755 $tools/ambig-certify $tools/ambig-check $tools/ambig-draft $tools/ambig-join $tools/ambig-trees "$to/bin/"
+install -m 755 $tools/ambig-certify $tools/ambig-check $tools/ambig-draft $tools/ambig-join $tools/ambig-plan $tools/ambig-trees "$to/bin/"
 if [ -f target/bin/ambig ]; then
     install -m 755 target/bin/ambig "$to/bin/"
 else

@@ -39,6 +39,7 @@ make shown join_cases.py shown-
 make trees tree_cases.py trees-
 make tree-rooms tree_cases.py room-
 make drafts draft_cases.py
+make plans plan_cases.py
 
 python3 carry.py "$folder"
 count "carry: every byte table of the cases that passed the old limits is answered alike when it is carried over" $?

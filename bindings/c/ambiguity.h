@@ -1,16 +1,16 @@
 /* The library for C: the table check, the step records, the certificate check, the witness check over indices and over records, the
  * search, the reader and the writer of grammar text, what search and writer are to be lent, told beforehand, the report that the program
  * prints, reading back of the two strings that it prints, the join of a module's text to the robot's, the derivation trees of one
- * sentence, and a draft: a grammar while it is edited, with marks to return to. Each function answers as its entry promises;
- * crates/ambiguity_c/src/lib.rt has the promises, proved.
+ * sentence, a draft: a grammar while it is edited, with marks to return to, and the plans of the eight-channel command set. Each function
+ * answers as its entry promises; crates/ambiguity_c/src/lib.rt has the promises, proved.
  * "Document 01" is the paper that the library follows: it has the tables, the certificates and the causes of refusal. Causes 19 to 23,
- * the codes of 16 bits, the limits, names in any case, modules, remembered callers, the trees of one sentence and drafts are document
- * 02's, which has the requests after it.
+ * the codes of 16 bits, the limits, names in any case, modules, remembered callers, the trees of one sentence, drafts and the
+ * eight-channel command set are document 02's, which has the requests after it.
  *
  * What holds of every function:
  * - Every input is taken: what is wrong is refused, with a cause from 1 to 23 and a position. `cause` 0 says that nothing is
- *   refused. A refusal changes no lent row, but for the work row of ambiguity_find_trees, which tells when. A field that an answer does
- *   not have is 0.
+ *   refused. A refusal changes no lent row, but for the work row of ambiguity_find_trees and ambiguity_read_plan, which tell when. A
+ *   field that an answer does not have is 0.
  * - A row is lent as a pointer and its number of entries. The pointer is never NULL, also at 0 entries, and is aligned as its
  *   type is. A row that is written overlaps no other row of the call. Nothing is kept after the return.
  * - A written row may be longer than needed: its front is written, the rest stays as it was.
@@ -33,7 +33,7 @@
 #endif
 
 /* The version of the whole: library, header, wrapper, tools. The first number changes when a caller has to. */
-#define AMBIGUITY_VERSION "5.2.0"
+#define AMBIGUITY_VERSION "5.3.0"
 #define AMBIGUITY_VERSION_MAJOR 5
 
 /* The limits of document 02. A right side has at most 12 codes. */
@@ -68,6 +68,12 @@
 #define AMBIGUITY_MARKS 8
 #define AMBIGUITY_DRAFT_BLOCK (1 + AMBIGUITY_MAX_RULES + AMBIGUITY_MAX_STATES)
 #define AMBIGUITY_DRAFT_ENTRIES (2 + (1 + AMBIGUITY_MARKS) * AMBIGUITY_DRAFT_BLOCK)
+
+/* The eight-channel command set: Q at 0 callers, the entries of the work row for a plan, and the bytes of its certificate at 0 callers.
+ * ambiguity_plan_room tells the entries at run time. */
+#define AMBIGUITY_PLAN_STATES 27
+#define AMBIGUITY_PLAN_WORK_ENTRIES AMBIGUITY_TREES_ENTRIES(AMBIGUITY_PLAN_STATES)
+#define AMBIGUITY_PLAN_CERTIFICATE_BYTES 183
 
 /* What the report takes of a text, and the bytes that are always enough for it: 64, and 16 for each letter of two strings with at
  * most AMBIGUITY_ROW_ENTRIES(AMBIGUITY_MAX_REPORT_STATES) letters each. A report without strings has at most 64. */
@@ -128,6 +134,18 @@ enum ambiguity_verdict { AMBIGUITY_NO_VERDICT = 0, AMBIGUITY_UNAMBIGUOUS = 1, AM
 
 /* How many derivation trees a row of terminals has; several may be infinitely many. */
 enum ambiguity_found { AMBIGUITY_NO_ANSWER = 0, AMBIGUITY_NO_TREE = 1, AMBIGUITY_ONE_TREE = 2, AMBIGUITY_SEVERAL_TREES = 3 };
+
+/* The terminals of the eight-channel command set. */
+enum ambiguity_plan_terminal {
+    AMBIGUITY_TAKE = 1,
+    AMBIGUITY_VOL = 2,
+    AMBIGUITY_GIVE = 3,
+    AMBIGUITY_REPEAT = 4,
+    AMBIGUITY_NUM = 5,
+    AMBIGUITY_CLOSE = 6,
+    AMBIGUITY_CH = 7,
+    AMBIGUITY_SEP = 8
+};
 
 /* What reading back refuses: the grammar's text, or the two lines and the rows for them. */
 enum ambiguity_part { AMBIGUITY_NO_PART = 0, AMBIGUITY_GRAMMAR = 1, AMBIGUITY_LINES = 2 };
@@ -262,6 +280,13 @@ typedef struct {
     uint64_t start;   /* where in the row the table begins, from 0: 3 */
     uint64_t entries; /* of the table */
 } ambiguity_draft_table_reply;
+
+typedef struct {
+    uint64_t cause;
+    uint64_t at;
+    uint64_t found; /* AMBIGUITY_NO_TREE: no plan, or AMBIGUITY_ONE_TREE: the plan; with a refusal AMBIGUITY_NO_ANSWER */
+    uint64_t count; /* a plan: its rules; else 0 */
+} ambiguity_plan_reply;
 
 #ifdef __cplusplus
 extern "C" {
@@ -488,6 +513,45 @@ ambiguity_draft_counts_reply ambiguity_draft_counts(const uint16_t *draft, size_
 /* Where the table stands in the row: `entries` entries from `start` on, to be lent to whatever takes a table, with t and n. Refuses with
  * 14 and 23 at 0 alone; the row is only read. */
 ambiguity_draft_table_reply ambiguity_draft_table(const uint16_t *draft, size_t draft_entries);
+
+/* The eight-channel command set. Its grammar is fixed: the terminals are those of ambiguity_plan_terminal, the nonterminals P, the start,
+ * K and L have the codes from AMBIGUITY_START on, and the rules are
+ *
+ *     1  P ->              a plan is empty,
+ *     2  P -> P K          or a plan and a command behind it
+ *     3  K -> take L vol
+ *     4  K -> give L vol
+ *     5  K -> repeat num P close
+ *     6  L -> ch           a list of channels
+ *     7  L -> L sep ch
+ *
+ * It has AMBIGUITY_PLAN_STATES states, and a certificate, with which no sentence has two derivation trees. That is proved of this
+ * grammar once: a method, a row of its terminals, has one plan or none, and several is no answer. */
+
+/* Reads a method of up to AMBIGUITY_MAX_ROW terminals, given by their codes, to its plan: its only derivation tree, or none if the method
+ * is no sentence. The answer is that of ambiguity_find_trees with this grammar's table, t = 8 and n = 3.
+ *
+ * A plan comes with its rules: the first `count` entries of the list are their numbers, each node before its children and children from
+ * left to right. They determine the plan. `take ch vol` gives 2 1 3 6; the empty row gives 1. By count, which is no part of the promise,
+ * a plan has at most one rule more than the row has terminals, and at most AMBIGUITY_MAX_ROW: a list of so many entries is enough.
+ *
+ * Lent are the work row of AMBIGUITY_PLAN_WORK_ENTRIES entries, whatever it holds, and the list. Refuses, in this order: with 22 at the
+ * first place of the row that is at fault, counted from 0, which is a code that is not 1 to 8, or place 64 of a longer row; with 14 at 0
+ * if the work row is shorter; and, behind that, with 14 at 0 if there is a plan and the list is shorter than its rules. No plan needs no
+ * list: it may have 0 entries. No other cause occurs.
+ *
+ * Afterwards: whatever is answered, the first AMBIGUITY_PLAN_WORK_ENTRIES entries of the work row are 0. So they are after the 14 for the
+ * list, which is known only once the work row has been used. Every other refusal leaves it as it was. Past these entries it is never
+ * changed. A plan writes `count` entries of the list; none and every refusal leave the whole list as it was. */
+ambiguity_plan_reply ambiguity_read_plan(const uint16_t *row, size_t row_entries, uint32_t *work, size_t work_entries, uint16_t *list,
+                                         size_t list_entries);
+
+/* How many entries the work row of ambiguity_read_plan is to have: AMBIGUITY_PLAN_WORK_ENTRIES. */
+size_t ambiguity_plan_room(void);
+
+/* A byte of the certificate of this grammar at 0 callers, by its place from 0; 0 past the last one. The AMBIGUITY_PLAN_CERTIFICATE_BYTES
+ * bytes are those that ambiguity_search writes for its table, and ambiguity_check_certificate accepts them. */
+uint8_t ambiguity_plan_certificate_byte(size_t place);
 
 #ifdef __cplusplus
 }

@@ -3,7 +3,8 @@
  * function calls itself, so the largest grammar, with the most names, has the deepest calls that there are. Functions that take callers
  * are measured with 0, 1 and 2. A line with more names than the limit is read another way, which is measured too, in the robot's text and
  * in a module's. The report takes no more than 48 states; its two strings are read back. Trees are found of the longest rows: none, one,
- * also where the list is too short for it, and several. A draft begins from the longest table, is marked, and gets its last rule back. */
+ * also where the list is too short for it, and several. A draft begins from the longest table, is marked, and gets its last rule back.
+ * Plans are read of the longest methods: none, a plan, also where the list is too short for it. */
 #define _XOPEN_SOURCE 700
 #include <pthread.h>
 #include <stdio.h>
@@ -50,6 +51,8 @@ static uint16_t rule[14];
 static ambiguity_draft_reply drafted;
 static ambiguity_draft_counts_reply counts;
 static ambiguity_draft_table_reply place;
+static size_t sentence_entries;
+static ambiguity_plan_reply plan;
 static ambiguity_read_back_reply read_back;
 static ambiguity_read_reply grammar;
 static ambiguity_read_reply joined;
@@ -168,6 +171,15 @@ static void run_return(void) { drafted = ambiguity_return_to_mark(draft, AMBIGUI
 static void run_counts(void) { counts = ambiguity_draft_counts(draft, AMBIGUITY_DRAFT_ENTRIES); }
 
 static void run_draft_table(void) { place = ambiguity_draft_table(draft, AMBIGUITY_DRAFT_ENTRIES); }
+
+static void run_plan_room(void) { place.entries = ambiguity_plan_room(); }
+
+static void run_plan(void)
+{
+    plan = ambiguity_read_plan(sentence, sentence_entries, work, AMBIGUITY_PLAN_WORK_ENTRIES, list, list_entries);
+}
+
+static void run_plan_certificate(void) { place.entries = ambiguity_plan_certificate_byte(0); }
 
 static void run_report(void) { ambiguity_report(text, strlen((char *)text), out, sizeof out); }
 
@@ -409,6 +421,31 @@ static int measure_drafts(void)
     return wrong + measure_draft("ambiguity_return_to_mark", run_return, AMBIGUITY_NOT_REFUSED);
 }
 
+/* The plan of the sentence, with this answer, or refused with 14. */
+static int measure_plan(const char *what, uint64_t found)
+{
+    int wrong = measure(what, run_plan, AMBIGUITY_STACK_BYTES);
+    return wrong + (plan.found != found) + (plan.cause != (found == AMBIGUITY_NO_ANSWER ? AMBIGUITY_BUFFER_TOO_SHORT : 0));
+}
+
+/* take ch vol, 21 times, has as many rules as a plan has at most, 64; a take behind them has no end. */
+static int measure_plans(void)
+{
+    static const uint16_t words[] = {AMBIGUITY_TAKE, AMBIGUITY_CH, AMBIGUITY_VOL};
+    int wrong = 0, i;
+    for (i = 0; i < AMBIGUITY_MAX_ROW; i++)
+        sentence[i] = words[i % 3];
+    wrong += measure("ambiguity_plan_room", run_plan_room, AMBIGUITY_STACK_BYTES) + (place.entries != AMBIGUITY_PLAN_WORK_ENTRIES);
+    sentence_entries = AMBIGUITY_MAX_ROW;
+    list_entries = AMBIGUITY_MAX_ROW;
+    wrong += measure_plan("ambiguity_read_plan, none", AMBIGUITY_NO_TREE);
+    sentence_entries = AMBIGUITY_MAX_ROW - 1;
+    wrong += measure_plan("ambiguity_read_plan, a plan", AMBIGUITY_ONE_TREE) + (plan.count != AMBIGUITY_MAX_ROW);
+    list_entries = AMBIGUITY_MAX_ROW - 1;
+    wrong += measure_plan("ambiguity_read_plan, a list too short", AMBIGUITY_NO_ANSWER);
+    return wrong + measure("ambiguity_plan_certificate_byte", run_plan_certificate, AMBIGUITY_STACK_BYTES) + (place.entries % 2 != 1);
+}
+
 /* Of the largest grammar, whose start has one caller, so that it has as many states whatever the callers, all that takes them. */
 static int measure_callers(void)
 {
@@ -439,5 +476,6 @@ int main(void)
     wrong += measure_joins();
     wrong += measure_trees();
     wrong += measure_drafts();
+    wrong += measure_plans();
     return wrong != 0;
 }

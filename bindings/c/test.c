@@ -2,9 +2,10 @@
  * and reading its two strings back; searches and texts lent just what is told beforehand, and one less, with 0, 1 and 2 callers; names in
  * any case; a heating module joined to the robot's text, with each kind of refusal; the trees of one sentence, none, one and several, with
  * each kind of refusal, and rows that are lent exactly, one less and more; a draft with its marks, every entry of its row after each call,
- * with each kind of refusal, full drafts, and rows that no new draft made; all functions that take a whole grammar on grammars without a
- * sentence; too many callers and too many chains of them, and certificates of another number of callers; and tables and texts at the limits
- * and just past them. Exits with 0 if every answer is document 01's and document 02's. */
+ * with each kind of refusal, full drafts, and rows that no new draft made; plans of the eight-channel command set, as the trees of its
+ * table, with each kind of refusal, and its certificate, as the search writes it; all functions that take a whole grammar on grammars
+ * without a sentence; too many callers and too many chains of them, and certificates of another number of callers; and tables and texts at
+ * the limits and just past them. Exits with 0 if every answer is document 01's and document 02's. */
 #include <stdio.h>
 #include <string.h>
 
@@ -1166,6 +1167,128 @@ static void expect_drafts(void)
     expect_other_rows();
 }
 
+/* The plan of a row, with rows of so many entries: what ambiguity_find_trees answers and leaves for the table of the command set, and this
+ * reply; of the work row the first `zeros` entries are 0 then and the others unchanged, and the list has these rules in front. */
+static void expect_plan(const char *what, const uint16_t *row, size_t row_entries, size_t work, size_t list, ambiguity_plan_reply right,
+                        size_t zeros, const uint16_t *rules)
+{
+    const struct asked set = {8, 3, CHANNELS, ENTRIES(CHANNELS), 0};
+    size_t i;
+    expect_trees(what, set, row, row_entries, work, list, (ambiguity_trees_reply){right.cause, right.at, right.found, right.count}, zeros,
+                 rules);
+    for (i = 0; i < TREES_WORK; i++)
+        work_row[i] = 7;
+    for (i = 0; i < TREES_LIST; i++)
+        rule_list[i] = 7;
+    ambiguity_plan_reply reply = ambiguity_read_plan(row, row_entries, work_row, work, rule_list, list);
+    int same = reply.cause == right.cause && reply.at == right.at && reply.found == right.found && reply.count == right.count;
+    for (i = 0; i < TREES_WORK; i++)
+        same = same && work_row[i] == (i < zeros ? 0 : 7);
+    for (i = 0; i < TREES_LIST; i++)
+        same = same && rule_list[i] == (i < right.count ? rules[i] : 7);
+    printf("%s: %s, plan, lent %zu and %zu, cause %llu at %llu, found %llu of %llu rules\n", same ? "ok" : "WRONG", what, work, list,
+           (unsigned long long)reply.cause, (unsigned long long)reply.at, (unsigned long long)reply.found,
+           (unsigned long long)reply.count);
+    wrong += !same;
+}
+
+/* A row with its plan, or none where it has no rules: with rows that are just long enough and longer ones, and 14 with one entry less. */
+static void expect_read(const char *what, const uint16_t *row, size_t row_entries, const uint16_t *rules, size_t count)
+{
+    const ambiguity_plan_reply right = {AMBIGUITY_NOT_REFUSED, 0, count > 0 ? AMBIGUITY_ONE_TREE : AMBIGUITY_NO_TREE, count};
+    const ambiguity_plan_reply short_of = {AMBIGUITY_BUFFER_TOO_SHORT, 0, AMBIGUITY_NO_ANSWER, 0};
+    const size_t work = AMBIGUITY_PLAN_WORK_ENTRIES;
+    expect_plan(what, row, row_entries, work, count, right, work, rules);
+    expect_plan(what, row, row_entries, TREES_WORK, TREES_LIST, right, work, rules);
+    expect_plan(what, row, row_entries, work - 1, TREES_LIST, short_of, 0, rules);
+    expect_plan(what, row, row_entries, 0, 0, short_of, 0, rules);
+    if (count > 0) {
+        expect_plan(what, row, row_entries, work, count - 1, short_of, work, rules);
+        expect_plan(what, row, row_entries, TREES_WORK, 0, short_of, work, rules);
+    }
+}
+
+/* 22 at a place, whatever is lent. */
+static void expect_not_read(const char *what, const uint16_t *row, size_t row_entries, uint64_t at)
+{
+    const ambiguity_plan_reply right = {AMBIGUITY_ROW_WRONG, at, AMBIGUITY_NO_ANSWER, 0};
+    expect_plan(what, row, row_entries, TREES_WORK, TREES_LIST, right, 0, row);
+    expect_plan(what, row, row_entries, 0, 0, right, 0, row);
+}
+
+/* take ch vol, so often that no more terminals are taken, and what comes behind them. */
+static void expect_longest_plans(void)
+{
+    uint16_t row[AMBIGUITY_MAX_ROW + 3], rules[AMBIGUITY_MAX_ROW];
+    size_t i;
+    for (i = 0; i < AMBIGUITY_MAX_ROW - 1; i += 3) {
+        row[i] = AMBIGUITY_TAKE;
+        row[i + 1] = AMBIGUITY_CH;
+        row[i + 2] = AMBIGUITY_VOL;
+        rules[i / 3] = 2;
+        rules[22 + i / 3 * 2] = 3;
+        rules[23 + i / 3 * 2] = 6;
+    }
+    rules[21] = 1;
+    expect_read("the most rules", row, AMBIGUITY_MAX_ROW - 1, rules, AMBIGUITY_MAX_ROW);
+    row[63] = row[64] = row[65] = row[66] = AMBIGUITY_TAKE;
+    expect_read("64 terminals, of which the last begins a command", row, AMBIGUITY_MAX_ROW, rules, 0);
+    expect_not_read("65 terminals", row, AMBIGUITY_MAX_ROW + 1, AMBIGUITY_MAX_ROW);
+    expect_not_read("67 terminals", row, ENTRIES(row), AMBIGUITY_MAX_ROW);
+    row[64] = S;
+    expect_not_read("67 codes, of which that at place 64 is no terminal", row, ENTRIES(row), AMBIGUITY_MAX_ROW);
+    row[63] = AMBIGUITY_SEP + 1;
+    expect_not_read("67 codes, of which that at place 63 is no terminal", row, ENTRIES(row), 63);
+    row[0] = 0;
+    expect_not_read("67 codes, of which the first is 0", row, ENTRIES(row), 0);
+    row[0] = S;
+    expect_not_read("a nonterminal", row, 1, 0);
+    row[0] = UINT16_MAX;
+    expect_not_read("the largest code", row, 1, 0);
+}
+
+/* The certificate's bytes are what the search writes for the table, and are accepted; past them all is 0. */
+static void expect_plan_certificate(void)
+{
+    static uint8_t found[AMBIGUITY_PLAN_CERTIFICATE_BYTES], told[AMBIGUITY_PLAN_CERTIFICATE_BYTES];
+    static uint32_t rows[3][AMBIGUITY_ROW_ENTRIES(AMBIGUITY_PLAN_STATES)];
+    const size_t entries = ENTRIES(rows[0]);
+    size_t i;
+    ambiguity_search_reply reply = ambiguity_search(8, 3, CHANNELS, ENTRIES(CHANNELS), 0, found, sizeof found, rows[0], entries, rows[1],
+                                                    entries, rows[2], entries);
+    expect("the size of the certificate that is searched", (ambiguity_check_reply){reply.cause, reply.count}, AMBIGUITY_NOT_REFUSED, 90);
+    for (i = 0; i < sizeof told; i++)
+        told[i] = ambiguity_plan_certificate_byte(i);
+    for (i = 0; i < sizeof told && told[i] == found[i]; i++)
+        ;
+    expect("the bytes that are as it", (ambiguity_check_reply){0, i}, 0, AMBIGUITY_PLAN_CERTIFICATE_BYTES);
+    expect("the certificate is checked", ambiguity_check_certificate(8, 3, CHANNELS, ENTRIES(CHANNELS), 0, told, sizeof told),
+           AMBIGUITY_NOT_REFUSED, 0);
+    expect("bytes past the last", (ambiguity_check_reply){ambiguity_plan_certificate_byte(AMBIGUITY_PLAN_CERTIFICATE_BYTES),
+                                                          ambiguity_plan_certificate_byte(SIZE_MAX)}, 0, 0);
+}
+
+_Static_assert(AMBIGUITY_PLAN_WORK_ENTRIES == 114075 && TREES_STATES == AMBIGUITY_PLAN_STATES, "the entries of the work row for a plan");
+_Static_assert(AMBIGUITY_CERTIFICATE_BYTES(AMBIGUITY_PLAN_STATES) == AMBIGUITY_PLAN_CERTIFICATE_BYTES, "the bytes of its certificate");
+_Static_assert(AMBIGUITY_TAKE == 1 && AMBIGUITY_SEP == 8 && sizeof(ambiguity_plan_reply) == 32, "codes, and a reply of 64-bit numbers");
+
+static void expect_plans(void)
+{
+    static const uint16_t method[] = {AMBIGUITY_TAKE, AMBIGUITY_CH,   AMBIGUITY_SEP, AMBIGUITY_CH, AMBIGUITY_VOL,  AMBIGUITY_REPEAT,
+                                      AMBIGUITY_NUM,  AMBIGUITY_GIVE, AMBIGUITY_CH,  AMBIGUITY_VOL, AMBIGUITY_CLOSE};
+    static const uint16_t rules[] = {2, 2, 1, 3, 7, 6, 5, 2, 1, 4, 6}, empty[] = {1}, take[] = {2, 1, 3, 7, 6}, give[] = {2, 1, 4, 6};
+    expect("the room of a plan", (ambiguity_check_reply){0, ambiguity_plan_room()}, 0, AMBIGUITY_PLAN_WORK_ENTRIES);
+    expect_read("a method", method, ENTRIES(method), rules, ENTRIES(rules));
+    expect_read("the empty method", method, 0, empty, 1);
+    expect_read("its first command", method, 5, take, ENTRIES(take));
+    expect_read("what it repeats", method + 7, 3, give, ENTRIES(give));
+    expect_read("without its end", method, ENTRIES(method) - 1, rules, 0);
+    expect_read("without its beginning", method + 1, ENTRIES(method) - 1, rules, 0);
+    expect_read("a single word", method + 4, 1, rules, 0);
+    expect_longest_plans();
+    expect_plan_certificate();
+}
+
 int main(void)
 {
     uint8_t longer[BYTES + 1] = {0};
@@ -1206,6 +1329,7 @@ int main(void)
     expect_sentences();
     expect_longest();
     expect_drafts();
+    expect_plans();
     expect_report(ENDLESS_TEXT, "refused=19\nat=0\n");
     expect_without_sentence();
     expect_order();

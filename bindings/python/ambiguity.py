@@ -9,6 +9,7 @@
     draft = grammar.draft()
     draft.mark(1)
     draft.add([ambiguity.START, 0])
+    rules = ambiguity.plan("take ch sep ch vol".split())
 
 Every verdict is the library's. What it refuses is raised as Refused, with the
 cause's number and the position. `search` and `check` take `callers`, how many
@@ -16,9 +17,10 @@ callers a state of the automaton remembers: 0, or 1 and then 2 where a potential
 verdict may be a false alarm. Each number has its own states and certificates,
 and a certificate is checked with the number that it was made with; `states_with`
 tells how many states there are. A `Draft` is a grammar while it is edited, with
-eight marks to return to. The shared library is looked for in the file that the
-variable AMBIGUITY_SO names, in ../lib and in ../../target/shared beside this
-file, and then where the loader looks.
+eight marks to return to. `plan` reads a method of the eight-channel command set
+to its only plan, or to None. The shared library is looked for in the file that
+the variable AMBIGUITY_SO names, in ../lib and in ../../target/shared beside
+this file, and then where the loader looks.
 """
 
 import array
@@ -32,8 +34,11 @@ MAX_TEXT_BYTES = 262144
 MAX_CALLERS = 2           # that a state remembers
 MAX_RULES = 65536         # that are listed of a tree
 MAX_SYMBOLS = 2000        # terminals of a grammar, and so nonterminals
+MAX_ROW = 64              # terminals of a sentence; a plan has no more rules
 MARKS = 8                 # of a draft, 1 to 8
 START = 32768             # the code of the first nonterminal
+PLAN_TERMINALS = "take", "vol", "give", "repeat", "num", "close", "ch", "sep"  # of the eight-channel command set, with codes 1 to 8
+PLAN_CERTIFICATE_BYTES = 183
 UNAMBIGUOUS = 1
 ONE_TREE = 2
 FOUND = "refused", "none", "one", "several"
@@ -63,6 +68,7 @@ TREES = reply("found", "count")
 DRAFT = reply()
 DRAFT_COUNTS = reply("terminals", "nonterminals", "rules", "entries", "states")
 DRAFT_TABLE = reply("start", "entries")
+PLAN = reply("found", "count")
 TABLE = [Size, Size, Codes, Size]
 CALLERS = TABLE + [Size]
 TEXTS = [Bytes, Size, Bytes, Size]
@@ -98,6 +104,9 @@ def opened() -> ctypes.CDLL:
         "ambiguity_return_to_mark": (DRAFT, [Codes, Size, Size]),
         "ambiguity_draft_counts": (DRAFT_COUNTS, [Codes, Size]),
         "ambiguity_draft_table": (DRAFT_TABLE, [Codes, Size]),
+        "ambiguity_read_plan": (PLAN, [Codes, Size, Row, Size, Codes, Size]),
+        "ambiguity_plan_room": (Size, []),
+        "ambiguity_plan_certificate_byte": (ctypes.c_uint8, [Size]),
         "ambiguity_version": (ctypes.c_char_p, []),
         "ambiguity_cause_words": (ctypes.c_char_p, [Numbers]),
     }
@@ -349,3 +358,18 @@ def joined_text(robot: bytes, module: bytes) -> bytes:
 def join(robot: bytes, module: bytes) -> Grammar:
     """The grammar of the joined text."""
     return Grammar(joined_text(robot, module))
+
+
+def plan(words: Sequence[str], most: int = MAX_ROW) -> Optional[List[int]]:
+    """The plan of a method of the eight-channel command set, given by its words in any case of their ASCII letters: the numbers of its
+    rules, each node before its children, children from left to right; None if the method is no sentence. It never has two. Raises Refused
+    with 22 at the first word that is no terminal, or at 64 for a longer method; with 14 if there is a plan, of more than `most` rules."""
+    codes = [PLAN_TERMINALS.index(word) + 1 if word in PLAN_TERMINALS else 0 for word in map(folded, words)]
+    room, rules = LIBRARY.ambiguity_plan_room(), (ctypes.c_uint16 * max(1, most))()
+    found = taken(LIBRARY.ambiguity_read_plan(*lent_entries(codes), (ctypes.c_uint32 * room)(), room, rules, most))
+    return rules[:found.count] if found.found == ONE_TREE else None
+
+
+def plan_certificate() -> bytes:
+    """The certificate of the eight-channel command set at 0 callers, as a search writes it for its grammar."""
+    return bytes(map(LIBRARY.ambiguity_plan_certificate_byte, range(PLAN_CERTIFICATE_BYTES)))

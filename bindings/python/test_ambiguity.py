@@ -1,5 +1,5 @@
 """Compares the module ambiguity with the second program on the corpus, alone and joined, with figures of remembered callers, and with
-its counts of trees; and drafts with rules that are kept in lists.
+its counts of trees; drafts with rules that are kept in lists; and plans with the trees that the second program counts.
 
     test_ambiguity.py FOLDER REPOSITORY     FOLDER holds the module that is tried
 """
@@ -23,6 +23,9 @@ SMALL = 60                # states up to which the second program is quick
 STEPS = 3, 7              # which grammars of the corpus are joined
 ENOUGH = 262_144          # entries and bytes for what is joined
 EDITS = 4000              # steps of each history of a draft
+METHODS = 300             # of the eight-channel command set, and as many rows near them
+CHANNELS = (b"terminals=take,vol,give,repeat,num,close,ch,sep\nnonterminals=P,K,L\nrule=P:\nrule=P: P K\nrule=K: take L vol\n"
+            b"rule=K: give L vol\nrule=K: repeat num P close\nrule=L: ch\nrule=L: L sep ch\n")
 OTHER_NUMBERS = -1, 9, 2 ** 32 + 1, 2 ** 64 - 1, 2 ** 64, 2 ** 64 + 1, 2 ** 65 + 8
 
 
@@ -88,10 +91,7 @@ def compare_callers():
         b"terminals=b,c,d,e\nnonterminals=S,A\nrule=S: b A c\nrule=S: b e d\nrule=S: A d\nrule=A: e\n")
     assert callers_in(biology) == [(17, None), (19, 58), (19, 58)] and biology.states == 17
     assert biology.search(1).certificate == biology.search(2).certificate
-    channels = ambiguity.Grammar(
-        b"terminals=take,vol,give,repeat,num,close,ch,sep\nnonterminals=P,K,L\nrule=P:\nrule=P: P K\nrule=K: take L vol\n"
-        b"rule=K: give L vol\nrule=K: repeat num P close\nrule=L: ch\nrule=L: L sep ch\n")
-    assert callers_in(channels) == [(27, 90), (47, 214), (93, 694)]
+    assert callers_in(ambiguity.Grammar(CHANNELS)) == [(27, 90), (47, 214), (93, 694)]
     rules = b"".join(b"rule=S:%s\n" % (b" S" * length) for length in range(13))
     many = ambiguity.Grammar(b"terminals=\nnonterminals=S\n" + rules)
     assert [refusal(many.search, callers) for callers in range(4)] == [None, (8, 0), (8, 0), (21, 0)]
@@ -207,6 +207,29 @@ def compare_drafts():
     return sum(answers.values())
 
 
+def compare_plans():
+    """Methods of the command set and rows near them: the plan is the one tree, and none is none; then the certificate and refusals."""
+    rng = random.Random(14)
+    grammar, found = ambiguity.Grammar(CHANNELS), found_in(CHANNELS).grammar
+    answers = dict.fromkeys(["none", "plan"], 0)
+    for row in some_sentences(rng, found, METHODS, 20):
+        changed, place = list(row), rng.randrange(len(row) + 1)
+        changed[place:place + rng.randrange(2)] = [rng.randrange(1, 9)] * rng.randrange(2)
+        for codes in [row, tuple(changed)]:
+            words = [ambiguity.PLAN_TERMINALS[code - 1].upper() if rng.randrange(2) else grammar.names[code - 1] for code in codes]
+            plan, count = ambiguity.plan(words), tree_count(found, codes)
+            assert count == (plan is not None) and grammar.trees(words) == (("one", plan) if count else ("none", None)), codes
+            assert plan is None or row_of(found.rules, plan) == codes and refusal(ambiguity.plan, words, len(plan) - 1) == (14, 0)
+            answers["plan" if count else "none"] += 1
+    assert min(answers.values()) >= METHODS // 3, answers
+    assert ambiguity.plan([]) == [1] and ambiguity.plan(["Take", "CH", "vol"]) == [2, 1, 3, 6] and ambiguity.plan(["take"]) is None
+    assert refusal(ambiguity.plan, ["take", "P"]) == (22, 1) and refusal(ambiguity.plan, ["chs"] + ["take"] * 70) == (22, 0)
+    assert refusal(ambiguity.plan, ["take"] * 65) == (22, 64) and refusal(ambiguity.plan, [], 0) == (14, 0)
+    certificate = ambiguity.plan_certificate()
+    assert certificate == grammar.search(0).certificate and refusal(grammar.check, 0, certificate) is None
+    return answers
+
+
 def compare_joined(robot, module):
     """Two texts, joined by both; 1 if they are refused."""
     expected, text = join(robot, module, ENOUGH), join_written(robot, module, ENOUGH)
@@ -280,9 +303,9 @@ def main():
     assert refusal(ambiguity.Grammar, b"") == (16, 1) and refusal(ambiguity.Grammar, b"\xff" * 262_145) == (16, 0)
     compare_callers()
     steps = compare_drafts()
-    trees = ", ".join("%s %d" % answer for answer in compare_trees(small).items())
-    print("%d grammars, %d pairs of them joined or refused (%d); trees of sentences: %s; %d steps of a draft" % (
-        len(small), *compare_joins(small), trees, steps))
+    trees, plans = (", ".join("%s %d" % answer for answer in answers.items()) for answers in (compare_trees(small), compare_plans()))
+    print("%d grammars, %d pairs of them joined or refused (%d); trees of sentences: %s; %d steps of a draft; methods: %s" % (
+        len(small), *compare_joins(small), trees, steps, plans))
 
 
 if __name__ == "__main__":

@@ -1,12 +1,12 @@
 //! The library for Rust: the table check, the step records, the certificate check, the witness check over indices and over records,
 //! the search, the reader and the writer of grammar text, what search and writer are to be lent, told beforehand, the report that the
 //! program prints, reading back of the two strings that it prints, the join of a module's text to the robot's, the derivation trees of
-//! one sentence, and drafts: grammars while they are edited, with marks to return to.
+//! one sentence, drafts: grammars while they are edited, with marks to return to, and the plans of the eight-channel command set.
 //! bindings/c/ambiguity.h says of each what is lent and what comes back; here slices stand for pointers, and enums for numbers. Rows that
 //! are written cannot overlap others: the borrow rules see to that.
 //!
-//! Every input is taken. A refusal changes no lent row, but for the work row of [`find_trees`] in one case. A written row may be longer
-//! than needed: its rest stays as it was. The stack that a call uses is measured and not proved: bindings/c/ambiguity.h has the figures,
+//! Every input is taken. A refusal changes no lent row, but for the work row of [`find_trees`] and [`read_plan`] in one case. A written row
+//! may be longer than needed: its rest stays as it was. The stack that a call uses is measured and not proved: bindings/c/ambiguity.h has the figures,
 //! for reader, search, report, reading back and join `AMBIGUITY_READ_TEXT_STACK_BYTES` and so on, for all others
 //! `AMBIGUITY_STACK_BYTES`.
 //!
@@ -24,7 +24,8 @@
 //! [`MAX_STATES`] states with these callers with 8 at 0.
 //!
 //! [`Grammar`] owns its rows: read a text, or two that are joined ([`join`]), search it, check a certificate, read two strings back, find
-//! the trees of a sentence. So does [`Draft`]: add and withdraw rules, set a mark and return to it. The functions below them lend rows.
+//! the trees of a sentence. So does [`Draft`]: add and withdraw rules, set a mark and return to it. [`plan`] lends its rows itself. The
+//! other functions are lent theirs.
 
 #![warn(missing_docs)]
 
@@ -36,6 +37,7 @@ mod drafts;
 mod grammar;
 mod joining;
 mod letters;
+mod plans;
 mod raw;
 mod refusal;
 mod room;
@@ -49,6 +51,8 @@ pub use drafts::{DRAFT_BLOCK, DRAFT_ENTRIES, MARKS};
 pub use grammar::{Code, Grammar, Rule, Searched, START};
 pub use joining::{join, join_texts, joined_name, joined_text, write_joined, JoinPart, JoinRefusal};
 pub use letters::{Letter, Part, PartRefusal, ReadBack};
+pub use plans::{plan, plan_certificate, plan_certificate_byte, plan_room, read_plan, PlanTerminal};
+pub use plans::{PLAN_CERTIFICATE_BYTES, PLAN_STATES, PLAN_WORK_ENTRIES};
 pub use refusal::{Cause, Refusal};
 pub use room::{search_room, written_length, Room};
 pub use strings::Strings;

@@ -139,6 +139,14 @@ pub struct DraftTableReply {
     pub entries: u64,
 }
 
+#[repr(C)]
+pub struct PlanReply {
+    pub cause: u64,
+    pub at: u64,
+    pub found: u64,
+    pub count: u64,
+}
+
 extern "C" {
     pub fn ambiguity_check_table(t: usize, n: usize, table: *const u16, table_entries: usize) -> TableReply;
 
@@ -317,4 +325,17 @@ extern "C" {
     pub fn ambiguity_draft_counts(draft: *const u16, draft_entries: usize) -> DraftCountsReply;
 
     pub fn ambiguity_draft_table(draft: *const u16, draft_entries: usize) -> DraftTableReply;
+
+    pub fn ambiguity_read_plan(
+        row: *const u16,
+        row_entries: usize,
+        work: *mut u32,
+        work_entries: usize,
+        list: *mut u16,
+        list_entries: usize,
+    ) -> PlanReply;
+
+    pub fn ambiguity_plan_room() -> usize;
+
+    pub fn ambiguity_plan_certificate_byte(place: usize) -> u8;
 }

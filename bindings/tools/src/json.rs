@@ -2,6 +2,7 @@
 
 use ambiguity::{Code, Grammar, Refusal, Searched};
 
+use crate::answers::Fault;
 use crate::callers::Verdict;
 use crate::command::VERSION;
 use crate::confirmation::Counted;
@@ -188,21 +189,35 @@ pub fn refused(file: &str, refusal: Refusal, finding: &Finding) -> String {
 /// The key of how many trees a sentence has.
 const TREES: &str = "trees";
 
-/// A sentence of a line that is not refused; with its one tree the rules of that.
+/// A sentence of a line that is not refused, and what more is told of it.
 pub fn trees(
     file: &str,
     line: usize,
     grammar: &Grammar,
     sentence: &[Code],
     found: &str,
-    one: Option<(&[Node], &[u16])>,
+    more: Vec<(&'static str, String)>,
 ) -> String {
     let mut members = told_head(file, TREES, found);
     members.extend([("line", line.to_string()), ("sentence", row(grammar, sentence))]);
-    if let Some((nodes, rules)) = one {
-        members.extend([("rules", list(rules.iter().map(u16::to_string))), ("tree", tree(grammar, nodes))]);
-    }
+    members.extend(more);
     object(&members) + "\n"
+}
+
+/// The one tree, with its rules.
+pub fn one(grammar: &Grammar, nodes: &[Node], rules: &[u16]) -> Vec<(&'static str, String)> {
+    vec![("rules", list(rules.iter().map(u16::to_string))), ("tree", tree(grammar, nodes))]
+}
+
+/// Where a sentence goes wrong, and what is expected there.
+pub fn fault(grammar: &Grammar, fault: &Fault, column: usize) -> Vec<(&'static str, String)> {
+    let Fault { place, expected, may_end } = fault;
+    vec![
+        ("fault", place.to_string()),
+        ("column", column.to_string()),
+        ("expected", row(grammar, expected)),
+        ("may-end", may_end.to_string()),
+    ]
 }
 
 /// A sentence that is refused, or the grammar for which there are sentences.

@@ -1,4 +1,5 @@
-//! What `ambig-certify`, `ambig-check`, `ambig-join`, `ambig-trees` and `ambig-draft` share. Verdicts are the library's; here they are put into words, lines and pages.
+//! What `ambig-certify`, `ambig-check`, `ambig-join`, `ambig-trees`, `ambig-draft` and `ambig-plan` share. Verdicts are the library's; here
+//! they are put into words, lines and pages.
 
 pub mod answers;
 pub mod callers;
@@ -11,6 +12,7 @@ pub mod drafts;
 pub mod drawing;
 pub mod explanation;
 pub mod fix;
+pub mod fronts;
 pub mod holes;
 pub mod joins;
 pub mod json;
@@ -21,6 +23,7 @@ pub mod page;
 pub mod pairs;
 pub mod parting;
 pub mod phrase;
+pub mod plans;
 pub mod readings;
 pub mod refusals;
 pub mod rows;

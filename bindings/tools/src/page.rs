@@ -202,7 +202,8 @@ pub fn grammar_part(grammar: &Grammar, marked: &[usize]) -> String {
     format!("<h2>Text</h2>\n<table>\n{}</table>\n", rows.collect::<String>())
 }
 
-fn certificate_part(lines: &str, states: usize) -> String {
+/// A certificate's lines, and how it is checked.
+pub fn certificate_part(lines: &str, states: usize) -> String {
     let class = match Form::usual(states) {
         _ if lines.lines().count() <= ONE_COLUMN => " class=\"one\"",
         Form::Runs => " class=\"runs\"",

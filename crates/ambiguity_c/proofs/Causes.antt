@@ -14,6 +14,10 @@ use Rattle.grammar.specs.Refusal.{Answer, done, refused, andThen, noSentence, b
 use Rattle.grammar.specs.TableCheck.{tableChecked}
 use Rattle.grammar.specs.declared.TableVerdict.the-variants.{Passed}
 use Rattle.grammar.proofs.Answers.{no-answer, and-both, or-one}
+use Rattle.channels.specs.Promise.{ReadsPlan, asTrees}
+use Rattle.channels.specs.Commands.{commands, table}
+use Rattle.channels.specs.declared.PlanRead.{PlanRead}
+use Rattle.channels.specs.declared.PlanRead.the-variants as plan
 use Rattle.drafts.specs.Draft.{Draft}
 use Rattle.drafts.specs.Promise.{answered}
 use Rattle.drafts.specs.Reading.{counted, placed}
@@ -44,8 +48,8 @@ use Rattle.trees.specs.Promise.{FindsTrees, refuses, no-tree, several-trees, on
 use Rattle.trees.specs.declared.TreesFound.{TreesFound}
 use Rattle.trees.specs.declared.TreesRoom.the-variants.{Entries}
 use Rattle.witness_records.specs.Records.{triples}
-use Rattle.ambiguity_c.specs.Replies.{tableReply, stepReply, checkReply, searchReply, roomReply, readReply, writeReply, lengthReply, reportReply, readBackReply, treesReply, treesRoomReply, draftReply, draftCountsReply, draftTableReply}
-use Rattle.ambiguity_c.specs.Causes.{Tells, TellsOr, JoinTells, CallerTells, RowTells, DraftTells, IsRead, IsRoom, IsVerdict, IsStep, IsFound, IsCounts, CauseTheorems}
+use Rattle.ambiguity_c.specs.Replies.{tableReply, stepReply, checkReply, searchReply, roomReply, readReply, writeReply, lengthReply, reportReply, readBackReply, treesReply, treesRoomReply, draftReply, draftCountsReply, draftTableReply, planReply}
+use Rattle.ambiguity_c.specs.Causes.{Tells, TellsOr, JoinTells, CallerTells, RowTells, DraftTells, IsRead, IsRoom, IsVerdict, IsStep, IsFound, IsPlan, IsCounts, CauseTheorems}
 use Rattle.grammar.proofs.Causes.{cause}
 use Rattle.ambiguity_c.proofs.Refusals.{isCause, Caused, isCauseOr, CausedOr, JoinCaused, CallerCaused, join-into, joined-into, check-table, nth-step, check-witness, check-records, check-certificate, search-asked, search-room, check-text, read-into, text-from, write-into, report-into, strings-into, check-sentence, trees-room, DraftCaused, new-draft, draft-in, edit-row}
 
@@ -172,6 +176,19 @@ trees-room-tells : (o : Answer ℕ) → Caused o → Tells (treesRoomReply (room
 trees-room-tells (done e) h = tells-done refl
 trees-room-tells (refused c p) (cause h) = tells-refused c h
 
+-- of a row of the command set
+plan-tells : (row work list : List ℕ) (v : PlanRead) (work′ list′ : List ℕ) → ReadsPlan row work list v work′ list′ → RowTells (planReply v .cause) (IsPlan v)
+plan-tells row work list plan.Nothing work′ list′ a = answer-told (inl (refl, refl))
+plan-tells row work list (plan.Plan k) work′ list′ a = answer-told (inr (refl, refl))
+plan-tells row work list (plan.Refused c p) work′ list′ a =
+    let t = row-tells (commands .terminals) (commands .nonterminals) table row work list a in
+    record { known = t .known; zero = λ e. refused-found c p (t .zero e) }
+  where
+    refused-found : (c p : ℕ) → IsFound (asTrees (plan.Refused c p)) → IsPlan (plan.Refused c p)
+    refused-found c p (inl (e, q)) = let z : _≡_ {A = ℕ} 0 1 = e in absurd (let o : ⊥ = omega arith in o)
+    refused-found c p (inr (inl (e, q))) = let z : _≡_ {A = ℕ} 0 2 = e in absurd (let o : ⊥ = omega arith in o)
+    refused-found c p (inr (inr (e, q))) = let z : _≡_ {A = ℕ} 0 3 = e in absurd (let o : ⊥ = omega arith in o)
+
 -- of a draft
 begun-tells : (o : Answer (List ℕ)) → Caused o → Tells (draftReply (answered o) .cause) (answered o ≡ edit.Done)
 begun-tells (done row) h = tells-done refl
@@ -233,4 +250,5 @@ cause-theorems = record {
   draft-tables = λ draft v a.
       subst (λ v. DraftTells (draftTableReply v .cause) (v ≡ tablePlace.Stands (draftTableReply v .start) (draftTableReply v .entries))) (sym a)
       (placed-tells _ (draft-in draft));
+  plans = plan-tells;
 }

@@ -5,6 +5,9 @@ use mathlib.Core.Path.{_≡_}
 use mathlib.Core.List.{List}
 use mathlib.Core.Logic.{_⊎_}
 use Rattle.grammar.specs.Refusal.{noSentence, kindsClash, tooManyCallers, rowWrong, notPresent}
+use Rattle.channels.specs.Promise.{ReadsPlan}
+use Rattle.channels.specs.declared.PlanRead.{PlanRead}
+use Rattle.channels.specs.declared.PlanRead.the-variants as plan
 use Rattle.drafts.specs.Draft as drafts
 use Rattle.drafts.specs.Promise.{BeginsDraft, EditsDraft}
 use Rattle.drafts.specs.Reading.{CountsDraft, PlacesTable}
@@ -51,7 +54,7 @@ use Rattle.trees.specs.declared.TreesRoom.the-variants.{Entries}
 use Rattle.witness_records.specs.Records.{RecordsAnswer}
 use Rattle.witness_records.specs.declared.TripleRecord.{TripleRecord}
 use Rattle.ambiguity.specs.Entries.{Usize, StepAnswers}
-use Rattle.ambiguity_c.specs.Replies.{tableReply, stepReply, checkReply, searchReply, roomReply, readReply, writeReply, lengthReply, reportReply, readBackReply, treesReply, treesRoomReply, draftReply, draftCountsReply, draftTableReply}
+use Rattle.ambiguity_c.specs.Replies.{tableReply, stepReply, checkReply, searchReply, roomReply, readReply, writeReply, lengthReply, reportReply, readBackReply, treesReply, treesRoomReply, draftReply, draftCountsReply, draftTableReply, planReply}
 
 -- the cause is none that the documents do not have, and 0 tells that something is answered
 pub record Tells (cause : ℕ) (Answered : Type 0) : Type 0 where
@@ -101,6 +104,12 @@ IsFound v =
     ⊎ (((treesReply v .found ≡ 2) × (v ≡ One (treesReply v .count)))
     ⊎ ((treesReply v .found ≡ 3) × (v ≡ Several)))
 
+-- 1 no plan, or 2 the plan
+abbrev pub IsPlan : PlanRead → Type 0
+IsPlan v =
+    ((planReply v .found ≡ 1) × (v ≡ plan.Nothing))
+    ⊎ ((planReply v .found ≡ 2) × (v ≡ plan.Plan (planReply v .count)))
+
 abbrev pub IsCounts : DraftCounts → Type 0
 IsCounts v =
     let r = draftCountsReply v in
@@ -145,3 +154,5 @@ pub record CauseTheorems : Type 0 where
   pub draft-counts : (draft : List ℕ) (v : DraftCounts) → CountsDraft draft v → DraftTells (draftCountsReply v .cause) (IsCounts v)
   pub draft-tables : (draft : List ℕ) (v : TablePlace) → PlacesTable draft v
       → DraftTells (draftTableReply v .cause) (v ≡ tablePlace.Stands (draftTableReply v .start) (draftTableReply v .entries))
+  pub plans : (row work list : List ℕ) (v : PlanRead) (work′ list′ : List ℕ) → ReadsPlan row work list v work′ list′
+      → RowTells (planReply v .cause) (IsPlan v)

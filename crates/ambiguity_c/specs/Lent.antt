@@ -3,6 +3,7 @@
 use Prim.Native.Nat.{ℕ}
 use mathlib.Core.Path.{_≡_}
 use mathlib.Core.List.{List}
+use Rattle.channels.specs.Promise.{ReadsPlan}
 use Rattle.drafts.specs.Draft.{Edit}
 use Rattle.drafts.specs.Promise.{BeginsDraft, EditsDraft}
 use Rattle.modules.specs.Promise.{JoinsTexts, WritesJoined}
@@ -11,7 +12,7 @@ use Rattle.report.specs.Report.{Reports}
 use Rattle.search.specs.Promise.{Lent, Searches}
 use Rattle.text.specs.Promise.{ReadsText, WritesText}
 use Rattle.trees.specs.Promise.{FindsTrees}
-use Rattle.ambiguity_c.specs.Replies.{searchReply, readReply, writeReply, reportReply, readBackReply, treesReply, draftReply}
+use Rattle.ambiguity_c.specs.Replies.{searchReply, readReply, writeReply, reportReply, readBackReply, treesReply, draftReply, planReply}
 use Rattle.ambiguity_c.specs.declared.SearchReply.{SearchReply}
 use Rattle.ambiguity_c.specs.declared.ReadReply.{ReadReply}
 use Rattle.ambiguity_c.specs.declared.WriteReply.{WriteReply}
@@ -19,6 +20,7 @@ use Rattle.ambiguity_c.specs.declared.ReportReply.{ReportReply}
 use Rattle.ambiguity_c.specs.declared.ReadBackReply.{ReadBackReply}
 use Rattle.ambiguity_c.specs.declared.TreesReply.{TreesReply}
 use Rattle.ambiguity_c.specs.declared.DraftReply.{DraftReply}
+use Rattle.ambiguity_c.specs.declared.PlanReply.{PlanReply}
 
 -- r is the C form of an answer of which the promise holds
 pub record Replies {Verdict Reply : Type 0} (Promised : Verdict → Type 0) (reply : Verdict → Reply) (r : Reply) : Type 0 where
@@ -56,3 +58,6 @@ RepliesBegun t n table draft r draft′ = Replies (λ v. BeginsDraft t n table d
 
 abbrev pub RepliesEdited : List ℕ → Edit → DraftReply → List ℕ → Type 0
 RepliesEdited draft s r draft′ = Replies (λ v. EditsDraft draft s v draft′) draftReply r
+
+abbrev pub RepliesPlan : List ℕ → List ℕ → List ℕ → PlanReply → List ℕ → List ℕ → Type 0
+RepliesPlan row work list r work′ list′ = Replies (λ v. ReadsPlan row work list v work′ list′) planReply r

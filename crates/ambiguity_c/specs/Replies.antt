@@ -1,7 +1,9 @@
 -- The entries' answers as C has them: for each case of an enum document 01's number and values. `cause` 0 says that nothing is
--- refused; fields that a case does not have are 0. Source: document 01, "Causes of refusal"; document 02, [2], [5], [10], [12] and [13].
+-- refused; fields that a case does not have are 0. Source: document 01, "Causes of refusal"; document 02, [2], [5], [10], [12], [13] and [14].
 -- Assumes nothing.
 use Prim.Native.Nat.{ℕ}
+use Rattle.channels.specs.declared.PlanRead.{PlanRead}
+use Rattle.channels.specs.declared.PlanRead.the-variants as plan
 use Rattle.drafts.specs.declared.DraftAnswer.{DraftAnswer}
 use Rattle.drafts.specs.declared.DraftAnswer.the-variants as edit
 use Rattle.drafts.specs.declared.DraftCounts.{DraftCounts}
@@ -55,6 +57,7 @@ use Rattle.ambiguity_c.specs.declared.TreesRoomReply.{TreesRoomReply}
 use Rattle.ambiguity_c.specs.declared.DraftReply.{DraftReply}
 use Rattle.ambiguity_c.specs.declared.DraftCountsReply.{DraftCountsReply}
 use Rattle.ambiguity_c.specs.declared.DraftTableReply.{DraftTableReply}
+use Rattle.ambiguity_c.specs.declared.PlanReply.{PlanReply}
 
 -- the table check: passed with Q, or refused
 abbrev pub verdictReply : TableVerdict → ℕ → TableReply
@@ -160,3 +163,9 @@ draftCountsReply (counts.Refused cause at) = record { cause = cause; at = at; te
 abbrev pub draftTableReply : TablePlace → DraftTableReply
 draftTableReply (tablePlace.Stands s e) = record { cause = 0; at = 0; start = s; entries = e }
 draftTableReply (tablePlace.Refused cause at) = record { cause = cause; at = at; start = 0; entries = 0 }
+
+-- document 02, [14]: 1 no plan, 2 the plan with the number of its rules; 0 with a refusal
+abbrev pub planReply : PlanRead → PlanReply
+planReply plan.Nothing = record { cause = 0; at = 0; found = 1; count = 0 }
+planReply (plan.Plan rules) = record { cause = 0; at = 0; found = 2; count = rules }
+planReply (plan.Refused cause at) = record { cause = cause; at = at; found = 0; count = 0 }

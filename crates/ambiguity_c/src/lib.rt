@@ -2,7 +2,10 @@
 // a caller beyond the form of what is lent. bindings/c/ambiguity.h declares these functions.
 mod replies;
 
+ghost use lib.ListN.{getD};
 ghost use mathlib.Core.Path.{_≡_};
+ghost use Rattle.channels.specs.Commands.{certificate};
+ghost use Rattle.channels.specs.Promise.{planRoom};
 ghost use Rattle.drafts.specs.Draft.{add, withdraw, mark, return};
 ghost use Rattle.drafts.specs.Reading.{CountsDraft, PlacesTable};
 ghost use Rattle.drafts.specs.Row.{draftRoom};
@@ -16,7 +19,7 @@ ghost use Rattle.trees.specs.Promise.{TreesRoomAnswer};
 ghost use Rattle.triples.specs.Verdict.{CertificateAnswer, WitnessAnswer};
 ghost use Rattle.witness_records.specs.Records.{RecordsAnswer};
 ghost use Rattle.ambiguity_c.specs.Replies.{tableReply, stepReply, checkReply, roomReply, lengthReply, partReply, treesRoomReply, draftCountsReply, draftTableReply};
-ghost use Rattle.ambiguity_c.specs.Lent.{Replies, RepliesSearch, RepliesRead, RepliesWritten, RepliesJoin, RepliesJoined, RepliesReport, RepliesBack, RepliesTrees, RepliesBegun, RepliesEdited};
+ghost use Rattle.ambiguity_c.specs.Lent.{Replies, RepliesSearch, RepliesRead, RepliesWritten, RepliesJoin, RepliesJoined, RepliesReport, RepliesBack, RepliesTrees, RepliesBegun, RepliesEdited, RepliesPlan};
 use ambiguity::TripleRecord;
 
 // In every reply `cause` is 0, or the number of a cause with its position `at`; what a case does not have is 0.
@@ -165,6 +168,15 @@ pub struct DraftTableReply {
     pub at: u64,
     pub start: u64,
     pub entries: u64,
+}
+
+// 0 refused, 1 no plan, 2 the plan; how many rules it has.
+#[repr(C)]
+pub struct PlanReply {
+    pub cause: u64,
+    pub at: u64,
+    pub found: u64,
+    pub count: u64,
 }
 
 #[no_mangle]
@@ -445,4 +457,30 @@ pub extern "C" fn ambiguity_draft_table(draft: &[u16]) -> DraftTableReply
 {
     let answer = ambiguity::table_place(draft);
     replies::draft_table_told(answer)
+}
+
+#[no_mangle]
+pub extern "C" fn ambiguity_read_plan<'a>(
+    row: &'a [u16],
+    work: &'a mut [u32],
+    list: &'a mut [u16],
+) -> PlanReply
+    ensures { λ r. ⌜ RepliesPlan (now (row .entry)) (now (work .entry)) (now (list .entry)) r (now (work .exit)) (now (list .exit)) ⌝ }
+{
+    let answer = channels::read_plan(row, work, list);
+    replies::plan_told(answer)
+}
+
+#[no_mangle]
+pub extern "C" fn ambiguity_plan_room() -> usize
+    ensures { λ r. ⌜ r ≡ planRoom ⌝ }
+{
+    channels::plan_room()
+}
+
+#[no_mangle]
+pub extern "C" fn ambiguity_plan_certificate_byte(place: usize) -> u8
+    ensures { λ r. ⌜ r ≡ getD certificate place 0 ⌝ }
+{
+    channels::certificate_byte(place)
 }

@@ -1,6 +1,6 @@
 // The answers of the entries, told in numbers: an arm for each case of specs/Replies.antt.
 ghost use mathlib.Core.Path.{_≡_};
-ghost use Rattle.ambiguity_c.specs.Replies.{verdictReply, moveReply, recordReply, noRecord, stepReply, checkReply, searchReply, readReply, writeReply, reportReply, readBackReply, roomReply, lengthReply, partReply, treesReply, treesRoomReply, draftReply, draftCountsReply, draftTableReply};
+ghost use Rattle.ambiguity_c.specs.Replies.{verdictReply, moveReply, recordReply, noRecord, stepReply, checkReply, searchReply, readReply, writeReply, reportReply, readBackReply, roomReply, lengthReply, partReply, treesReply, treesRoomReply, draftReply, draftCountsReply, draftTableReply, planReply};
 use super::CheckReply;
 use super::DraftCountsReply;
 use super::DraftReply;
@@ -8,6 +8,7 @@ use super::DraftTableReply;
 use super::LengthReply;
 use super::MoveReply;
 use super::PartReply;
+use super::PlanReply;
 use super::ReadBackReply;
 use super::ReadReply;
 use super::ReportReply;
@@ -36,6 +37,7 @@ use ambiguity::TextRead;
 use ambiguity::TextWritten;
 use ambiguity::TreesFound;
 use ambiguity::TreesRoom;
+use channels::PlanRead;
 
 pub fn table_told(verdict: TableVerdict, states: usize) -> TableReply
     ensures { λ r. ⌜ r ≡ verdictReply verdict states ⌝ }
@@ -430,6 +432,31 @@ pub fn draft_table_told(answer: TablePlace) -> DraftTableReply
             at: at as u64,
             start: 0,
             entries: 0,
+        },
+    }
+}
+
+pub fn plan_told(answer: PlanRead) -> PlanReply
+    ensures { λ r. ⌜ r ≡ planReply answer ⌝ }
+{
+    match answer {
+        PlanRead::Nothing => PlanReply {
+            cause: 0,
+            at: 0,
+            found: 1,
+            count: 0,
+        },
+        PlanRead::Plan(rules) => PlanReply {
+            cause: 0,
+            at: 0,
+            found: 2,
+            count: rules as u64,
+        },
+        PlanRead::Refused(cause, at) => PlanReply {
+            cause: cause as u64,
+            at: at as u64,
+            found: 0,
+            count: 0,
         },
     }
 }

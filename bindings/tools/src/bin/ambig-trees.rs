@@ -53,25 +53,13 @@ fn refused(request: &Request, file: &str, text: &[u8], refusal: Refusal) -> Answ
     Answer { status: Status::Refused, out, err }
 }
 
-fn answered(request: &Request, grammar: &Grammar, grammar_file: &str, file: &str, sentences: &[u8]) -> Answer {
-    if sentences.len() > rows::MOST_BYTES {
-        return Answer::misuse(&format!("{file}: error: more than {} bytes; that is the limit", rows::MOST_BYTES));
-    }
-    let sentences = rows::read(grammar, sentences);
-    if sentences.is_empty() {
-        return Answer::misuse(&format!("{file}: error: no sentence is found; a line without words is the empty sentence"));
-    }
-    let answers = answers::of(grammar, sentences);
-    let silent = request.has("--quiet") || request.has("--json");
-    let out = match request {
-        _ if request.has("--html") => trees_page::of(grammar, grammar_file, file, &answers),
-        _ if request.has("--json") => answers.iter().map(|answered| answered.json(grammar, file)).collect(),
-        _ if request.has("--quiet") => answers.iter().map(|answered| answered.lines()).collect(),
-        _ => answers.iter().map(|answered| answered.told(grammar, file)).collect(),
+fn answered(request: &Request, grammar: &Grammar, grammar_file: &str, file: &str, text: &[u8]) -> Answer {
+    let sentences = match answers::sentences(grammar, &answers::SENTENCES, file, text) {
+        Ok(sentences) => sentences,
+        Err(misuse) => return misuse,
     };
-    let err = answers.iter().filter(|_| !silent).map(|answered| answered.faults(file)).collect();
-    let status = answers.iter().map(|answered| answered.status()).reduce(Status::worse).unwrap_or(Status::Yes);
-    Answer { status, out, err }
+    let answers = answers::of(grammar, sentences);
+    answers::all_said(request, grammar, file, &answers, || trees_page::of(grammar, grammar_file, file, &answers))
 }
 
 /// The grammar is judged before the sentences are read, which may come from a keyboard.

@@ -1,6 +1,6 @@
 //! What the tools have in common: options, several files, standard input, exit statuses, lines for scripts.
 
-use crate::support::{certify, corpus, file, one_a, run, said, text, Ran, CERTIFY, CHECK, DRAFT, JOIN, TREES};
+use crate::support::{certify, corpus, file, one_a, run, said, text, Ran, CERTIFY, CHECK, DRAFT, JOIN, PLAN, TREES};
 
 const VERSION: &str = include_str!("../../../../VERSION");
 
@@ -11,6 +11,7 @@ fn help_and_version() {
         (CHECK, "ambig-check"),
         (DRAFT, "ambig-draft"),
         (JOIN, "ambig-join"),
+        (PLAN, "ambig-plan"),
         (TREES, "ambig-trees"),
     ] {
         for word in ["--help", "-h"] {
@@ -115,8 +116,20 @@ fn bad_use() {
         assert_eq!((ran.status, ran.out.as_str()), (2, ""));
         assert_eq!(ran.err, format!("ambig-draft: {said}\n{}", usage("ambig-draft", "[GRAMMAR]")));
     }
+    for (words, said) in [
+        (&[grammar, grammar][..], "there are too many files"),
+        (&["-", "-"], "there are too many files"),
+        (&["--jsn", grammar], "there is no option --jsn; is --json meant?"),
+        (&["--html", "-q"], "--html and --quiet do not go together"),
+        (&["--json", "--html", grammar], "--html and --json do not go together"),
+    ] {
+        let ran = run(PLAN, words, b"");
+        assert_eq!((ran.status, ran.out.as_str()), (2, ""));
+        assert_eq!(ran.err, format!("ambig-plan: {said}\n{}", usage("ambig-plan", "[METHODS]")));
+    }
     let missing = format!("{grammar}-that-is-not-there");
     for ran in [
+        run(PLAN, &[&missing], b"take\n"),
         run(DRAFT, &[&missing], b"list\n"),
         run(TREES, &[&missing], b"a\n"),
         run(TREES, &[grammar, &missing], b""),
@@ -230,6 +243,7 @@ fn names_with_line_breaks_and_escapes() {
 #[test]
 fn a_closed_standard_output() {
     let (good, wrong) = (file("closed", &one_a()), file("closed-wrong", "terminals\n"));
+    let method = file("closed-method", "take ch vol\n");
     for (tool, grammars, status) in [
         (CERTIFY, vec![&good], 2),
         (CERTIFY, vec![&wrong], 4),
@@ -237,6 +251,8 @@ fn a_closed_standard_output() {
         (JOIN, vec![&good, &wrong], 4),
         (DRAFT, vec![&good], 2),
         (DRAFT, vec![&wrong], 4),
+        (PLAN, vec![&method], 2),
+        (PLAN, vec![&wrong], 4),
     ] {
         let files: String = grammars.iter().map(|file| format!(" '{file}'")).collect();
         let command = format!("'{tool}'{files} >&-");

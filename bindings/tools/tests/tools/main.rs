@@ -10,6 +10,7 @@ mod joins;
 mod messages;
 mod pages;
 mod parting_strings;
+mod plans;
 mod spelling;
 mod strings;
 mod support;

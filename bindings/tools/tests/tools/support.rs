@@ -8,6 +8,7 @@ pub const CERTIFY: &str = env!("CARGO_BIN_EXE_ambig-certify");
 pub const CHECK: &str = env!("CARGO_BIN_EXE_ambig-check");
 pub const JOIN: &str = env!("CARGO_BIN_EXE_ambig-join");
 pub const DRAFT: &str = env!("CARGO_BIN_EXE_ambig-draft");
+pub const PLAN: &str = env!("CARGO_BIN_EXE_ambig-plan");
 pub const TREES: &str = env!("CARGO_BIN_EXE_ambig-trees");
 
 /// What a tool answered.

@@ -1,0 +1,5 @@
+pub mod Closed
+pub mod Smallest
+pub mod Plans
+pub mod OnFile
+pub mod Theorems
