@@ -17,7 +17,6 @@ import sys
 PLACES = {
     ("indices/src/lib.rt", "f * (q * q) + p * q + r"): "index_of itself",
     ("certificate_check/src/scan.rt", "return left_base + plans::wide(targets[left_from + k]) * q;"): "from a base on: no layer enters",
-    ("lexicon/src/lib.rt", "1 + key % KEY_SPAN * (more + 1) / KEY_SPAN"): "a key's share of the heads",
     ("caller_rows/src/level.rt", "low += (k + 1) * below[i];"): "counts states",
     ("caller_rows/src/widths.rt", "(wide(k) + 1) * wide(w)"): "counts states",
     ("certificate_check/src/columns.rt", "let row = plans::layer_after(m, f, y) * q + a;"): "the number of a row of Q bits",

@@ -18,7 +18,7 @@ from texts import LONGEST, declared, equal_keys, lists, many_uses, too_many
 
 PARTS = "table", "text", "name"
 LONG_RULES = (MAX_STATES - 4) // (MAX_LENGTH + 1)     # rules of the most symbols
-EQUAL = 120                                           # names with equal keys, in either text
+EQUAL = 250                                           # names with equal keys, in either text
 
 
 def names_of(letter, count=MAX_SYMBOLS):
@@ -67,7 +67,7 @@ def joined():
     yield "the most names, all of the other kind in the module", many, lists(*reversed(most))
     last = most[1][:-1] + most[0][-1:]
     yield "the most names, the last of the other kind in the module", many, lists(most[0][:-1], last)
-    equal = equal_keys("x" * 4, "x" * 3, 2 * EQUAL)
+    equal = list(itertools.islice(equal_keys(15, "x" * 4, "x" * 4), 2 * EQUAL))
     yield f"{EQUAL} names with equal keys in each, all others", *(
         text_of((part, ["S"]), MAX_STATES // 8) for part in (equal[:EQUAL], equal[EQUAL:]))
     yield f"{EQUAL} names with equal keys, the same in the module", *[text_of((equal[:EQUAL], ["S"]), MAX_STATES // 8)] * 2

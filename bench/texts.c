@@ -1,7 +1,6 @@
 /* Times the reader on the text from standard input, by the library and by plain C, interleaved; or reading back.
  *
- *     texts SECONDS           prints the least milliseconds of a call by the library and by plain C, and what both answer;
- *                             short calls are timed many in a row
+ *     texts SECONDS           prints the least milliseconds of a call by the library and by plain C, and what both answer
  *     texts SECONDS LINES     the same for reading the lines of a file back in the grammar of the text, where 0 stands for plain C
  *
  * About SECONDS are spent. If the library and plain C answer differently, or write different rows, the status is 1. */
@@ -12,10 +11,7 @@
 
 #include "read.h"
 
-enum { FEWEST = 5, MOST = 150, LONGEST_LINES = 1 << 21, MOST_CALLS = 4096 };
-
-/* A call shorter than this, in milliseconds, is timed with others of its kind. */
-static const double SHORT_CALL = 0.1;
+enum { FEWEST = 5, MOST = 150, LONGEST_LINES = 1 << 21 };
 
 typedef ambiguity_read_reply read_function(const uint8_t *, size_t, uint16_t *, size_t, uint32_t *, size_t, uint32_t *, size_t);
 
@@ -37,47 +33,31 @@ static double now(void)
     return 1e3 * (double)t.tv_sec + 1e-6 * (double)t.tv_nsec;
 }
 
-/* So many calls in a row; the least time of one is kept. */
-static ambiguity_read_reply read_by(read_function *reader, struct rows *rows, size_t calls, double *least)
+static ambiguity_read_reply read_by(read_function *reader, struct rows *rows, double *least)
 {
-    ambiguity_read_reply reply = {0};
-    double begin = now(), spent;
-    for (size_t call = 0; call < calls; call++)
-        reply = reader(text, text_bytes, rows->table, AMBIGUITY_MAX_TABLE_ENTRIES, rows->starts, AMBIGUITY_MAX_NAMES, rows->lengths,
-                       AMBIGUITY_MAX_NAMES);
-    spent = (now() - begin) / (double)calls;
+    double begin = now();
+    ambiguity_read_reply reply = reader(text, text_bytes, rows->table, AMBIGUITY_MAX_TABLE_ENTRIES, rows->starts,
+                                        AMBIGUITY_MAX_NAMES, rows->lengths, AMBIGUITY_MAX_NAMES);
+    double spent = now() - begin;
     if (spent < *least)
         *least = spent;
     return reply;
-}
-
-/* How many calls take as long as a short one may. */
-static size_t calls_for(read_function *reader, struct rows *rows)
-{
-    double least = 1e9;
-    size_t calls = 1;
-    for (int turn = 0; turn < FEWEST; turn++)
-        read_by(reader, rows, 1, &least);
-    while (calls < MOST_CALLS && (double)calls * least < SHORT_CALL)
-        calls *= 2;
-    return calls;
 }
 
 static int time_reader(double budget)
 {
     ambiguity_read_reply a = {0}, b = {0};
     double by_library = 1e9, by_plain = 1e9, begin = now();
-    size_t library_calls = calls_for(ambiguity_read_text, &library_rows), plain_calls = calls_for(plain_read, &plain_rows);
     for (int turn = 0; turn < MOST && (turn < FEWEST || now() - begin < budget); turn++) {
-        a = read_by(ambiguity_read_text, &library_rows, library_calls, &by_library);
-        b = read_by(plain_read, &plain_rows, plain_calls, &by_plain);
+        a = read_by(ambiguity_read_text, &library_rows, &by_library);
+        b = read_by(plain_read, &plain_rows, &by_plain);
     }
     if (memcmp(&a, &b, sizeof a) != 0 || memcmp(&library_rows, &plain_rows, sizeof library_rows) != 0) {
         fprintf(stderr, "the library answers %llu at %llu, plain C %llu at %llu\n", (unsigned long long)a.cause,
                 (unsigned long long)a.at, (unsigned long long)b.cause, (unsigned long long)b.at);
         return 1;
     }
-    printf("%.9f %.9f ", by_library, by_plain);
+    printf("%f %f ", by_library, by_plain);
     if (a.cause != AMBIGUITY_NOT_REFUSED)
         printf("refused=%llu at=%llu\n", (unsigned long long)a.cause, (unsigned long long)a.at);
     else

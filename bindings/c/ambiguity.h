@@ -33,7 +33,7 @@
 #endif
 
 /* The version of the whole: library, header, wrapper, tools. The first number changes when a caller has to. */
-#define AMBIGUITY_VERSION "5.4.0"
+#define AMBIGUITY_VERSION "5.3.0"
 #define AMBIGUITY_VERSION_MAJOR 5
 
 /* The limits of document 02. A right side has at most 12 codes. */
@@ -90,12 +90,12 @@
  * not proved: where there is less, a call crashes. bindings/c/stack.c measures it, and prints the figure of each function.
  * The reader, the search, the report, which lends both of them their rows, reading back, which calls the reader, and the join, whose
  * second figure is for writing the joined text, have figures of their own; the first figure is for all others. */
-#define AMBIGUITY_STACK_BYTES 65536
+#define AMBIGUITY_STACK_BYTES 66560
 #define AMBIGUITY_READ_TEXT_STACK_BYTES 65536
 #define AMBIGUITY_SEARCH_STACK_BYTES 53248
 #define AMBIGUITY_REPORT_STACK_BYTES 372736
 #define AMBIGUITY_READ_BACK_STACK_BYTES 65536
-#define AMBIGUITY_JOIN_STACK_BYTES 65536
+#define AMBIGUITY_JOIN_STACK_BYTES 126976
 #define AMBIGUITY_WRITE_JOINED_STACK_BYTES 233472
 
 /* The causes of refusal. */

@@ -1,34 +1,36 @@
 -- The theorems over the entries over two texts. Assumes nothing.
-use Prim.Native.Nat.{ℕ, ◌+◌, ◌≤◌, ◌<◌}
+use Prim.Native.Nat.{ℕ, zero, suc, ◌+◌, ◌≤◌, ◌<◌}
 use mathlib.Core.Path.{◌≡◌, refl, ap, ap₂, sym, subst, ◌∙◌}
 use mathlib.Core.Bool.{Bool, true, false, not}
 use mathlib.Core.List.{List, [], ◌∷◌, ◌++◌}
 use native.Mathlib.Omega.{arith}
 use borrow.Author.Tests.{leb-true, le-leb, lt-leb}
 use lib.Dec.{leb}
-use lib.ListN.{length, take, length-append}
+use lib.ListN.{length, take, drop, get_or, length-append}
 use lib.Seq.{take_at}
 use Rattle.grammar.specs.Basics.{over}
-use Rattle.grammar.specs.Limits.{limits}
-use Rattle.grammar.specs.Grammar.{Grammar}
+use Rattle.grammar.specs.Limits.{Limits, limits}
+use Rattle.grammar.specs.Grammar.{Rule, Grammar, stateCount}
 use Rattle.grammar.specs.Tree.{Tree, HasTree}
 use Rattle.grammar.specs.Live.{HasSentence}
 use Rattle.grammar.specs.Table.{encode, decode}
-use Rattle.grammar.specs.Refusal.{Answer, done, refused, refuseUnless, and_then, outOfRange, bufferTooShort, nameRepeated, noSentence, kindsClash}
+use Rattle.grammar.specs.Refusal.{Answer, done, refused, refuseUnless, and_then, outOfRange, ruleRepeated, tooManyStates, bufferTooShort, nameRepeated, noSentence, kindsClash}
 use Rattle.grammar.specs.declared.TableChecked.{TableChecked}
 use Rattle.grammar.specs.declared.TableVerdict.TheVariants.{Passed}
-use Rattle.grammar.specs.TableCheck.{checkTable, tableChecked, TableAnswer}
+use Rattle.grammar.specs.TableCheck.{isAmong, checkTable, tableChecked, TableAnswer}
 use Rattle.grammar.proofs.Sentence.{passes-exactly}
 use Rattle.grammar.proofs.Causes.{CausedBy, cause, up_to}
 use Rattle.grammar.proofs.Answers.{no_answer, no_bool, done_inj, unless-done, unless_holds, unless-fails, then-done, then-goes, then-stops}
 use Rattle.grammar.proofs.Rules.{decode-encode}
-use Rattle.text.specs.Read.{Source, symbolNames, grammarOf}
-use Rattle.text.specs.Rules.{lastTests, checkText, checkModule, readInto}
+use Rattle.text.specs.Names.{any, sameName}
+use Rattle.text.specs.Read.{Source, symbolNames, number_of, grammarOf, readText}
+use Rattle.text.specs.Rules.{admit, lastTests, checkText, checkModule, readInto}
 use Rattle.text.specs.Print.{printed}
-use Rattle.text.specs.Promise.{textRead, textWritten, afterwards, ReadsText}
+use Rattle.text.specs.Promise.{nameStarts, nameLengths, textRead, textWritten, afterwards, ReadsText}
 use Rattle.text.specs.declared.TextRead.{TextRead}
 use Rattle.text.specs.declared.TextRead.TheVariants.{Read, Refused}
 use Rattle.text.specs.declared.TextWritten.{TextWritten}
+use Rattle.text.specs.declared.TextWritten.TheVariants as writer
 use Rattle.text.specs.declared.TextWritten.TheVariants.{Written}
 use Rattle.text.proofs.WellNamed.{WellNamedSource}
 use Rattle.text.proofs.Causes.{module-causes}
@@ -36,7 +38,7 @@ use Rattle.text.proofs.Admit.{text-checked}
 use Rattle.text.proofs.Promises.{ReadAs, read_as, refuses-as, written_as, after-done}
 use Rattle.text.proofs.RoundTrip.{apart, reads-into, into-checked}
 use Rattle.modules.specs.Joined.{meet, joinedTerminals, joinedNonterminals, joined, joinedText, refuseClash, joinTexts, joinedTableInto, joinedTextInto}
-use Rattle.modules.specs.Shown.{part_of}
+use Rattle.modules.specs.Shown.{shown, part_of}
 use Rattle.modules.specs.Promise.{JoinsTexts, WritesJoined, ShowsPlace, ShowsName}
 use Rattle.modules.specs.declared.Place.{Place}
 use Rattle.modules.proofs.ReadJoined.{module-well, joined-texts}

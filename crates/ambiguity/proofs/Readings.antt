@@ -1,6 +1,6 @@
 -- The theorems of the two lines of a witness, and of reading back. Assumes nothing.
 use Prim.Native.Nat.{ℕ, ◌+◌, ◌≤◌, ◌<◌}
-use mathlib.Core.Path.{◌≡◌, ap, ◌∙◌}
+use mathlib.Core.Path.{◌≡◌, refl, ap, ◌∙◌}
 use mathlib.Core.Bool.{Bool, true, false, ◌&&◌}
 use mathlib.Core.Logic.{◌⊎◌, inl, inr}
 use mathlib.Core.List.{List, map}
@@ -13,7 +13,7 @@ use Rattle.grammar.specs.Limits.{limits}
 use Rattle.grammar.specs.Grammar.{Grammar, WellFormed}
 use Rattle.grammar.specs.Table.{encode}
 use Rattle.grammar.specs.Refusal.{Answer, done, refused, bufferTooShort}
-use Rattle.grammar.proofs.Answers.{then-goes, then-stops, unless_holds, unless-fails, both-and, and-false}
+use Rattle.grammar.proofs.Answers.{then-goes, then-stops, unless_holds, unless-fails, both-and}
 use Rattle.grammar.proofs.WellFormed.{room}
 use Rattle.grammar.proofs.Sentence.{takes-only}
 use Rattle.automaton.specs.Items.{states}
@@ -115,7 +115,11 @@ module _ (text lines a b : List ℕ) (r : ReadBack) (a' b' : List ℕ) (h : Read
         where
           fails : (length a < length u) ⊎ (length b < length v) → leb (length u) (length a) && leb (length v) (length b) ≡ false
           fails (inl l) = ap (λ (x : Bool). x && leb (length v) (length b)) (lt-leb (length u) (length a) l)
-          fails (inr l) = ap (λ (x : Bool). leb (length u) (length a) && x) (lt-leb (length v) (length b) l) ∙ and-false (leb (length u) (length a))
+          fails (inr l) = ap (λ (x : Bool). leb (length u) (length a) && x) (lt-leb (length v) (length b) l) ∙ none (leb (length u) (length a))
+            where
+              none : (x : Bool) → x && false ≡ false
+              none true = refl
+              none false = refl
 
       reads : length u ≤ length a → length v ≤ length b
           → (r ≡ Read (length u) (length v)) × (a' ≡ over (map letterNumber u) a) × (b' ≡ over (map letterNumber v) b)

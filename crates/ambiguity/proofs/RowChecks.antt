@@ -6,7 +6,7 @@ use mathlib.Core.Bool.{Bool, true, false}
 use mathlib.Core.List.{List, [], ◌∷◌}
 use mathlib.Core.Logic.{◌⊎◌, inl, inr}
 use native.Mathlib.Omega.{arith}
-use borrow.Author.Tests.{leb-true}
+use borrow.Author.Tests.{le-leb, lt-leb, leb-true}
 use lib.Dec.{leb}
 use lib.ListN.{length, get_or}
 use Rattle.grammar.specs.Basics.{choose}
@@ -14,11 +14,10 @@ use Rattle.grammar.specs.Limits.{limits}
 use Rattle.grammar.specs.Grammar.{Terminal, Grammar}
 use Rattle.grammar.specs.Refusal.{Answer, done, refused, refuseUnless, bufferTooShort, rowWrong}
 use Rattle.grammar.specs.TableCheck.{isTerminal, checkTable}
-use Rattle.grammar.proofs.Answers.{no_bool, done_inj, unless-done, then-done, then-stops}
+use Rattle.grammar.proofs.Answers.{no_bool, done_inj, unless_holds, unless-fails, unless-done, then-done, then-goes, then-stops}
 use Rattle.grammar.proofs.Lists.{lt-or-le}
 use Rattle.grammar.proofs.Plain.{is-terminal}
 use Rattle.trees.specs.Trees.{rowFault, maxRow, workSize, checkRow}
-use Rattle.sentence_trees.proofs.Order.{of_row, of-work, of-done}
 use Rattle.ambiguity.specs.Entries.{Stores}
 use Rattle.ambiguity.specs.Trees.{IsRow, FaultAt}
 use Rattle.ambiguity.proofs.Entries.{stores, checked}
@@ -114,13 +113,25 @@ module _ (t n : ℕ) (table w work : List ℕ) where
   table-stops = then-stops (checkTable limits t n table) go_on
 
   pub row-stops : (G : Grammar) → Stores t n table G → (at : ℕ) → FaultAt t w at → checkRow limits t n table w work ≡ refused rowWrong at
-  row-stops G s at x = of_row t n table w work G (checked t n table G s) at (sym (fault-place t w at x)) x.inside
+  unfolding checkRow
+  row-stops G s at x =
+      let e = fault-place t w at x in
+      then-goes (checkTable limits t n table) go_on G (checked t n table G s)
+      ∙ unless-fails rowWrong (rowFault t maxRow w) _ _ (lt-leb (length w) (rowFault t maxRow w) (omega (arith, x.inside)))
+      ∙ ap (λ (at : ℕ). refused rowWrong at) e
+
+  row_goes : (G : Grammar) → Stores t n table G → IsRow t w
+      → checkRow limits t n table w work ≡ refuseUnless bufferTooShort 0 (leb (workSize G) (length work)) (done G)
+  unfolding checkRow
+  row_goes G s x =
+      then-goes (checkTable limits t n table) go_on G (checked t n table G s)
+      ∙ unless_holds rowWrong (rowFault t maxRow w) _ _ (le-leb _ _ (row-passes t w x))
 
   pub work-stops : (G : Grammar) → Stores t n table G → IsRow t w → length work < workSize G → checkRow limits t n table w work ≡ refused bufferTooShort 0
-  work-stops G s x h = of-work t n table w work G (checked t n table G s) (rowFault t maxRow w) refl (row-passes t w x) h
+  work-stops G s x h = row_goes G s x ∙ unless-fails bufferTooShort 0 _ _ (lt-leb _ _ h)
 
   pub nothing_stops : (G : Grammar) → Stores t n table G → IsRow t w → workSize G ≤ length work → checkRow limits t n table w work ≡ done G
-  nothing_stops G s x h = of-done t n table w work G (checked t n table G s) (rowFault t maxRow w) refl (row-passes t w x) h
+  nothing_stops G s x h = row_goes G s x ∙ unless_holds bufferTooShort 0 _ _ (le-leb _ _ h)
 
   -- what passed
   pub row-passed : (G : Grammar) → checkRow limits t n table w work ≡ done G → Stores t n table G × IsRow t w

@@ -1,6 +1,6 @@
 -- The states with m callers are numbered in the order of items, then of callers: the list of the states ascends by it, and
 -- in such a list the places ascend as the elements do. Assumes nothing.
-use Prim.Native.Nat.{ℕ, zero, suc, ◌<◌}
+use Prim.Native.Nat.{ℕ, zero, suc, ◌≤◌, ◌<◌}
 use mathlib.Core.Path.{◌≡◌, refl, sym, ap, subst, subst₂, ◌∙◌}
 use mathlib.Core.Bool.{Bool, true, false}
 use mathlib.Core.List.{List, [], ◌∷◌, map}
@@ -15,9 +15,9 @@ use Rattle.grammar.specs.Grammar.{Rule, Grammar, rule, WellFormed}
 use Rattle.grammar.specs.Live.{isLive}
 use Rattle.grammar.proofs.Answers.{no_bool}
 use Rattle.automaton.specs.Callers.{Spot, first, last, spot, up_to, itemsFrom, sameSpot, place_of, items, code_at, itemsBefore, chains, chainsOf, spots, number_of}
-use Rattle.triple_laws.proofs.Members.{no-element, only_one, under-test, of_map, first-or}
+use Rattle.triple_laws.proofs.Members.{no-element, only_one, mem-either, under-test, of_map, first-or}
 use Rattle.triple_laws.proofs.Callers.{upto-out, before-out}
-use Rattle.triple_laws.proofs.Spots.{spot-same, spot-self, place-mem-below, items-low, at, in_rest, one_number}
+use Rattle.triple_laws.proofs.Spots.{spot-same, spot-self, place-mem-below, at, in_rest, one_number}
 use Rattle.ambiguity.specs.Callers.{IsState, ItemBefore, CallersBefore, nearest, farther, SpotBefore, start-end, start-item, end-item, by-item, by-callers}
 use Rattle.ambiguity.proofs.Ascending.{Ascending, none, more, ascending-one, ascending-append, ascending-when, ascending-map, ascending-each}
 use Rattle.ambiguity.proofs.States.{listed-state}
@@ -70,14 +70,21 @@ upto-ascends zero = ascending-one ◌<◌ 0
 upto-ascends (suc n) = ascending-append ◌<◌ (up_to n) (suc n ∷ []) (upto-ascends n) (ascending-one ◌<◌ (suc n)) (λ a c h k.
     let e = only_one k in let z = upto-out n a h in omega (arith, e, z))
 
--- the items from rule n on ascend
-items-from : (n : ℕ) (l : List Rule) → Ascending ItemBefore (itemsFrom n l)
+-- the items ascend, and begin at rule n
+items-from : (n : ℕ) (l : List Rule) → Ascending ItemBefore (itemsFrom n l) × ((c : ℕ × ℕ) → Mem c (itemsFrom n l) → n ≤ c.0)
 unfolding itemsFrom
-items-from n [] = none
+items-from n [] = (none, λ c h. absurd (no-element h))
 items-from n (r ∷ l) =
-    ascending-append ItemBefore (map (λ d. (n, d)) (up_to (length r.right))) (itemsFrom (suc n) l)
-    (ascending-map ◌<◌ ItemBefore (λ d. (n, d)) (up_to (length r.right)) (upto-ascends (length r.right)) (λ a c h. inr (refl, h)))
-    (items-from (suc n) l) (λ a c h k. let e = rule-of h in let z = items-low (suc n) l c.0 c.1 k in inl (omega (arith, e, z)))
+    let front : List (ℕ × ℕ) = map (λ d. (n, d)) (up_to (length r.right)) in
+    let rest = items-from (suc n) l in (
+      ascending-append ItemBefore front (itemsFrom (suc n) l)
+          (ascending-map ◌<◌ ItemBefore (λ d. (n, d)) (up_to (length r.right)) (upto-ascends (length r.right)) (λ a c h. inr (refl, h)))
+          rest.0 (λ a c h k. let e = rule-of h in let z = rest.1 c k in inl (omega (arith, e, z))),
+      λ c h. elim (mem-either front (itemsFrom (suc n) l) h) [
+        | inl k ↦ let e = rule-of k in omega (arith, e)
+        | inr k ↦ let z = rest.1 c k in omega (arith, z)
+      ],
+    )
   where
     rule-of : {c : ℕ × ℕ} → Mem c (map (λ d. (n, d)) (up_to (length r.right))) → c.0 ≡ n
     rule-of h = ap (λ (c : ℕ × ℕ). c.0) ((of_map {B = ℕ × ℕ} (up_to (length r.right)) (λ d. (n, d))).0 h).2
@@ -86,7 +93,7 @@ module _ (G : Grammar) (W : WellFormed limits G) where
   -- the items of the grammar
   items-ascend : Ascending ItemBefore (items limits G)
   unfolding items
-  items-ascend = items-from 0 (rule limits G 0 ∷ G.rules)
+  items-ascend = (items-from 0 (rule limits G 0 ∷ G.rules)).0
 
   -- and those before x
   before-ascend : (x : ℕ) (l : List (ℕ × ℕ)) → Ascending ItemBefore l → Ascending ItemBefore (itemsBefore limits G x l)

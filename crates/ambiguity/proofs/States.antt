@@ -10,6 +10,7 @@ use Rattle.grammar.specs.Limits.{limits}
 use Rattle.grammar.specs.Grammar.{Grammar, WellFormed}
 use Rattle.grammar.specs.Live.{Live, isLive}
 use Rattle.grammar.proofs.Live.{is_live}
+use Rattle.automaton.specs.Items.{length_of}
 use Rattle.automaton.specs.Callers.{Spot, last, spot, Calls, items, chains, chainsOf, spots, number_of}
 use Rattle.triple_laws.proofs.Members.{place-mem, under-test, of-each, of_map, first-or}
 use Rattle.triple_laws.proofs.Callers.{items-exact, chains-exact}

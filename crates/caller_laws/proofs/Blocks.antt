@@ -9,7 +9,7 @@ use mathlib.Core.Logic.{inl, inr}
 use native.Mathlib.Omega.{arith}
 use native.Mathlib.Decide.{ℕ_discrete}
 use native.Mathlib.Nat.{suc-mul, mul-le-mul_right}
-use lib.ListN.{length, get_or, length-append, length-map, get_or-append}
+use lib.ListN.{length, get_or, length-append, get_or-append}
 use lib.Seq.{get_or-append-add}
 use Rattle.grammar.specs.Basics.{each, Mem}
 use Rattle.grammar.specs.Limits.{Limits}
@@ -25,6 +25,11 @@ use Rattle.triple_laws.proofs.CallerMoves.{number-first, number-last}
 use Rattle.triple_laws.proofs.CallerOrder.{map-append, each_append}
 use Rattle.caller_laws.specs.Classes.{rank}
 use Rattle.caller_laws.proofs.Walk.{Chain, rank-found}
+
+-- an image has as many elements
+pub map-many : {A B : Type 0} (f : A → B) (l : List A) → length (map f l) ≡ length l
+map-many f [] = refl
+map-many f (a ∷ l) = omega (arith, map-many f l)
 
 -- the state of a chain at a place
 map-spot : (i d : ℕ) (k : List Chain) (r : ℕ) → r < length k → get_or (map (spot i d) k) r last ≡ spot i d (get_or k r [])
@@ -84,10 +89,10 @@ module _ (L : Limits) (G : Grammar) (m : ℕ) where
 
   -- how many they are, and which stands where
   dots-length : (n k : ℕ) → length (dots n k) ≡ suc k * width n
-  dots-length n zero = ap length (dots-zero n) ∙ length-map (chainsOf L G m n) (spot n 0) ∙ (let z : width n ≡ suc 0 * width n = omega arith in z)
+  dots-length n zero = ap length (dots-zero n) ∙ map-many (spot n 0) (chainsOf L G m n) ∙ (let z : width n ≡ suc 0 * width n = omega arith in z)
   dots-length n (suc k) =
       let z = ap length (dots-next n k) ∙ length-append (dots n k) (block (n, suc k)) in
-      omega (arith, z, dots-length n k, length-map (chainsOf L G m n) (spot n (suc k)), suc-mul (suc k) (width n))
+      omega (arith, z, dots-length n k, map-many (spot n (suc k)) (chainsOf L G m n), suc-mul (suc k) (width n))
 
   dots-at : (n k d r : ℕ) → d ≤ k → r < width n → get_or (dots n k) (d * width n + r) last ≡ spot n d (get_or (chainsOf L G m n) r [])
   dots-at n zero d r h u =

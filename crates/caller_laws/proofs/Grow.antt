@@ -7,7 +7,7 @@ use mathlib.Core.Bool.{Bool, true, false}
 use mathlib.Core.List.{List, [], ◌∷◌, map}
 use native.Mathlib.Omega.{arith}
 use native.Mathlib.Nat.{mul-le-mul_left}
-use lib.ListN.{length, get_or, length-append, length-map}
+use lib.ListN.{length, get_or, length-append}
 use Rattle.grammar.specs.Basics.{when, each, Mem, here, there}
 use Rattle.grammar.specs.Limits.{Limits}
 use Rattle.grammar.specs.Grammar.{Grammar, rule, WellFormed}
@@ -18,7 +18,7 @@ use Rattle.automaton.specs.Items.{length_of}
 use Rattle.automaton.specs.Callers.{Place, enough, called, items, itemsBefore, chains, chainsOf, spots}
 use Rattle.triple_laws.proofs.Callers.{items-exact, before-out, left-code, chains-exact}
 use Rattle.caller_laws.proofs.Levels.{shown-live}
-use Rattle.caller_laws.proofs.Blocks.{begins, begins-next, begins-two, states-are}
+use Rattle.caller_laws.proofs.Blocks.{map-many, begins, begins-next, begins-two, states-are}
 
 -- longer parts make a longer whole
 each-grow : {A B : Type 0} (l : List A) (f g : A → List B) → ((a : A) → Mem a l → length (f a) ≤ length (g a)) → length (each l f) ≤ length (each l g)
@@ -76,7 +76,7 @@ module _ (L : Limits) (G : Grammar) (W : WellFormed L G) (apart : L.maxTerminals
       let b = before-out L G W apart x c (items L G) k in
       let t = (items-exact L G W apart c.0 c.1).0 b.0 in
       let v = shown-live L G c.0 c.1 (omega (arith, b.1, left-code L G W apart (suc i) (omega arith, h))) in
-      omega (arith, chains-grow m c.0 t.0 v, length-map (chains L G m c.0) (λ cs. c ∷ cs), length-map (chains L G (suc m) c.0) (λ cs. c ∷ cs)))
+      omega (arith, chains-grow m c.0 t.0 v, map-many (λ cs. c ∷ cs) (chains L G m c.0), map-many (λ cs. c ∷ cs) (chains L G (suc m) c.0)))
 
   -- nor any rule, if there is a caller
   width-grow : (m i : ℕ) → i ≤ length G.rules → length (chainsOf L G (suc m) i) ≤ length (chainsOf L G (suc (suc m)) i)

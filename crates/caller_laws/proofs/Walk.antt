@@ -6,7 +6,7 @@ use mathlib.Core.Bool.{Bool, true, false}
 use mathlib.Core.List.{List, [], ◌∷◌, map}
 use native.Mathlib.Omega.{arith}
 use lib.ListN.{length, get_or, take}
-use Rattle.grammar.specs.Basics.{choose, Mem, here, there}
+use Rattle.grammar.specs.Basics.{choose, Mem, here, there, Distinct, more}
 use Rattle.grammar.specs.Limits.{Limits}
 use Rattle.grammar.specs.Grammar.{Grammar, IsRule, rule, WellFormed}
 use Rattle.grammar.specs.Live.{isLive}
@@ -14,7 +14,7 @@ use Rattle.grammar.proofs.Answers.{no_bool}
 use Rattle.automaton.specs.Callers.{sameItems, chains, chainsOf, spots, number_of}
 use Rattle.automaton.specs.CallerMoves.{spotAhead}
 use Rattle.automaton.proofs.Callers.{shorten}
-use Rattle.triple_laws.proofs.Members.{under-test}
+use Rattle.triple_laws.proofs.Members.{place-mem, under-test}
 use Rattle.triple_laws.proofs.Callers.{chains-exact}
 use Rattle.triple_laws.proofs.CallerMoves.{live-chains}
 use Rattle.triple_laws.proofs.Spots.{items-self, same-items}
@@ -40,6 +40,17 @@ rank-found {cs} (there {b = ds} {l = k} h) = go (sameItems ds cs) refl (rank-fou
         → (choose b 0 (suc (rank cs k)) < suc (length k)) × (get_or (ds ∷ k) (choose b 0 (suc (rank cs k))) [] ≡ cs)
     go true e again = (omega arith, (same-items ds cs).0 e)
     go false e again = (omega (arith, again.0), again.1)
+
+-- and of chains without doubles each place is the rank of its chain
+pub rank-at : (k : List Chain) → Distinct k → (r : ℕ) → r < length k → rank (get_or k r []) k ≡ r
+unfolding rank
+rank-at [] d r h = absurd (omega arith)
+rank-at (cs ∷ k) d zero h = ap (λ b. choose b 0 (suc (rank cs k))) (items-self cs)
+rank-at (cs ∷ k) (more new d) (suc r) h = go (sameItems cs (get_or k r [])) refl (rank-at k d r (omega arith))
+  where
+    go : (b : Bool) → sameItems cs (get_or k r []) ≡ b → rank (get_or k r []) k ≡ r → choose b 0 (suc (rank (get_or k r []) k)) ≡ suc r
+    go true e again = absurd (new (subst (λ c. Mem c k) (sym ((same-items cs (get_or k r [])).0 e)) (place-mem k r [] (omega arith))))
+    go false e again = ap suc again
 
 -- what a function gives at a place
 pub map_at : {A : Type 0} (f : A → ℕ) (l : List A) (r : ℕ) (d : A) → r < length l → get_or (map f l) r 0 ≡ f (get_or l r d)

@@ -9,7 +9,6 @@ use Rattle.grammar.specs.Limits.{limits}
 use Rattle.grammar.specs.Grammar.{Grammar, WellFormed}
 use Rattle.grammar.specs.Record.{IsRecord}
 use Rattle.grammar.specs.declared.CheckedGrammar.{CheckedGrammar}
-use Rattle.grammar.proofs.Lists.{zeros}
 use Rattle.automaton.specs.Callers.{spots}
 use Rattle.moves.specs.Tables.{Sorted}
 use Rattle.moves.proofs.Columns.{read}
@@ -18,6 +17,7 @@ use Rattle.caller_rows.specs.Contracts.{Filled, Under, RanksPassed, Segments, ke
 use Rattle.caller_rule.specs.RuleRows.{Six}
 use Rattle.caller_rows.specs.LevelRows.{Levelled, LevelWritten}
 use Rattle.caller_rows.specs.Levels.{LevelOf, Says, WidthsOf, Cut, Sizable, Sized, Level}
+use Rattle.caller_rows.proofs.PlaceLaws.{zeros}
 use Rattle.caller_rows.proofs.KeyLaws.{Keyed, keyed, cut}
 use Rattle.caller_rows.proofs.LevelLaws.{cut-segments, widths-are, length_at, level-of, levelled, below-zero}
 use Rattle.caller_rows.proofs.PassLaws.{ranks-zero, down-under, ranks-next}

@@ -8,7 +8,7 @@ use native.Mathlib.Omega.{arith}
 use native.Mathlib.Nat.{suc-mul}
 use native.Mathlib.Numerals.{add-one}
 use lib.Dec.{eqb, leb}
-use lib.ListN.{length, get_or, take, length-map}
+use lib.ListN.{length, get_or, take}
 use lib.Seq.{take-nil}
 use borrow.Author.Tests.{ne_eqb}
 use Rattle.grammar.specs.Basics.{choose, when, Mem}
@@ -23,7 +23,7 @@ use Rattle.triple_laws.proofs.Callers.{place_out}
 use Rattle.triple_laws.proofs.CallerMoves.{number-first, number-last}
 use Rattle.caller_laws.specs.Classes.{callerOf, memberOf, target_of, ruleAt, rank}
 use Rattle.caller_laws.proofs.Walk.{Chain, map_at, rank-found, chained-live, shorter-chain}
-use Rattle.caller_laws.proofs.Blocks.{width, begins, begins-next, begins-two, states-are, item-number, each-state}
+use Rattle.caller_laws.proofs.Blocks.{map-many, width, begins, begins-next, begins-two, states-are, item-number, each-state}
 use Rattle.live.specs.Marks.{rightAt}
 use Rattle.caller_rows.specs.Contracts.{start_of}
 use Rattle.caller_rule.specs.RuleRows.{Six, memberClass, targetClass, codeBefore, lowBefore}
@@ -129,7 +129,7 @@ module _ (G : Grammar) (W : WellFormed limits G) (m : ℕ) where
     after_is : d < length_of limits G i → at + d * length callers + r + length callers ≡ number_of limits G (suc m) (spot i (suc d) cs)
     after_is l =
         let z = item-number limits G W apart (suc m) i (suc d) cs R.rule-of l w in
-        let y : length callers ≡ width limits G (suc m) i = ap length R.callers-are ∙ length-map (chainsOf limits G (suc m) i) (λ cs. n (callerOf cs)) in
+        let y : length callers ≡ width limits G (suc m) i = ap length R.callers-are ∙ map-many (λ cs. n (callerOf cs)) (chainsOf limits G (suc m) i) in
         omega (arith, z, y, R.at-is, ap (λ a. d * a) y, suc-mul d (width limits G (suc m) i))
 
     -- what is shown stands ahead of the rule's end

@@ -17,7 +17,6 @@ use Rattle.grammar.specs.Limits.{limits}
 use Rattle.grammar.specs.Grammar.{Grammar, WellFormed, rule}
 use Rattle.grammar.specs.Live.{isLive}
 use Rattle.grammar.proofs.Derives.{rule-listed}
-use Rattle.grammar.proofs.Lists.{distinct-places}
 use Rattle.automaton.specs.PositionMoves.{aheadRow}
 use Rattle.automaton.specs.Callers.{Spot, first, last, spot, code_at, spots, number_of}
 use Rattle.automaton.specs.CallerMoves.{spotAhead, spotAfter}
@@ -33,7 +32,7 @@ use Rattle.moves.proofs.Moves.{ahead-length}
 use Rattle.moves.proofs.Built.{over-at}
 use Rattle.caller_rows.specs.Contracts.{Filled, keyOf, key_at}
 use Rattle.caller_rows.specs.Levels.{AheadOf, Cut}
-use Rattle.caller_rows.proofs.PlaceLaws.{places-alike, places-first, Placed, joined-placed, over-past, over-size, climbs}
+use Rattle.caller_rows.proofs.PlaceLaws.{places-alike, places-first, Placed, joined-placed, distinct-places, over-past, over-size, climbs}
 
 -- the first q entries of a row are the keys of the states with m callers
 pub record Keyed (G : Grammar) (m n q : ℕ) (keys : List ℕ) : Type 0 where

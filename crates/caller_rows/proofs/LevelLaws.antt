@@ -52,7 +52,7 @@ module _ (G : Grammar) (W : WellFormed limits G) (g : CheckedGrammar) (same : g 
   apart = omega arith
 
   -- they hold the grammar's rules
-  columns-are : Columns g.lefts g.lengths g.codes g.count g.nonterminals
+  columns-are : Columns g.lefts g.lengths g.codes g.count
   columns-are = columns_of g (record { grammar = G; wellFormed = W; same = same })
 
   -- as many as there are

@@ -12,7 +12,6 @@ use Rattle.grammar.specs.Grammar.{Grammar, WellFormed}
 use Rattle.grammar.specs.Record.{recordOf}
 use Rattle.grammar.specs.Live.{isLive}
 use Rattle.grammar.specs.declared.CheckedGrammar.{CheckedGrammar}
-use Rattle.grammar.proofs.Lists.{zeros}
 use Rattle.automaton.specs.Callers.{Spot, first, last, spot, sameItems, chains, spots, number_of}
 use Rattle.automaton.proofs.Callers.{shorten}
 use Rattle.triple_laws.proofs.Members.{place-mem, under-test}
@@ -25,7 +24,7 @@ use Rattle.caller_laws.proofs.Walk.{rank-found, caller-rank}
 use Rattle.caller_rows.specs.Contracts.{Filled, Under, RanksWritten}
 use Rattle.caller_rule.specs.RuleRows.{Six}
 use Rattle.caller_rows.specs.Levels.{dropped, Says, RanksOf, Cut}
-use Rattle.caller_rows.proofs.PlaceLaws.{segment-most, segment-at}
+use Rattle.caller_rows.proofs.PlaceLaws.{segment-most, segment-at, zeros}
 use Rattle.caller_rows.proofs.KeyLaws.{spots-first, some-spots}
 use Rattle.caller_rows.proofs.LevelLaws.{apart, count-is, is-rule, left_in, segment-places, width-chains}
 

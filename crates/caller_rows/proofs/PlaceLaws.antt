@@ -7,11 +7,11 @@ use mathlib.Core.List.{List, [], ◌∷◌, ◌++◌}
 use mathlib.Core.Logic.{◌↔◌, ⊎_elim}
 use native.Mathlib.Omega.{arith}
 use lib.Dec.{eqb}
-use lib.ListN.{length, get_or, drop, length-append, length-take, length-drop}
+use lib.ListN.{length, get_or, drop, replicate, length-append, length-take, length-drop}
 use lib.Seq.{get_or-take, get_or-drop, get_or-append-add}
 use borrow.Author.Tests.{eqb-true, eqb-false, eq-eqb, ne_eqb}
-use Rattle.grammar.specs.Basics.{when, over, Mem, Distinct, none}
-use Rattle.triple_laws.proofs.Members.{no-element, mem-either, distinct_append}
+use Rattle.grammar.specs.Basics.{when, over, Mem, Distinct, none, more}
+use Rattle.triple_laws.proofs.Members.{no-element, place-mem, mem-either, distinct_append}
 use Rattle.moves.specs.Tables.{placesFrom, places, joined, segment}
 use Rattle.moves.proofs.Places.{places-exactly, places-ascend, ascends-distinct}
 
@@ -82,6 +82,14 @@ unfolding segment
 segment-at first targets c r h =
     get_or-take (get_or first (c + 1) 0 - get_or first c 0) (drop (get_or first c 0) targets) r 0 h ∙ get_or-drop (get_or first c 0) targets r 0
 
+-- places of a list without doubles
+pub distinct-places : (l : List ℕ) → Distinct l → (k j : ℕ) → k < length l → j < length l → get_or l k 0 ≡ get_or l j 0 → k ≡ j
+distinct-places [] d k j hk hj e = absurd (omega arith)
+distinct-places (a ∷ l) d zero zero hk hj e = refl
+distinct-places (a ∷ l) (more n d) zero (suc j) hk hj e = absurd (n (subst (λ (b : ℕ). Mem b l) (sym e) (place-mem l j 0 (omega arith))))
+distinct-places (a ∷ l) (more n d) (suc k) zero hk hj e = absurd (n (subst (λ (b : ℕ). Mem b l) e (place-mem l k 0 (omega arith))))
+distinct-places (a ∷ l) (more n d) (suc k) (suc j) hk hj e = ap suc (distinct-places l d k j (omega arith) (omega arith) e)
+
 -- past its front a row is as it was
 pub over-past : (front old : List ℕ) (k : ℕ) → length front ≤ k → get_or (over front old) k 0 ≡ get_or old k 0
 unfolding over
@@ -95,6 +103,12 @@ over-past front old k h =
 pub over-size : (front old : List ℕ) → length front ≤ length old → length (over front old) ≡ length old
 unfolding over
 over-size front old h = omega (arith, h, length-append front (drop (length front) old), length-drop (length front) old)
+
+-- a row of zeros, within and past its end
+pub zeros : (n k : ℕ) → get_or (replicate {A = ℕ} n 0) k 0 ≡ 0
+zeros zero k = refl
+zeros (suc n) zero = refl
+zeros (suc n) (suc k) = zeros n k
 
 -- what ascends by steps ascends
 pub climbs : (f : ℕ → ℕ) (n : ℕ) → ((c : ℕ) → c < n → f c ≤ f (c + 1)) → (a b : ℕ) → a ≤ b → b ≤ n → f a ≤ f b

@@ -104,10 +104,21 @@ pub fn build<'a>(
     ensures { (G : Grammar) → Begun G n q count used lefts.now lengths.now codes.now ahead.old → BuiltWith G m result
         (tables ahead.new number.new member.new target.new first.new targets.new after.new) }
 {
-    let mut live = [0u8; MAX_RULES];
-    live_rules(lefts, lengths, codes, count, used, wide(n), &mut live);
+    let live = live_rules(lefts, lengths, codes, count, used);
     let b = add_levels(
-        lefts, lengths, codes, count, n, q, m, &live, ahead, number, member, target, after,
+        lefts,
+        lengths,
+        codes,
+        count,
+        n,
+        q,
+        m,
+        &live.rules,
+        ahead,
+        number,
+        member,
+        target,
+        after,
     );
     let states = b.states;
     if MAX_STATES < states {

@@ -5,11 +5,11 @@ use mathlib.Core.Bool.{Bool, true, false, ◌&&◌}
 use mathlib.Core.List.{List, [], ◌∷◌, map}
 use mathlib.Core.Logic.{◌⊎◌, inl, inr}
 use native.Mathlib.Omega.{arith}
-use lib.Dec.{eqb, leb}
-use lib.ListN.{get_or}
-use borrow.Author.Tests.{lt-ltb, le-ltb, le-leb, lt-leb, eq-eqb, ne_eqb, eqb-true, eqb-false}
+use lib.Dec.{eqb, ltb, leb}
+use lib.ListN.{length, get_or}
+use borrow.Author.Tests.{ltb-true, ltb-false, lt-ltb, le-ltb, le-leb, lt-leb, eq-eqb, ne_eqb, eqb-true, eqb-false}
+use Rattle.grammar.specs.Basics.{choose}
 use Rattle.grammar.specs.TableCheck.{isTerminal}
-use Rattle.grammar.proofs.Answers.{and-false}
 use Rattle.grammar.proofs.Lists.{lt-or-le}
 use Rattle.carried.specs.Carried.{moved}
 
@@ -53,8 +53,12 @@ moved-terminal b d t x h =
       | inl k ↦ ap (λ (y : ℕ). isTerminal t y) (moved-low b d x k)
       | inr k ↦ ap (λ (y : ℕ). isTerminal t y) (moved-high b d x k)
           ∙ ap (λ (c : Bool). leb 1 (x + d) && c) (lt-leb (x + d) t (omega arith))
-          ∙ and-false (leb 1 (x + d)) ∙ sym (ap (λ (c : Bool). leb 1 x && c) (lt-leb x t (omega arith)) ∙ and-false (leb 1 x))
+          ∙ and_none (leb 1 (x + d)) ∙ sym (ap (λ (c : Bool). leb 1 x && c) (lt-leb x t (omega arith)) ∙ and_none (leb 1 x))
     ]
+  where
+    and_none : (c : Bool) → c && false ≡ false
+    and_none true = refl
+    and_none false = refl
 
 -- a code that is none stays none
 pub moved-some : (b d x : ℕ) → 0 < b → leb 1 (moved b d x) ≡ leb 1 x

@@ -1,5 +1,5 @@
 -- The moves of a carried grammar are the old ones but for the codes ahead. Assumes nothing.
-use Prim.Native.Nat.{ℕ, ◌+◌, ◌-◌, ◌≤◌, ◌<◌}
+use Prim.Native.Nat.{ℕ, zero, suc, ◌+◌, ◌-◌, ◌≤◌, ◌<◌}
 use mathlib.Core.Path.{◌≡◌, refl, ap, ap₂, sym, ◌∙◌}
 use mathlib.Core.Bool.{Bool, true, false, ◌&&◌}
 use mathlib.Core.List.{List, [], ◌∷◌, ◌++◌, map, map-append}
@@ -8,9 +8,10 @@ use lib.Dec.{eqb}
 use lib.ListN.{length, get_or, replicate, length-map}
 use Rattle.grammar.specs.Basics.{choose, when, each}
 use Rattle.grammar.specs.Limits.{Limits}
-use Rattle.grammar.specs.Grammar.{Rule, Grammar, stateCount, rule}
+use Rattle.grammar.specs.Grammar.{Rule, Grammar, stateCount, start, rule}
 use Rattle.grammar.specs.Live.{isLive}
 use Rattle.automaton.specs.Items.{states}
+use Rattle.automaton.specs.Moves.{Moves}
 use Rattle.automaton.specs.PositionMoves.{shown, aheads, rulesOf, completed, past, aheadRow, ahead, openings, closings, moves_of}
 use Rattle.carried.specs.Carried.{moved, movedRule, distance, carriedGrammar, Wider}
 use Rattle.carried.proofs.Codes.{moved-low, moved_same, moved-entry}

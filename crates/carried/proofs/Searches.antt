@@ -10,7 +10,7 @@ use lib.ListN.{length}
 use Rattle.grammar.specs.Basics.{over}
 use Rattle.grammar.specs.Limits.{Limits}
 use Rattle.grammar.specs.Grammar.{Grammar}
-use Rattle.grammar.specs.Refusal.{Answer, done, refused, refuseUnless, bufferTooShort}
+use Rattle.grammar.specs.Refusal.{Answer, done, refused, refuseUnless, and_then, bufferTooShort}
 use Rattle.grammar.specs.TableCheck.{checkTable}
 use Rattle.grammar.proofs.Answers.{then-goes, unless_holds, unless-fails}
 use Rattle.automaton.specs.Items.{states}
@@ -24,7 +24,7 @@ use Rattle.triples.specs.Looked.{lookedAt}
 use Rattle.triple_laws.proofs.CallerChecks.{zero-check}
 use Rattle.search.specs.Promise.{isPotential, unambiguous, potential, searchVerdict, Lent, isEnough, searchable, cleared, Told, Answers, SearchesAt}
 use Rattle.search.specs.declared.SearchVerdict.{SearchVerdict}
-use Rattle.carried.specs.Carried.{carriedTable, carriedGrammar, Wider}
+use Rattle.carried.specs.Carried.{carriedTable, carriedGrammar, Wider, Same}
 use Rattle.carried.proofs.Theorem.{carried}
 
 -- by as many states, the same smallest set, witness and figure

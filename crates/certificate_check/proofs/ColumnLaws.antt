@@ -14,7 +14,6 @@ use lib.Pow.{shl_exact}
 use lib.Seq.{get_or-set_other}
 use Rattle.grammar.specs.Limits.{limits}
 use Rattle.grammar.proofs.Answers.{no_bool}
-use Rattle.grammar.proofs.Lists.{positive-factor, zeros}
 use Rattle.triples.specs.Index.{index, tripleCount}
 use Rattle.triples.specs.Certificate.{bit, isSet}
 use Rattle.triples.proofs.Index.{horner, pair_lt, index_below}
@@ -77,8 +76,13 @@ module _ (first targets : List ℕ) (Q : ℕ) (bytes : List ℕ) where
   )
 
   -- a row without notes; a note more
+  clear_at : (n d : ℕ) → ◌≡◌ {A = ℕ} (get_or (replicate n 0) d 0) 0
+  clear_at zero d = refl
+  clear_at (suc n) zero = refl
+  clear_at (suc n) (suc d) = clear_at n d
+
   pub note-none : (n : ℕ) → Noted first targets Q bytes (replicate {A = ℕ} n 0)
-  note-none n = record { each = λ d note e. absurd (omega (arith, e, zeros n d)) }
+  note-none n = record { each = λ d note e. absurd (omega (arith, e, clear_at n d)) }
 
   -- what is written is read back, where the row is so long
   written : (l : List ℕ) (i v : ℕ) → (get_or (set l i v) i 0 ≡ v) ⊎ (get_or (set l i v) i 0 ≡ 0)
@@ -238,6 +242,11 @@ by_blocks P ts Q n sum X l r s p j x = subst X x.2 (elim (dec_lt x.0 P.left) [
   ]
 ])
 
+-- a product with something below it
+positive : (a b k : ℕ) → k < a * b → 0 < b
+positive a zero k h = absurd (omega arith)
+positive a (suc b) k h = omega arith
+
 module _ (R : Rows) (targets : List ℕ) (t m Q : ℕ) (bytes : List ℕ) (f a b : ℕ) where
   abbrev x : Side
   x = side_of R.member R.first a
@@ -262,7 +271,7 @@ module _ (R : Rows) (targets : List ℕ) (t m Q : ℕ) (bytes : List ℕ) (f a b
       → (h : ℕ) → h < pairsOf R.number m f a b x y → isSet bytes (pair_at plan targets Q h) ≡ true
   pair-block p h k =
       let l : h < x.span * y.span = omega (arith, k, pairs-le R.number m f a b x y) in
-      let z = positive-factor x.span y.span h l in
+      let z = positive x.span y.span h l in
       let u = get_or targets (x.from + h / y.span) 0 in
       let v = get_or targets (y.from + h % y.span) 0 in
       let e : Q * Q + u * Q + v ≡ (Q + u) * Q + v = omega (arith, add-mul Q u Q) in

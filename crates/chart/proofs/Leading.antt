@@ -1,9 +1,8 @@
 -- A look at a state whose count rises, and that begins a rule: its left side's count rises by as much, and every state before that
--- nonterminal is flagged, if something is counted past it. Assumes nothing.
+-- nonterminal is flagged. Assumes nothing.
 use Prim.Native.Nat.{ℕ, suc, ◌+◌, ◌-◌, ◌≤◌, ◌<◌}
 use mathlib.Core.Path.{◌≡◌, refl, sym, ap, ap₂, subst, ◌∙◌}
 use mathlib.Core.List.{List, ◌∷◌}
-use mathlib.Core.Logic.{inl, inr}
 use native.Mathlib.Omega.{arith}
 use native.Mathlib.Decide.{ℕ_discrete}
 use lib.Dec.{eqb}
@@ -24,8 +23,8 @@ use Rattle.chart.specs.Rows.{home_of, madeAt, Settles, Flagged}
 use Rattle.chart.specs.Filling.{code_of, chartOf, Counted, Working}
 use Rattle.chart.proofs.Cells.{cell-fits}
 use Rattle.chart.proofs.MadeLaws.{home-in}
-use Rattle.chart.proofs.Reading.{some-code, end-code, either, homes}
-use Rattle.chart.proofs.Staying.{LookAt, drop-flag, back, read_count}
+use Rattle.chart.proofs.Reading.{some-code, end-code, homes}
+use Rattle.chart.proofs.Staying.{LookAt, drop-flag, set-flag, back, low, read_count}
 use Rattle.chart.proofs.Rising.{Rise, im, pQ, view, exact, sounded, rise-of}
 
 module _ {G : Grammar} {P : Places limits G} {Q : ℕ} {ahead lead next head home w row active flags : List ℕ} {q i j : ℕ}
@@ -111,22 +110,22 @@ module _ {G : Grammar} {P : Places limits G} {Q : ℕ} {ahead lead next head hom
     sums = subst (Sums limits G w P) (sym view2) sums2;
   }
 
-  pub looks-whole : (flags' : List ℕ) → Flagged ahead active Q (b - start limits) (set flags q 0) flags' → Working G P Q home w both active flags' i j
-  looks-whole flags' F = record {
+  pub looks-whole : (flags' : List ℕ) (top t : ℕ) → Flagged ahead Q (b - start limits) top (set flags q 0) flags' → q ≤ t → top + 2 ≤ t
+      → Working G P Q home w both (set active p 1) flags' t i j
+  looks-whole flags' top t F x1 x2 = record {
     counted = counted2;
-    looking = subst (λ D. Looking limits G w P Q D (λ k. get_or active k 0) (λ k. get_or flags' k 0) i j) (sym view2)
-        (look-whole limits G w P Q (itemRaised old p i j v) (λ k. get_or active k 0) (λ k. get_or (set flags q 0) k 0) (λ k. get_or flags' k 0) b u i j
-        (look-item limits G w P Q old (λ k. get_or active k 0) (λ k. get_or active k 0) (λ k. get_or flags k 0) (λ k. get_or (set flags q 0) k 0)
-        p R.code v q i j R.after X.working.looking (sym (back X)) X.span.rises R.rest (omega (arith, exact R))
-        (λ k f. f)
-        (λ s y β f g o. nobody s y β f o)
-        (λ k f. refl)
-        (λ s y β f o. absurd (nobody s y β f o))
+    looking = subst (λ D. Looking limits G w P Q D (λ k. get_or (set active p 1) k 0) (λ k. get_or flags' k 0) t i j) (sym view2)
+        (look-whole limits G w P Q (itemRaised old p i j v) (λ k. get_or (set active p 1) k 0) (λ k. get_or (set flags q 0) k 0) (λ k. get_or flags' k 0) b u q t i j
+        (look-item limits G w P Q old (λ k. get_or active k 0) (λ k. get_or (set active p 1) k 0) (λ k. get_or flags k 0) (λ k. get_or (set flags q 0) k 0)
+        p R.code v q q i j R.after X.working.looking (sym (back X)) X.span.rises R.rest (omega (arith, exact R))
+        (λ k f. set-flag active p k (omega (arith, X.inside, X.long)) f)
         (λ k f. drop-flag flags q k f)
-        (λ s y β f g o. nobody s y β f o))
+        (λ s y β f g o. nobody s y β f o)
+        (low X))
         X.span.rises
         (λ k f. F.kept k f)
-        (λ s β f g. seen s β f g));
+        (λ s β f g. seen s β f g)
+        (λ k y z. F.above k (omega arith) ∙ low X k (omega arith) z));
   }
     where
       nobody : (s y : ℕ) (β : List ℕ) → P.rest s ≡ y ∷ β → suc s ≡ p → ⊥
@@ -134,19 +133,13 @@ module _ {G : Grammar} {P : Places limits G} {Q : ℕ} {ahead lead next head hom
           let n = X.sheet.before begun.0 s begun.1.0 (begun.1.1 ∙ sym o) in
           omega (arith, end-code G P Q ahead lead home w X.sheet s n, some-code G P Q ahead lead home w X.sheet s y β f, (X.sheet.symbol s y β f).0)
 
-      seen : (s : ℕ) (β : List ℕ) → P.rest s ≡ b ∷ β → get_or flags' (suc s) 0 ≡ 0 → (get_or active (suc s) 0 ≡ 0) × ((x : ℕ) × ((α : List ℕ) × (P.rest (suc s) ≡ x ∷ α)))
+      seen : (s : ℕ) (β : List ℕ) → P.rest s ≡ b ∷ β → get_or flags' (suc s) 0 ≡ 0 → ⊥
       seen s β f g =
           let r = X.sheet.range s b β f in
           let d : get_or ahead s 0 ≡ start limits + (b - start limits) =
           omega (arith, X.sheet.code s (omega (arith, r)), some-code G P Q ahead lead home w X.sheet s b β f, X.wired.lead_low p (pQ R) (omega arith)) in
           let n : suc s ≡ s + 1 = omega arith in
-          let t = F.all s (omega (arith, r)) d (ap (λ k. get_or flags' k 0) (sym n) ∙ g) in (
-            ap (λ k. get_or active k 0) n ∙ t.0,
-            elim (either G P Q ahead lead home w X.sheet (suc s)) [
-              | inl e ↦ absurd (t.1 (ap (λ k. get_or ahead k 0) (sym n) ∙ X.sheet.code (suc s) r.1 ∙ end-code G P Q ahead lead home w X.sheet (suc s) e))
-              | inr e ↦ e
-            ],
-          )
+          omega (arith, F.all s (omega (arith, r)) d, g, ap (λ k. get_or flags' k 0) n)
 
 module _ {G : Grammar} {P : Places limits G} {Q : ℕ} {ahead lead next head home w row active flags : List ℕ} {q i j : ℕ}
     (X : LookAt G P Q ahead lead next head home w row active flags q i j) where
@@ -154,10 +147,10 @@ module _ {G : Grammar} {P : Places limits G} {Q : ℕ} {ahead lead next head hom
   pub rises-whole : (row' row'' : List ℕ) (rise hb : ℕ) → Settles (madeAt row ahead home w q i j) (itemCell (length w + 1) (q - 1) i j) rise row row' → 1 ≤ rise
       → (get_or ahead (q - 1) 0 ≡ 0 → ⊥) → (get_or lead (q - 1) 0 ≡ 0 → ⊥) → hb ≡ home_of home (get_or lead (q - 1) 0)
       → row'' ≡ set row' (wholeCell (length w + 1) hb i j) (cap (get_or row' (wholeCell (length w + 1) hb i j) 0 + rise))
-      → (flags' : List ℕ) (c : ℕ) → c ≡ get_or lead (q - 1) 0 - start limits → Flagged ahead active Q c (set flags q 0) flags'
-      → Working G P Q home w row'' active flags' i j
-  rises-whole row' row'' rise hb s o n z y d flags' c k F =
-      subst (λ r. Working G P Q home w r active flags' i j)
+      → (flags' : List ℕ) (c top t : ℕ) → c ≡ get_or lead (q - 1) 0 - start limits → Flagged ahead Q c top (set flags q 0) flags' → q ≤ t → top + 2 ≤ t
+      → Working G P Q home w row'' (set active (q - 1) 1) flags' t i j
+  rises-whole row' row'' rise hb s o n z y d flags' c top t k F x1 x2 =
+      subst (λ r. Working G P Q home w r (set active (q - 1) 1) flags' t i j)
       (sym (d ∙ ap₂ (λ r b. set r (wholeCell (length w + 1) b i j) (cap (get_or r (wholeCell (length w + 1) b i j) 0 + rise))) s.store y))
       (looks-whole (rise-of X row' rise s o n) (get_or lead (q - 1) 0) rise refl (omega arith) refl
-      flags' (subst (λ c. Flagged ahead active Q c (set flags q 0) flags') k F))
+      flags' top t (subst (λ c. Flagged ahead Q c top (set flags q 0) flags') k F) x1 x2)

@@ -1,7 +1,7 @@
 pub mod Cells
 pub mod MadeLaws
 pub mod Links
-pub mod Listing
+pub mod Covers
 pub mod Slack
 pub mod Reading
 pub mod Staying

@@ -6,14 +6,15 @@ use mathlib.Core.List.{List}
 use native.Mathlib.Omega.{arith}
 use lib.Dec.{eqb, ltb, leb}
 use lib.ListN.{length, get_or, set}
-use borrow.Author.Tests.{le-leb, lt-leb, eq-eqb, ne_eqb}
+use borrow.Author.Tests.{le-leb, lt-leb}
 use Rattle.grammar.specs.Basics.{choose}
 use Rattle.grammar.specs.Limits.{limits}
 use Rattle.grammar.specs.Grammar.{start}
 use Rattle.tree_laws.specs.Chart.{cap}
-use Rattle.counts.specs.Counts.{itemCell, wholeCell, splitsAt, SpanOf}
-use Rattle.counts.proofs.Laws.{none_before, set_same}
-use Rattle.chart.specs.Rows.{planeOf, home_of, madeAt, Span, Stored, Settles}
+use Rattle.tree_laws.proofs.Cap.{cap-most}
+use Rattle.counts.specs.Counts.{itemCell, splitsAt, SpanOf}
+use Rattle.counts.proofs.Laws.{set_same}
+use Rattle.chart.specs.Rows.{planeOf, home_of, madeAt, Span, Settles}
 use Rattle.chart.proofs.Cells.{run_fits}
 
 pub plane-in : (ahead : List ℕ) (q Q : ℕ) → q < Q → 4 ≤ Q → planeOf ahead q < Q
@@ -54,42 +55,12 @@ made-leaf row ahead home w q i j x z e h f =
     let g : get_or ahead (q - 1) 0 < start limits = omega arith in
     rw (lt-leb (start limits) (get_or ahead (q - 1) 0) g) (ap₂ (λ x z. choose (ltb i j && eqb (get_or w i 0) x) (get_or row (itemCell (length w + 1) z (i + 1) j) 0) 0) e f)
 
--- where nothing that comes after begins in the span
-pub made-late : (row ahead home w : List ℕ) (q i j x : ℕ) → x ≡ get_or ahead (q - 1) 0 → start limits ≤ x → (get_or ahead q 0 ≡ 0 → ⊥) → i ≤ j
-    → ((k : ℕ) → i ≤ k → k ≤ j → get_or row (itemCell (length w + 1) (planeOf ahead q) k j) 0 ≡ 0) → 0 ≡ madeAt row ahead home w q i j
-unfolding madeAt
-made-late row ahead home w q i j x e g n h z =
-    let l : start limits ≤ get_or ahead (q - 1) 0 = omega arith in
-    rw (le-leb (start limits) (get_or ahead (q - 1) 0) l, ne_eqb (get_or ahead q 0) 0 n)
-    (sym (none_before row (length w + 1) (home_of home (get_or ahead (q - 1) 0)) (planeOf ahead q) i j (suc (j - i)) (λ k a b. z k a (omega arith))))
-
--- before a nonterminal: past it something may follow, or nothing
-pub made-node : (row ahead home w : List ℕ) (q i j x h z : ℕ) → x ≡ get_or ahead (q - 1) 0 → start limits ≤ x → h ≡ home_of home x → z ≡ planeOf ahead q → (get_or ahead q 0 ≡ 0 → ⊥)
+pub made-node : (row ahead home w : List ℕ) (q i j x h z : ℕ) → x ≡ get_or ahead (q - 1) 0 → start limits ≤ x → h ≡ home_of home x → z ≡ planeOf ahead q
     → splitsAt row (length w + 1) h z i j (suc (j - i)) ≡ madeAt row ahead home w q i j
 unfolding madeAt
-made-node row ahead home w q i j x h z e g f k n =
+made-node row ahead home w q i j x h z e g f k =
     let l : start limits ≤ get_or ahead (q - 1) 0 = omega arith in
-    rw (le-leb (start limits) (get_or ahead (q - 1) 0) l, ne_eqb (get_or ahead q 0) 0 n) (ap₂ (λ h z. splitsAt row (length w + 1) h z i j (suc (j - i))) (f ∙ ap (home_of home) e) k)
-
-pub made-last : (row ahead home w : List ℕ) (q i j x h : ℕ) → x ≡ get_or ahead (q - 1) 0 → start limits ≤ x → h ≡ home_of home x → get_or ahead q 0 ≡ 0
-    → get_or row (wholeCell (length w + 1) h i j) 0 ≡ madeAt row ahead home w q i j
-unfolding madeAt
-made-last row ahead home w q i j x h e g f n =
-    let l : start limits ≤ get_or ahead (q - 1) 0 = omega arith in
-    rw (le-leb (start limits) (get_or ahead (q - 1) 0) l, eq-eqb (get_or ahead q 0) 0 n) (ap (λ h. get_or row (wholeCell (length w + 1) h i j) 0) (f ∙ ap (home_of home) e))
-
--- the count stays, or rises
-pub stored-none : (at k : ℕ) (row : List ℕ) → k ≡ at → Stored at 0 row row
-stored-none at k row e = subst (λ z. Stored z 0 row row) e (record {
-  store = sym (ap (set row k) (let q : get_or row k 0 + 0 ≡ get_or row k 0 = omega arith in q) ∙ set_same row k);
-  most = λ p. absurd (omega arith);
-})
-
-pub stored-rise : (at k v : ℕ) (row : List ℕ) → k ≡ at → v ≤ 2 → get_or row k 0 < v → Stored at (v - get_or row k 0) row (set row k v)
-stored-rise at k v row e f h = subst (λ z. Stored z (v - get_or row k 0) row (set row k v)) e (record {
-  store = ap (set row k) (let q : v ≡ get_or row k 0 + (v - get_or row k 0) = omega arith in q);
-  most = λ p. omega arith;
-})
+    rw (le-leb (start limits) (get_or ahead (q - 1) 0) l) (ap₂ (λ h z. splitsAt row (length w + 1) h z i j (suc (j - i))) (f ∙ ap (home_of home) e) k)
 
 pub settles-none : (made at k : ℕ) (row : List ℕ) → k ≡ at → cap made ≤ get_or row k 0 → Settles made at 0 row row
 settles-none made at k row e h = subst (λ z. Settles made z 0 row row) e (record {
@@ -97,6 +68,9 @@ settles-none made at k row e h = subst (λ z. Settles made z 0 row row) e (recor
   enough = omega arith;
   exact = λ p. absurd (omega arith);
 })
+
+pub settles-full : (made at k : ℕ) (row : List ℕ) → k ≡ at → 2 ≤ get_or row k 0 → Settles made at 0 row row
+settles-full made at k row e h = settles-none made at k row e (omega (arith, cap-most made))
 
 pub settles-rise : (made at k v : ℕ) (row : List ℕ) → k ≡ at → v ≡ cap made → get_or row k 0 < v → Settles made at (v - get_or row k 0) row (set row k v)
 settles-rise made at k v row e f h = subst (λ z. Settles made z (v - get_or row k 0) row (set row k v)) e (record {

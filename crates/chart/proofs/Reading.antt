@@ -13,9 +13,8 @@ use Rattle.grammar.specs.Limits.{limits}
 use Rattle.grammar.specs.Grammar.{Grammar, start}
 use Rattle.grammar.proofs.Answers.{and_both}
 use Rattle.tree_laws.specs.Chart.{Places, splits, made}
-use Rattle.tree_laws.proofs.Settled.{end-splits}
-use Rattle.counts.specs.Counts.{itemCell, wholeCell, splitsAt}
-use Rattle.counts.proofs.View.{read_whole, read-item, read-end, read-splits}
+use Rattle.counts.specs.Counts.{itemCell, splitsAt}
+use Rattle.counts.proofs.View.{read-item, read-end, read-splits}
 use Rattle.chart.specs.Rows.{planeOf, home_of, madeAt}
 use Rattle.chart.specs.Filling.{code_of, Sheet, chartOf, Counted}
 use Rattle.chart.proofs.MadeLaws.{home-in}
@@ -54,10 +53,6 @@ module _ (G : Grammar) (P : Places limits G) (Q : ℕ) (ahead lead home w : List
   pub homes : (b : ℕ) → eqb (code_of (P.rest (home_of home b))) 0 ≡ true
   homes b = outer (home_of home b) (S.home-end b)
 
-  -- an end derives the empty row only
-  pub end-item : (row : List ℕ) (p i j : ℕ) → P.rest p ≡ [] → (chartOf G P Q home w row).item p i j ≡ choose (eqb i j) 1 0
-  end-item row p i j e = read-end Q (length w + 1) (λ p. eqb (code_of (P.rest p)) 0) (home_of home) row p i j (outer p e)
-
   module _ (row : List ℕ) (C : Counted G P Q home w row) (in-home : (c : ℕ) → get_or home c 0 < Q) where
     abbrev m : ℕ
     m = length w + 1
@@ -78,9 +73,8 @@ module _ (G : Grammar) (P : Places limits G) (Q : ℕ) (ahead lead home w : List
         → made limits G w (chartOf G P Q home w row) x p i j ≡ madeAt row ahead home w (suc p) i j
     unfolding made madeAt
     read_made p x i j α e h g =
-        go (leb (start limits) x) (ltb i j && eqb (get_or w i 0) x) (eqb (get_or ahead (suc p) 0) 0) refl refl
-        ∙ ap (λ k. choose (leb (start limits) k)
-        (choose (eqb (get_or ahead (suc p) 0) 0) (get_or row (wholeCell (length w + 1) (home_of home k) i j) 0) (splitsAt row (length w + 1) (home_of home k) (planeOf ahead (suc p)) i j (suc (j - i))))
+        go (leb (start limits) x) (ltb i j && eqb (get_or w i 0) x) refl
+        ∙ ap (λ k. choose (leb (start limits) k) (splitsAt row (length w + 1) (home_of home k) (planeOf ahead (suc p)) i j (suc (j - i)))
         (choose (ltb i j && eqb (get_or w i 0) k) (get_or row (itemCell (length w + 1) (planeOf ahead (suc p)) (i + 1) j) 0) 0)) same
       where
         r : (2 ≤ p) × (suc p < Q)
@@ -95,21 +89,13 @@ module _ (G : Grammar) (P : Places limits G) (Q : ℕ) (ahead lead home w : List
         next : suc i ≡ i + 1
         next = omega arith
 
-        homed : home_of home x < Q
-        homed = home-in home x Q in-home (omega (arith, r))
-
-        go : (t u s : Bool) → (ltb i j && eqb (get_or w i 0) x) ≡ u → eqb (get_or ahead (suc p) 0) 0 ≡ s
+        go : (t u : Bool) → (ltb i j && eqb (get_or w i 0) x) ≡ u
             → choose t (splits (chartOf G P Q home w row) x (suc p) i j (suc (j - i))) (choose u ((chartOf G P Q home w row).item (suc p) (suc i) j) 0)
-            ≡ choose t (choose s (get_or row (wholeCell (length w + 1) (home_of home x) i j) 0) (splitsAt row (length w + 1) (home_of home x) (planeOf ahead (suc p)) i j (suc (j - i))))
-            (choose u (get_or row (itemCell (length w + 1) (planeOf ahead (suc p)) (i + 1) j) 0) 0)
-        go true u true v y =
-            let z : code_of (P.rest (suc p)) ≡ 0 = sym (S.code (suc p) r.1) ∙ eqb-true (get_or ahead (suc p) 0) 0 y in
-            end-splits limits G w (chartOf G P Q home w row) x (suc p) i j h (λ k. end-item row (suc p) k j (no_code (suc p) z))
-            ∙ read_whole Q (length w + 1) (λ p. eqb (code_of (P.rest p)) 0) (home_of home) row x i j homed (omega arith) g
-        go true u false v y =
-            read-splits Q (length w + 1) (λ p. eqb (code_of (P.rest p)) 0) (home_of home) row x (suc p) (planeOf ahead (suc p)) homed
+            ≡ choose t (splitsAt row (length w + 1) (home_of home x) (planeOf ahead (suc p)) i j (suc (j - i))) (choose u (get_or row (itemCell (length w + 1) (planeOf ahead (suc p)) (i + 1) j) 0) 0)
+        go true u v =
+            read-splits Q (length w + 1) (λ p. eqb (code_of (P.rest p)) 0) (home_of home) row x (suc p) (planeOf ahead (suc p)) (home-in home x Q in-home (omega (arith, r)))
             (λ i j a b. read-plane (suc p) i j r.1 a b) i j (suc (j - i)) (omega arith) g
-        go false true s v y =
+        go false true v =
             let z = ltb-true i j (and_both (ltb i j) (eqb (get_or w i 0) x) v).0 in
             read-plane (suc p) (suc i) j r.1 (omega arith) g ∙ ap (λ k. get_or row (itemCell (length w + 1) (planeOf ahead (suc p)) k j) 0) next
-        go false false s v y = refl
+        go false false v = refl

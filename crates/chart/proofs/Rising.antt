@@ -6,7 +6,7 @@ use mathlib.Core.Logic.{◌⊎◌, inl, inr}
 use native.Mathlib.Omega.{arith}
 use native.Mathlib.Decide.{ℕ_discrete}
 use lib.Dec.{eqb}
-use lib.ListN.{length, get_or, set}
+use lib.ListN.{length, get_or, set, length-set}
 use lib.Seq.{get_or-set_same, get_or-set_other}
 use Rattle.grammar.specs.Basics.{choose}
 use Rattle.grammar.specs.Limits.{limits}
@@ -27,7 +27,7 @@ use Rattle.chart.specs.Rows.{home_of, madeAt, Settles}
 use Rattle.chart.specs.Filling.{code_of, chartOf, Working}
 use Rattle.chart.proofs.Cells.{cell-fits}
 use Rattle.chart.proofs.Reading.{some-code, end-code, inner, either, homes}
-use Rattle.chart.proofs.Staying.{LookAt, drop-flag, back, read_count, read-cap}
+use Rattle.chart.proofs.Staying.{LookAt, drop-flag, set-flag, back, low, read_count, read-cap}
 
 -- the state before q is no end, and what is made of its count is more than it has
 pub record Rise {G : Grammar} {P : Places limits G} {Q : ℕ} {ahead lead next head home w row active flags : List ℕ} {q i j : ℕ}
@@ -110,11 +110,9 @@ module _ {G : Grammar} {P : Places limits G} {Q : ℕ} {ahead lead next head hom
       deep n u y (inl f) = omega (arith, X.working.counted.deep, nonzeros-more row (itemCell m p i j) v fits f (omega (arith, R.more)))
       deep n u y (inr f) = omega (arith, X.working.counted.deep, u (omega (arith, read_count X R.code R.after R.rest)), nonzeros-keep row (itemCell m p i j) v (omega (arith, R.more)))
 
-  -- no rule begins at p: it is marked and flagged
-  pub looks-item : (active' flags' : List ℕ) → get_or lead p 0 ≡ 0 → ((h : ℕ) → get_or active' h 0 ≡ 0 → (get_or active h 0 ≡ 0) × (h ≡ p → ⊥))
-      → get_or active' p 0 ≡ i + 1 → ((h : ℕ) → (h ≡ p → ⊥) → get_or active' h 0 ≡ get_or active h 0)
-      → ((h : ℕ) → get_or flags' h 0 ≡ 0 → (get_or (set flags q 0) h 0 ≡ 0) × (h ≡ p → ⊥)) → Working G P Q home w risen active' flags' i j
-  looks-item active' flags' z ma mh mo mf = record {
+  -- no rule begins at p
+  pub looks-item : get_or lead p 0 ≡ 0 → Working G P Q home w risen (set active p 1) (set (set flags q 0) p 1) q i j
+  looks-item z = record {
     counted = record {
       small = sounded.small;
       ones = sounded.ones;
@@ -124,15 +122,13 @@ module _ {G : Grammar} {P : Places limits G} {Q : ℕ} {ahead lead next head hom
       sound = subst (SoundTo limits G w P sounded.depth) (sym view) sounded.sound;
       sums = subst (Sums limits G w P) (sym view) (sums-item limits G w P old p i j v (λ r y f. no_lead r y f) X.working.counted.sums);
     };
-    looking = subst (λ D. Looking limits G w P Q D (λ k. get_or active' k 0) (λ k. get_or flags' k 0) i j) (sym view)
-        (look-item limits G w P Q old (λ k. get_or active k 0) (λ k. get_or active' k 0) (λ k. get_or flags k 0) (λ k. get_or flags' k 0)
-        p R.code v q i j R.after X.working.looking (sym (back X)) X.span.rises R.rest (omega (arith, exact))
-        (λ k f. (ma k f).0)
-        (λ s y β u f o. (ma (suc s) f).1 o)
-        mo
-        (λ s y β u o. omega (arith, mh, ap (λ k. get_or active' k 0) o))
-        (λ k f. drop-flag flags q k (mf k f).0)
-        (λ s y β u f o. (mf (suc s) f).1 o));
+    looking = subst (λ D. Looking limits G w P Q D (λ k. get_or (set active p 1) k 0) (λ k. get_or (set (set flags q 0) p 1) k 0) q i j) (sym view)
+        (look-item limits G w P Q old (λ k. get_or active k 0) (λ k. get_or (set active p 1) k 0) (λ k. get_or flags k 0) (λ k. get_or (set (set flags q 0) p 1) k 0)
+        p R.code v q q i j R.after X.working.looking (sym (back X)) X.span.rises R.rest (omega (arith, exact))
+        (λ k f. set-flag active p k (omega (arith, X.inside, X.long)) f)
+        (λ k f. drop-flag flags q k (set-flag (set flags q 0) p k (omega (arith, X.inside, X.long, length-set flags q 0)) f).0)
+        (λ s y β u f o. (set-flag (set flags q 0) p (suc s) (omega (arith, X.inside, X.long, length-set flags q 0)) f).1 o)
+        (λ k y f. get_or-set_other (set flags q 0) p k 1 0 (λ o. omega (arith, X.inside)) ∙ low X k y f));
   }
     where
       no_lead : (r : ℕ) → IsRule G r → P.first r ≡ p → ⊥
@@ -148,9 +144,7 @@ module _ {G : Grammar} {P : Places limits G} {Q : ℕ} {ahead lead next head hom
     | inr e ↦ record { code = e.0; after = e.1.0; rest = e.1.1; exact = s.exact o; more = omega arith }
   ]
 
-  pub rises-item : (row' active' flags' : List ℕ) (rise : ℕ) → Settles (madeAt row ahead home w q i j) (itemCell (length w + 1) (q - 1) i j) rise row row' → 1 ≤ rise
-      → (get_or ahead (q - 1) 0 ≡ 0 → ⊥) → get_or lead (q - 1) 0 ≡ 0 → ((h : ℕ) → get_or active' h 0 ≡ 0 → (get_or active h 0 ≡ 0) × (h ≡ q - 1 → ⊥))
-      → get_or active' (q - 1) 0 ≡ i + 1 → ((h : ℕ) → (h ≡ q - 1 → ⊥) → get_or active' h 0 ≡ get_or active h 0)
-      → ((h : ℕ) → get_or flags' h 0 ≡ 0 → (get_or (set flags q 0) h 0 ≡ 0) × (h ≡ q - 1 → ⊥)) → Working G P Q home w row' active' flags' i j
-  rises-item row' active' flags' rise s o n z ma mh mo mf =
-      subst (λ r. Working G P Q home w r active' flags' i j) (sym s.store) (looks-item (rise-of row' rise s o n) active' flags' z ma mh mo mf)
+  pub rises-item : (row' : List ℕ) (rise : ℕ) → Settles (madeAt row ahead home w q i j) (itemCell (length w + 1) (q - 1) i j) rise row row' → 1 ≤ rise → (get_or ahead (q - 1) 0 ≡ 0 → ⊥)
+      → get_or lead (q - 1) 0 ≡ 0 → Working G P Q home w row' (set active (q - 1) 1) (set (set flags q 0) (q - 1) 1) q i j
+  rises-item row' rise s o n z =
+      subst (λ r. Working G P Q home w r (set active (q - 1) 1) (set (set flags q 0) (q - 1) 1) q i j) (sym s.store) (looks-item (rise-of row' rise s o n) z)

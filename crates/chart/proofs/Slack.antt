@@ -5,8 +5,8 @@ use mathlib.Core.List.{List, [], ◌∷◌}
 use native.Mathlib.Omega.{arith}
 use lib.ListN.{length, get_or, set}
 use Rattle.tree_laws.specs.Chart.{cap}
-use Rattle.tree_laws.proofs.Cap.{cap-same, cap-many}
-use Rattle.chart.specs.Rows.{slack, Stored}
+use Rattle.tree_laws.proofs.Cap.{cap-same, cap-many, cap-most}
+use Rattle.chart.specs.Rows.{slack, Settles}
 
 slack-less : (l : List ℕ) (k v : ℕ) → k < length l → 2 - v < 2 - get_or l k 0 → slack (set l k v) < slack l
 unfolding slack
@@ -20,10 +20,11 @@ slack-keeps [] k v g = omega arith
 slack-keeps (x ∷ l) zero v g = omega arith
 slack-keeps (x ∷ l) (suc k) v g = omega (arith, slack-keeps l k v g)
 
--- a count that rises to 2 at most was below 2
-pub stored-slack : {at rise : ℕ} {row row' : List ℕ} → Stored at rise row row' → at < length row → 1 ≤ rise → slack row' < slack row
-stored-slack {at} {rise} {row} s h g =
-    let z : slack (set row at (get_or row at 0 + rise)) < slack row = slack-less row at (get_or row at 0 + rise) h (omega (arith, s.most g)) in
+-- a count that rises to a capped number was below 2
+pub settles-slack : {made at rise : ℕ} {row row' : List ℕ} → Settles made at rise row row' → at < length row → 1 ≤ rise → slack row' < slack row
+settles-slack {made} {at} {rise} {row} s h g =
+    let q = s.exact g in
+    let z : slack (set row at (get_or row at 0 + rise)) < slack row = slack-less row at (get_or row at 0 + rise) h (omega (arith, cap-most made)) in
     omega (arith, ap slack s.store)
 
 whole-slack : (row : List ℕ) (k rise : ℕ) → slack (set row k (cap (get_or row k 0 + rise))) ≤ slack row
@@ -35,8 +36,8 @@ whole-slack row k rise = slack-keeps row k (cap (get_or row k 0 + rise)) (low (g
     low (suc zero) (suc y) = omega (arith, cap-many (suc zero + suc y) (omega arith))
     low (suc (suc x)) y = omega (arith, cap-many (suc (suc x) + y) (omega arith))
 
-pub stored-keeps : {at rise : ℕ} {row row' : List ℕ} → Stored at rise row row' → slack row' ≤ slack row
-stored-keeps {at = at} {rise} {row} s =
+pub settles-keeps : {made at rise : ℕ} {row row' : List ℕ} → Settles made at rise row row' → slack row' ≤ slack row
+settles-keeps {at = at} {rise} {row} s =
     let z : slack (set row at (get_or row at 0 + rise)) ≤ slack row = slack-keeps row at (get_or row at 0 + rise) (omega arith) in
     omega (arith, ap slack s.store)
 

@@ -51,15 +51,15 @@ module _ (G : Grammar) (P : Places limits G) (Q : ℕ) (home w : List ℕ) where
     pub sums : Sums limits G w P (chartOf row)
 
   -- the span from i to j is at work
-  pub record Working (row active flags : List ℕ) (i j : ℕ) : Type 0 where
+  pub record Working (row active flags : List ℕ) (q i j : ℕ) : Type 0 where
     pub counted : Counted row
-    pub looking : Looking limits G w P Q (chartOf row) (λ p. get_or active p 0) (λ p. get_or flags p 0) i j
+    pub looking : Looking limits G w P Q (chartOf row) (λ p. get_or active p 0) (λ p. get_or flags p 0) q i j
 
   -- the spans that end before j are done, and those that end there and begin at i or later
   pub record Filled (row active : List ℕ) (i j : ℕ) : Type 0 where
     pub counted : Counted row
     pub past : Past limits G w P Q (chartOf row) i j
-    pub column : Column limits G w P Q (chartOf row) (λ p. get_or active p 0) i j
+    pub column : Column limits G w P Q (chartOf row) (λ p. get_or active p 0) j
 
   -- nothing is counted yet but ends and empty right sides
   pub record Begun (row : List ℕ) : Type 0 where
@@ -72,9 +72,9 @@ module _ (G : Grammar) (P : Places limits G) (Q : ℕ) (home w : List ℕ) where
     pub settled : (p x k l : ℕ) (α : List ℕ) → P.rest p ≡ x ∷ α → k ≤ l → l ≤ length w → Settled limits G w (chartOf row) x p k l
 
 -- whatever grammar the rows show: a look keeps what is known of the span at work
-abbrev pub Looks : (Q : ℕ) (ahead lead home w row row' active active' flags flags' : List ℕ) (i j : ℕ) → Type 0
-Looks Q ahead lead home w row row' active active' flags flags' i j =
-    (G : Grammar) (P : Places limits G) → Sheet G P Q ahead lead home → Working G P Q home w row active flags i j → Working G P Q home w row' active' flags' i j
+abbrev pub Looks : (Q : ℕ) (ahead lead home w row row' active active' flags flags' : List ℕ) (q r i j : ℕ) → Type 0
+Looks Q ahead lead home w row row' active active' flags flags' q r i j =
+    (G : Grammar) (P : Places limits G) → Sheet G P Q ahead lead home → Working G P Q home w row active flags (suc q) i j → Working G P Q home w row' active' flags' r i j
 
 -- from one span that is done to another
 abbrev pub Fills : (Q : ℕ) (ahead lead home w row row' active active' : List ℕ) (k l i j : ℕ) → Type 0

@@ -8,8 +8,7 @@ use Rattle.grammar.specs.Limits.{limits}
 use Rattle.grammar.specs.Grammar.{start}
 use Rattle.trees.specs.Trees.{places}
 use Rattle.tree_laws.specs.Chart.{cap}
-use Rattle.counts.specs.Counts.{itemCell, wholeCell, splitsAt}
-use Rattle.counts.specs.View.{nonzeros}
+use Rattle.counts.specs.Counts.{itemCell, splitsAt}
 
 -- the plane of a state's counts: all ends share that of state 3
 unfoldable pub planeOf : List ℕ → ℕ → ℕ
@@ -19,13 +18,11 @@ planeOf ahead p = choose (eqb (get_or ahead p 0) 0) 3 p
 unfoldable pub home_of : List ℕ → ℕ → ℕ
 home_of home b = choose (leb (start limits) b) (get_or home (b - start limits) 0) 0
 
--- what the work row makes of the count of the state before q, from i to j: before an end a nonterminal derives all of it
+-- what the work row makes of the count of the state before q, from i to j
 unfoldable pub madeAt : List ℕ → List ℕ → List ℕ → List ℕ → ℕ → ℕ → ℕ → ℕ
 madeAt row ahead home w q i j =
     choose (leb (start limits) (get_or ahead (q - 1) 0))
-    (choose (eqb (get_or ahead q 0) 0)
-    (get_or row (wholeCell (length w + 1) (home_of home (get_or ahead (q - 1) 0)) i j) 0)
-    (splitsAt row (length w + 1) (home_of home (get_or ahead (q - 1) 0)) (planeOf ahead q) i j (suc (j - i))))
+    (splitsAt row (length w + 1) (home_of home (get_or ahead (q - 1) 0)) (planeOf ahead q) i j (suc (j - i)))
     (choose (ltb i j && eqb (get_or w i 0) (get_or ahead (q - 1) 0)) (get_or row (itemCell (length w + 1) (planeOf ahead q) (i + 1) j) 0) 0)
 
 -- the codes ahead and the homes are in range
@@ -60,53 +57,39 @@ pub record Span (row : List ℕ) (Q m i j : ℕ) : Type 0 where
   pub rises : i ≤ j
   pub inside : j < m
 
--- nothing that comes from q on begins more than one before a mark, from i to j, where q is no end
-abbrev pub Bounded : (row ahead w : List ℕ) (q a i j : ℕ) → Type 0
-Bounded row ahead w q a i j = (get_or ahead q 0 ≡ 0 → ⊥) → (k : ℕ) → i ≤ k → k ≤ j → k + 1 < a → get_or row (itemCell (length w + 1) (planeOf ahead q) k j) 0 ≡ 0
-
--- one count raised, to 2 at most; by how much
-pub record Stored (at rise : ℕ) (row row' : List ℕ) : Type 0 where
-  pub store : row' ≡ set row at (get_or row at 0 + rise)
-  pub most : 1 ≤ rise → get_or row at 0 + rise ≤ 2
-
--- and to what is made of it
+-- one count raised to what is made of it; by how much
 pub record Settles (made at rise : ℕ) (row row' : List ℕ) : Type 0 where
   pub store : row' ≡ set row at (get_or row at 0 + rise)
   pub enough : cap made ≤ get_or row at 0 + rise
   pub exact : 1 ≤ rise → get_or row at 0 + rise ≡ cap made
 
--- the first entries are the states that have a mark, each of them once
-pub record Listed (Q : ℕ) (marks entries : List ℕ) (count : ℕ) : Type 0 where
-  pub few : Q ≤ limits.maxStates
-  pub long : length marks ≡ limits.maxStates
-  pub room : length entries ≡ limits.maxStates
-  pub most : count ≤ nonzeros marks
-  pub held : (k : ℕ) → k < count → (1 ≤ get_or entries k 0) × (get_or entries k 0 < Q) × (1 ≤ get_or marks (get_or entries k 0) 0)
-  pub once : (k l : ℕ) → k < l → l < count → get_or entries k 0 ≡ get_or entries l 0 → ⊥
-  pub all : (h : ℕ) → h < Q → 1 ≤ get_or marks h 0 → (k : ℕ) × ((k < count) × (get_or entries k 0 ≡ h))
-
--- a state is put into a list with a mark
-pub record Puts (Q q v : ℕ) (marks marks' entries' : List ℕ) (count' : ℕ) : Type 0 where
-  pub listed : Listed Q marks' entries' count'
-  pub marked : (h : ℕ) → get_or marks' h 0 ≡ 0 → (get_or marks h 0 ≡ 0) × (h ≡ q → ⊥)
-  pub here : get_or marks' q 0 ≡ v
-  pub others : (h : ℕ) → (h ≡ q → ⊥) → get_or marks' h 0 ≡ get_or marks h 0
-
--- the state just past p has a flag if it is an end or something is counted for it
-abbrev pub Told : (ahead active flags : List ℕ) (p : ℕ) → Type 0
-Told ahead active flags p = get_or flags (p + 1) 0 ≡ 0 → (get_or active (p + 1) 0 ≡ 0) × (get_or ahead (p + 1) 0 ≡ 0 → ⊥)
-
--- so it is of all states before a nonterminal, and no flag is dropped
-pub record Flagged (ahead active : List ℕ) (Q c : ℕ) (flags flags' : List ℕ) : Type 0 where
-  pub all : (p : ℕ) → p < Q → get_or ahead p 0 ≡ start limits + c → Told ahead active flags' p
+-- the flags just past the states before a nonterminal are set, the others are as they were
+pub record Flagged (ahead : List ℕ) (Q c top : ℕ) (flags flags' : List ℕ) : Type 0 where
+  pub all : (p : ℕ) → p < Q → get_or ahead p 0 ≡ start limits + c → get_or flags' (p + 1) 0 ≡ 1
   pub kept : (h : ℕ) → get_or flags' h 0 ≡ 0 → get_or flags h 0 ≡ 0
+  pub above : (h : ℕ) → top + 1 < h → get_or flags' h 0 ≡ get_or flags h 0
 
 -- while the states before a nonterminal are followed down to p
-pub record Mentioning (ahead active : List ℕ) (Q c p : ℕ) (flags flags' : List ℕ) : Type 0 where
+pub record Mentioning (ahead : List ℕ) (Q c top p : ℕ) (flags flags' : List ℕ) : Type 0 where
   pub room : p + 1 < Q
+  pub below : p ≤ top
   pub same : 1 ≤ p → get_or ahead p 0 ≡ start limits + c
-  pub all : (s : ℕ) → p < s → s < Q → get_or ahead s 0 ≡ start limits + c → Told ahead active flags' s
+  pub all : (s : ℕ) → p < s → s < Q → get_or ahead s 0 ≡ start limits + c → get_or flags' (s + 1) 0 ≡ 1
   pub kept : (h : ℕ) → get_or flags' h 0 ≡ 0 → get_or flags h 0 ≡ 0
+  pub above : (h : ℕ) → top + 1 < h → get_or flags' h 0 ≡ get_or flags h 0
+  pub size : length flags' ≡ length flags
+
+-- how many flags share a byte
+abbrev pub block : ℕ
+block = 32
+
+-- where the byte of a block is 0, no flag of it is set
+pub record Covered (Q : ℕ) (flags blocks : List ℕ) : Type 0 where
+  pub unset : (h : ℕ) → h < Q → get_or blocks (h / block) 0 ≡ 0 → get_or flags h 0 ≡ 0
+
+-- no flag is set from q on
+abbrev pub Clear : (Q : ℕ) (flags : List ℕ) (q : ℕ) → Type 0
+Clear Q flags q = (h : ℕ) → q ≤ h → h < Q → get_or flags h 0 ≡ 0
 
 -- how far the counts of a row are from 2, together: a rise makes this less
 unfoldable pub slack : List ℕ → ℕ

@@ -1,170 +1,56 @@
 // The chart of a row of terminals, filled span by span: those that end first, and of these the shortest, come first.
-ghost use Rattle.std.specs.Prelude.{ℕ, suc, ◌+◌, ◌*◌, ◌≤◌, ◌<◌, ◌≡◌, false, length, get_or};
+ghost use Rattle.std.specs.Prelude.{ℕ, suc, ◌+◌, ◌*◌, ◌≤◌, ◌<◌, ◌≡◌, length, get_or};
 ghost use Rattle.grammar.specs.Limits.{limits};
-ghost use Rattle.chart.specs.Rows.{Wired, Span, Listed};
+ghost use Rattle.chart.specs.Rows.{Wired, Span, block};
 ghost use Rattle.chart.specs.Filling.{Fills, FillsColumn, FillsAll};
-ghost use Rattle.chart_fill.specs.Begin.{Mute, Entries, Kept, Begins};
+ghost use Rattle.chart_fill.specs.Scan.{Finds};
 
-use chart::{look, put, take, wide};
-use grammar::{MAX_NONTERMINALS, MAX_STATES, NONTERMINAL_BASE};
+use chart::{BLOCK, look};
+use grammar::{MAX_NONTERMINALS, MAX_STATES};
 
-// May the count of the state before q rise where a span begins? Before a terminal only if that is the row's.
-fn may_rise<'a>(ahead: &'a [u16; MAX_STATES], row: &'a [u16], q: usize, i: usize, j: usize) -> bool
-    requires { (1 ≤ q) × (q < limits.maxStates) × (j ≤ length row.now) }
-    ensures { result ≡ false → Mute ahead.now row.now q i j }
+// So many blocks have flags for all states.
+pub const BLOCKS: usize = MAX_STATES / BLOCK;
+
+// The place from which on, up to q, no flag is set: just past one that is, or low.
+fn below(flags: &[u8; MAX_STATES], low: usize, q: usize) -> usize
+    requires { (low ≤ q) × (q ≤ limits.maxStates) }
+    ensures { (low ≤ result) × (result ≤ q) × ((h : ℕ) → result ≤ h → h < q → get_or flags.now h 0 ≡ 0) }
 {
-    let x = ahead[q - 1];
-    if NONTERMINAL_BASE <= x {
-        return true;
+    let mut p = q;
+    while low < p {
+        if flags[p - 1] != 0 {
+            return p;
+        }
+        p -= 1;
     }
-    if j <= i {
-        return false;
-    }
-    if row[i] != x {
-        return false;
-    }
-    true
+    p
 }
 
-// Lists the state q if the count of the one before it may rise; how many are listed then.
-fn flag<'a>(
-    ahead: &'a [u16; MAX_STATES],
-    row: &'a [u16],
-    flags: &'a mut [u8],
-    todo: &'a mut [u16],
-    depth: usize,
-    states: usize,
-    q: usize,
-    i: usize,
-    j: usize,
-) -> usize
-    requires listed { Listed states flags.old todo.old depth }
-    requires le_q { (1 ≤ q) × (q < states) × (j ≤ length row.now) }
-    ensures listed_2 { Listed states flags.new todo.new result }
-    ensures kept { Kept flags.old flags.new }
-    ensures mute { get_or flags.new q 0 ≡ 0 → Mute ahead.now row.now q i j }
+// Where no flag is set from q on: the place just past the next one that is, or at most 3. Blocks whose byte is 0 are passed over, and
+// the byte of a block is cleared where no flag of it is left.
+fn find<'a>(flags: &'a [u8; MAX_STATES], states: usize, q: usize, blocks: &'a mut [u8]) -> usize
+    requires { (q ≤ states) × (states ≤ limits.maxStates) × (states ≤ block * length blocks.old) }
+    ensures upper_bound { result ≤ q }
+    ensures finds { Finds states flags.now blocks.old blocks.new q result }
 {
-    if may_rise(ahead, row, q, i, j) {
-        return put(flags, todo, depth, states, q, 1);
+    let mut p = q;
+    // the lowest state with a symbol ahead is 2, and its flag is that of state 3
+    while 3 < p {
+        let b = (p - 1) / BLOCK;
+        let low = b * BLOCK;
+        if blocks[b] != 0 {
+            p = below(flags, low, p);
+            if low < p {
+                return p;
+            }
+            blocks[b] = 0;
+        }
+        p = low;
     }
-    depth
+    p
 }
 
-// Lists the states that wait; how many are listed then.
-fn flag_waiting<'a>(
-    ahead: &'a [u16; MAX_STATES],
-    row: &'a [u16],
-    waiting: &'a [u16],
-    waits: usize,
-    flags: &'a mut [u8],
-    todo: &'a mut [u16],
-    states: usize,
-    i: usize,
-    j: usize,
-) -> usize
-    requires listed { Listed states flags.old todo.old 0 }
-    requires entries { Entries states waiting.now waits }
-    requires j_in_bounds { j ≤ length row.now }
-    ensures listed_2 { Listed states flags.new todo.new result }
-    ensures by_index { (k : ℕ) → k < waits → get_or flags.new (get_or waiting.now k 0) 0 ≡ 0 → Mute ahead.now row.now (get_or waiting.now k 0) i j }
-{
-    let mut depth = 0;
-    let mut k = 0;
-    while k < waits {
-        depth = flag(
-            ahead,
-            row,
-            flags,
-            todo,
-            depth,
-            states,
-            wide(waiting[k]),
-            i,
-            j,
-        );
-        k += 1;
-    }
-    depth
-}
-
-// Lists the state p if it is an end; how many are listed then.
-fn flag_end<'a>(
-    ahead: &'a [u16; MAX_STATES],
-    row: &'a [u16],
-    flags: &'a mut [u8],
-    todo: &'a mut [u16],
-    depth: usize,
-    states: usize,
-    p: usize,
-    i: usize,
-    j: usize,
-) -> usize
-    requires listed { Listed states flags.old todo.old depth }
-    requires le_p { (1 ≤ p) × (p < states) × (j ≤ length row.now) }
-    ensures listed_2 { Listed states flags.new todo.new result }
-    ensures kept { Kept flags.old flags.new }
-    ensures mute { get_or ahead.now p 0 ≡ 0 → get_or flags.new p 0 ≡ 0 → Mute ahead.now row.now p i j }
-{
-    if ahead[p] != 0 {
-        return depth;
-    }
-    flag(ahead, row, flags, todo, depth, states, p, i, j)
-}
-
-// Lists the ends; how many states are listed then.
-fn flag_ends<'a>(
-    ahead: &'a [u16; MAX_STATES],
-    row: &'a [u16],
-    flags: &'a mut [u8],
-    todo: &'a mut [u16],
-    depth: usize,
-    states: usize,
-    i: usize,
-    j: usize,
-) -> usize
-    requires listed { Listed states flags.old todo.old depth }
-    requires j_in_bounds { j ≤ length row.now }
-    ensures listed_2 { Listed states flags.new todo.new result }
-    ensures kept { Kept flags.old flags.new }
-    ensures by_index { (p : ℕ) → 3 ≤ p → p < states → get_or ahead.now p 0 ≡ 0 → get_or flags.new p 0 ≡ 0 → Mute ahead.now row.now p i j }
-{
-    let mut d = depth;
-    // the lowest state with a symbol ahead is 2
-    let mut p = 3;
-    while p < states {
-        d = flag_end(ahead, row, flags, todo, d, states, p, i, j);
-        p += 1;
-    }
-    d
-}
-
-// Lists what is to be looked at first in a span: the states that wait, and ends only where the span has at most one terminal, since
-// nothing of a longer one is counted yet; how many are listed.
-fn begin<'a>(
-    ahead: &'a [u16; MAX_STATES],
-    row: &'a [u16],
-    waiting: &'a [u16],
-    waits: usize,
-    flags: &'a mut [u8],
-    todo: &'a mut [u16],
-    states: usize,
-    i: usize,
-    j: usize,
-) -> usize
-    requires listed { Listed states flags.old todo.old 0 }
-    requires entries { Entries states waiting.now waits }
-    requires i_le_j { (i ≤ j) × (j ≤ length row.now) }
-    ensures listed_2 { Listed states flags.new todo.new result }
-    ensures begins { Begins states ahead.now row.now waiting.now flags.new waits i j }
-{
-    let depth = flag_waiting(ahead, row, waiting, waits, flags, todo, states, i, j);
-    if i + 1 < j {
-        return depth;
-    }
-    flag_ends(ahead, row, flags, todo, depth, states, i, j)
-}
-
-// The span from i to j; how many states wait after it.
+// The span from i to j; `active` marks the states of which something is counted up to j.
 fn span<'a>(
     work: &'a mut [u32],
     ahead: &'a [u16; MAX_STATES],
@@ -173,50 +59,42 @@ fn span<'a>(
     head: &'a [u16; MAX_NONTERMINALS],
     home: &'a [u16; MAX_NONTERMINALS],
     row: &'a [u16],
-    active: &'a mut [u8],
-    waiting: &'a mut [u16],
-    waits: usize,
-    flags: &'a mut [u8],
-    todo: &'a mut [u16],
+    active: [u8; MAX_STATES],
     states: usize,
     i: usize,
     j: usize,
-) -> usize
+) -> [u8; MAX_STATES]
     requires wired { Wired states ahead.now lead.now next.now head.now home.now }
     requires span { Span work.old states (length row.now + 1) i j }
-    requires listed { Listed states active.old waiting.old waits }
-    requires listed_2 { Listed states flags.old todo.old 0 }
-    ensures fills { Fills states ahead.now lead.now home.now row.now work.old work.new
-        active.old active.new (suc i) j i j }
-    ensures listed_3 { Listed states active.new waiting.new result }
-    ensures listed_4 { Listed states flags.new todo.new 0 }
+    ensures { Fills states ahead.now lead.now home.now row.now work.old work.new active result (suc i) j i j }
 {
-    let mut w = waits;
-    let mut depth = begin(ahead, row, waiting, waits, flags, todo, states, i, j);
-    while 0 < depth {
-        let after = look(
-            work, ahead, lead, next, head, home, row, active, waiting, w, flags, todo, depth,
-            states, i, j,
+    let mut seen = active;
+    let mut flags = active;
+    let mut blocks = [1u8; BLOCKS];
+    let mut q = find(&flags, states, states, &mut blocks);
+    while 3 < q {
+        let r = look(
+            work,
+            ahead,
+            lead,
+            next,
+            head,
+            home,
+            row,
+            &mut seen,
+            &mut flags,
+            states,
+            q - 1,
+            i,
+            j,
+            &mut blocks,
         );
-        w = after.waits;
-        depth = after.depth;
+        q = find(&flags, states, r, &mut blocks);
     }
-    w
+    seen
 }
 
-// None waits.
-fn forget<'a>(active: &'a mut [u8], waiting: &'a [u16], waits: usize, states: usize)
-    requires { Listed states active.old waiting.now waits }
-    ensures { Listed states active.new waiting.now 0 }
-{
-    let mut w = waits;
-    while 0 < w {
-        take(active, waiting, w, states);
-        w -= 1;
-    }
-}
-
-// All spans that end at j. Those states wait inside a rule for which something is counted up to j; none before and after.
+// All spans that end at j; `marks` are at the ends.
 fn column<'a>(
     work: &'a mut [u32],
     ahead: &'a [u16; MAX_STATES],
@@ -225,31 +103,46 @@ fn column<'a>(
     head: &'a [u16; MAX_NONTERMINALS],
     home: &'a [u16; MAX_NONTERMINALS],
     row: &'a [u16],
-    active: &'a mut [u8],
-    waiting: &'a mut [u16],
-    flags: &'a mut [u8],
-    todo: &'a mut [u16],
+    marks: [u8; MAX_STATES],
     states: usize,
     j: usize,
 )
     requires wired { Wired states ahead.now lead.now next.now head.now home.now }
     requires span { Span work.old states (length row.now + 1) j j }
-    requires listed { Listed states active.old waiting.old 0 }
-    requires listed_2 { Listed states flags.old todo.old 0 }
-    ensures fills_column { FillsColumn states ahead.now lead.now home.now row.now work.old work.new active.old j }
-    ensures listed_3 { Listed states active.new waiting.new 0 }
-    ensures listed_4 { Listed states flags.new todo.new 0 }
+    ensures { FillsColumn states ahead.now lead.now home.now row.now work.old work.new marks j }
 {
-    let mut waits = 0;
+    let mut active = marks;
     let mut i = j + 1;
     while 0 < i {
         i -= 1;
-        waits = span(
-            work, ahead, lead, next, head, home, row, active, waiting, waits, flags, todo, states,
-            i, j,
+        let after = span(
+            work, ahead, lead, next, head, home, row, active, states, i, j,
         );
+        active = after;
     }
-    forget(active, waiting, waits, states);
+}
+
+// The mark of a state: 1 at an end.
+fn mark(x: u16) -> u8
+    ensures { x ≡ 0 → result ≡ 1 }
+{
+    if x == 0 {
+        return 1;
+    }
+    0
+}
+
+// Marks at the ends.
+fn ends(ahead: &[u16; MAX_STATES]) -> [u8; MAX_STATES]
+    ensures { (p : ℕ) → p < limits.maxStates → get_or ahead.now p 0 ≡ 0 → get_or result p 0 ≡ 1 }
+{
+    let mut marks = [0u8; MAX_STATES];
+    let mut p = 0;
+    while p < MAX_STATES {
+        marks[p] = mark(ahead[p]);
+        p += 1;
+    }
+    marks
 }
 
 // All spans of a row.
@@ -267,28 +160,11 @@ pub fn fill<'a>(
     requires span { Span work.old states (length row.now + 1) 0 0 }
     ensures { FillsAll states ahead.now lead.now home.now row.now work.old work.new }
 {
-    let mut active = [0u8; MAX_STATES];
-    let mut waiting = [0u16; MAX_STATES];
-    let mut flags = [0u8; MAX_STATES];
-    let mut todo = [0u16; MAX_STATES];
+    let marks = ends(ahead);
     let n = row.len();
     let mut j = 0;
     while j <= n {
-        column(
-            work,
-            ahead,
-            lead,
-            next,
-            head,
-            home,
-            row,
-            &mut active,
-            &mut waiting,
-            &mut flags,
-            &mut todo,
-            states,
-            j,
-        );
+        column(work, ahead, lead, next, head, home, row, marks, states, j);
         j += 1;
     }
 }

@@ -55,11 +55,3 @@ nonzeros-keep (zero ∷ l) zero (suc v) g = omega arith
 nonzeros-keep (suc x ∷ l) zero (suc v) g = omega arith
 nonzeros-keep (zero ∷ l) (suc k) (suc v) g = nonzeros-keep l k (suc v) g
 nonzeros-keep (suc x ∷ l) (suc k) (suc v) g = omega (arith, nonzeros-keep l k (suc v) g)
-
-pub nonzeros-less : (l : List ℕ) (k : ℕ) → nonzeros l ≤ suc (nonzeros (set l k 0))
-unfolding nonzeros
-nonzeros-less [] k = omega arith
-nonzeros-less (zero ∷ l) zero = omega arith
-nonzeros-less (suc x ∷ l) zero = omega arith
-nonzeros-less (zero ∷ l) (suc k) = nonzeros-less l k
-nonzeros-less (suc x ∷ l) (suc k) = omega (arith, nonzeros-less l k)

@@ -79,47 +79,31 @@ part-more row x n h = take-suc (drop x row) n 0 (omega (arith, length-drop x row
 part_length : (row : List ℕ) (x n : ℕ) → x + n ≤ length row → length (take n (drop x row)) ≡ n
 part_length row x n h = length-take-le n (drop x row) (omega (arith, length-drop x row))
 
--- splits before which nothing that comes after begins
-pub none_before : (row : List ℕ) (m h p i j d : ℕ) → ((k : ℕ) → i ≤ k → k < i + d → get_or row (itemCell m p k j) 0 ≡ 0) → splitsAt row m h p i j d ≡ 0
-unfolding splitsAt
-none_before row m h p i j zero z = refl
-none_before row m h p i j (suc d) z =
-    let e : get_or row (wholeCell m h i (i + d)) 0 * get_or row (itemCell m p (i + d) j) 0 ≡ 0 =
-    ap (λ x. get_or row (wholeCell m h i (i + d)) 0 * x) (z (i + d) (omega arith) (omega arith)) ∙ mul-zero (get_or row (wholeCell m h i (i + d)) 0) in
-    omega (arith, none_before row m h p i j d (λ k l g. z k l (omega arith)))
-
--- the products of two parts of the work row are the splits, where the first d of them give nothing
-pub parts-splits : (row : List ℕ) (m h p i j d n : ℕ) → splitsAt row m h p i j d ≡ 0 → wholeCell m h i (i + d) + n ≤ length row → itemCell m p (i + d) j + n ≤ length row
-    → dot (take n (drop (wholeCell m h i (i + d)) row)) (take n (drop (itemCell m p (i + d) j) row)) ≡ splitsAt row m h p i j (d + n)
+-- the products of two parts of the work row are the splits
+pub parts-splits : (row : List ℕ) (m h p i j n : ℕ) → wholeCell m h i i + n ≤ length row → itemCell m p i j + n ≤ length row
+    → dot (take n (drop (wholeCell m h i i) row)) (take n (drop (itemCell m p i j) row)) ≡ splitsAt row m h p i j n
 unfolding dot splitsAt
-parts-splits row m h p i j d zero z g l = sym z ∙ ap (splitsAt row m h p i j) (let e : d ≡ d + zero = omega arith in e)
-parts-splits row m h p i j d (suc n) z g l =
-    let e : wholeCell m h i (i + d) + n ≡ wholeCell m h i (i + (d + n)) = omega arith in
-    let f : itemCell m p (i + d) j + n ≡ itemCell m p (i + (d + n)) j = omega arith in
-    ap₂ dot (part-more row (wholeCell m h i (i + d)) n g) (part-more row (itemCell m p (i + d) j) n l)
-    ∙ dot-snoc (take n (drop (wholeCell m h i (i + d)) row)) (take n (drop (itemCell m p (i + d) j) row)) _ _
-    (part_length row (wholeCell m h i (i + d)) n (omega arith) ∙ sym (part_length row (itemCell m p (i + d) j) n (omega arith)))
-    ∙ ap₂ (λ u v. u + v) (parts-splits row m h p i j d n z (omega arith) (omega arith)) (ap₂ (λ u v. get_or row u 0 * get_or row v 0) e f)
-    ∙ ap (splitsAt row m h p i j) (let s : suc (d + n) ≡ d + suc n = omega arith in s)
+parts-splits row m h p i j zero g l = refl
+parts-splits row m h p i j (suc n) g l =
+    let e : wholeCell m h i i + n ≡ wholeCell m h i (i + n) = omega arith in
+    let f : itemCell m p i j + n ≡ itemCell m p (i + n) j = omega arith in
+    ap₂ dot (part-more row (wholeCell m h i i) n g) (part-more row (itemCell m p i j) n l)
+    ∙ dot-snoc (take n (drop (wholeCell m h i i) row)) (take n (drop (itemCell m p i j) row)) _ _
+    (part_length row (wholeCell m h i i) n (omega arith) ∙ sym (part_length row (itemCell m p i j) n (omega arith)))
+    ∙ ap₂ (λ u v. u + v) (parts-splits row m h p i j n (omega arith) (omega arith)) (ap₂ (λ u v. get_or row u 0 * get_or row v 0) e f)
 
 -- cells do not pass what a machine number holds
 pub few-cells : (h m : ℕ) → h < limits.maxStates → m ≤ places → h * m ≤ places * limits.maxStates
 few-cells h m a b = let q : h ≤ limits.maxStates = omega arith in omega (arith, mul-le-mul q b)
 
 -- the same with the parts' lengths as the code has them
-pub parts_all : (row : List ℕ) (m h p i f j : ℕ) → i ≤ f → f ≤ j → j < m → wholeCell m h i m ≤ length row → itemCell m p m j ≤ length row
-    → ((k : ℕ) → i ≤ k → k < f → get_or row (itemCell m p k j) 0 ≡ 0)
-    → dot (take ((h * m + i) * m + j + 1 - wholeCell m h i f) (drop (wholeCell m h i f) row)) (take ((p * m + j) * m + j + 1 - itemCell m p f j) (drop (itemCell m p f j) row))
+pub parts_all : (row : List ℕ) (m h p i j : ℕ) → i ≤ j → j < m → wholeCell m h i m ≤ length row → itemCell m p m j ≤ length row
+    → dot (take ((h * m + i) * m + j + 1 - wholeCell m h i i) (drop (wholeCell m h i i) row)) (take ((p * m + j) * m + j + 1 - itemCell m p i j) (drop (itemCell m p i j) row))
     ≡ splitsAt row m h p i j (suc (j - i))
-parts_all row m h p i f j g o l a b z =
-    let e : (h * m + i) * m + j + 1 - wholeCell m h i f ≡ suc (j - f) = omega arith in
-    let t : (p * m + j) * m + j + 1 - itemCell m p f j ≡ suc (j - f) = omega arith in
-    let s : f ≡ i + (f - i) = omega arith in
-    let n : (f - i) + suc (j - f) ≡ suc (j - i) = omega arith in
-    ap₂ (λ u v. dot (take u (drop (wholeCell m h i f) row)) (take v (drop (itemCell m p f j) row))) e t
-    ∙ ap (λ f'. dot (take (suc (j - f)) (drop (wholeCell m h i f') row)) (take (suc (j - f)) (drop (itemCell m p f' j) row))) s
-    ∙ parts-splits row m h p i j (f - i) (suc (j - f)) (none_before row m h p i j (f - i) (λ k x y. z k x (omega arith))) (omega arith) (omega arith)
-    ∙ ap (splitsAt row m h p i j) n
+parts_all row m h p i j g l a b =
+    let e : (h * m + i) * m + j + 1 - wholeCell m h i i ≡ suc (j - i) = omega arith in
+    let f : (p * m + j) * m + j + 1 - itemCell m p i j ≡ suc (j - i) = omega arith in
+    ap₂ (λ u v. dot (take u (drop (wholeCell m h i i) row)) (take v (drop (itemCell m p i j) row))) e f ∙ parts-splits row m h p i j (suc (j - i)) (omega arith) (omega arith)
 
 pub set_same : (l : List ℕ) (k : ℕ) → set l k (get_or l k 0) ≡ l
 set_same [] k = refl

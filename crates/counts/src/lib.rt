@@ -1,7 +1,7 @@
 // Counts up to 2: 2 stands for several.
-ghost use Rattle.std.specs.Prelude.{ℕ, suc, ◌+◌, ◌-◌, ◌*◌, ◌≤◌, ◌<◌, ◌≡◌, length, get_or};
+ghost use Rattle.std.specs.Prelude.{suc, ◌+◌, ◌-◌, ◌*◌, ◌<◌, ◌≡◌, length};
 ghost use Rattle.tree_laws.specs.Chart.{cap};
-ghost use Rattle.counts.specs.Counts.{dot, itemCell, splitsAt, SpanOf};
+ghost use Rattle.counts.specs.Counts.{dot, splitsAt, SpanOf};
 
 // A product of counts.
 fn times(a: u32, b: u32) -> u32
@@ -52,26 +52,15 @@ pub fn products<'a>(xs: &'a [u32], ys: &'a [u32]) -> u32
     sum
 }
 
-// In how many ways a nonterminal and what comes after it derive the terminals from i to j: every split between them counts; those
-// before `from` need not be looked at if nothing that comes after begins there.
-pub fn ways(
-    row: &[u32],
-    m: usize,
-    home: usize,
-    after: usize,
-    i: usize,
-    from: usize,
-    j: usize,
-) -> u32
-    requires span_of { SpanOf row.now m home after i j }
-    requires i_le_from { (i ≤ from) × (from ≤ j) }
-    ensures upper_bound { result ≤ 2 }
-    ensures by_index { ((k : ℕ) → i ≤ k → k < from → get_or row.now (itemCell m after k j) 0 ≡ 0) → result ≡ cap (splitsAt row.now m home after i j (suc (j - i))) }
+// In how many ways a nonterminal and what comes after it derive the terminals from i to j: every split between them counts.
+pub fn ways(row: &[u32], m: usize, home: usize, after: usize, i: usize, j: usize) -> u32
+    requires { SpanOf row.now m home after i j }
+    ensures { result ≡ cap (splitsAt row.now m home after i j (suc (j - i))) }
 {
     let whole = (home * m + i) * m;
     let rest = (after * m + j) * m;
-    let a = whole + from;
-    let b = rest + from;
+    let a = whole + i;
+    let b = rest + i;
     let c = whole + j + 1;
     let d = rest + j + 1;
     products(&row[a..c], &row[b..d])

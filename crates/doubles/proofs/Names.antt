@@ -10,6 +10,10 @@ use Rattle.text.specs.Names.{sameName, any, hasDouble, place}
 use Rattle.text.proofs.Names.{same-sym}
 use Rattle.doubles.specs.Blocks.{meet, standTwice}
 
+pub double-none : hasDouble [] ≡ false
+unfolding hasDouble
+double-none = refl
+
 -- ---- one name after the other
 
 pub meet-none : (ys : List (List ℕ)) → meet [] ys ≡ false

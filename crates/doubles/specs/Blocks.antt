@@ -25,7 +25,7 @@ pub record Block (v : List ℕ) (a : ℕ) (starts lengths : List ℕ) (next : �
   pub spans : Spans v starts lengths
   pub names : namesFrom v a ≡ spelled v starts lengths ++ namesFrom v next
 
--- rows for a block, with two links for each entry
+-- rows for a block, with two links for each name
 pub record BlockRows (starts lengths links : List ℕ) : Type 0 where
   pub some : 0 < length starts
   pub paired : length starts ≡ length lengths

@@ -1,6 +1,5 @@
 // Does a name stand twice? The names of a line are tried block by block: those of a block go into a lexicon, in which the later names
-// of the line and those of the earlier line are looked up. Lines of any length do. A block has half as many names as the lent rows hold:
-// the links of the other half are then heads, so that a look takes few steps.
+// of the line and those of the earlier line are looked up. A block has as many names as the lent rows hold, so lines of any length do.
 ghost use Rattle.std.specs.Prelude.{◌≡◌, ◌++◌, false, ℕ, ◌*◌, ◌≤◌, ◌<◌, length, take, get_or};
 ghost use Rattle.grammar.specs.Limits.{limits};
 ghost use Rattle.text.specs.Names.{hasDouble};
@@ -25,18 +24,17 @@ pub enum Tried {
     Next(usize),
 }
 
-// Keeps the starts and lengths of the names of v from place a on, half as many as the rows hold.
+// Keeps the starts and lengths of the names of v from place a on, as many as the rows hold.
 fn keep(v: &[u8], a: usize, starts: &mut [u32], lengths: &mut [u32]) -> Kept
-    requires { (length v.now ≤ limits.maxText) × (a ≤ length v.now) × (0 < length starts.old) × (length starts.old ≤ mostNames) × (length starts.old ≡ length lengths.old) }
+    requires { (length v.now ≤ limits.maxText) × (a ≤ length v.now) × (0 < length starts.old) × (length starts.old ≡ length lengths.old) }
     ensures room { result.count ≤ length starts.old }
     ensures onward { a < result.next }
     ensures kept { Block v.now a (take result.count starts.new) (take result.count lengths.new) result.next }
 {
     let n = v.len();
-    let most = (starts.len() + 1) / 2;
     let mut next = a;
     let mut k = 0;
-    while k < most {
+    while k < starts.len() {
         if n < next {
             return Kept { count: k, next };
         }

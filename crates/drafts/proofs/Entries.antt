@@ -1,12 +1,19 @@
--- The marks emptied, the front of a new draft. Assumes nothing.
-use Prim.Native.Nat.{ℕ, zero, suc, ◌+◌, ◌-◌, ◌*◌, ◌≤◌}
+-- Entries put into a row, the marks emptied, the front of a new draft. Assumes nothing.
+use Prim.Native.Nat.{ℕ, zero, suc, ◌+◌, ◌-◌, ◌*◌, ◌≤◌, ◌<◌}
 use mathlib.Core.Path.{◌≡◌, refl, ap, sym, ◌∙◌}
 use mathlib.Core.List.{List, [], ◌∷◌, ◌++◌}
 use native.Mathlib.Omega.{arith}
 use native.Mathlib.Numerals.{add-one}
-use lib.ListN.{length, set, drop, length-set}
-use lib.Seq.{paste, length-paste, take-length}
-use Rattle.drafts.specs.Row.{blockSize, block_at, draftRoom, splice, emptied, tableRoom}
+use lib.ListN.{length, get_or, set, drop, length-set}
+use lib.Seq.{paste, paste-suc, length-paste, take-length}
+use Rattle.drafts.specs.Row.{blockSize, block_at, draftRoom, splice, put, emptied, tableRoom}
+
+-- ---- entries put into a row
+
+pub put-more : (row at entries : List ℕ) (to i : ℕ) → to + i < length row → i < length entries → at ≡ paste row to entries i
+    → set at (to + i) (get_or entries i 0) ≡ paste row to entries (i + 1)
+put-more row at entries to i h k e =
+    ap (λ (l : List ℕ). set l (to + i) (get_or entries i 0)) e ∙ paste-suc row to entries i 0 h k ∙ ap (paste row to entries) (sym (add-one i))
 
 pub emptied-length : (m : ℕ) (row : List ℕ) → length (emptied m row) ≡ length row
 unfolding emptied

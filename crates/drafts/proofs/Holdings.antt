@@ -12,10 +12,10 @@ use borrow.Author.Tests.{le-leb, leb-true}
 use Rattle.grammar.specs.Grammar.{Rule}
 use Rattle.grammar.specs.Table.{encode}
 use Rattle.grammar.specs.Refusal.{done, bufferTooShort}
-use Rattle.grammar.proofs.Answers.{some_inj, unless_holds, unless-done, done_inj, no_answer}
-use Rattle.drafts.specs.Draft.{Draft, withMark, withRules, marksCount}
+use Rattle.grammar.proofs.Answers.{unless_holds, unless-done, done_inj, no_answer}
+use Rattle.drafts.specs.Draft.{Draft, mark, withMark, withRules, marksCount}
 use Rattle.drafts.specs.Row.{blockSize, block_at, draftRoom, block_of, end_of, rulesTo, rulesIn, marksFrom, draftWith, draftOr, draftIn, image, put}
-use Rattle.drafts.proofs.Walks.{held-block}
+use Rattle.drafts.proofs.Walks.{held-block, some_inj}
 use Rattle.drafts.proofs.Marks.{marks-at}
 use Rattle.drafts.proofs.Puts.{put-length, put-cells, put-block, put_other}
 

@@ -13,12 +13,12 @@ use borrow.Author.Tests.{le-leb, lt-leb}
 use Rattle.grammar.specs.Grammar.{Rule}
 use Rattle.grammar.specs.Table.{encode, length_at}
 use Rattle.grammar.specs.Refusal.{done, refused, notPresent}
-use Rattle.grammar.proofs.Answers.{both-and, and-false, some_inj, unless_holds, unless-fails}
+use Rattle.grammar.proofs.Answers.{both-and, and-false, unless_holds, unless-fails}
 use Rattle.grammar.proofs.Rules.{reads}
 use Rattle.drafts.specs.Draft.{withdraw, without, withRules, taken}
 use Rattle.drafts.specs.Row.{blockSize, block_of, walk, draftWith, splice, image, put, stepped}
 use Rattle.drafts.specs.Edits.{Apart, Reaches, Removable, removed, openRow}
-use Rattle.drafts.proofs.Walks.{walk-along}
+use Rattle.drafts.proofs.Walks.{walk-along, some_inj}
 use Rattle.drafts.proofs.Copies.{below-kept}
 use Rattle.drafts.proofs.Opens.{Open, open_done, step-done, step-refused}
 

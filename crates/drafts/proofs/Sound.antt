@@ -16,12 +16,13 @@ use Rattle.grammar.specs.Grammar.{Terminal, Nonterminal, Rule, Grammar, WellForm
 use Rattle.grammar.specs.Table.{encode, ruleAt}
 use Rattle.grammar.specs.Refusal.{Answer, done, refused, tooManyRules, notPresent}
 use Rattle.grammar.specs.TableCheck.{declaredFront, nextRule, storedTable}
-use Rattle.grammar.proofs.Answers.{and_both, some_inj, unless-done, then-done, done_inj, no_answer}
+use Rattle.grammar.proofs.Answers.{and_both, unless-done, then-done, done_inj, no_answer}
 use Rattle.grammar.proofs.Lists.{mem-either, no-element}
 use Rattle.grammar.proofs.Plain.{mem-cases, not-among, is-nonterminal, all-declared}
 use Rattle.grammar.proofs.Steps.{grammarOf, next-done, read_done}
 use Rattle.grammar.proofs.WellFormed.{room, stored-only, distinct_snoc, states-snoc}
 use Rattle.drafts.specs.Draft.{Draft, Edit, add, withdraw, mark, return, marksCount, withRules, withMark, kept, restored, without, isMark, isPresent, newDraft, addRule, taken, orSame, after}
+use Rattle.drafts.proofs.Walks.{some_inj}
 use Rattle.drafts.proofs.Withdrawals.{without-few, without-states, without_in, without-distinct}
 
 -- the grammar of some rules of a draft

@@ -13,7 +13,7 @@ use borrow.Author.Tests.{le-leb, lt-leb, leb-true, lt-ltb, le-ltb}
 use Rattle.grammar.specs.Basics.{choose}
 use Rattle.grammar.specs.Grammar.{Rule}
 use Rattle.grammar.specs.Table.{encode, decode, length_at, ruleAt}
-use Rattle.grammar.proofs.Answers.{and_both, and-false, some_inj}
+use Rattle.grammar.proofs.Answers.{and_both, and-false}
 use Rattle.grammar.proofs.Lists.{lt-or-le, drop-next}
 use Rattle.grammar.proofs.Rules.{decode-encode, reads}
 use Rattle.drafts.specs.Row.{is_whole, walk, end_of, rulesTo, rulesIn, image}
@@ -62,6 +62,9 @@ no-entry (x ∷ xs) h = absurd (omega (arith, h))
 
 pub no_end : {A : Type 0} {e : ℕ} → none ≡ some e → A
 no_end {e = e} q = let z : ◌≡◌ {A = ℕ} 0 1 = cc in absurd (let o : ⊥ = omega arith in o)
+
+pub some_inj : {A : Type 0} {a b : A} → some a ≡ some b → a ≡ b
+some_inj {a = a} {b = b} q = cc
 
 -- m rules stand in a block from one place to another
 pub record Walked (block : List ℕ) (m at end : ℕ) : Type 0 where

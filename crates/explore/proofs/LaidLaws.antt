@@ -20,7 +20,7 @@ use Rattle.plans.specs.declared.Plan.{Plan}
 use Rattle.plans.specs.Plan.{Rows, rows, side_of, aloneOf, layerAfter, pairsOf, planFor, plan_of}
 use Rattle.plans.proofs.PlanLaws.{sideFrom}
 use Rattle.plans.proofs.PlannedLaws.{cell-target, verified, swapped}
-use Rattle.explore.proofs.OrderedLaws.{last_of, factors, closes-end, reads-alone, order}
+use Rattle.explore.proofs.OrderedLaws.{last_of, factors, order}
 use Rattle.explore.specs.State.{leftFirst, rightFirst, pairFirst, pairs, Laid}
 
 -- a number that may be 0 by a test, and is not
@@ -153,8 +153,6 @@ module _ (M : Moves) (S : Regular M) (t m : ℕ) (new : Tables) (X : Shows M t m
   laid = record {
     verified = verified M S t m new X long;
     ordered = λ i h. let x = digits Q i some h in order M S t m new X long i (layerOf Q i) (left_of Q i) (rightOf Q i) (sym x.whole) x.layer x.left x.right;
-    closes = closes-end M S t m new X long;
-    reads = reads-alone M S t m new X long;
     long = long;
     left-apart = λ i j h k.
         let x = digits Q i some h in

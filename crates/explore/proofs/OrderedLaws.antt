@@ -1,7 +1,6 @@
 -- The successors of a plan of rows that show an automaton stand in the order in which they are pushed. A shift moves the right side,
 -- which a left block leaves where it is; so the shift's index is none of the block's. Assumes nothing.
 use mathlib.Core.Path.{◌≡◌, refl, ap, sym, subst, ◌∙◌}
-use mathlib.Core.Bool.{true}
 use mathlib.Core.Logic.{◌⊎◌, inl, inr}
 use mathlib.Core.List.{List, [], ◌∷◌}
 use Prim.Native.Nat.{ℕ, zero, suc, ◌+◌, ◌-◌, ◌*◌, ◌/◌, ◌≤◌, ◌<◌}
@@ -14,7 +13,7 @@ use Rattle.grammar.proofs.Lists.{lt-or-le}
 use Rattle.automaton.specs.Moves.{Moves, listed, Regular}
 use Rattle.triples.specs.Index.{index}
 use Rattle.triples.specs.Successor.{BeforeTerminal}
-use Rattle.moves.specs.Tables.{Ascends, segment, Tables, readsAt}
+use Rattle.moves.specs.Tables.{Ascends, segment, Tables}
 use Rattle.moves.specs.Shows.{Closed, Alone, Shows}
 use Rattle.plans.specs.declared.Side.{Side}
 use Rattle.plans.specs.declared.Plan.{Plan}
@@ -109,14 +108,6 @@ module _ (M : Moves) (S : Regular M) (t m : ℕ) (new : Tables) (X : Shows M t m
   no_move : (q u : ℕ) → BeforeTerminal (listed M) q → Alone M q u → ⊥
   no_move q u (a, x, (r, s)) (inr c) = S.ahead-no-close c.0 q u (omega (arith, s.0, s.1)) c.1
   no_move q u (a, x, (r, s)) (inl o) = S.terminal-no-open o.0 q u (omega (arith, s.0, x.0), omega (arith, s.0, x.1)) o.1
-
-  -- a state that closes stands before no symbol, and one before a terminal has no targets
-  pub closes-end : (p : ℕ) → p < Q → (side p).kind < m → get_or new.ahead p 0 ≡ 0
-  closes-end p h k = zero_or (get_or new.ahead p 0) (λ l. omega (arith, k, X.ahead-class p h (omega (arith, l, X.ahead p h))))
-
-  pub reads-alone : (p : ℕ) → p < Q → readsAt new.ahead t p ≡ true → (side p).span ≡ 0
-  reads-alone p h e = zero_or (side p).span (λ l.
-      no_move p (get_or ts (side p).from 0) (reads_before M S t m new X long p h e) (target p (side p).from h (omega arith) (omega arith)).1)
 
   -- the state past one that stands before a symbol: a later one
   abbrev past : ℕ → ℕ

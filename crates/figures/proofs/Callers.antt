@@ -2,7 +2,7 @@
 -- is the number of their moves. Assumes nothing.
 use Prim.Native.Nat.{ℕ, zero, suc, ◌+◌, ◌≤◌, ◌<◌}
 use mathlib.Core.Path.{◌≡◌, refl, sym, ap, subst, ◌∙◌}
-use mathlib.Core.Bool.{true}
+use mathlib.Core.Bool.{Bool, true}
 use mathlib.Core.Logic.{◌⊎◌, inl, inr, ◌↔◌}
 use mathlib.Core.List.{List, [], ◌∷◌}
 use native.Mathlib.Omega.{arith}
@@ -14,7 +14,7 @@ use Rattle.grammar.specs.Grammar.{Grammar, WellFormed, IsRule, rule}
 use Rattle.grammar.specs.Live.{Live, isLive}
 use Rattle.grammar.proofs.Live.{is_live}
 use Rattle.automaton.specs.Items.{length_of}
-use Rattle.automaton.specs.Callers.{Spot, last, spot, Place, Calls, SpotOpens, spot-start, spot-opens, SpotCloses, spot-ends, spot-closes, SpotShifts, spot-shifts}
+use Rattle.automaton.specs.Callers.{Spot, first, last, spot, Place, Calls, SpotOpens, spot-start, spot-opens, SpotCloses, spot-ends, spot-closes, SpotShifts, spot-shifts}
 use Rattle.automaton.specs.Callers.{place_of, code_at, spots, number_of, callers}
 use Rattle.automaton.specs.CallerMoves.{spotAhead, spotAfter, movesAt, movesWith}
 use Rattle.automaton.specs.Strings.{Letter, opening, closing, symbol, MovesBy}
@@ -23,9 +23,9 @@ use Rattle.automaton.proofs.Callers.{calls, none_above}
 use Rattle.triples.specs.Looked.{lookedAt, lookedLimit}
 use Rattle.triple_laws.proofs.Callers.{place_in, place_out}
 use Rattle.triple_laws.proofs.Spots.{place-mem-below}
-use Rattle.triple_laws.proofs.CallerMoves.{code-low, state, seen-state, number-last, first-state, after_is, callers-listed}
-use Rattle.triple_laws.proofs.CallerRegular.{opened, closed}
-use Rattle.triple_laws.proofs.CallerPosition.{with-listed, with-regular}
+use Rattle.triple_laws.proofs.CallerMoves.{code-low, state, from-state, seen-state, last-state, number-last, first-state, after_is, callers-listed}
+use Rattle.triple_laws.proofs.CallerRegular.{Opened, opened, Closed, closed, callers-regular}
+use Rattle.triple_laws.proofs.CallerPosition.{with-listed, with-regular, with-states}
 use Rattle.figures.proofs.Opened.{Entered, by-opening, by-shift, Leavable}
 use Rattle.figures.proofs.Bound.{looked-limit}
 use Rattle.figures.proofs.OfAutomaton.{cardinal-of, some-list}

@@ -4,11 +4,11 @@ use mathlib.Core.Path.{◌≡◌, refl, ap, sym, subst, ◌∙◌}
 use mathlib.Core.Logic.{◌↔◌}
 use mathlib.Core.List.{List, [], ◌∷◌, map}
 use native.Mathlib.Omega.{arith}
-use lib.ListN.{length, length-map}
+use lib.ListN.{length}
 use Rattle.grammar.specs.Basics.{each, Mem, Distinct}
 use Rattle.automaton.specs.Moves.{Moves, Regular, listed}
-use Rattle.triples.specs.Index.{index, layerOf, left_of, rightOf}
-use Rattle.triples.specs.Successor.{StepTo, Reached}
+use Rattle.triples.specs.Index.{index, tripleCount, layerOf, left_of, rightOf}
+use Rattle.triples.specs.Successor.{StepTo, Reached, Closed}
 use Rattle.triples.specs.Records.{records, nextIndex}
 use Rattle.triples.specs.Smallest.{successors, smallest}
 use Rattle.triples.specs.Looked.{total, lookedAt}
@@ -16,11 +16,15 @@ use Rattle.triples.specs.declared.Step.{Step}
 use Rattle.triples.proofs.Index.{digits, layer-of, left-of, right_of}
 use Rattle.triples.proofs.Reached.{reached-held}
 use Rattle.triple_laws.proofs.Laws.{reached-exactly, smallest-distinct, smallest-below}
-use Rattle.triple_laws.proofs.Members.{distinct-each, distinct-map, of-each, of_map}
+use Rattle.triple_laws.proofs.Members.{distinct-each, distinct-map, distinct-same, of-each, of_map}
 use Rattle.triple_laws.proofs.Records.{records-exact, steps-in-range}
 use Rattle.triple_laws.proofs.RecordDoubles.{records-distinct}
 use Rattle.figures.specs.Choice.{Choice, choice}
 use Rattle.figures.proofs.Sums.{each-length}
+
+map-length : {A B : Type 0} (f : A → B) (l : List A) → length (map f l) ≡ length l
+map-length f [] = refl
+map-length f (a ∷ l) = omega (arith, map-length f l)
 
 total-alike : (f g : ℕ → ℕ) → ((i : ℕ) → f i ≡ g i) → (l : List ℕ) → total f l ≡ total g l
 unfolding total
@@ -42,7 +46,7 @@ module _ (M : Moves) (R : Regular M) where
   choices-number =
       each-length (smallest M) choicesAt
       ∙ total-alike (λ i. length (choicesAt i)) (λ i. length (map (nextIndex M) (records M (layerOf M.states i) (left_of M.states i) (rightOf M.states i))))
-      (λ i. length-map (records M (layerOf M.states i) (left_of M.states i) (rightOf M.states i)) _ ∙ sym (length-map (records M (layerOf M.states i) (left_of M.states i) (rightOf M.states i)) (nextIndex M))) (smallest M)
+      (λ i. map-length _ (records M (layerOf M.states i) (left_of M.states i) (rightOf M.states i)) ∙ sym (map-length (nextIndex M) (records M (layerOf M.states i) (left_of M.states i) (rightOf M.states i)))) (smallest M)
 
   -- none stands twice
   pub choices-distinct : Distinct reachedChoices

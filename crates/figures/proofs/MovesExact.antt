@@ -119,8 +119,8 @@ module _ (A : Automaton) (M : Moves) (N : Lists A M) where
   same-moves (symbol x) s t = N.shifts x s t
 
   -- the moves listed are those of an automaton, by the numbers of its states
-  pub moves_of : (l : Letter) (s t : A.State) → A.number s < A.states → Mem (moved (A.number s) l (A.number t)) (allMoves M) ↔ MovesBy A l s t
-  moves_of l s t h =
+  pub moves-of : (l : Letter) (s t : A.State) → A.number s < A.states → Mem (moved (A.number s) l (A.number t)) (allMoves M) ↔ MovesBy A l s t
+  moves-of l s t h =
       let e = moves-exact M (moved (A.number s) l (A.number t)) in
       let b = same-moves l s t in
       (λ m. b.1 (e.0 m).1, λ v. e.1 (omega (arith, N.states), b.0 v))

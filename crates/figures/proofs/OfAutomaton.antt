@@ -1,20 +1,24 @@
 -- M is the number of an automaton's moves, whatever its states are: the length of every list that has each of them once, and there
 -- is such a list. Assumes nothing.
 use Prim.Native.Nat.{ℕ, ◌≤◌, ◌<◌}
-use mathlib.Core.Path.{◌≡◌, refl, sym, ap, subst, ◌∙◌}
+use mathlib.Core.Path.{◌≡◌, refl, sym, ap, subst, subst₂, ◌∙◌}
 use mathlib.Core.Logic.{inl, inr, ◌↔◌}
 use mathlib.Core.List.{List, [], ◌∷◌, map}
 use native.Mathlib.Omega.{arith}
-use lib.ListN.{length, length-map}
-use Rattle.grammar.specs.Basics.{Mem, here, there, Distinct, none, more}
+use lib.ListN.{length}
+use Rattle.grammar.specs.Basics.{each, Mem, here, there, Distinct, none, more}
 use Rattle.grammar.proofs.Lists.{no-element, in_map}
 use Rattle.grammar.proofs.Plain.{mem-cases}
 use Rattle.automaton.specs.Automaton.{Automaton}
 use Rattle.automaton.specs.Moves.{Moves, listed, Regular, Lists}
 use Rattle.automaton.specs.Strings.{Letter, opening, closing, symbol, MovesBy}
 use Rattle.automaton.specs.AllMoves.{Moved, moved, allMoves, moveCount, MoveOf, ListsMoves}
-use Rattle.triple_laws.proofs.Members.{of_map, distinct-image}
-use Rattle.figures.proofs.MovesExact.{moves-exact, moves-distinct, moves-cardinal, moves_of}
+use Rattle.triple_laws.proofs.Members.{of-each, of_map, distinct-image, distinct-map}
+use Rattle.figures.proofs.MovesExact.{moves-exact, moves-distinct, moves-cardinal, moves-of}
+
+map-long : {A B : Type 0} (f : A → B) (l : List A) → length (map f l) ≡ length l
+map-long f [] = refl
+map-long f (a ∷ l) = omega (arith, map-long f l)
 
 of-distinct : {A B : Type 0} (f : A → B) (l : List A) → Distinct (map f l) → Distinct l
 of-distinct f [] d = none
@@ -37,7 +41,7 @@ module _ (A : Automaton) (M : Moves) (R : Regular M) (N : Lists A M)
 
   ends : (l : Letter) (s t : A.State) → MovesBy A l s t → n t < A.states
   ends l s t h =
-      let m = (moves_of A M N l s t (starts l s t h)).1 h in
+      let m = (moves-of A M N l s t (starts l s t h)).1 h in
       let x = (moves-exact M (moved (n s) l (n t))).0 m in
       omega (arith, leads-below l (n s) (n t) x.1, N.states)
 
@@ -58,13 +62,13 @@ module _ (A : Automaton) (M : Moves) (R : Regular M) (N : Lists A M)
       let q : moved (n s.0) e.by (n t.0) ≡ e = λ i. moved (s.1 i) e.by (t.1 i) in (
         record { from = s.0; by = e.by; to = t.0 },
         q,
-        (moves_of A M N e.by s.0 t.0 (omega (arith, s.1, x.0, N.states))).0 (subst (λ e. Mem e (allMoves M)) (sym q) m),
+        (moves-of A M N e.by s.0 t.0 (omega (arith, s.1, x.0, N.states))).0 (subst (λ e. Mem e (allMoves M)) (sym q) m),
       )
 
   -- M is the length of every list that has each move of the automaton once
   pub cardinal-of : (l : List (MoveOf A)) → ListsMoves A l → length l ≡ moveCount M
   cardinal-of l h =
-      sym (length-map l numbered)
+      sym (map-long numbered l)
       ∙ moves-cardinal M R (map numbered l)
       (distinct-image l numbered h.distinct (λ a c u v. numbered-apart a c ((h.moves a).0 u) ((h.moves c).0 v)))
       (λ e. (
@@ -72,7 +76,7 @@ module _ (A : Automaton) (M : Moves) (R : Regular M) (N : Lists A M)
             let o = (of_map l numbered).0 m in
             let d = o.0 in
             let g = (h.moves d).0 o.1 in
-            (moves-exact M e).0 (subst (λ e. Mem e (allMoves M)) (sym o.2) ((moves_of A M N d.by d.from d.to (starts d.by d.from d.to g)).1 g)),
+            (moves-exact M e).0 (subst (λ e. Mem e (allMoves M)) (sym o.2) ((moves-of A M N d.by d.from d.to (starts d.by d.from d.to g)).1 g)),
         λ x.
             let d = of_number e ((moves-exact M e).1 x) in
             (of_map l numbered).1 (d.0, (h.moves d.0).1 d.2, sym d.1),
@@ -101,7 +105,7 @@ module _ (A : Automaton) (M : Moves) (R : Regular M) (N : Lists A M)
           moves = λ d. (
             b.2 d,
             λ g.
-                let m = (moves_of A M N d.by d.from d.to (starts d.by d.from d.to g)).1 g in
+                let m = (moves-of A M N d.by d.from d.to (starts d.by d.from d.to g)).1 g in
                 let o = (of_map b.0 numbered).0 (subst (Mem (numbered d)) (sym b.1) m) in
                 subst (λ c. Mem c b.0) (sym (numbered-apart d o.0 g (b.2 o.0 o.1) o.2)) o.1,
           );

@@ -1,21 +1,30 @@
--- The position automaton: what it enters can be left. Assumes nothing.
+-- The position automaton: its moves are those that are counted, and what it enters can be left, so the bound holds.
+-- Assumes nothing.
 use Prim.Native.Nat.{ℕ, suc, ◌≤◌, ◌<◌}
 use mathlib.Core.Path.{◌≡◌, refl, ap, subst}
 use mathlib.Core.Bool.{Bool, true}
 use mathlib.Core.Logic.{◌⊎◌, inl, inr, ◌↔◌}
+use mathlib.Core.List.{List}
 use native.Mathlib.Omega.{arith}
 use native.Mathlib.Decide.{ℕ_discrete}
 use lib.ListN.{length, get_or}
+use Rattle.grammar.specs.Basics.{Mem, Distinct}
 use Rattle.grammar.specs.Limits.{Limits}
 use Rattle.grammar.specs.Grammar.{Grammar, WellFormed, IsRule, rule}
 use Rattle.grammar.specs.Live.{Live, isLive}
 use Rattle.grammar.proofs.Live.{is_live}
-use Rattle.automaton.specs.Items.{length_of, base, Item, Before}
-use Rattle.automaton.specs.Position.{Opens, opens-start, opens-rule, Closes, closes-start, closes-rule}
+use Rattle.automaton.specs.Items.{states, length_of, base, Item, Before}
+use Rattle.automaton.specs.Position.{Opens, opens-start, opens-rule, Closes, closes-start, closes-rule, position}
 use Rattle.automaton.specs.PositionMoves.{aheadRow, ahead, movesBy, moves_of}
-use Rattle.automaton.proofs.Items.{base-low, one-item}
+use Rattle.automaton.specs.Strings.{Letter, opening, closing, symbol, MovesBy}
+use Rattle.automaton.specs.AllMoves.{Moved, allMoves, moveCount}
+use Rattle.automaton.proofs.Items.{base-low, one-item, opens-below, closes-below, shifts-below}
+use Rattle.triples.specs.Looked.{lookedAt, lookedLimit}
 use Rattle.triple_laws.proofs.Moves.{ahead_before, opening-listed, closing-listed, before-code}
+use Rattle.triple_laws.proofs.Position.{position-listed, position-regular}
 use Rattle.figures.proofs.Opened.{Entered, by-opening, by-shift, Leavable}
+use Rattle.figures.proofs.Bound.{looked-limit}
+use Rattle.figures.proofs.MovesExact.{moves-exact, moves-of, moves-cardinal}
 
 module _ (L : Limits) (G : Grammar) (T : ℕ → Type 0) where
   -- p is an item of a rule that is taken, of rule 0 or of one that some state calls
@@ -116,7 +125,35 @@ module _ (L : Limits) (G : Grammar) (T : ℕ → Type 0) (taken : ℕ → Bool) 
     ];
   }
 
+module _ (L : Limits) (G : Grammar) where
+  starts-below : (l : Letter) (p q : ℕ) → MovesBy (position L G) l p q → p < states G
+  unfolding MovesBy
+  starts-below (opening i) p q h = (opens-below L G (Live L G) h).0
+  starts-below (closing i) p q h = (closes-below L G (Live L G) h).0
+  starts-below (symbol x) p q h = (shifts-below L G (Live L G) h).0
+
 module _ (L : Limits) (G : Grammar) (W : WellFormed L G) (apart : L.maxTerminals < L.nonterminalBase) where
+  -- the moves that are counted are those of the position automaton
+  pub position-moves : (e : Moved) → Mem e (allMoves (moves_of L G)) ↔ MovesBy (position L G) e.by e.from e.to
+  position-moves e =
+      let N = position-listed L G W apart in
+      let x = moves-exact (moves_of L G) e in (
+        λ m. (moves-of (position L G) (moves_of L G) N e.by e.from e.to (x.0 m).0).0 m,
+        λ h. (moves-of (position L G) (moves_of L G) N e.by e.from e.to (starts-below L G e.by e.from e.to h)).1 h,
+      )
+
+  -- and M is the length of every list that has each of them once
+  pub position-cardinal : (l : List Moved) → Distinct l → ((e : Moved) → Mem e l ↔ MovesBy (position L G) e.by e.from e.to)
+      → length l ≡ moveCount (moves_of L G)
+  position-cardinal l d h =
+      moves-cardinal (moves_of L G) (position-regular L G W apart) l d
+      (λ e. let x = moves-exact (moves_of L G) e in let y = position-moves e in
+      (λ m. x.0 (y.1 ((h e).0 m)), λ r. (h e).1 (y.0 (x.1 r))))
+
   -- what it enters can be left
   pub position-leavable : Leavable (moves_of L G)
   position-leavable = by-leavable L G (Live L G) (isLive L G) (is_live L G W apart) W apart
+
+  -- so the search looks at no more than M² + 2×Q×M successors
+  pub position-limit : lookedAt (moves_of L G) ≤ lookedLimit (moves_of L G)
+  position-limit = looked-limit (moves_of L G) (position-regular L G W apart) position-leavable

@@ -11,10 +11,16 @@ use lib.Dec.{eqb}
 use lib.ListN.{length}
 use borrow.Author.Tests.{eqb-true, eq-eqb}
 use Rattle.grammar.specs.Basics.{choose, Mem, here, there, Distinct, more, none as no-doubles}
-use Rattle.grammar.proofs.Answers.{some_inj}
 use Rattle.triple_laws.proofs.Members.{no-element, first-or, distinct-below}
 use Rattle.triple_laws.proofs.Pairs.{Pairs, pairs-more}
 use Rattle.triples.specs.Shortest.{Lower, ComesBefore, inFront, or_else, firstRow, row_of, fewest}
+
+some_inj : {u v : List ℕ} → ◌≡◌ {A = Option (List ℕ)} (some u) (some v) → u ≡ v
+some_inj {u} {v} e = ap (λ (o : Option (List ℕ)). get o) e
+  where
+    get : Option (List ℕ) → List ℕ
+    get none = u
+    get (some w) = w
 
 no-option : {A : Type 0} {u : List ℕ} → ◌≡◌ {A = Option (List ℕ)} none (some u) → A
 no-option {A} e = absurd (subst (λ (o : Option (List ℕ)). is o) e tt)

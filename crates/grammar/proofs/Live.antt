@@ -6,19 +6,19 @@ use mathlib.Core.List.{List, [], ◌∷◌, ◌++◌, map}
 use mathlib.Core.Logic.{◌⊎◌, inl, inr, ◌↔◌}
 use native.Mathlib.Omega.{arith}
 use lib.Dec.{leb}
-use lib.ListN.{length}
+use lib.ListN.{length, get_or}
 use borrow.Author.Tests.{le-leb, lt-leb}
 use Rattle.grammar.specs.Basics.{when, each, Mem, here, there}
 use Rattle.grammar.specs.Limits.{Limits}
 use Rattle.grammar.specs.Grammar.{Terminal, Nonterminal, Rule, Grammar, IsRule, start, rule, WellFormed}
-use Rattle.grammar.specs.Tree.{Tree, node, Trees, none, child, DerivationTree, applies, Children, end, terminal, nonterminal, row}
-use Rattle.grammar.specs.Live.{HasSentence, Uses, at-root, further, UsesBelow, in-first, in-others, Live, live-start, live-rule, Clause, has}
+use Rattle.grammar.specs.Tree.{Tree, node, Trees, none, child, AppliesRuleOf, DerivationTree, applies, Children, end, terminal, nonterminal, row, HasTree}
+use Rattle.grammar.specs.Live.{HasSentence, Uses, at-root, further, UsesBelow, in-first, in-others, Live, live-start, live-rule, Clause, has, hasAll, closure}
 use Rattle.grammar.specs.Live.{nonterminalsOf, derivesIf, productive, isProductive, reachesFrom, usable, reachable, hasSentence, isLive}
 use Rattle.grammar.proofs.Answers.{no_bool, and_both, both-and}
-use Rattle.grammar.proofs.Lists.{no-element, mem-place, mem-right, in_map, map-in, in-each, each_in}
+use Rattle.grammar.proofs.Lists.{no-element, mem-place, mem-left, mem-right, mem-either, in_map, map-in, in-each, each_in}
 use Rattle.grammar.proofs.Plain.{mem-cases}
 use Rattle.grammar.proofs.Derives.{rule-listed}
-use Rattle.grammar.proofs.Closure.{All, all_map, all-is, has-is, closure-kept, closure-least}
+use Rattle.grammar.proofs.Closure.{All, all_map, all-is, has-is, Kept, closure-kept, closure-least}
 
 module _ (L : Limits) (G : Grammar) (W : WellFormed L G) (apart : L.maxTerminals < L.nonterminalBase) where
   numbered : (r : Rule) → Mem r G.rules → (i : ℕ) × IsRule G i × (rule L G i ≡ r)

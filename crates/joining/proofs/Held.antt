@@ -5,7 +5,7 @@ use mathlib.Core.List.{List, [], ◌∷◌, ◌++◌}
 use mathlib.Core.Bool.{true}
 use native.Mathlib.Omega.{arith}
 use lib.ListN.{length, take, drop, get_or, length-append, length-drop, length-take, get_or-append}
-use lib.Seq.{take_at, drop_at, take-add, take-take, get_or-append-add, length-take-le, take-append_seam, drop-append_seam}
+use lib.Seq.{take_at, drop_at, take-add, get_or-append-add, length-take-le, take-append_seam, drop-append_seam}
 use Rattle.grammar.specs.Limits.{limits}
 use Rattle.grammar.specs.Refusal.{done}
 use Rattle.grammar.proofs.Answers.{done_inj}
@@ -23,9 +23,9 @@ use Rattle.text.proofs.Spans.{length-lengths, length-name-starts, read-spelled, 
 use Rattle.text.proofs.Admit.{text-checked}
 use Rattle.text.proofs.RoundTrip.{apart}
 use Rattle.modules.specs.Joined.{added, joined, joinTexts}
-use Rattle.joining.specs.Joins.{JoinPassed, JoinKept, JoinedHeld, terminalNumbers, nonterminalNumbers}
+use Rattle.joining.specs.Joins.{JoinedHeld}
 use Rattle.joining.specs.Numbers.{numbered}
-use Rattle.joining.specs.Gathering.{longest, fresh, kindNames, NameRoom, Gathered, Puts, Listed, KindReady, NamesLoaded, NamesGathered}
+use Rattle.joining.specs.Gathering.{longest, fresh, kindNames, NameRoom, Gathered, Puts, Listed, KindReady, NamesGathered}
 use Rattle.joining.specs.declared.ListSizes.{ListSizes}
 use Rattle.joining.proofs.Loops.{length-numbered}
 use Rattle.joining.proofs.GatherLaws.{gathered_none, puts-more, fresh_added}
@@ -245,43 +245,3 @@ module _ {robot addon row starts lengths firsts widths terminals nonterminals : 
           subst₂ (λ (r : Source) (m : Source). Gathered (symbolNames (joined limits r m)) (z.terminals + z.nonterminals) bytes₂ places₂ spans₂)
           (done_inj (sym h.robot-passes ∙ x)) (done_inj (sym h.addon-passes ∙ y)) both-put;
     }
-
--- ---- rows that are filled anew, and the numbers that were kept
-
-module _ {robot addon row : List ℕ} {z : ListSizes} {e q : ℕ} (k : JoinKept robot addon row z e q) where
-  abbrev h : JoinPassed robot addon row z e q
-  h = k.passed
-
-  part-is : (a u : ℕ) (l : List ℕ) (m : ℕ) → u ≡ m → take m (take (a + u - a) l) ≡ take u l
-  part-is a u l m g =
-      let n : a + u - a ≡ u = omega arith in
-      ap (λ (i : ℕ). take i (take (a + u - a) l)) (sym g) ∙ ap (λ (i : ℕ). take u (take i l)) n ∙ take-take u u l (omega arith)
-
-  pub held_rows : {starts lengths firsts widths : List ℕ} → NamesLoaded robot starts lengths → NamesLoaded addon firsts widths
-      → JoinedHeld robot addon row starts lengths firsts widths (take (terminalNumbers + z.u - terminalNumbers) (drop terminalNumbers row))
-      (take (nonterminalNumbers + z.v - nonterminalNumbers) (drop nonterminalNumbers row)) z e q
-  held_rows x y =
-      let f = (text-checked limits apart robot h.r h.robot-passes).read in
-      let g = module-read limits apart addon h.m h.addon-passes in
-      record {
-        r = h.r;
-        m = h.m;
-        robot-passes = h.robot-passes;
-        addon-passes = h.addon-passes;
-        passes = h.passes;
-        t-is = h.t-is;
-        n-is = h.n-is;
-        u-is = h.u-is;
-        v-is = h.v-is;
-        terminals-are = h.terminals-are;
-        nonterminals-are = h.nonterminals-are;
-        entries = h.entries;
-        states = h.states;
-        table-front = h.table-front;
-        starts-front = x.starts-front h.r f;
-        lengths-front = x.lengths-front h.r f;
-        firsts-front = y.starts-front h.m g;
-        sizes-front = y.lengths-front h.m g;
-        terminals-front = part-is terminalNumbers z.u (drop terminalNumbers row) _ h.u-is ∙ k.terminals-kept;
-        nonterminals-front = part-is nonterminalNumbers z.v (drop nonterminalNumbers row) _ h.v-is ∙ k.nonterminals-kept;
-      }

@@ -18,24 +18,24 @@ use Rattle.text.specs.declared.TextRead.TheVariants.{Read, Refused}
 use Rattle.text_read.proofs.Written.{front_fits}
 use Rattle.modules.specs.Joined.{joined, joinTexts, joinedTableInto}
 use Rattle.modules.specs.Promise.{JoinsTexts}
-use Rattle.joining.specs.Joins.{JoinPassed, JoinKept, JoinTold}
+use Rattle.joining.specs.Joins.{JoinedHeld, JoinTold}
 use Rattle.joining.specs.declared.ListSizes.{ListSizes}
 use Rattle.joining.specs.declared.Join.{Join}
 use Rattle.joining.specs.declared.Join.TheVariants.{Joined as JoinJoined, Refused as JoinRefused}
 
-module _ (robot addon row : List ℕ) where
+module _ (robot addon row starts lengths firsts sizes terminals nonterminals : List ℕ) where
   -- what the answer tells
-  pub told-refused : (r : Join) (c i : ℕ) → r ≡ JoinRefused c i → JoinTold robot addon row r
+  pub told-refused : (r : Join) (c i : ℕ) → r ≡ JoinRefused c i → JoinTold robot addon row starts lengths firsts sizes terminals nonterminals r
       → joinTexts limits robot addon ≡ refused c i
-  told-refused r c i e h = subst (λ (r : Join). JoinTold robot addon row r) e h
+  told-refused r c i e h = subst (λ (r : Join). JoinTold robot addon row starts lengths firsts sizes terminals nonterminals r) e h
 
-  pub told-joined : (r : Join) (z : ListSizes) (e q : ℕ) → r ≡ JoinJoined z e q → JoinTold robot addon row r
-      → JoinKept robot addon row z e q
-  told-joined r z e q g h = subst (λ (r : Join). JoinTold robot addon row r) g h
+  pub told-joined : (r : Join) (z : ListSizes) (e q : ℕ) → r ≡ JoinJoined z e q → JoinTold robot addon row starts lengths firsts sizes terminals nonterminals r
+      → JoinedHeld robot addon row starts lengths firsts sizes terminals nonterminals z e q
+  told-joined r z e q g h = subst (λ (r : Join). JoinTold robot addon row starts lengths firsts sizes terminals nonterminals r) g h
 
 -- the row has the whole table
-pub held_fits : {robot addon row : List ℕ} {z : ListSizes} {e q : ℕ}
-    → JoinPassed robot addon row z e q → e ≤ length row
+pub held_fits : {robot addon row starts lengths firsts sizes terminals nonterminals : List ℕ} {z : ListSizes} {e q : ℕ}
+    → JoinedHeld robot addon row starts lengths firsts sizes terminals nonterminals z e q → e ≤ length row
 held_fits {row = row} {e = e} h = front_fits e row _ h.table-front (sym h.entries)
 
 module _ (robot addon table : List ℕ) where
@@ -50,8 +50,8 @@ module _ (robot addon table : List ℕ) where
   unfolding joinedTableInto
   join-refused c i e = into-refused c i (then-stops _ _ c i e)
 
-  module _ (row : List ℕ) (z : ListSizes) (e q : ℕ)
-      (h : JoinPassed robot addon row z e q) where
+  module _ (row starts lengths firsts sizes terminals nonterminals : List ℕ) (z : ListSizes) (e q : ℕ)
+      (h : JoinedHeld robot addon row starts lengths firsts sizes terminals nonterminals z e q) where
     abbrev s : Source
     s = joined limits h.r h.m
 

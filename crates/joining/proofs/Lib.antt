@@ -1,8 +1,5 @@
 pub mod Numbers
 pub mod Loops
-pub mod Walks
-pub mod ListLaws
-pub mod KindRows
 pub mod GatherLaws
 pub mod Held
 pub mod Writes

@@ -1,4 +1,4 @@
--- Laws of numbers and of codes. Assumes nothing.
+-- Laws of the loops over the module's names. Assumes nothing.
 use Prim.Native.Nat.{ℕ, zero, suc, ◌+◌, ◌≤◌, ◌<◌}
 use mathlib.Core.Path.{◌≡◌, refl, ap, sym, ◌∙◌}
 use mathlib.Core.Bool.{Bool, true, false}
@@ -6,12 +6,35 @@ use mathlib.Core.List.{List, [], ◌∷◌, ◌++◌, map}
 use native.Mathlib.Omega.{arith}
 use native.Mathlib.Numerals.{add-one}
 use lib.Dec.{ltb}
-use borrow.Author.Tests.{ltb-true}
-use lib.ListN.{length, get_or, set, length-map}
-use lib.Seq.{paste, paste-suc}
-use Rattle.grammar.specs.Basics.{choose}
+use borrow.Author.Tests.{lt-ltb, le-ltb, ltb-true}
+use lib.ListN.{length, take, drop, get_or, set, length-map, drop_of_length-le}
+use lib.Seq.{drop-cons, take-suc, append_snoc, set_at, length-take-le, paste, paste-suc}
+use lib.Seq.{take-length}
+use Rattle.grammar.specs.Basics.{choose, over}
 use Rattle.text.specs.Names.{any, sameName, place}
+use Rattle.modules.specs.Joined.{meet, added}
 use Rattle.joining.specs.Numbers.{numbered}
+use Rattle.joining.proofs.Numbers.{any_place, numbered-snoc, added-snoc}
+
+module _ (xs ys : List (List ℕ)) (i : ℕ) where
+  meet-at : i < length xs → meet (drop i xs) ys ≡ any (λ x. any (sameName x) ys) (get_or xs i [] ∷ drop (i + 1) xs)
+  unfolding meet
+  meet-at h = rw (add-one, drop-cons xs i []) refl
+
+  -- the name at the cursor is there
+  pub meet-here : i < length xs → place (sameName (get_or xs i [])) ys < length ys → meet (drop i xs) ys ≡ true
+  unfolding any
+  meet-here h k = meet-at h ∙ rw (any_place (sameName (get_or xs i [])) ys ∙ lt-ltb (place (sameName (get_or xs i [])) ys) (length ys) k) refl
+
+  -- it is not, so the others count
+  pub meet-later : i < length xs → length ys ≤ place (sameName (get_or xs i [])) ys → meet (drop i xs) ys ≡ meet (drop (i + 1) xs) ys
+  unfolding any meet
+  meet-later h k = meet-at h ∙ rw (any_place (sameName (get_or xs i [])) ys ∙ le-ltb (place (sameName (get_or xs i [])) ys) (length ys) k) refl
+
+  -- there is none left
+  pub meet-end : length xs ≤ i → meet (drop i xs) ys ≡ false
+  unfolding meet any
+  meet-end h = rw (drop_of_length-le xs h) refl
 
 pub length-numbered : (names : List (List ℕ)) (b : ℕ) (xs : List (List ℕ)) → length (numbered names b xs) ≡ length xs
 unfolding numbered
@@ -22,6 +45,50 @@ length-numbered names b (x ∷ xs) = go (any (sameName x) names) (length-numbere
         → length (choose c (place (sameName x) names ∷ numbered names b xs) (b ∷ numbered names (b + 1) xs)) ≡ suc (length xs)
     go true e f = ap (λ (n : ℕ). suc n) e
     go false e f = ap (λ (n : ℕ). suc n) f
+
+module _ (names xs : List (List ℕ)) (i : ℕ) (h : i < length xs) where
+  -- the place of the name at the cursor
+  abbrev at : ℕ
+  at = place (sameName (get_or xs i [])) names
+
+  -- how many are added with it
+  pub added_more : length (added names (take (i + 1) xs)) ≡ choose (ltb at (length names)) (length (added names (take i xs))) (length (added names (take i xs)) + 1)
+  added_more =
+      ap (λ (ys : List (List ℕ)). length (added names ys)) (rw add-one (take-suc xs i [] h))
+      ∙ added-snoc names (take i xs) (get_or xs i [])
+      ∙ ap (λ (c : Bool). choose c (length (added names (take i xs))) (length (added names (take i xs)) + 1)) (any_place (sameName (get_or xs i [])) names)
+
+  pub next_more : (n next : ℕ) → n ≡ length names → next ≡ n + length (added names (take i xs))
+      → choose (ltb at n) next (next + 1) ≡ n + length (added names (take (i + 1) xs))
+  next_more n next q e = go (ltb at n) (added_more ∙ ap (λ (k : ℕ). choose (ltb at k) (length (added names (take i xs))) (length (added names (take i xs)) + 1)) (sym q))
+    where
+      go : (c : Bool) → length (added names (take (i + 1) xs)) ≡ choose c (length (added names (take i xs))) (length (added names (take i xs)) + 1)
+          → choose c next (next + 1) ≡ n + length (added names (take (i + 1) xs))
+      go true f = omega (arith, e, f)
+      go false f = omega (arith, e, f)
+
+  -- the row with its number
+  pub number_more : (old : List ℕ) (n next : ℕ) → length xs ≤ length old → n ≡ length names → next ≡ n + length (added names (take i xs))
+      → set (numbered names n (take i xs) ++ drop i old) i (choose (ltb at n) at next) ≡ numbered names n (take (i + 1) xs) ++ drop (i + 1) old
+  number_more old n next l q e =
+      let m : length (numbered names n (take i xs)) ≡ i = length-numbered names n (take i xs) ∙ length-take-le i xs (omega arith) in
+      let v = choose (ltb at n) at next in
+      let same : v ≡ choose (any (sameName (get_or xs i [])) names) at (n + length (added names (take i xs)))
+      = ap (λ (k : ℕ). choose (ltb at n) at k) e ∙ ap (λ (c : Bool). choose c at (n + length (added names (take i xs)))) (ap (λ (k : ℕ). ltb at k) q ∙ sym (any_place (sameName (get_or xs i [])) names)) in
+      ap (λ (w : List ℕ). set (numbered names n (take i xs) ++ w) i v) (drop-cons old i 0 (omega arith))
+      ∙ set_at (numbered names n (take i xs)) (get_or old i 0) (drop (suc i) old) v i m
+      ∙ sym (append_snoc (numbered names n (take i xs)) v (drop (suc i) old))
+      ∙ rw add-one (ap (λ (w : List ℕ). w ++ drop (suc i) old)
+      (ap (λ (k : ℕ). numbered names n (take i xs) ++ (k ∷ [])) same ∙ sym (numbered-snoc names (take i xs) n (get_or xs i []))
+      ∙ ap (numbered names n) (sym (take-suc xs i [] h))))
+
+-- all of them
+pub number-all : (names xs : List (List ℕ)) (old : List ℕ) (n i : ℕ) → i ≡ length xs → numbered names n (take i xs) ++ drop i old ≡ over (numbered names n xs) old
+unfolding over
+number-all names xs old n i e =
+    ap (λ (i : ℕ). numbered names n (take i xs) ++ drop i old) e
+    ∙ ap (λ (ys : List (List ℕ)). numbered names n ys ++ drop (length xs) old) (take-length xs)
+    ∙ ap (λ (k : ℕ). numbered names n xs ++ drop k old) (sym (length-numbered names n xs))
 
 pub choose-small : (k n next b : ℕ) → n ≤ b → next < b → choose (ltb k n) k next < b
 choose-small k n next b h l = go (ltb k n) refl
@@ -36,6 +103,13 @@ choose-next k n next = go (ltb k n)
     go : (c : Bool) → choose c next (next + 1) ≤ next + 1
     go true = omega arith
     go false = omega arith
+
+pub none-added : (names xs : List (List ℕ)) (n : ℕ) (old : List ℕ) → (length (added names (take 0 xs)) ≡ 0) × (numbered names n (take 0 xs) ++ drop 0 old ≡ old)
+unfolding added numbered
+none-added names xs n old = (refl, refl)
+
+pub added-all : (names xs : List (List ℕ)) (i : ℕ) → i ≡ length xs → length (added names (take i xs)) ≡ length (added names xs)
+added-all names xs i e = ap (λ (i : ℕ). length (added names (take i xs))) e ∙ ap (λ (ys : List (List ℕ)). length (added names ys)) (take-length xs)
 
 -- one code more, put through f
 pub paste_more : (f : ℕ → ℕ) (codes old row : List ℕ) (at i : ℕ) → at + length codes ≤ length old → i < length codes → row ≡ paste old at (map f codes) i

@@ -67,6 +67,49 @@ counted names before (x ∷ xs) next e o b =
 pub numbers-right : (names xs : List (List ℕ)) → hasDouble xs ≡ false → numbered names (length names) xs ≡ map (λ x. place (sameName x) (names ++ added names xs)) xs
 numbers-right names xs o = counted names [] xs (length names) (omega arith) o (meet-nothing xs)
 
+-- one more name
+pub numbered-snoc : (names xs : List (List ℕ)) (next : ℕ) (x : List ℕ)
+    → numbered names next (xs ++ (x ∷ []))
+    ≡ numbered names next xs ++ (choose (any (sameName x) names) (place (sameName x) names) (next + length (added names xs)) ∷ [])
+unfolding numbered added
+numbered-snoc names [] next x = go (any (sameName x) names)
+  where
+    go : (c : Bool) → choose c (place (sameName x) names ∷ []) (next ∷ []) ≡ choose c (place (sameName x) names) (next + 0) ∷ []
+    go true = refl
+    go false = ap (λ (n : ℕ). n ∷ []) (let z : next ≡ next + 0 = omega arith in z)
+numbered-snoc names (y ∷ xs) next x = go (any (sameName y) names) (numbered-snoc names xs next x) (numbered-snoc names xs (next + 1) x)
+  where
+    abbr : ℕ → ℕ
+    abbr n = choose (any (sameName x) names) (place (sameName x) names) n
+
+    go : (c : Bool) → numbered names next (xs ++ (x ∷ [])) ≡ numbered names next xs ++ (abbr (next + length (added names xs)) ∷ [])
+        → numbered names (next + 1) (xs ++ (x ∷ [])) ≡ numbered names (next + 1) xs ++ (abbr (next + 1 + length (added names xs)) ∷ [])
+        → choose c (place (sameName y) names ∷ numbered names next (xs ++ (x ∷ []))) (next ∷ numbered names (next + 1) (xs ++ (x ∷ [])))
+        ≡ choose c (place (sameName y) names ∷ numbered names next xs) (next ∷ numbered names (next + 1) xs)
+        ++ (abbr (next + length (choose c (added names xs) (y ∷ added names xs))) ∷ [])
+    go true i j = ap (λ (l : List ℕ). place (sameName y) names ∷ l) i
+    go false i j =
+        ap (λ (l : List ℕ). next ∷ l)
+        (j ∙ ap (λ (n : ℕ). numbered names (next + 1) xs ++ (abbr n ∷ [])) (let z : next + 1 + length (added names xs) ≡ next + suc (length (added names xs)) = omega arith in z))
+
+-- and how many are added then
+pub added-snoc : (names xs : List (List ℕ)) (x : List ℕ)
+    → length (added names (xs ++ (x ∷ []))) ≡ choose (any (sameName x) names) (length (added names xs)) (length (added names xs) + 1)
+unfolding added
+added-snoc names [] x = go (any (sameName x) names)
+  where
+    go : (c : Bool) → length (choose c [] (x ∷ [])) ≡ choose c 0 (0 + 1)
+    go true = refl
+    go false = refl
+added-snoc names (y ∷ xs) x = go (any (sameName y) names) (any (sameName x) names) (added-snoc names xs x)
+  where
+    go : (c d : Bool) → length (added names (xs ++ (x ∷ []))) ≡ choose d (length (added names xs)) (length (added names xs) + 1)
+        → length (choose c (added names (xs ++ (x ∷ []))) (y ∷ added names (xs ++ (x ∷ []))))
+        ≡ choose d (length (choose c (added names xs) (y ∷ added names xs))) (length (choose c (added names xs) (y ∷ added names xs)) + 1)
+    go true d e = e
+    go false true e = omega (arith, e)
+    go false false e = omega (arith, e)
+
 -- a name is among others exactly where its place is
 pub any_place : (p : List ℕ → Bool) (xs : List (List ℕ)) → any p xs ≡ ltb (place p xs) (length xs)
 any_place p xs = go (any p xs) refl

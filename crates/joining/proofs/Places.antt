@@ -1,4 +1,4 @@
--- Where the lists of two joined texts say that a symbol's name stands. Assumes nothing.
+-- Where the rows of two joined texts say that a symbol's name stands. Assumes nothing.
 use Prim.Native.Nat.{ℕ, zero, suc, ◌+◌, ◌-◌, ◌≤◌, ◌<◌}
 use mathlib.Core.Path.{◌≡◌, refl, ap, ap₂, sym, subst, ◌∙◌}
 use mathlib.Core.Bool.{Bool, true, false}
@@ -7,30 +7,24 @@ use native.Mathlib.Omega.{arith}
 use borrow.Author.Tests.{eq-eqb, ne_eqb, eqb-true}
 use lib.Dec.{eqb}
 use lib.ListN.{length, take, drop, get_or, length-append, drop_of_length-le}
+use lib.Seq.{get_or-take}
 use Rattle.grammar.specs.Basics.{choose}
 use Rattle.grammar.specs.Limits.{limits}
-use Rattle.grammar.specs.Refusal.{done}
 use Rattle.grammar.proofs.Lists.{drop-next}
 use Rattle.text.specs.Names.{place}
-use Rattle.text.specs.Read.{Source, names_of, readText}
-use Rattle.text.specs.Promise.{startsFrom, nameLengths}
-use Rattle.text.proofs.Admit.{text-checked}
-use Rattle.names.specs.Found.{part}
+use Rattle.text.specs.Read.{Source, symbolNames}
+use Rattle.text.specs.Promise.{nameStarts, nameLengths}
+use Rattle.text.proofs.Spans.{length-name-starts, length-lengths}
 use Rattle.modules.specs.Joined.{meet, added, joinedTerminals, joinedNonterminals, joined}
 use Rattle.joining.specs.Numbers.{numbered}
-use Rattle.joining.specs.Lists.{ListsAt}
-use Rattle.joining.specs.Joins.{JoinPassed, JoinKept, JoinTold, PlaceReady, terminalNumbers, nonterminalNumbers}
-use Rattle.joining.specs.Shown.{NameReady}
-use Rattle.joining.specs.declared.Lists.{Lists}
+use Rattle.joining.specs.Joins.{JoinTold, PlaceReady}
 use Rattle.joining.specs.declared.ListSizes.{ListSizes}
 use Rattle.joining.specs.declared.Join.{Join}
 use Rattle.joining.specs.declared.Join.TheVariants.{Joined, Refused}
 use Rattle.modules.specs.declared.Place.TheVariants.{Robot, Module, Neither}
-use Rattle.modules.proofs.ReadJoined.{module-read, module-well}
 use Rattle.joining.proofs.Loops.{length-numbered}
-use Rattle.joining.proofs.KindRows.{first-place, second-place}
 use Rattle.joining.proofs.ShownLaws.{added-counted}
-use Rattle.joining.proofs.Declarers.{placeAt, own-terminal, own-nonterminal, added-terminal, added-nonterminal}
+use Rattle.joining.proofs.Declarers.{OfRobot, OfModule, own-terminal, own-nonterminal, added-terminal, added-nonterminal}
 use Rattle.joining.proofs.ShownNames.{Told, clear, robot-told, module-told, neither-told, shown-refused}
 
 -- ---- the first entry that is i
@@ -61,48 +55,40 @@ entry_found (x ∷ l) i (suc j) h e = go (place (λ (x : ℕ). eqb x i) l) (eqb 
     go k true f again = (omega arith, eqb-true x i f)
     go k false f again = (omega (arith, again.0), again.1)
 
--- ---- the number of a name of the module
+-- ---- rows that begin with what is told
 
--- the first of the module's names with number i
-abbrev pub number_at : List (List ℕ) → List (List ℕ) → ℕ → ℕ
-number_at names xs i = place (λ (x : ℕ). eqb x i) (numbered names (length names) xs)
+-- a row is as long as its front, and has its entries
+front-room : (k : ℕ) (l front : List ℕ) → take k l ≡ front → length front ≡ k → k ≤ length l
+front-room k l front e h = room k l (ap length e ∙ h)
+  where
+    room : (k : ℕ) (l : List ℕ) → length (take k l) ≡ k → k ≤ length l
+    room zero l h = omega arith
+    room (suc k) [] h = absurd (omega arith)
+    room (suc k) (x ∷ l) h = let z = room k l (omega arith) in omega arith
+
+front-entry : (k : ℕ) (l front : List ℕ) (j : ℕ) → take k l ≡ front → j < k → get_or l j 0 ≡ get_or front j 0
+front-entry k l front j e h = sym (get_or-take k l j 0 h) ∙ ap (λ (l : List ℕ). get_or l j 0) e
 
 -- the place of a number past the robot's names is that of a name of the module
-found : (names xs : List (List ℕ)) (i : ℕ) → length names ≤ i → i < length (names ++ added names xs)
-    → (number_at names xs i < length xs) × (get_or (numbered names (length names) xs) (number_at names xs i) 0 ≡ i)
-found names xs i h l =
+found : (row : List ℕ) (u : ℕ) (names xs : List (List ℕ)) (i : ℕ) → u ≡ length xs → take (length xs) row ≡ numbered names (length names) xs
+    → length names ≤ i → i < length (names ++ added names xs)
+    → (place (λ (x : ℕ). eqb x i) (take u row) < u) × (get_or (numbered names (length names) xs) (place (λ (x : ℕ). eqb x i) (take u row)) 0 ≡ i)
+found row u names xs i e f h l =
     let c = added-counted names xs (length names) i h (omega (arith, l, length-append names (added names xs))) in
     let n = length-numbered names (length names) xs in
     let d = entry_found (numbered names (length names) xs) i c.number (omega (arith, c.inside, n)) c.is in
-    (omega (arith, d.0, n), d.1)
+    let q = ap (λ (k : ℕ). take k row) e ∙ f in
+    let p = ap (λ (l : List ℕ). place (λ (x : ℕ). eqb x i) l) q in
+    (omega (arith, p, d.0, n, e), ap (λ (j : ℕ). get_or (numbered names (length names) xs) j 0) p ∙ d.1)
 
--- ---- the names of two texts that are joined, in their lists
-
-pub robot-reads : {robot addon row : List ℕ} {z : ListSizes} {e q : ℕ} (h : JoinPassed robot addon row z e q) → readText limits robot ≡ done h.r
-robot-reads {robot} h = (text-checked limits (omega arith) robot h.r h.robot-passes).read
-
-pub addon-reads : {robot addon row : List ℕ} {z : ListSizes} {e q : ℕ} (h : JoinPassed robot addon row z e q) → readText limits addon ≡ done h.m
-addon-reads {addon = addon} h = module-read limits (omega arith) addon h.m h.addon-passes
-
-module _ {robot addon row : List ℕ} {z : ListSizes} {e q : ℕ} (kept : JoinKept robot addon row z e q) where
-  pub numbers-few : (z.u ≤ limits.maxTerminals) × (z.v ≤ limits.maxNonterminals)
-  numbers-few =
-      let w = module-well limits (omega arith) addon kept.passed.m kept.passed.addon-passes in
-      (omega (arith, kept.passed.u-is, w.terminals-most), omega (arith, kept.passed.v-is, w.nonterminals-most))
-
-  pub numbers-room : (terminalNumbers + z.u ≤ length row) × (nonterminalNumbers + z.v ≤ length row)
-  numbers-room = (omega (arith, kept.room, numbers-few.0), omega (arith, kept.room, numbers-few.1))
-
-module _ {robot addon row : List ℕ} {z : ListSizes} {e q : ℕ} (kept : JoinKept robot addon row z e q) (a b : Lists)
-    (ra : ListsAt robot kept.passed.r a) (mb : ListsAt addon kept.passed.m b) where
-  abbrev held : JoinPassed robot addon row z e q
-  held = kept.passed
-
+-- the rows of two texts that are joined
+module _ {robot addon : List ℕ} {z : ListSizes} {starts lengths firsts widths terminals nonterminals : List ℕ}
+    (ready : PlaceReady robot addon z starts lengths firsts widths terminals nonterminals) where
   abbrev r : Source
-  r = held.r
+  r = ready.held.r
 
   abbrev m : Source
-  m = held.m
+  m = ready.held.m
 
   apart : limits.maxTerminals < limits.nonterminalBase
   apart = omega arith
@@ -119,152 +105,145 @@ module _ {robot addon row : List ℕ} {z : ListSizes} {e q : ℕ} (kept : JoinKe
     terminals-are : z.terminals ≡ length (joinedTerminals r m)
     nonterminals-are : z.nonterminals ≡ length (joinedNonterminals r m)
     names-are : length names ≡ z.terminals + z.nonterminals
+    robot-names : length (symbolNames r) ≡ z.t + z.n
+    module-names : length (symbolNames m) ≡ z.u + z.v
 
   sizes : Sizes
   unfolding joined
-  sizes = record {
-    t-is = held.t-is;
-    n-is = held.n-is;
-    u-is = held.u-is;
-    v-is = held.v-is;
-    terminals-are = held.terminals-are;
-    nonterminals-are = held.nonterminals-are;
-    names-are = omega (arith, length-append (joinedTerminals r m) (joinedNonterminals r m), held.terminals-are, held.nonterminals-are);
-  }
+  sizes =
+      let h = ready.held in
+      record {
+        t-is = h.t-is;
+        n-is = h.n-is;
+        u-is = h.u-is;
+        v-is = h.v-is;
+        terminals-are = h.terminals-are;
+        nonterminals-are = h.nonterminals-are;
+        names-are = omega (arith, length-append (joinedTerminals r m) (joinedNonterminals r m), h.terminals-are, h.nonterminals-are);
+        robot-names = omega (arith, length-append r.terminals r.nonterminals, h.t-is, h.n-is);
+        module-names = omega (arith, length-append m.terminals m.nonterminals, h.u-is, h.v-is);
+      }
 
-  -- the four lists, as parts of the texts
-  abbrev rt : List (List ℕ)
-  rt = names_of (part a.first a.stop robot)
+  -- the rows have all names
+  pub robot-room : (z.t + z.n ≤ length starts) × (z.t + z.n ≤ length lengths)
+  robot-room =
+      let h = ready.held in (
+        omega (arith, sizes.robot-names, front-room _ starts (nameStarts r) h.starts-front (length-name-starts r)),
+        omega (arith, sizes.robot-names, front-room _ lengths (nameLengths (symbolNames r)) h.lengths-front (length-lengths (symbolNames r))),
+      )
 
-  abbrev rn : List (List ℕ)
-  rn = names_of (part a.second a.end robot)
+  pub module-room : (z.u + z.v ≤ length firsts) × (z.u + z.v ≤ length widths)
+  module-room =
+      let h = ready.held in (
+        omega (arith, sizes.module-names, front-room _ firsts (nameStarts m) h.firsts-front (length-name-starts m)),
+        omega (arith, sizes.module-names, front-room _ widths (nameLengths (symbolNames m)) h.sizes-front (length-lengths (symbolNames m))),
+      )
 
-  abbrev mt : List (List ℕ)
-  mt = names_of (part b.first b.stop addon)
+  pub terminals-room : z.u ≤ length terminals
+  terminals-room =
+      let h = ready.held in
+      omega (arith, h.u-is, front-room _ terminals _ h.terminals-front (length-numbered r.terminals (length r.terminals) m.terminals))
 
-  abbrev mn : List (List ℕ)
-  mn = names_of (part b.second b.end addon)
-
-  -- what is lent for the place of a name
-  pub robot-terminal : (i : ℕ) → i < z.t → NameReady robot a.first a.stop i
-  robot-terminal i h = record {
-    low = ra.terminals.low;
-    high = ra.terminals.high;
-    short = ra.short;
-    inside = omega (arith, h, sizes.t-is, ap length ra.terminals.are);
-  }
-
-  pub robot-nonterminal : (k : ℕ) → k < z.n → NameReady robot a.second a.end k
-  robot-nonterminal k h = record {
-    low = ra.nonterminals.low;
-    high = ra.nonterminals.high;
-    short = ra.short;
-    inside = omega (arith, h, sizes.n-is, ap length ra.nonterminals.are);
-  }
-
-  -- the number of an added symbol among the module's, as the row tells it
-  abbrev pub terminal : ℕ → ℕ
-  terminal i = place (λ (x : ℕ). eqb x i) (take (terminalNumbers + z.u - terminalNumbers) (drop terminalNumbers row))
-
-  abbrev pub nonterminal : ℕ → ℕ
-  nonterminal k = place (λ (x : ℕ). eqb x k) (take (nonterminalNumbers + z.v - nonterminalNumbers) (drop nonterminalNumbers row))
-
-  clear_of : (meet m.terminals r.nonterminals ≡ false) × (meet m.nonterminals r.terminals ≡ false)
-  clear_of = clear limits apart robot addon r m held.robot-passes held.addon-passes held.passes
+  pub nonterminals-room : z.v ≤ length nonterminals
+  nonterminals-room =
+      let h = ready.held in
+      omega (arith, h.v-is, front-room _ nonterminals _ h.nonterminals-front (length-numbered r.nonterminals (length r.nonterminals) m.nonterminals))
 
   -- ---- the module's number of a symbol that it adds
 
-  terminal-is : (i : ℕ) → terminal i ≡ number_at r.terminals m.terminals i
-  terminal-is i =
-      let k : terminalNumbers + z.u - terminalNumbers ≡ z.u = omega arith in
-      ap (λ (l : List ℕ). place (λ (x : ℕ). eqb x i) l) (ap (λ (k : ℕ). take k (drop terminalNumbers row)) k ∙ kept.terminals-kept)
+  abbrev terminal : ℕ → ℕ
+  terminal i = place (λ (x : ℕ). eqb x i) (take z.u terminals)
 
-  nonterminal-is : (i : ℕ) → nonterminal i ≡ number_at r.nonterminals m.nonterminals i
-  nonterminal-is i =
-      let k : nonterminalNumbers + z.v - nonterminalNumbers ≡ z.v = omega arith in
-      ap (λ (l : List ℕ). place (λ (x : ℕ). eqb x i) l) (ap (λ (k : ℕ). take k (drop nonterminalNumbers row)) k ∙ kept.nonterminals-kept)
+  abbrev nonterminal : ℕ → ℕ
+  nonterminal k = place (λ (x : ℕ). eqb x k) (take z.v nonterminals)
 
   terminal-found : (i : ℕ) → z.t ≤ i → i < z.terminals
-      → (terminal i < length m.terminals) × (get_or (numbered r.terminals (length r.terminals) m.terminals) (terminal i) 0 ≡ i)
+      → (terminal i < z.u) × (get_or (numbered r.terminals (length r.terminals) m.terminals) (terminal i) 0 ≡ i)
   terminal-found i h l =
-      let f = found r.terminals m.terminals i (omega (arith, h, sizes.t-is)) (omega (arith, l, sizes.terminals-are)) in
-      subst (λ (j : ℕ). (j < length m.terminals) × (get_or (numbered r.terminals (length r.terminals) m.terminals) j 0 ≡ i)) (sym (terminal-is i)) f
+      found terminals z.u r.terminals m.terminals i ready.held.u-is ready.held.terminals-front (omega (arith, h, sizes.t-is))
+      (omega (arith, l, sizes.terminals-are))
 
   nonterminal-found : (k : ℕ) → z.n ≤ k → k < z.nonterminals
-      → (nonterminal k < length m.nonterminals) × (get_or (numbered r.nonterminals (length r.nonterminals) m.nonterminals) (nonterminal k) 0 ≡ k)
+      → (nonterminal k < z.v) × (get_or (numbered r.nonterminals (length r.nonterminals) m.nonterminals) (nonterminal k) 0 ≡ k)
   nonterminal-found k h l =
-      let f = found r.nonterminals m.nonterminals k (omega (arith, h, sizes.n-is)) (omega (arith, l, sizes.nonterminals-are)) in
-      subst (λ (j : ℕ). (j < length m.nonterminals) × (get_or (numbered r.nonterminals (length r.nonterminals) m.nonterminals) j 0 ≡ k)) (sym (nonterminal-is k)) f
+      found nonterminals z.v r.nonterminals m.nonterminals k ready.held.v-is ready.held.nonterminals-front
+      (omega (arith, h, sizes.n-is))
+      (omega (arith, l, sizes.nonterminals-are))
 
-  pub module-terminal : (i : ℕ) → z.t ≤ i → i < z.terminals → (j : ℕ) → j ≡ terminal i → NameReady addon b.first b.stop j
-  module-terminal i h l j g = record {
-    low = mb.terminals.low;
-    high = mb.terminals.high;
-    short = mb.short;
-    inside = omega (arith, g, (terminal-found i h l).0, ap length mb.terminals.are);
-  }
+  pub terminal-in : (i : ℕ) → z.t ≤ i → i < z.terminals → terminal i < z.u
+  terminal-in i h l = (terminal-found i h l).0
 
-  pub module-nonterminal : (k : ℕ) → z.n ≤ k → k < z.nonterminals → (j : ℕ) → j ≡ nonterminal k → NameReady addon b.second b.end j
-  module-nonterminal k h l j g = record {
-    low = mb.nonterminals.low;
-    high = mb.nonterminals.high;
-    short = mb.short;
-    inside = omega (arith, g, (nonterminal-found k h l).0, ap length mb.nonterminals.are);
-  }
+  pub nonterminal-in : (k : ℕ) → z.n ≤ k → k < z.nonterminals → nonterminal k < z.v
+  nonterminal-in k h l = (nonterminal-found k h l).0
 
-  -- ---- the places that are told
+  -- ---- the places that the rows tell
 
-  pub own-terminal-told : (i : ℕ) → i < z.t → Told limits robot addon i (Robot (get_or (startsFrom a.first rt) i 0) (get_or (nameLengths rt) i 0))
+  clear_of : (meet m.terminals r.nonterminals ≡ false) × (meet m.nonterminals r.terminals ≡ false)
+  clear_of = clear limits apart robot addon r m ready.held.robot-passes ready.held.addon-passes ready.held.passes
+
+  robot-row : (i j : ℕ) → i < length names → OfRobot r names i j → Told limits robot addon i (Robot (get_or starts j 0) (get_or lengths j 0))
+  robot-row i j h o =
+      let d = ready.held in
+      subst (Told limits robot addon i)
+      (ap₂ (λ (a l : ℕ). Robot a l) (sym (front-entry _ starts (nameStarts r) j d.starts-front o.declared))
+      (sym (front-entry _ lengths (nameLengths (symbolNames r)) j d.lengths-front o.declared)))
+      (robot-told limits apart robot addon r m d.robot-passes d.addon-passes d.passes i j h o)
+
+  module-row : (i j : ℕ) → i < length names → OfModule r m names i j → Told limits robot addon i (Module (get_or firsts j 0) (get_or widths j 0))
+  module-row i j h o =
+      let d = ready.held in
+      subst (Told limits robot addon i)
+      (ap₂ (λ (a l : ℕ). Module a l) (sym (front-entry _ firsts (nameStarts m) j d.firsts-front o.declared))
+      (sym (front-entry _ widths (nameLengths (symbolNames m)) j d.sizes-front o.declared)))
+      (module-told limits apart robot addon r m d.robot-passes d.addon-passes d.passes i j h o)
+
+  pub own-terminal-told : (i : ℕ) → i < z.t → Told limits robot addon i (Robot (get_or starts i 0) (get_or lengths i 0))
   own-terminal-told i h =
-      let f = first-place ra i (omega (arith, h, sizes.t-is)) in
-      subst (Told limits robot addon i) (ap₂ (λ (a l : ℕ). Robot a l) f.0 f.1)
-      (robot-told limits apart robot addon r m held.robot-passes held.addon-passes held.passes i i
-      (omega (arith, h, sizes.t-is, length-append (joinedTerminals r m) (joinedNonterminals r m), length-append r.terminals (added r.terminals m.terminals)))
-      (own-terminal r m clear_of.0 clear_of.1 i (omega (arith, h, sizes.t-is))))
+      robot-row i i
+      (omega (arith, sizes.t-is, length-append (joinedTerminals r m) (joinedNonterminals r m), length-append r.terminals (added r.terminals m.terminals)))
+      (own-terminal r m clear_of.0 clear_of.1 i (omega (arith, sizes.t-is)))
 
-  pub added-terminal-told : (i : ℕ) → z.t ≤ i → i < z.terminals → (j : ℕ) → j ≡ terminal i
-      → Told limits robot addon i (Module (get_or (startsFrom b.first mt) j 0) (get_or (nameLengths mt) j 0))
-  added-terminal-told i h l j g =
+  pub added-terminal-told : (i : ℕ) → z.t ≤ i → i < z.terminals
+      → Told limits robot addon i (Module (get_or firsts (terminal i) 0) (get_or widths (terminal i) 0))
+  added-terminal-told i h l =
       let f = terminal-found i h l in
-      let p = first-place mb j (omega (arith, g, f.0)) in
-      subst (Told limits robot addon i) (ap₂ (λ (a l : ℕ). Module a l) p.0 p.1)
-      (module-told limits apart robot addon r m held.robot-passes held.addon-passes held.passes i j (omega (arith, l, sizes.names-are))
-      (added-terminal r m clear_of.0 clear_of.1 i j (omega (arith, h, sizes.t-is)) (omega (arith, l, sizes.terminals-are))
-      (omega (arith, g, f.0)) (ap (λ (j : ℕ). get_or (numbered r.terminals (length r.terminals) m.terminals) j 0) g ∙ f.1)))
+      module-row i (terminal i) (omega (arith, sizes.names-are))
+      (added-terminal r m clear_of.0 clear_of.1 i (terminal i) (omega (arith, h, sizes.t-is)) (omega (arith, l, sizes.terminals-are))
+      (omega (arith, f.0, sizes.u-is)) f.1)
 
-  pub own-nonterminal-told : (i : ℕ) → z.terminals ≤ i → (k : ℕ) → k ≡ i - z.terminals → k < z.n
-      → Told limits robot addon i (Robot (get_or (startsFrom a.second rn) k 0) (get_or (nameLengths rn) k 0))
-  own-nonterminal-told i h k g l =
-      let f = second-place ra k (omega (arith, l, sizes.n-is)) in
-      let j : length r.terminals + (i - length (joinedTerminals r m)) ≡ length r.terminals + k = omega (arith, g, sizes.terminals-are) in
-      subst (Told limits robot addon i) (ap₂ (λ (a l : ℕ). Robot a l) f.0 f.1)
-      (subst (λ (j : ℕ). Told limits robot addon i (placeAt Robot r j)) j
-      (robot-told limits apart robot addon r m held.robot-passes held.addon-passes held.passes i _
-      (omega (arith, h, g, l, sizes.names-are, sizes.n-is, sizes.nonterminals-are, length-append r.nonterminals (added r.nonterminals m.nonterminals)))
-      (own-nonterminal r m clear_of.0 clear_of.1 i (omega (arith, h, sizes.terminals-are)) (omega (arith, g, l, sizes.n-is, sizes.terminals-are)))))
+  pub own-nonterminal-told : (i : ℕ) → z.terminals ≤ i → i - z.terminals < z.n
+      → Told limits robot addon i (Robot (get_or starts (z.t + (i - z.terminals)) 0) (get_or lengths (z.t + (i - z.terminals)) 0))
+  own-nonterminal-told i h l =
+      let j : length r.terminals + (i - length (joinedTerminals r m)) ≡ z.t + (i - z.terminals) = omega (arith, sizes.t-is, sizes.terminals-are) in
+      subst (λ (j : ℕ). Told limits robot addon i (Robot (get_or starts j 0) (get_or lengths j 0))) j
+      (robot-row i _
+      (omega (arith, h, l, sizes.names-are, sizes.n-is, sizes.nonterminals-are, length-append r.nonterminals (added r.nonterminals m.nonterminals)))
+      (own-nonterminal r m clear_of.0 clear_of.1 i (omega (arith, h, sizes.terminals-are)) (omega (arith, l, sizes.n-is, sizes.terminals-are))))
 
-  pub added-nonterminal-told : (i : ℕ) → z.terminals ≤ i → (k : ℕ) → k ≡ i - z.terminals → z.n ≤ k → k < z.nonterminals → (j : ℕ) → j ≡ nonterminal k
-      → Told limits robot addon i (Module (get_or (startsFrom b.second mn) j 0) (get_or (nameLengths mn) j 0))
-  added-nonterminal-told i h k g o l j w =
-      let f = nonterminal-found k o l in
-      let p = second-place mb j (omega (arith, w, f.0)) in
-      let d : k ≡ i - length (joinedTerminals r m) = omega (arith, g, sizes.terminals-are) in
-      subst (Told limits robot addon i) (ap₂ (λ (a l : ℕ). Module a l) p.0 p.1)
-      (module-told limits apart robot addon r m held.robot-passes held.addon-passes held.passes i _ (omega (arith, h, g, l, sizes.names-are))
-      (added-nonterminal r m clear_of.0 clear_of.1 i j (omega (arith, h, sizes.terminals-are))
-      (omega (arith, g, o, sizes.n-is, sizes.terminals-are)) (omega (arith, w, f.0))
-      (ap (λ (j : ℕ). get_or (numbered r.nonterminals (length r.nonterminals) m.nonterminals) j 0) w ∙ f.1 ∙ d)))
+  pub added-nonterminal-told : (i : ℕ) → z.terminals ≤ i → z.n ≤ i - z.terminals → i - z.terminals < z.nonterminals
+      → let j = z.u + nonterminal (i - z.terminals) in Told limits robot addon i (Module (get_or firsts j 0) (get_or widths j 0))
+  added-nonterminal-told i h k l =
+      let f = nonterminal-found (i - z.terminals) k l in
+      let n = nonterminal (i - z.terminals) in
+      let q : i - z.terminals ≡ i - length (joinedTerminals r m) = omega (arith, sizes.terminals-are) in
+      let j : length m.terminals + n ≡ z.u + n = omega (arith, sizes.u-is) in
+      subst (λ (j : ℕ). Told limits robot addon i (Module (get_or firsts j 0) (get_or widths j 0))) j
+      (module-row i _ (omega (arith, h, l, sizes.names-are))
+      (added-nonterminal r m clear_of.0 clear_of.1 i n (omega (arith, h, sizes.terminals-are))
+      (omega (arith, k, sizes.n-is, sizes.terminals-are)) (omega (arith, f.0, sizes.v-is)) (f.1 ∙ q)))
 
   pub past-told : (i : ℕ) → z.terminals ≤ i → z.nonterminals ≤ i - z.terminals → Told limits robot addon i Neither
   past-told i h l =
-      neither-told limits apart robot addon r m held.robot-passes held.addon-passes held.passes i
+      neither-told limits apart robot addon r m ready.held.robot-passes ready.held.addon-passes ready.held.passes i
       (omega (arith, h, l, sizes.names-are))
 
 -- ---- the answer of the join
 
-module _ (robot addon row : List ℕ) (o : Join) (told : JoinTold robot addon row o) where
-  pub place-ready : (z : ListSizes) (e q : ℕ) → o ≡ Joined z e q → PlaceReady robot addon z row
-  place-ready z e q h = record { e = e; q = q; kept = subst (JoinTold robot addon row) h told }
+module _ (robot addon row starts lengths firsts widths terminals nonterminals : List ℕ) (o : Join)
+    (told : JoinTold robot addon row starts lengths firsts widths terminals nonterminals o) where
+  pub place-ready : (z : ListSizes) (e q : ℕ) → o ≡ Joined z e q → PlaceReady robot addon z starts lengths firsts widths terminals nonterminals
+  place-ready z e q h = record { row = row; e = e; q = q; held = subst (JoinTold robot addon row starts lengths firsts widths terminals nonterminals) h told }
 
   pub place-refused : (cause at i : ℕ) → o ≡ Refused cause at → Told limits robot addon i Neither
-  place-refused cause at i h = (sym (shown-refused limits robot addon cause at (subst (JoinTold robot addon row) h told) i), tt)
+  place-refused cause at i h =
+      (sym (shown-refused limits robot addon cause at (subst (JoinTold robot addon row starts lengths firsts widths terminals nonterminals) h told) i), tt)

@@ -11,12 +11,18 @@ use Rattle.grammar.specs.Limits.{limits}
 use Rattle.grammar.specs.Grammar.{Rule}
 use Rattle.grammar.specs.Table.{encode, decode, ruleAt}
 use Rattle.grammar.specs.TableCheck.{isAmong}
-use Rattle.grammar.proofs.Rules.{encode-append, decode-encode, stands}
+use Rattle.grammar.proofs.Rules.{decode-encode, stands}
 use Rattle.modules.specs.Joined.{addedRules}
 use Rattle.joining.specs.Naming.{recoded, recodedRule, RuleRecoding, RulesReady, RulesPut}
 use Rattle.joining.specs.RuleRows.{RuleReady, RulePut, RulesBefore}
 use Rattle.joining.proofs.RuleLaws.{added-rules-snoc}
 use Rattle.joining.proofs.OneRule.{one-rule, Put, put_one}
+
+-- the rules of two lists end to end
+encode-append : (xs ys : List Rule) → encode (xs ++ ys) ≡ encode xs ++ encode ys
+unfolding encode
+encode-append [] ys = refl
+encode-append (x ∷ xs) ys = rw (encode-append xs ys, append_assoc)
 
 -- the module's first rule from a place of its table on
 record Next (table : List ℕ) (at : ℕ) (rest : List Rule) : Type 0 where

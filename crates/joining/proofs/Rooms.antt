@@ -1,14 +1,26 @@
--- Local rows of zeros suffice for two tables and for all names. Assumes nothing.
+-- Local rows of zeros suffice for two texts and their names. Assumes nothing.
 use Prim.Native.Nat.{ℕ, ◌*◌, ◌+◌, ◌≤◌}
+use mathlib.Core.List.{List}
 use native.Mathlib.Omega.{arith}
 use lib.ListN.{length, replicate, length-replicate}
 use Rattle.grammar.specs.Limits.{limits}
 use Rattle.text_read.specs.Values.{allNames}
 use Rattle.text_read.specs.Lines.{keptEntries}
+use Rattle.text_read.proofs.Rooms.{rows-large}
+use Rattle.joining.specs.Joins.{JoinRows}
 use Rattle.joining.specs.Gathering.{longest, NameRoom}
 
-pub row_room : limits.maxStates + limits.maxRules + keptEntries ≤ length {A = ℕ} (replicate (limits.maxStates + limits.maxRules + keptEntries) 0)
-row_room = omega (arith, length-replicate {A = ℕ} (limits.maxStates + limits.maxRules + keptEntries) 0)
+pub rows_both : (robot addon : List ℕ)
+    → JoinRows robot addon (replicate keptEntries 0) (replicate allNames 0) (replicate allNames 0)
+    (replicate keptEntries 0) (replicate allNames 0) (replicate allNames 0)
+    (replicate limits.maxTerminals 0) (replicate limits.maxNonterminals 0)
+rows_both robot addon = record {
+  robot-rows = rows-large (length robot);
+  addon-rows = rows-large (length addon);
+  both = omega (arith, length-replicate {A = ℕ} keptEntries 0);
+  terminals-room = omega (arith, length-replicate {A = ℕ} limits.maxTerminals 0);
+  nonterminals-room = omega (arith, length-replicate {A = ℕ} limits.maxNonterminals 0);
+}
 
 pub name-room : NameRoom (replicate (allNames * longest) 0) (replicate allNames 0) (replicate allNames 0)
 name-room = record {
@@ -16,12 +28,3 @@ name-room = record {
   places-room = omega (arith, length-replicate {A = ℕ} allNames 0);
   spans-room = omega (arith, length-replicate {A = ℕ} allNames 0);
 }
-
-pub terminals-room : limits.maxTerminals ≤ length {A = ℕ} (replicate limits.maxTerminals 0)
-terminals-room = omega (arith, length-replicate {A = ℕ} limits.maxTerminals 0)
-
-pub nonterminals-room : limits.maxNonterminals ≤ length {A = ℕ} (replicate limits.maxNonterminals 0)
-nonterminals-room = omega (arith, length-replicate {A = ℕ} limits.maxNonterminals 0)
-
-pub names-room : allNames ≤ length {A = ℕ} (replicate allNames 0)
-names-room = omega (arith, length-replicate {A = ℕ} allNames 0)

@@ -5,7 +5,7 @@ use mathlib.Core.List.{List}
 use mathlib.Core.Bool.{true}
 use native.Mathlib.Omega.{arith}
 use lib.ListN.{length, take, drop, take-append-drop}
-use lib.Seq.{get_or-take, length-take-le}
+use lib.Seq.{get_or-take, length-take-le, take-append_seam, drop-append_seam}
 use Rattle.grammar.specs.Limits.{limits}
 use Rattle.grammar.specs.Table.{encode}
 use Rattle.grammar.specs.Refusal.{Answer, done, refused}
@@ -19,7 +19,7 @@ use Rattle.text.specs.declared.TextWritten.{TextWritten}
 use Rattle.text.specs.declared.TextWritten.TheVariants.{Refused}
 use Rattle.text.proofs.Admit.{text-checked}
 use Rattle.text.proofs.Gather.{gather-all, gather-front}
-use Rattle.text.proofs.RoundTrip.{source-again, text-made, apart}
+use Rattle.text.proofs.RoundTrip.{source_of, text-made, apart}
 use Rattle.text_read.specs.Values.{allNames}
 use Rattle.modules.specs.Joined.{joined, joinTexts, joinedTextInto}
 use Rattle.joining.specs.Joins.{JoinedHeld}
@@ -40,6 +40,14 @@ gathered-lent names k bytes places spans g room w =
     (λ i h. let l : i < k = omega arith in omega (arith, get_or-take k places i 0 l, get_or-take k spans i 0 l, g.inside i l))
     (ap (all isName) g.spells ∙ w)
     ∙ ap done g.spells
+
+-- a source's own names and rules make it again
+source-again : (s : Source) → source_of (length s.terminals) (symbolNames s) s.rules ≡ s
+source-again s = λ i. record {
+  terminals = take-append_seam s.terminals s.nonterminals i;
+  nonterminals = drop-append_seam s.terminals s.nonterminals i;
+  rules = s.rules;
+}
 
 -- a source whose text passes, with its table and its names, is written as that text
 source-text : (s : Source) (bytes places spans : List ℕ) → checkText limits (printed limits s) ≡ done s

@@ -4,9 +4,8 @@ use Rattle.std.specs.Prelude.{ℕ, ◌+◌, ◌*◌, ◌≤◌, ◌<◌, ◌≡�
 use Rattle.grammar.specs.Basics.{choose}
 use Rattle.grammar.specs.Limits.{limits}
 use Rattle.grammar.specs.Refusal.{done}
-use Rattle.text.specs.Read.{Source, symbolNames, readText}
+use Rattle.text.specs.Read.{Source, symbolNames}
 use Rattle.text.specs.Rules.{checkText, checkModule}
-use Rattle.text.specs.Promise.{nameStarts, nameLengths}
 use Rattle.text.specs.Spelled.{spelled}
 use Rattle.text_read.specs.Values.{allNames}
 use Rattle.text_write.specs.Contracts.{Rows}
@@ -45,19 +44,6 @@ pub record Puts (more : List (List ℕ)) (k : ℕ) (bytes places spans bytes' pl
   pub after : (names : List (List ℕ)) → Gathered names k bytes places spans → Gathered (names ++ more) (k + length more) bytes' places' spans'
 
 -- ---- what is lent
-
--- a text that is read, with t terminals, and rows for its names
-pub record LoadReady (text : List ℕ) (t : ℕ) (starts lengths : List ℕ) : Type 0 where
-  pub source : Source
-  pub read : readText limits text ≡ done source
-  pub t-is : t ≡ length source.terminals
-  pub starts-room : allNames ≤ length starts
-  pub lengths-room : allNames ≤ length lengths
-
--- the rows begin with the places of all its names
-pub record NamesLoaded (text starts lengths : List ℕ) : Type 0 where
-  pub starts-front : (s : Source) → readText limits text ≡ done s → take (length (symbolNames s)) starts ≡ nameStarts s
-  pub lengths-front : (s : Source) → readText limits text ≡ done s → take (length (symbolNames s)) lengths ≡ nameLengths (symbolNames s)
 
 -- names of a text, none too long
 pub record Listed (text starts lengths : List ℕ) : Type 0 where

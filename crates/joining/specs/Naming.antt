@@ -1,14 +1,15 @@
 -- What the functions over the names and rules of two texts are lent, and what they tell. Assumes nothing.
-use Rattle.std.specs.Prelude.{ℕ, ◌+◌, ◌-◌, ◌*◌, ◌≤◌, ◌<◌, ◌≡◌, true, false, not, List, ◌++◌, map, ltb, leb, length, take, get_or}
-use Rattle.grammar.specs.Basics.{choose, Mem}
+use Rattle.std.specs.Prelude.{ℕ, ◌+◌, ◌-◌, ◌*◌, ◌≤◌, ◌<◌, ◌≡◌, true, false, not, List, ◌++◌, map, ltb, leb, length, take, drop, get_or}
+use Rattle.grammar.specs.Basics.{choose, over, Mem}
 use Rattle.grammar.specs.Limits.{Limits, limits}
 use Rattle.grammar.specs.Grammar.{Rule, start}
 use Rattle.grammar.specs.Table.{encode}
 use Rattle.grammar.specs.Refusal.{Answer, done, refused, refuseUnless, outOfRange, kindsClash}
 use Rattle.text.specs.Names.{hasDouble}
-use Rattle.text.specs.Read.{Source, names_of, readText}
-use Rattle.names.specs.Found.{part}
-use Rattle.lexicon.specs.Tree.{Lexicon}
+use Rattle.text.specs.Read.{Source}
+use Rattle.text.specs.Spelled.{spelled}
+use Rattle.lexicon.specs.Tree.{Spans, Lexicon}
+use Rattle.text_read.specs.Values.{allNames}
 use Rattle.modules.specs.Joined.{meet, added, addedRules}
 use Rattle.joining.specs.Numbers.{numbered}
 use Rattle.joining.specs.declared.Matched.{Matched}
@@ -18,40 +19,38 @@ use Rattle.joining.specs.declared.Counts.TheVariants.{Names, Fault}
 
 -- ---- names of one kind
 
--- the tree of the robot's names, few enough for entries of 16 bits with those of a list, and a row with an entry for each of these
-pub record Numbering (robot starts lengths links v numbers : List ℕ) : Type 0 where
+-- the tree of the robot's names, few enough for entries of 32 bits, names of the module, and a row with an entry for each
+pub record Numbering (robot starts lengths links addon firsts sizes numbers : List ℕ) : Type 0 where
   pub lexicon : Lexicon robot starts lengths links
-  pub few : length starts + length (names_of v) < 65536
-  pub room : length (names_of v) ≤ length numbers
+  pub addon-spans : Spans addon firsts sizes
+  pub few : length starts + length firsts < 4294967296
+  pub room : length firsts ≤ length numbers
 
--- n names of one kind of the robot, all different, and a list of the module, with an entry for each of its names
-pub record Kind (robot : List ℕ) (a e n : ℕ) (own numbers : List ℕ) : Type 0 where
-  pub low : a ≤ e
-  pub high : e ≤ length robot
-  pub short : length robot ≤ limits.maxText
-  pub counts : n ≡ length (names_of (part a e robot))
-  pub once : hasDouble (names_of (part a e robot)) ≡ false
-  pub few : n ≤ limits.maxTerminals
-  pub own-few : length (names_of own) ≤ limits.maxTerminals
-  pub room : length (names_of own) ≤ length numbers
+-- names of one kind of the robot, all different; names of the module of that kind, with an entry for each, and of the other kind
+pub record Kind (robot starts lengths addon firsts sizes others widths numbers : List ℕ) : Type 0 where
+  pub robot-spans : Spans robot starts lengths
+  pub once : hasDouble (spelled robot starts lengths) ≡ false
+  pub robot-few : length starts ≤ allNames
+  pub addon-spans : Spans addon firsts sizes
+  pub addon-few : length firsts ≤ allNames
+  pub other-spans : Spans addon others widths
+  pub room : length firsts ≤ length numbers
 
 -- names of the robot, of the module, and the module's of the other kind: a clash, or how many there are together, and their numbers
-abbrev pub KindTold : List (List ℕ) → List (List ℕ) → List (List ℕ) → List ℕ → Matched → Type 0
-KindTold names xs others numbers Clash = meet others names ≡ true
-KindTold names xs others numbers (Together k) =
-    (meet others names ≡ false) × (k ≡ length (names ++ added names xs)) × (take (length xs) numbers ≡ numbered names (length names) xs)
+abbrev pub KindTold : List (List ℕ) → List (List ℕ) → List (List ℕ) → List ℕ → List ℕ → Matched → Type 0
+KindTold names xs others numbers numbers' Clash = meet others names ≡ true
+KindTold names xs others numbers numbers' (Together k) =
+    (meet others names ≡ false) × (k ≡ length (names ++ added names xs)) × (numbers' ≡ over (numbered names (length names) xs) numbers)
 
--- ---- both kinds: the robot has t terminals and n nonterminals
+-- ---- both kinds: the first t names of the robot and u of the module are terminals
 
-pub record BothNamed (robot : List ℕ) (t n : ℕ) (addon terminals nonterminals : List ℕ) : Type 0 where
-  pub r : Source
-  pub m : Source
-  pub robot-read : readText limits robot ≡ done r
-  pub addon-read : readText limits addon ≡ done m
-  pub t-is : t ≡ length r.terminals
-  pub n-is : n ≡ length r.nonterminals
-  pub terminals-room : limits.maxTerminals ≤ length terminals
-  pub nonterminals-room : limits.maxNonterminals ≤ length nonterminals
+pub record BothNamed (robot starts lengths : List ℕ) (t : ℕ) (addon firsts sizes : List ℕ) (u : ℕ) (terminals nonterminals : List ℕ) : Type 0 where
+  pub robot-terminals : t ≤ length starts
+  pub addon-terminals : u ≤ length firsts
+  pub robot-paired : length starts ≡ length lengths
+  pub addon-paired : length firsts ≡ length sizes
+  pub first : Kind robot (take t starts) (take t lengths) addon (take u firsts) (take u sizes) (drop u firsts) (drop u sizes) terminals
+  pub second : Kind robot (drop t starts) (drop t lengths) addon (drop u firsts) (drop u sizes) (take u firsts) (take u sizes) nonterminals
 
 -- 20 at 1 and at 2, then 1 at 1 and at 2
 unfoldable pub refuseNames : {A : Type 0} → List (List ℕ) → List (List ℕ) → List (List ℕ) → List (List ℕ) → Answer A → Answer A
@@ -62,24 +61,20 @@ refuseNames rt rn mt mn a =
     (refuseUnless outOfRange 2 (leb (length (rn ++ added rn mn)) limits.maxNonterminals) a)))
 
 -- no fault: how many names there are of each kind, and the rows begin with the numbers of the module's
-pub record NamesCounted (rt rn mt mn : List (List ℕ)) (terminals nonterminals : List ℕ) (a b : ℕ) : Type 0 where
+pub record NamesCounted (rt rn mt mn : List (List ℕ)) (terminals nonterminals terminals' nonterminals' : List ℕ) (a b : ℕ) : Type 0 where
   pub first-clear : meet mt rn ≡ false
   pub second-clear : meet mn rt ≡ false
   pub terminals-are : a ≡ length (rt ++ added rt mt)
   pub nonterminals-are : b ≡ length (rn ++ added rn mn)
   pub terminals-most : a ≤ limits.maxTerminals
   pub nonterminals-most : b ≤ limits.maxNonterminals
-  pub terminals-row : take (length mt) terminals ≡ numbered rt (length rt) mt
-  pub nonterminals-row : take (length mn) nonterminals ≡ numbered rn (length rn) mn
+  pub terminals-row : terminals' ≡ over (numbered rt (length rt) mt) terminals
+  pub nonterminals-row : nonterminals' ≡ over (numbered rn (length rn) mn) nonterminals
 
-abbrev pub CountsTold : List (List ℕ) → List (List ℕ) → List (List ℕ) → List (List ℕ) → List ℕ → List ℕ → Counts → Type 0
-CountsTold rt rn mt mn terminals nonterminals (Fault cause at) = (a : Answer Source) → refuseNames rt rn mt mn a ≡ refused cause at
-CountsTold rt rn mt mn terminals nonterminals (Names a b) = NamesCounted rt rn mt mn terminals nonterminals a b
-
--- of what both texts say
-abbrev pub CountsOf : List ℕ → List ℕ → List ℕ → List ℕ → Counts → Type 0
-CountsOf robot addon terminals nonterminals c = (r m : Source) → readText limits robot ≡ done r → readText limits addon ≡ done m
-    → CountsTold r.terminals r.nonterminals m.terminals m.nonterminals terminals nonterminals c
+abbrev pub CountsTold : List (List ℕ) → List (List ℕ) → List (List ℕ) → List (List ℕ) → List ℕ → List ℕ → List ℕ → List ℕ → Counts → Type 0
+CountsTold rt rn mt mn terminals nonterminals terminals' nonterminals' (Fault cause at) = (a : Answer Source) → refuseNames rt rn mt mn a ≡ refused cause at
+CountsTold rt rn mt mn terminals nonterminals terminals' nonterminals' (Names a b) =
+    NamesCounted rt rn mt mn terminals nonterminals terminals' nonterminals' a b
 
 -- ---- codes and rules
 

@@ -1,41 +1,58 @@
-// The module's names among the robot's: is one of the other kind, and which numbers they get in the joined lists. The names of one kind of
-// the robot are held in rows; those of the module are looked up one after the other as they stand in its text.
-ghost use Rattle.std.specs.Prelude.{◌≡◌, ◌+◌, ◌≤◌, ◌<◌, length, take, ltb};
-ghost use Rattle.grammar.specs.Basics.{choose};
-ghost use Rattle.text.specs.Read.{names_of};
+// The module's names among the robot's: is one of the other kind, and which numbers they get in the joined lists.
+ghost use Rattle.std.specs.Prelude.{◌≡◌, ◌+◌, ◌≤◌, ◌<◌, [], length, get_or, take, drop, ltb};
+ghost use Rattle.grammar.specs.Basics.{choose, over};
+ghost use Rattle.text.specs.Names.{sameName, place};
 ghost use Rattle.text.specs.Spelled.{spelled};
-ghost use Rattle.names.specs.Found.{part};
-ghost use Rattle.lexicon.specs.Tree.{Lexicon};
+ghost use Rattle.lexicon.specs.Tree.{Spans, Lexicon};
 ghost use Rattle.modules.specs.Joined.{meet, added};
 ghost use Rattle.joining.specs.Numbers.{numbered};
-ghost use Rattle.joining.specs.Naming.{Numbering, Kind, KindTold, BothNamed, CountsOf};
+ghost use Rattle.joining.specs.Naming.{Numbering, Kind, KindTold, BothNamed, CountsTold};
 
-use super::listed::lists_of;
 use super::{Counts, Matched};
-use grammar::{KINDS_CLASH, MAX_NONTERMINALS, MAX_TERMINALS, OUT_OF_RANGE};
-use names::COMMA;
+use grammar::{KINDS_CLASH, MAX_NAMES, MAX_NONTERMINALS, MAX_TERMINALS, OUT_OF_RANGE};
 
-// Is one of a list's names among these of the robot?
-fn meets(robot: &[u8], starts: &[u32], lengths: &[u32], links: &[u16], v: &[u8]) -> bool
-    requires { Lexicon robot.now starts.now lengths.now links.now }
-    ensures { result ≡ meet (names_of v.now) (spelled robot.now starts.now lengths.now) }
+// The number that the module's name i has among the robot's names, or how many these are.
+fn number_of(
+    robot: &[u8],
+    starts: &[u32],
+    lengths: &[u32],
+    links: &[u16],
+    addon: &[u8],
+    firsts: &[u32],
+    sizes: &[u32],
+    i: usize,
+) -> usize
+    requires { (Lexicon robot.now starts.now lengths.now links.now) × (Spans addon.now firsts.now sizes.now) × (i < length firsts.now) }
+    ensures { result ≡ place (sameName (get_or (spelled addon.now firsts.now sizes.now) i [])) (spelled robot.now starts.now lengths.now) }
+{
+    let a = firsts[i] as usize;
+    let e = a + sizes[i] as usize;
+    lexicon::find(robot, starts, lengths, links, &addon[a..e])
+}
+
+// Is one of the module's names among these of the robot?
+fn meets(
+    robot: &[u8],
+    starts: &[u32],
+    lengths: &[u32],
+    links: &[u16],
+    addon: &[u8],
+    firsts: &[u32],
+    sizes: &[u32],
+) -> bool
+    requires { (Lexicon robot.now starts.now lengths.now links.now) × (Spans addon.now firsts.now sizes.now) }
+    ensures { result ≡ meet (spelled addon.now firsts.now sizes.now) (spelled robot.now starts.now lengths.now) }
 {
     let n = starts.len();
-    let m = v.len();
-    if m == 0 {
-        return false;
-    }
-    let mut a = 0;
-    loop {
-        let e = names::find(v, a, COMMA);
-        if lexicon::find(robot, starts, lengths, links, &v[a..e]) < n {
+    let m = firsts.len();
+    let mut i = 0;
+    while i < m {
+        if number_of(robot, starts, lengths, links, addon, firsts, sizes, i) < n {
             return true;
         }
-        if m <= e {
-            return false;
-        }
-        a = e + 1;
+        i += 1;
     }
+    false
 }
 
 // The number of a name that is found at place k of n, or is the next one.
@@ -50,7 +67,7 @@ fn number_for(k: usize, n: usize, next: usize) -> usize
 
 // The next one after it.
 fn next_after(k: usize, n: usize, next: usize) -> usize
-    requires { next < 65536 }
+    requires { next < 4294967296 }
     ensures { result ≡ choose (ltb k n) next (next + 1) }
 {
     if k < n {
@@ -59,104 +76,84 @@ fn next_after(k: usize, n: usize, next: usize) -> usize
     next + 1
 }
 
-// Counts off a list's names: one that the robot has keeps its number there, the others follow in their order. Gives how many names
-// there are together.
+// Counts off the module's names: one that the robot has keeps its number there, the others follow in their order. Gives how many
+// names there are together.
 fn number_names(
     robot: &[u8],
     starts: &[u32],
     lengths: &[u32],
     links: &[u16],
-    v: &[u8],
-    numbers: &mut [u16],
+    addon: &[u8],
+    firsts: &[u32],
+    sizes: &[u32],
+    numbers: &mut [u32],
 ) -> usize
-    requires { Numbering robot.now starts.now lengths.now links.now v.now numbers.old }
-    ensures count { result ≡ length starts.now + length (added (spelled robot.now starts.now lengths.now) (names_of v.now)) }
-    ensures row { take (length (names_of v.now)) numbers.new ≡ numbered (spelled robot.now starts.now lengths.now) (length starts.now) (names_of v.now) }
+    requires { Numbering robot.now starts.now lengths.now links.now addon.now firsts.now sizes.now numbers.old }
+    ensures count { result ≡ length starts.now + length (added (spelled robot.now starts.now lengths.now) (spelled addon.now firsts.now sizes.now)) }
+    ensures row { numbers.new ≡ over (numbered (spelled robot.now starts.now lengths.now) (length starts.now) (spelled addon.now firsts.now sizes.now)) numbers.old }
 {
     let n = starts.len();
-    let m = v.len();
-    if m == 0 {
-        return n;
-    }
+    let m = firsts.len();
     let mut next = n;
     let mut i = 0;
-    let mut a = 0;
-    loop {
-        let e = names::find(v, a, COMMA);
-        let k = lexicon::find(robot, starts, lengths, links, &v[a..e]);
-        numbers[i] = number_for(k, n, next) as u16;
+    while i < m {
+        let k = number_of(robot, starts, lengths, links, addon, firsts, sizes, i);
+        numbers[i] = number_for(k, n, next) as u32;
         next = next_after(k, n, next);
-        if m <= e {
-            return next;
-        }
-        a = e + 1;
         i += 1;
     }
+    next
 }
 
-// Names of one kind, n of which stand from a to e of the robot's text: does the module have one in its other list, and which numbers do
-// the names of its own list get?
+// Names of one kind: does the module have one as the other kind, and which numbers do its names of this kind get?
 pub fn match_kind(
     robot: &[u8],
-    a: usize,
-    e: usize,
-    n: usize,
-    own: &[u8],
-    other: &[u8],
-    numbers: &mut [u16],
+    starts: &[u32],
+    lengths: &[u32],
+    addon: &[u8],
+    firsts: &[u32],
+    sizes: &[u32],
+    others: &[u32],
+    widths: &[u32],
+    numbers: &mut [u32],
 ) -> Matched
-    requires { Kind robot.now a e n own.now numbers.old }
-    ensures { KindTold (names_of (part a e robot.now)) (names_of own.now) (names_of other.now) numbers.new result }
+    requires { Kind robot.now starts.now lengths.now addon.now firsts.now sizes.now others.now widths.now numbers.old }
+    ensures { KindTold (spelled robot.now starts.now lengths.now) (spelled addon.now firsts.now sizes.now) (spelled addon.now others.now widths.now) numbers.old numbers.new result }
 {
-    let mut starts = [0u32; MAX_TERMINALS];
-    let mut lengths = [0u32; MAX_TERMINALS];
-    let mut links = [0u16; 2 * MAX_TERMINALS];
-    text_read::fill(&robot[a..e], a, 0, &mut starts, &mut lengths);
-    lexicon::plant(robot, &starts[..n], &lengths[..n], &mut links);
-    if meets(robot, &starts[..n], &lengths[..n], &links, other) {
+    let mut links = [0u16; 2 * MAX_NAMES];
+    lexicon::plant(robot, starts, lengths, &mut links);
+    if meets(robot, starts, lengths, &links, addon, others, widths) {
         return Matched::Clash;
     }
-    Matched::Together(number_names(robot, &starts[..n], &lengths[..n], &links, own, numbers))
+    Matched::Together(number_names(
+        robot, starts, lengths, &links, addon, firsts, sizes, numbers,
+    ))
 }
 
-// Both kinds, of which the robot has t and n: 20 at 1 and at 2, then 1 at 1 and at 2.
-pub fn count_kinds(
+// Both kinds, terminals and nonterminals of the robot and of the module: 20 at 1 and at 2, then 1 at 1 and at 2.
+fn count_kinds(
     robot: &[u8],
-    t: usize,
-    n: usize,
+    ts: &[u32],
+    tl: &[u32],
+    ns: &[u32],
+    nl: &[u32],
     addon: &[u8],
-    terminals: &mut [u16],
-    nonterminals: &mut [u16],
+    us: &[u32],
+    ul: &[u32],
+    vs: &[u32],
+    vl: &[u32],
+    terminals: &mut [u32],
+    nonterminals: &mut [u32],
 ) -> Counts
-    requires { BothNamed robot.now t n addon.now terminals.old nonterminals.old }
-    ensures { CountsOf robot.now addon.now terminals.new nonterminals.new result }
+    requires { (Kind robot.now ts.now tl.now addon.now us.now ul.now vs.now vl.now terminals.old) × (Kind robot.now ns.now nl.now addon.now vs.now vl.now us.now ul.now nonterminals.old) }
+    ensures { CountsTold (spelled robot.now ts.now tl.now) (spelled robot.now ns.now nl.now)
+        (spelled addon.now us.now ul.now) (spelled addon.now vs.now vl.now)
+        terminals.old nonterminals.old terminals.new nonterminals.new result }
 {
-    let r = lists_of(robot);
-    let m = lists_of(addon);
-    let u = m.first;
-    let p = m.stop;
-    let v = m.second;
-    let q = m.end;
-    let Matched::Together(b) = match_kind(
-        robot,
-        r.second,
-        r.end,
-        n,
-        &addon[v..q],
-        &addon[u..p],
-        nonterminals,
-    ) else {
+    let Matched::Together(b) = match_kind(robot, ns, nl, addon, vs, vl, us, ul, nonterminals) else {
         return Counts::Fault(KINDS_CLASH, 1);
     };
-    let Matched::Together(a) = match_kind(
-        robot,
-        r.first,
-        r.stop,
-        t,
-        &addon[u..p],
-        &addon[v..q],
-        terminals,
-    ) else {
+    let Matched::Together(a) = match_kind(robot, ts, tl, addon, us, ul, vs, vl, terminals) else {
         return Counts::Fault(KINDS_CLASH, 2);
     };
     if MAX_TERMINALS < a {
@@ -169,4 +166,38 @@ pub fn count_kinds(
         terminals: a,
         nonterminals: b,
     }
+}
+
+// The names of both texts, of which the first t of the robot and u of the module are terminals.
+pub fn join_names(
+    robot: &[u8],
+    starts: &[u32],
+    lengths: &[u32],
+    t: usize,
+    addon: &[u8],
+    firsts: &[u32],
+    sizes: &[u32],
+    u: usize,
+    terminals: &mut [u32],
+    nonterminals: &mut [u32],
+) -> Counts
+    requires { BothNamed robot.now starts.now lengths.now t addon.now firsts.now sizes.now u terminals.old nonterminals.old }
+    ensures { CountsTold (spelled robot.now (take t starts.now) (take t lengths.now)) (spelled robot.now (drop t starts.now) (drop t lengths.now))
+        (spelled addon.now (take u firsts.now) (take u sizes.now)) (spelled addon.now (drop u firsts.now) (drop u sizes.now))
+        terminals.old nonterminals.old terminals.new nonterminals.new result }
+{
+    count_kinds(
+        robot,
+        &starts[..t],
+        &lengths[..t],
+        &starts[t..],
+        &lengths[t..],
+        addon,
+        &firsts[..u],
+        &sizes[..u],
+        &firsts[u..],
+        &sizes[u..],
+        terminals,
+        nonterminals,
+    )
 }

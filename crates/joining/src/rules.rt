@@ -11,14 +11,14 @@ ghost use Rattle.joining.specs.RuleRows.{RuleReady, RulePut, RulesBefore};
 use grammar::NONTERMINAL_BASE;
 
 // A number counted off.
-fn wide(x: u16) -> usize
-    ensures { (result ≡ x) × (result < 65536) }
+fn wide(x: u32) -> usize
+    ensures { (result ≡ x) × (result < 4294967296) }
 {
     x as usize
 }
 
 // The code of a symbol of the module among the joined ones, by the numbers counted off for its terminals and its nonterminals.
-fn recode(terminals: &[u16], nonterminals: &[u16], code: u16) -> u16
+fn recode(terminals: &[u32], nonterminals: &[u32], code: u16) -> u16
     requires { Recoding terminals.now nonterminals.now code }
     ensures { result ≡ recoded limits terminals.now nonterminals.now code }
 {
@@ -29,7 +29,7 @@ fn recode(terminals: &[u16], nonterminals: &[u16], code: u16) -> u16
 }
 
 // Puts codes of the module, recoded, into a row from a place on.
-fn put_recoded(terminals: &[u16], nonterminals: &[u16], codes: &[u16], row: &mut [u16], at: usize)
+fn put_recoded(terminals: &[u32], nonterminals: &[u32], codes: &[u16], row: &mut [u16], at: usize)
     requires { (AllRecoding terminals.now nonterminals.now codes.now) × (at + length codes.now ≤ length row.old) }
     ensures { row.new ≡ paste row.old at (map (recoded limits terminals.now nonterminals.now) codes.now) (length codes.now) }
 {
@@ -48,7 +48,7 @@ fn length_of(x: u16) -> usize
 }
 
 // Puts a rule of the module, recoded, into a row from a place on.
-fn put_rule(terminals: &[u16], nonterminals: &[u16], rule: &[u16], row: &mut [u16], at: usize)
+fn put_rule(terminals: &[u32], nonterminals: &[u32], rule: &[u16], row: &mut [u16], at: usize)
     requires { RuleReady terminals.now nonterminals.now rule.now row.old at }
     ensures { RulePut terminals.now nonterminals.now rule.now row.old at row.new }
 {
@@ -90,8 +90,8 @@ fn next_place(row: &[u16], end: usize, at: usize, k: usize) -> usize
 // how many entries there are together.
 pub fn put_rules(
     table: &[u16],
-    terminals: &[u16],
-    nonterminals: &[u16],
+    terminals: &[u32],
+    nonterminals: &[u32],
     row: &mut [u16],
     end: usize,
 ) -> usize

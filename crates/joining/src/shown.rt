@@ -2,30 +2,26 @@
 ghost use Rattle.std.specs.Prelude.{◌≡◌, ℕ, ◌+◌, ◌≤◌, ◌<◌, eqb, length, get_or};
 ghost use Rattle.grammar.specs.Limits.{limits};
 ghost use Rattle.text.specs.Names.{place};
-ghost use Rattle.text.specs.Read.{names_of};
-ghost use Rattle.text.specs.Promise.{startsFrom, nameLengths};
-ghost use Rattle.names.specs.Found.{part};
 ghost use Rattle.modules.specs.Shown.{shown, part_at, part_of, Inside};
+ghost use Rattle.joining.specs.Joins.{PlaceReady};
 ghost use Rattle.modules.specs.Promise.{ShowsPlace, ShowsName};
 ghost use Rattle.modules.specs.declared.Place.TheVariants.{Robot, Module};
-ghost use Rattle.joining.specs.Joins.{PlaceReady};
-ghost use Rattle.joining.specs.Shown.{NameReady};
 
-use super::checking::check_both;
-use super::joins::join_rest;
-use super::listed::{lists_of, span_at};
-use super::{BOTH_ENTRIES, Join, ListSizes, NONTERMINAL_NUMBERS, TERMINAL_NUMBERS};
+use super::joins::join_kept;
+use super::{Join, ListSizes};
+use grammar::{MAX_NAMES, MAX_NONTERMINALS, MAX_TERMINALS};
 use modules::Place;
+use text_read::KEPT_ENTRIES;
 
 // An entry as a number.
-fn wide(x: u16) -> usize
+fn wide(x: u32) -> usize
     ensures { result ≡ x }
 {
     x as usize
 }
 
 // The place of the first entry that is i, or how many there are.
-fn entry_of(numbers: &[u16], i: usize) -> usize
+fn entry_of(numbers: &[u32], i: usize) -> usize
     ensures { result ≡ place (λ (x : ℕ). eqb x i) numbers.now }
 {
     let mut j = 0;
@@ -38,46 +34,53 @@ fn entry_of(numbers: &[u16], i: usize) -> usize
     j
 }
 
-// Where name j of a list of the robot's text stands, and where that of a list of the module's does.
-fn robot_at(text: &[u8], a: usize, e: usize, j: usize) -> Place
-    requires { NameReady text.now a e j }
-    ensures { result ≡ Robot (get_or (startsFrom a (names_of (part a e text.now))) j 0) (get_or (nameLengths (names_of (part a e text.now))) j 0) }
+// Where name j of the robot's text stands, and where name j of the module's does.
+fn robot_at(starts: &[u32], lengths: &[u32], j: usize) -> Place
+    requires { (j < length starts.now) × (j < length lengths.now) }
+    ensures { result ≡ Robot (get_or starts.now j 0) (get_or lengths.now j 0) }
 {
-    let s = span_at(&text[a..e], a, j);
-    Place::Robot(s.start, s.size)
+    Place::Robot(wide(starts[j]), wide(lengths[j]))
 }
 
-fn module_at(text: &[u8], a: usize, e: usize, j: usize) -> Place
-    requires { NameReady text.now a e j }
-    ensures { result ≡ Module (get_or (startsFrom a (names_of (part a e text.now))) j 0) (get_or (nameLengths (names_of (part a e text.now))) j 0) }
+fn module_at(firsts: &[u32], widths: &[u32], j: usize) -> Place
+    requires { (j < length firsts.now) × (j < length widths.now) }
+    ensures { result ≡ Module (get_or firsts.now j 0) (get_or widths.now j 0) }
 {
-    let s = span_at(&text[a..e], a, j);
-    Place::Module(s.start, s.size)
+    Place::Module(wide(firsts[j]), wide(widths[j]))
 }
 
 // Where the name of symbol i stands: the robot's symbols come first of each kind, the others are the module's whose number they are.
-fn place_of(robot: &[u8], addon: &[u8], sizes: ListSizes, row: &[u16], i: usize) -> Place
-    requires { PlaceReady robot.now addon.now sizes row.now }
+fn place_of(
+    robot: &[u8],
+    addon: &[u8],
+    sizes: ListSizes,
+    starts: &[u32],
+    lengths: &[u32],
+    firsts: &[u32],
+    widths: &[u32],
+    terminals: &[u32],
+    nonterminals: &[u32],
+    i: usize,
+) -> Place
+    requires { PlaceReady robot.now addon.now sizes starts.now lengths.now firsts.now widths.now terminals.now nonterminals.now }
     ensures { (result ≡ shown limits robot.now addon.now i) × (Inside robot.now addon.now result) }
 {
-    let r = lists_of(robot);
-    let m = lists_of(addon);
-    let a = TERMINAL_NUMBERS;
-    let e = a + sizes.u;
-    let b = NONTERMINAL_NUMBERS;
-    let f = b + sizes.v;
     if i < sizes.t {
-        return robot_at(robot, r.first, r.stop, i);
+        return robot_at(starts, lengths, i);
     }
     if i < sizes.terminals {
-        return module_at(addon, m.first, m.stop, entry_of(&row[a..e], i));
+        return module_at(firsts, widths, entry_of(&terminals[..sizes.u], i));
     }
     let k = i - sizes.terminals;
     if k < sizes.n {
-        return robot_at(robot, r.second, r.end, k);
+        return robot_at(starts, lengths, sizes.t + k);
     }
     if k < sizes.nonterminals {
-        return module_at(addon, m.second, m.end, entry_of(&row[b..f], k));
+        return module_at(
+            firsts,
+            widths,
+            sizes.u + entry_of(&nonterminals[..sizes.v], k),
+        );
     }
     Place::Neither
 }
@@ -86,15 +89,43 @@ fn place_of(robot: &[u8], addon: &[u8], sizes: ListSizes, row: &[u16], i: usize)
 pub fn joined_place(robot: &[u8], addon: &[u8], i: usize) -> Place
     ensures { ShowsPlace robot.now addon.now i result }
 {
-    let mut row = [0u16; BOTH_ENTRIES];
-    let both = check_both(robot, addon, &mut row);
-    match join_rest(robot, addon, both, &mut row) {
+    let mut row = [0u16; KEPT_ENTRIES];
+    let mut starts = [0u32; MAX_NAMES];
+    let mut lengths = [0u32; MAX_NAMES];
+    let mut rules = [0u16; KEPT_ENTRIES];
+    let mut firsts = [0u32; MAX_NAMES];
+    let mut widths = [0u32; MAX_NAMES];
+    let mut terminals = [0u32; MAX_TERMINALS];
+    let mut nonterminals = [0u32; MAX_NONTERMINALS];
+    match join_kept(
+        robot,
+        addon,
+        &mut row,
+        &mut starts,
+        &mut lengths,
+        &mut rules,
+        &mut firsts,
+        &mut widths,
+        &mut terminals,
+        &mut nonterminals,
+    ) {
         Join::Refused(_, _) => Place::Neither,
         Join::Joined {
             sizes,
             entries: _,
             states: _,
-        } => place_of(robot, addon, sizes, &row, i),
+        } => place_of(
+            robot,
+            addon,
+            sizes,
+            &starts,
+            &lengths,
+            &firsts,
+            &widths,
+            &terminals,
+            &nonterminals,
+            i,
+        ),
     }
 }
 

@@ -1,26 +1,19 @@
 -- A tree that is to have more names: where planting begins, a tree of the first names of longer rows, and names that are all planted.
 -- Assumes nothing.
-use Prim.Native.Nat.{ℕ, ◌+◌, ◌*◌, ◌≤◌, ◌<◌}
+use Prim.Native.Nat.{ℕ, ◌*◌, ◌≤◌, ◌<◌}
 use mathlib.Core.Path.{◌≡◌, ap₂, sym, subst, ◌∙◌}
 use mathlib.Core.List.{List}
 use mathlib.Core.Bool.{false}
 use native.Mathlib.Omega.{arith}
-use lib.ListN.{length, drop, get_or, set, take, length-set}
-use lib.Seq.{get_or-take, length-take-le, get_or-set_same, get_or-set_other}
+use lib.ListN.{length, drop, get_or, take}
+use lib.Seq.{get_or-take, length-take-le}
 use Rattle.text.specs.Names.{sameName, hasDouble}
 use Rattle.text.specs.Spelled.{spelled}
 use Rattle.text.proofs.Spans.{length-spelled}
 use Rattle.text.proofs.Gather.{first-double}
-use Rattle.lexicon.specs.Tree.{foldedName, name_of, Spans, spare, Headed, Grown, mostNames, Empty, Lexicon, Planted}
+use Rattle.lexicon.specs.Tree.{foldedName, name_of, Spans, Below, Grown, mostNames, Lexicon, Planted}
 use Rattle.lexicon.proofs.Tree.{grown-one}
 use Rattle.lexicon.proofs.Numbers.{double-at}
-
--- a row without links gets its number of heads
-pub heads-set : (links : List ℕ) (most more : ℕ) → 0 < length links → more + 2 * most ≤ length links → ((i : ℕ) → get_or links i 0 ≡ 0) → Empty (set links 0 more) most
-heads-set links most more some room none = record {
-  room = omega (arith, room, get_or-set_same links 0 more 0 some, length-set links 0 more);
-  bare = λ i l. get_or-set_other links 0 i more 0 (λ q. omega (arith, q, l)) ∙ none i;
-}
 
 -- the tree has the names before k, and name 0 among them
 pub record Begun (text starts lengths links : List ℕ) (k : ℕ) : Type 0 where
@@ -49,7 +42,7 @@ grown-names f g C count e h = record {
   root = h.root;
   link = h.link;
   forward = h.forward;
-  held = λ s p l. subst (λ (x : List ℕ). Headed (spare C) C (foldedName x) s) (e s l) (h.held s p l);
+  held = λ s l. subst (λ (x : List ℕ). Below C (foldedName x) s 0 0) (e s l) (h.held s l);
 }
 
 name-front : (text starts lengths : List ℕ) (k i : ℕ) → i < k → name_of text (take k starts) (take k lengths) i ≡ name_of text starts lengths i
@@ -57,7 +50,7 @@ unfolding name_of
 name-front text starts lengths k i h = ap₂ (λ (l s : ℕ). take l (drop s text)) (get_or-take k lengths i 0 h) (get_or-take k starts i 0 h)
 
 -- a tree of the first names, to which the others may be put
-pub planted-front : (text starts lengths links : List ℕ) (k : ℕ) → Spans text starts lengths → length starts ≤ mostNames → spare links + 2 * length starts ≤ length links
+pub planted-front : (text starts lengths links : List ℕ) (k : ℕ) → Spans text starts lengths → length starts ≤ mostNames → 2 * length starts ≤ length links
     → k ≤ length starts → Lexicon text (take k starts) (take k lengths) links → Planted text starts lengths links k
 planted-front text starts lengths links k spans few room near x =
     let n : length (take k starts) ≡ k = length-take-le k starts near in

@@ -4,18 +4,17 @@ use mathlib.Core.Path.{◌≡◌, refl, ap, ap₂, sym, ◌∙◌, subst}
 use mathlib.Core.List.{List, [], ◌∷◌, map}
 use mathlib.Core.Bool.{Bool, true, false, ◌&&◌}
 use native.Mathlib.Omega.{arith}
-use native.Mathlib.Nat.{zero-div, mul-lt-mul_of_pos_right, div-lt_iff_lt-mul}
+use native.Mathlib.Nat.{zero-div}
 use borrow.Author.Tests.{eqb-true, eqb-false, lt-ltb, le-ltb}
 use lib.Dec.{eqb, ltb}
 use lib.ListN.{length, drop, get_or, set, replicate, drop_of_length-le}
 use lib.Seq.{get_or-set_same, get_or-set_other, drop-cons}
 use Rattle.grammar.specs.Basics.{choose}
 use Rattle.grammar.proofs.Answers.{no_bool}
-use Rattle.grammar.proofs.Lists.{zeros}
 use Rattle.text.specs.Names.{folded, sameName}
 use Rattle.lexicon.specs.declared.Sought.{Sought}
 use Rattle.lexicon.specs.declared.Sought.TheVariants.{Same, Free}
-use Rattle.lexicon.specs.Tree.{foldedName, keyBits, keySkip, keySpan, keyFactor, keyFrom, keyOf, byteBit, turn, spare, headAt, Below, here, down, Headed, Keeps, Grown, Hit, Gap, Told}
+use Rattle.lexicon.specs.Tree.{foldedName, keyBits, keySkip, keySpan, keyFactor, keyFrom, keyOf, byteBit, turn, Below, here, down, Keeps, Grown, Hit, Gap, Told}
 
 -- the key of a name, byte by byte
 pub key-start : (x : List ℕ) → keyFrom 0 (foldedName (drop 0 x)) ≡ keyOf (foldedName x)
@@ -93,118 +92,95 @@ folded-same (a ∷ x) (b ∷ y) (c ∷ z) h =
     tail [] = []
     tail (w ∷ l) = l
 
--- a head is one of the row's
-pub head-within : (more key : ℕ) → (1 ≤ headAt more key) × (headAt more key ≤ more + 1)
-unfolding headAt
-head-within more key =
-    let r : key % keySpan < keySpan = omega arith in
-    let p : key % keySpan * (more + 1) < keySpan * (more + 1) = mul-lt-mul_of_pos_right r (omega arith) in
-    let c : keySpan * (more + 1) ≡ (more + 1) * keySpan = omega arith in
-    let q : key % keySpan * (more + 1) / keySpan < more + 1 = (div-lt_iff_lt-mul {k = keySpan} (omega arith)).1 (omega (arith, p, c)) in
-    (omega arith, omega (arith, q))
-
--- what stands at a place is a name's number
-pub link-within : (name : ℕ → List ℕ) (C : List ℕ) (count i : ℕ) → Grown name C count → 1 ≤ i → get_or C i 0 < count
-link-within name C count i g l = go (eqb (get_or C i 0) 0) refl
-  where
-    go : (t : Bool) → eqb (get_or C i 0) 0 ≡ t → get_or C i 0 < count
-    go true e = omega (arith, eqb-true (get_or C i 0) 0 e, g.root)
-    go false e = g.link i l (omega (arith, eqb-false (get_or C i 0) 0 e))
-
 -- what is met stays met where links are kept
-pub below-keeps : {more : ℕ} {C D k : List ℕ} {s d i : ℕ} → 0 < s → Keeps C D → Below more C k s d i → Below more D k s d i
-below-keeps {more} {C} {D} {k} {s} {d} {i} p m (here e) = here {d = d} {i = i} (m.kept i (omega arith) ∙ e)
-below-keeps {more} {C} {D} {k} {s} {d} {i} p m (down h b) =
-    let e = m.kept i h in
-    down {d = d} {i = i} (omega arith) (subst (λ (w : ℕ). Below more D k s (d + 1) (more + 2 * w + turn k d)) (sym e) (below-keeps p m b))
+pub below-keeps : {C D k : List ℕ} {s d q : ℕ} → Keeps C D → Below C k s d q → Below D k s d q
+below-keeps m (here e) = here e
+below-keeps {C} {D} {k} {s} {d} {q} m (down h b) =
+    let e = m.kept (2 * q + turn k d) h in
+    down {d = d} {q = q} (omega arith) (subst (λ (w : ℕ). Below D k s (d + 1) w) (sym e) (below-keeps m b))
 
 -- a link written where none was
 pub keeps-set : (C : List ℕ) (i a : ℕ) → get_or C i 0 ≡ 0 → Keeps C (set C i a)
 keeps-set C i a e = record { kept = λ j h. get_or-set_other C i j a 0 (λ q. let z : get_or C j 0 ≡ 0 = ap (λ (w : ℕ). get_or C w 0) q ∙ e in omega arith) }
 
--- One turn of the search, at place i and depth d.
-module _ (name : ℕ → List ℕ) (C : List ℕ) (count : ℕ) (x : List ℕ) (i d : ℕ) where
-  -- each of the names that is x is still ahead, but for name 0
+-- One turn of the search, from name q at depth d.
+module _ (name : ℕ → List ℕ) (C : List ℕ) (count : ℕ) (x : List ℕ) (q d : ℕ) where
+  -- each of the names that is x is still ahead
   abbrev pub Still : Type 0
-  Still = (s : ℕ) → 0 < s → s < count → sameName x (name s) ≡ true → Below (spare C) C (foldedName x) s d i
+  Still = (s : ℕ) → s < count → sameName x (name s) ≡ true → Below C (foldedName x) s d q
 
-  -- what is met from here is met from the head
+  -- what is met from here is met from the first
   abbrev pub Led : Type 0
-  Led = (D : List ℕ) → Keeps C D → (s : ℕ) → Below (spare C) D (foldedName x) s d i → Headed (spare C) D (foldedName x) s
+  Led = (D : List ℕ) → Keeps C D → (s : ℕ) → Below D (foldedName x) s d q → Below D (foldedName x) s 0 0
 
 module _ (name : ℕ → List ℕ) (C : List ℕ) (count : ℕ) (x : List ℕ) where
   -- the first turn
-  pub seek-start : (i : ℕ) → i ≡ headAt (spare C) (keyOf (foldedName x)) → Grown name C count → Still name C count x i 0 × Led name C count x i 0
-  seek-start i h g = (
-    λ s p l e. subst (λ (w : ℕ). Below (spare C) C (foldedName x) s 0 w) (sym h)
-        (subst (λ (k : List ℕ). Headed (spare C) C k s) (sym (same-folded x (name s) e)) (g.held s p l)),
-    λ D m s b. subst (λ (w : ℕ). Below (spare C) D (foldedName x) s 0 w) h b,
+  pub seek-start : Grown name C count → Still name C count x 0 0 × Led name C count x 0 0
+  seek-start g = (
+    λ s l e. subst (λ (k : List ℕ). Below C k s 0 0) (sym (same-folded x (name s) e)) (g.held s l),
+    λ D m s b. b,
   )
 
-module _ (name : ℕ → List ℕ) (C : List ℕ) (count : ℕ) (x : List ℕ) (i d : ℕ) (still : Still name C count x i d) (led : Led name C count x i d)
-    (other : sameName x (name (get_or C i 0)) ≡ false) where
+module _ (name : ℕ → List ℕ) (C : List ℕ) (count : ℕ) (x : List ℕ) (q d : ℕ) (still : Still name C count x q d) (led : Led name C count x q d)
+    (other : sameName x (name q) ≡ false) where
+  keeps_self : Keeps C C
+  keeps_self = record { kept = λ i h. refl }
+
   -- the way on, where the name itself is not it
-  onward : (s : ℕ) → sameName x (name s) ≡ true → Below (spare C) C (foldedName x) s d i
-      → (0 < get_or C i 0) × Below (spare C) C (foldedName x) s (d + 1) (spare C + 2 * get_or C i 0 + turn (foldedName x) d)
+  onward : (s : ℕ) → sameName x (name s) ≡ true → Below C (foldedName x) s d q
+      → (0 < get_or C (2 * q + turn (foldedName x) d) 0) × Below C (foldedName x) s (d + 1) (get_or C (2 * q + turn (foldedName x) d) 0)
   onward s e (here p) = no_bool (sym (ap (λ (w : ℕ). sameName x (name w)) p ∙ e) ∙ other)
   onward s e (down h b) = (h, b)
 
-  pub seek-on : (j : ℕ) → j ≡ spare C + 2 * get_or C i 0 + turn (foldedName x) d → 0 < get_or C i 0 → Still name C count x j (d + 1) × Led name C count x j (d + 1)
-  seek-on j e p = (
-    (λ s z l t. subst (λ (w : ℕ). Below (spare C) C (foldedName x) s (d + 1) w) (sym e) (onward s t (still s z l t)).1),
-    (λ D m s b. let k = m.kept i p in
-        led D m s (down {d = d} {i = i} (omega arith)
-        (subst (λ (w : ℕ). Below (spare C) D (foldedName x) s (d + 1) w) (e ∙ ap (λ (w : ℕ). spare C + 2 * w + turn (foldedName x) d) (sym k)) b))),
+  pub seek-on : (r : ℕ) → r ≡ get_or C (2 * q + turn (foldedName x) d) 0 → 0 < r → Still name C count x r (d + 1) × Led name C count x r (d + 1)
+  seek-on r e p = (
+    (λ s l t. subst (λ (w : ℕ). Below C (foldedName x) s (d + 1) w) (sym e) (onward s t (still s l t)).1),
+    (λ D m s b. let k = m.kept (2 * q + turn (foldedName x) d) (omega arith) in
+        led D m s (down {d = d} {q = q} (omega arith) (subst (λ (w : ℕ). Below D (foldedName x) s (d + 1) w) (e ∙ sym k) b))),
   )
 
-  pub seek-gap : 1 ≤ i → i < spare C + 2 * count → get_or C i 0 ≡ 0 → Gap name C count x i
-  seek-gap low near o = record {
-    low = low;
-    near = near;
-    empty = o;
-    absent = λ s k. no_true (sameName x (name s)) (λ t. refuse s k t (eqb s 0) refl);
-    led = λ D m h. led D m (get_or D i 0) (here {d = d} {i = i} refl);
-  }
+  pub seek-gap : (i : ℕ) → i ≡ 2 * q + turn (foldedName x) d → q < count → get_or C i 0 ≡ 0 → Gap name C count x i
+  seek-gap i e l o =
+      let e' : 2 * q + turn (foldedName x) d ≡ i = sym e in
+      let t = turn_small (foldedName x) d in
+      record {
+        near = omega arith;
+        empty = o;
+        absent = λ s k. no_true (sameName x (name s)) (λ t. let h = (onward s t (still s k t)).0 in let z : get_or C (2 * q + turn (foldedName x) d) 0 ≡ 0 = ap (λ (w : ℕ). get_or C w 0) e' ∙ o in omega arith);
+        led = λ D m h. led D m (get_or D i 0) (down {d = d} {q = q} (rw e' h) (here (ap (λ (w : ℕ). get_or D w 0) e')));
+      }
     where
       no_true : (b : Bool) → (b ≡ true → ⊥) → b ≡ false
       no_true true n = absurd (n refl)
       no_true false n = refl
 
-      refuse : (s : ℕ) → s < count → sameName x (name s) ≡ true → (b : Bool) → eqb s 0 ≡ b → ⊥
-      refuse s k t true z = no_bool (sym t ∙ ap (λ (w : ℕ). sameName x (name w)) (eqb-true s 0 z ∙ sym o) ∙ other)
-      refuse s k t false z = let p : 0 < s = omega (arith, eqb-false s 0 z) in omega (arith, o, (onward s t (still s p k t)).0)
-
 -- a row of zeros has no link
 pub no-links : (n i : ℕ) → ◌≡◌ {A = ℕ} (get_or (replicate n 0) i 0) 0
-no-links = zeros
+no-links zero i = refl
+no-links (suc n) zero = refl
+no-links (suc n) (suc i) = no-links n i
 
--- an empty row has name 0
-pub grown-one : (name : ℕ → List ℕ) (C : List ℕ) → ((i : ℕ) → 1 ≤ i → get_or C i 0 ≡ 0) → Grown name C 1
+-- an empty tree has name 0
+pub grown-one : (name : ℕ → List ℕ) (C : List ℕ) → ((i : ℕ) → get_or C i 0 ≡ 0) → Grown name C 1
 grown-one name C none = record {
   root = omega arith;
-  link = λ i l p. absurd (omega (arith, none i l));
-  forward = λ i l p. absurd (omega (arith, none i l));
-  held = λ s p l. absurd (omega arith);
+  link = λ i p. absurd (omega (arith, none i));
+  forward = λ i p. absurd (omega (arith, none i));
+  held = λ s l. here {q = 0} (omega arith);
 }
 
 -- a name that is not there is put in
 pub grow : (name : ℕ → List ℕ) (C : List ℕ) (count i : ℕ) → Grown name C count → Gap name C count (name count) i → i < length C
-    → Grown name (set C i count) (count + 1) × (spare (set C i count) ≡ spare C)
-grow name C count i g h inside = (
-  record {
-    root = omega arith;
-    link = λ j l p. link j l (eqb j i) refl p;
-    forward = λ j l p. forward j l (eqb j i) refl p;
-    held = λ s z l. subst (λ (w : ℕ). Headed w (set C i count) (foldedName (name s)) s) (sym first) (held s z l (eqb s count) refl);
-  },
-  first,
-)
+    → Grown name (set C i count) (count + 1)
+grow name C count i g h inside = record {
+  root = omega arith;
+  link = λ j p. link j (eqb j i) refl p;
+  forward = λ j p. forward j (eqb j i) refl p;
+  held = λ s l. held s l (eqb s count) refl;
+}
   where
     keeps : Keeps C (set C i count)
     keeps = keeps-set C i count h.empty
-
-    first : spare (set C i count) ≡ spare C
-    first = get_or-set_other C i 0 count 0 (λ q. omega (arith, q, h.low))
 
     at : get_or (set C i count) i 0 ≡ count
     at = get_or-set_same C i count 0 inside
@@ -215,19 +191,19 @@ grow name C count i g h inside = (
     here-at : (j : ℕ) → eqb j i ≡ true → get_or (set C i count) j 0 ≡ count
     here-at j q = ap (λ (w : ℕ). get_or (set C i count) w 0) (eqb-true j i q) ∙ at
 
-    link : (j : ℕ) → 1 ≤ j → (t : Bool) → eqb j i ≡ t → 0 < get_or (set C i count) j 0 → get_or (set C i count) j 0 < count + 1
-    link j l true q p = omega (arith, here-at j q)
-    link j l false q p = omega (arith, other j q, g.link j l (omega (arith, other j q)))
+    link : (j : ℕ) (t : Bool) → eqb j i ≡ t → 0 < get_or (set C i count) j 0 → get_or (set C i count) j 0 < count + 1
+    link j true q p = omega (arith, here-at j q)
+    link j false q p = omega (arith, other j q, g.link j (omega (arith, other j q)))
 
-    forward : (j : ℕ) → 1 ≤ j → (t : Bool) → eqb j i ≡ t → 0 < get_or (set C i count) j 0 → j < spare (set C i count) + 2 * get_or (set C i count) j 0
-    forward j l true q p = omega (arith, here-at j q, eqb-true j i q, h.near, first)
-    forward j l false q p = omega (arith, other j q, g.forward j l (omega (arith, other j q)), first)
+    forward : (j : ℕ) (t : Bool) → eqb j i ≡ t → 0 < get_or (set C i count) j 0 → j < 2 * get_or (set C i count) j 0
+    forward j true q p = omega (arith, here-at j q, eqb-true j i q, h.near)
+    forward j false q p = omega (arith, other j q, g.forward j (omega (arith, other j q)))
 
-    held : (s : ℕ) → 0 < s → s < count + 1 → (t : Bool) → eqb s count ≡ t → Headed (spare C) (set C i count) (foldedName (name s)) s
-    held s z l true q =
-        subst (λ (w : ℕ). Headed (spare C) (set C i count) (foldedName (name w)) w) (sym (eqb-true s count q))
-        (subst (λ (w : ℕ). Headed (spare C) (set C i count) (foldedName (name count)) w) at (h.led (set C i count) keeps (omega (arith, at, g.root))))
-    held s z l false q = below-keeps z keeps (g.held s z (omega (arith, eqb-false s count q)))
+    held : (s : ℕ) → s < count + 1 → (t : Bool) → eqb s count ≡ t → Below (set C i count) (foldedName (name s)) s 0 0
+    held s l true q =
+        subst (λ (w : ℕ). Below (set C i count) (foldedName (name w)) w 0 0) (sym (eqb-true s count q))
+        (subst (λ (w : ℕ). Below (set C i count) (foldedName (name count)) w 0 0) at (h.led (set C i count) keeps (omega (arith, at, g.root))))
+    held s l false q = below-keeps keeps (g.held s (omega (arith, eqb-false s count q)))
 
 -- what an answer of the search tells
 pub told_same : (name : ℕ → List ℕ) (C : List ℕ) (count : ℕ) (x : List ℕ) (r : Sought) (q : ℕ) → r ≡ Same q → Told name C count x r → Hit name C count x q

@@ -1,6 +1,5 @@
--- The trees of the first names of some, held in one row of links, and what a search in them tells. A name is known by its number. The
--- row's first entry says how many heads there are besides one; then the heads follow, then two links for each name from number 1 on.
--- Assumes nothing.
+-- The tree of the first names of some, held in one row of links, and what a search in it tells. A name is known by its number; its
+-- two links stand in the row at twice the number and at the next place. Assumes nothing.
 use Rattle.std.specs.Prelude.{ℕ, ◌+◌, ◌-◌, ◌*◌, ◌/◌, ◌%◌, ◌^◌, ◌≤◌, ◌<◌, ◌≡◌, List, [], ◌∷◌, map, true, false, ltb, length, drop, get_or, take}
 use Rattle.grammar.specs.Basics.{choose}
 use Rattle.text.specs.Names.{folded, sameName}
@@ -17,7 +16,7 @@ abbrev pub keyBits : ℕ
 keyBits = 24
 
 abbrev pub keySkip : ℕ
-keySkip = 32
+keySkip = 28
 
 -- what of the key is carried on to the next byte, and what it is then multiplied by
 abbrev pub keySpan : ℕ
@@ -51,34 +50,22 @@ pub record Spans (text starts lengths : List ℕ) : Type 0 where
   pub paired : length starts ≡ length lengths
   pub inside : Inside text starts lengths
 
--- how many heads there are besides one
-abbrev pub spare : List ℕ → ℕ
-spare C = get_or C 0 0
-
--- the head of a key, where there are so many besides one
-unfoldable pub headAt : ℕ → ℕ → ℕ
-headAt more key = 1 + key % keySpan * (more + 1) / keySpan
-
--- whether s is met on the way that k, what counts of a name, takes from place i, at depth d
-pub data Below (more : ℕ) (C k : List ℕ) (s : ℕ) : ℕ → ℕ → Type 0 where
-  here : {d i : ℕ} → get_or C i 0 ≡ s → Below more C k s d i
-  down : {d i : ℕ} → 0 < get_or C i 0 → Below more C k s (d + 1) (more + 2 * get_or C i 0 + turn k d) → Below more C k s d i
-
--- whether s is met on the way from the head
-abbrev pub Headed : ℕ → List ℕ → List ℕ → ℕ → Type 0
-Headed more C k s = Below more C k s 0 (headAt more (keyOf k))
+-- whether s is met on the way that k, what counts of a name, takes from name q, at depth d
+pub data Below (C k : List ℕ) (s : ℕ) : ℕ → ℕ → Type 0 where
+  here : {d q : ℕ} → q ≡ s → Below C k s d q
+  down : {d q : ℕ} → 0 < get_or C (2 * q + turn k d) 0 → Below C k s (d + 1) (get_or C (2 * q + turn k d) 0) → Below C k s d q
 
 -- whether D has every link of C
 pub record Keeps (C D : List ℕ) : Type 0 where
   pub kept : (i : ℕ) → 0 < get_or C i 0 → get_or D i 0 ≡ get_or C i 0
 
 module _ (name : ℕ → List ℕ) (C : List ℕ) (count : ℕ) where
-  -- the trees have the first names; links go to later ones of these; name 0 stands at the end of every way
+  -- the tree has the first names; links go to later ones of these
   pub record Grown : Type 0 where
     pub root : 0 < count
-    pub link : (i : ℕ) → 1 ≤ i → 0 < get_or C i 0 → get_or C i 0 < count
-    pub forward : (i : ℕ) → 1 ≤ i → 0 < get_or C i 0 → i < spare C + 2 * get_or C i 0
-    pub held : (s : ℕ) → 0 < s → s < count → Headed (spare C) C (foldedName (name s)) s
+    pub link : (i : ℕ) → 0 < get_or C i 0 → get_or C i 0 < count
+    pub forward : (i : ℕ) → 0 < get_or C i 0 → i < 2 * get_or C i 0
+    pub held : (s : ℕ) → s < count → Below C (foldedName (name s)) s 0 0
 
   -- name q is x
   pub record Hit (x : List ℕ) (q : ℕ) : Type 0 where
@@ -87,11 +74,10 @@ module _ (name : ℕ → List ℕ) (C : List ℕ) (count : ℕ) where
 
   -- none of the names is x, and a link written at i leads to it
   pub record Gap (x : List ℕ) (i : ℕ) : Type 0 where
-    pub low : 1 ≤ i
-    pub near : i < spare C + 2 * count
+    pub near : i < 2 * count
     pub empty : get_or C i 0 ≡ 0
     pub absent : (s : ℕ) → s < count → sameName x (name s) ≡ false
-    pub led : (D : List ℕ) → Keeps C D → 0 < get_or D i 0 → Headed (spare C) D (foldedName x) (get_or D i 0)
+    pub led : (D : List ℕ) → Keeps C D → 0 < get_or D i 0 → Below D (foldedName x) (get_or D i 0) 0 0
 
   abbrev pub Told : List ℕ → Sought → Type 0
   Told x (Same q) = Hit x q
@@ -101,26 +87,21 @@ module _ (name : ℕ → List ℕ) (C : List ℕ) (count : ℕ) where
 abbrev pub mostNames : ℕ
 mostNames = 65535
 
--- no link, and room for those of so many names
-pub record Empty (links : List ℕ) (most : ℕ) : Type 0 where
-  pub room : spare links + 2 * most ≤ length links
-  pub bare : (i : ℕ) → 1 ≤ i → get_or links i 0 ≡ 0
-
--- the trees have all names, of which no two are the same; without names they have no link
+-- the tree has all names, of which no two are the same; without names it has no link
 pub record Lexicon (text starts lengths links : List ℕ) : Type 0 where
   pub spans : Spans text starts lengths
   pub few : length starts ≤ mostNames
-  pub room : spare links + 2 * length starts ≤ length links
-  pub bare : length starts ≡ 0 → (i : ℕ) → 1 ≤ i → get_or links i 0 ≡ 0
+  pub room : 2 * length starts ≤ length links
+  pub bare : length starts ≡ 0 → (i : ℕ) → get_or links i 0 ≡ 0
   pub grown : 0 < length starts → Grown (name_of text starts lengths) links (length starts)
   pub apart : (i j : ℕ) → i < j → j < length starts → sameName (name_of text starts lengths j) (name_of text starts lengths i) ≡ false
 
--- the trees have the names before number `from`, of which no two are the same, and room for the others
+-- the tree has the names before number `from`, of which no two are the same, and room for the others
 pub record Planted (text starts lengths links : List ℕ) (from : ℕ) : Type 0 where
   pub spans : Spans text starts lengths
   pub few : length starts ≤ mostNames
-  pub room : spare links + 2 * length starts ≤ length links
+  pub room : 2 * length starts ≤ length links
   pub near : from ≤ length starts
-  pub bare : from ≡ 0 → (i : ℕ) → 1 ≤ i → get_or links i 0 ≡ 0
+  pub bare : from ≡ 0 → (i : ℕ) → get_or links i 0 ≡ 0
   pub grown : 0 < from → Grown (name_of text starts lengths) links from
   pub apart : (i j : ℕ) → i < j → j < from → sameName (name_of text starts lengths j) (name_of text starts lengths i) ≡ false

@@ -1,26 +1,22 @@
-// Names looked up by their numbers: the names of some rows of starts and lengths go into digital search trees, one row of links with two
-// for each name but the first, where a search takes one bit at each step and compares in full. A key made of the name chooses the tree
-// and the first bits, so that names which begin alike part early; the later bits are the name's own, so that a way has at most KEY_BITS
-// steps more than a name has bits. The trees begin at the row's heads, of which the first entry says how many there are besides one: all
-// that the names leave room for. A link is a name's number; at the end of every way stands 0, so name 0 is compared there.
+// Names looked up by their numbers: the names of some rows of starts and lengths go into a digital search tree, one row of links with
+// two for each name, where a search takes one bit at each step and compares in full. The first bits are those of a key made of the name,
+// so that names which begin alike part early; the later ones are the name's own, so that a way has at most KEY_BITS steps more than a
+// name has bits. A link is a name's number; 0 is none, since name 0 is the root.
 ghost use Rattle.std.specs.Prelude.{◌≡◌, [], ℕ, ◌+◌, ◌*◌, ◌≤◌, ◌<◌, length, get_or};
 ghost use Rattle.text.specs.Names.{sameName, place};
 ghost use Rattle.text.specs.Print.{firstDouble};
 ghost use Rattle.text.specs.Spelled.{spelled};
-ghost use Rattle.lexicon.specs.Tree.{foldedName, keyOf, turn, headAt, name_of, Spans, spare, Grown, Told, mostNames, Empty, Lexicon, Planted};
+ghost use Rattle.lexicon.specs.Tree.{foldedName, keyOf, turn, name_of, Spans, Grown, Told, mostNames, Lexicon, Planted};
 
 // How many turns go by the key, and the first bit of it that does.
 const KEY_BITS: usize = 24;
 
-const KEY_SKIP: usize = 32;
+const KEY_SKIP: usize = 28;
 
 // What of the key is carried on to the next byte, and what it is then multiplied by.
 const KEY_SPAN: usize = 4294967296;
 
 const KEY_FACTOR: usize = 2654435761;
-
-// The most heads besides one that an entry of the row can tell.
-const MOST_HEADS: usize = 65535;
 
 // What a search in the tree tells: the number of the name, or where its link belongs.
 #[derive(Drop)]
@@ -36,7 +32,7 @@ fn wide(x: u32) -> usize
 }
 
 fn wide_link(x: u16) -> usize
-    ensures { (result ≡ x) × (result < 65536) }
+    ensures { result ≡ x }
 {
     x as usize
 }
@@ -77,15 +73,7 @@ fn bit(x: &[u8], key: usize, d: usize) -> usize
     wide_byte(b)
 }
 
-// The head of a key, where there are so many besides one.
-fn head(key: usize, more: usize) -> usize
-    requires { more ≤ 65535 }
-    ensures { (result ≡ headAt more key) × (1 ≤ result) × (result ≤ more + 1) }
-{
-    1 + key % KEY_SPAN * (more + 1) / KEY_SPAN
-}
-
-// Follows the way of x, whose key is lent, from its head, where the tree has the first `count` names.
+// Follows the way of x from name 0, where the tree has the first `count` names.
 fn seek(
     text: &[u8],
     starts: &[u32],
@@ -93,41 +81,28 @@ fn seek(
     links: &[u16],
     count: usize,
     x: &[u8],
-    key: usize,
 ) -> Sought
-    requires spans { (Spans text.now starts.now lengths.now) × (count ≤ length starts.now) × (count ≤ mostNames) × (spare links.now + 2 * count ≤ length links.now) }
+    requires spans { (Spans text.now starts.now lengths.now) × (count ≤ length starts.now) × (count ≤ mostNames) × (2 * count ≤ length links.now) }
     requires grown { Grown (name_of text.now starts.now lengths.now) links.now count }
-    requires key_value { key ≡ keyOf (foldedName x.now) }
     ensures { Told (name_of text.now starts.now lengths.now) links.now count x.now result }
 {
-    let more = wide_link(links[0]);
-    let mut i = head(key, more);
+    let key = key_of(x);
+    let mut q = 0;
     let mut d = 0;
     loop {
-        let q = wide_link(links[i]);
         let a = wide(starts[q]);
         let e = a + wide(lengths[q]);
         if names::same_name(x, &text[a..e]) {
             return Sought::Same(q);
         }
-        if q == 0 {
+        let i = 2 * q + bit(x, key, d);
+        let next = wide_link(links[i]);
+        if next == 0 {
             return Sought::Free(i);
         }
-        i = more + 2 * q + bit(x, key, d);
+        q = next;
         d += 1;
     }
-}
-
-// Gives an empty row as many heads as it has room for beside the links of so many names.
-pub fn begin(links: &mut [u16], most: usize)
-    requires { (2 * most ≤ length links.old) × (0 < length links.old) × ((i : ℕ) → get_or links.old i 0 ≡ 0) }
-    ensures { Empty links.new most }
-{
-    let mut more = links.len() - 2 * most;
-    if MOST_HEADS < more {
-        more = MOST_HEADS;
-    }
-    links[0] = more as u16;
 }
 
 // Goes on putting names into the tree, from number `from` on, up to the first that is there already: its number, or how many names
@@ -136,7 +111,6 @@ pub fn grow(text: &[u8], starts: &[u32], lengths: &[u32], links: &mut [u16], fro
     requires { Planted text.now starts.now lengths.now links.old from }
     ensures value { result ≡ firstDouble [] (spelled text.now starts.now lengths.now) }
     ensures lexicon { result ≡ length starts.now → Lexicon text.now starts.now lengths.now links.new }
-    ensures links_unchanged { spare links.new ≡ spare links.old }
 {
     let n = starts.len();
     if n == 0 {
@@ -149,9 +123,7 @@ pub fn grow(text: &[u8], starts: &[u32], lengths: &[u32], links: &mut [u16], fro
     while k < n {
         let a = wide(starts[k]);
         let e = a + wide(lengths[k]);
-        let x = &text[a..e];
-        let key = key_of(x);
-        let Sought::Free(i) = seek(text, starts, lengths, links, k, x, key) else {
+        let Sought::Free(i) = seek(text, starts, lengths, links, k, &text[a..e]) else {
             return k;
         };
         links[i] = k as u16;
@@ -167,35 +139,7 @@ pub fn plant(text: &[u8], starts: &[u32], lengths: &[u32], links: &mut [u16]) ->
     ensures value { result ≡ firstDouble [] (spelled text.now starts.now lengths.now) }
     ensures lexicon { result ≡ length starts.now → Lexicon text.now starts.now lengths.now links.new }
 {
-    let n = starts.len();
-    if n == 0 {
-        return 0;
-    }
-    begin(links, n);
     grow(text, starts, lengths, links, 0)
-}
-
-// The number of the name that is x, whose key is lent, or how many names there are.
-pub fn find_keyed(
-    text: &[u8],
-    starts: &[u32],
-    lengths: &[u32],
-    links: &[u16],
-    x: &[u8],
-    key: usize,
-) -> usize
-    requires lexicon { Lexicon text.now starts.now lengths.now links.now }
-    requires key_value { key ≡ keyOf (foldedName x.now) }
-    ensures { result ≡ place (sameName x.now) (spelled text.now starts.now lengths.now) }
-{
-    let n = starts.len();
-    if n == 0 {
-        return 0;
-    }
-    let Sought::Same(q) = seek(text, starts, lengths, links, n, x, key) else {
-        return n;
-    };
-    q
 }
 
 // The number of the name that is x, or how many names there are.
@@ -203,6 +147,12 @@ pub fn find(text: &[u8], starts: &[u32], lengths: &[u32], links: &[u16], x: &[u8
     requires { Lexicon text.now starts.now lengths.now links.now }
     ensures { result ≡ place (sameName x.now) (spelled text.now starts.now lengths.now) }
 {
-    let key = key_of(x);
-    find_keyed(text, starts, lengths, links, x, key)
+    let n = starts.len();
+    if n == 0 {
+        return 0;
+    }
+    let Sought::Same(q) = seek(text, starts, lengths, links, n, x) else {
+        return n;
+    };
+    q
 }

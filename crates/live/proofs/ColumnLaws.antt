@@ -89,12 +89,12 @@ held g G e = subst (λ g. Held g G) (sym e) (whole G)
       right = right-at G.rules (replicate (limits.maxRules - length (lengths G.rules)) 0) (replicate (limits.maxStates - length (codes G.rules)) 0);
     }
 
-pub columns_of : (g : CheckedGrammar) → IsRecord g → Columns g.lefts g.lengths g.codes g.count g.nonterminals
+pub columns_of : (g : CheckedGrammar) → IsRecord g → Columns g.lefts g.lengths g.codes g.count
 unfolding recordOf rule
-columns_of g r = subst (λ (g : CheckedGrammar). Columns g.lefts g.lengths g.codes g.count g.nonterminals) (sym r.same) (whole r.grammar r.wellFormed)
+columns_of g r = subst (λ (g : CheckedGrammar). Columns g.lefts g.lengths g.codes g.count) (sym r.same) (whole r.grammar r.wellFormed)
   where
     whole : (G : Grammar) → WellFormed limits G
-        → Columns (recordOf G).lefts (recordOf G).lengths (recordOf G).codes (recordOf G).count (recordOf G).nonterminals
+        → Columns (recordOf G).lefts (recordOf G).lengths (recordOf G).codes (recordOf G).count
     whole G w = record {
       few = w.count;
       left = omega (arith, lefts-length G.rules, length-append (lefts G.rules) (replicate (limits.maxRules - length (lefts G.rules)) 0));
@@ -107,12 +107,12 @@ columns_of g r = subst (λ (g : CheckedGrammar). Columns g.lefts g.lengths g.cod
       known = λ i h.
           let k = w.lefts (rule limits G (suc i)) (rule-listed limits G (suc i) (omega arith, omega arith)) in
           let e = left-at G.rules (replicate (limits.maxRules - length (lefts G.rules)) 0) i h in
-          (omega (arith, k.0, e), omega (arith, k.1, e));
-      small = below_at (limits.nonterminalBase + G.nonterminals) (padded limits.maxStates (codes G.rules))
+          (omega (arith, k.0, e), omega (arith, k.1, e, w.nonterminals.1));
+      small = below_at (limits.nonterminalBase + limits.maxNonterminals) (padded limits.maxStates (codes G.rules))
           (λ x m. ⊎_elim
-          (λ k. below-codes (limits.nonterminalBase + G.nonterminals) G.rules
-          (λ r n y q. ⊎_elim (λ t. omega (arith, t.1, w.terminals)) (λ t. omega (arith, t.1)) (w.codes r n y q)) x k)
-          (λ k. below-zeros (limits.nonterminalBase + G.nonterminals) (limits.maxStates - length (codes G.rules)) (omega arith) x k)
+          (λ k. below-codes (limits.nonterminalBase + limits.maxNonterminals) G.rules
+          (λ r n y q. ⊎_elim (λ t. omega (arith, t.1, w.terminals)) (λ t. omega (arith, t.1, w.nonterminals.1)) (w.codes r n y q)) x k)
+          (λ k. below-zeros (limits.nonterminalBase + limits.maxNonterminals) (limits.maxStates - length (codes G.rules)) (omega arith) x k)
           (mem-either (codes G.rules) (replicate (limits.maxStates - length (codes G.rules)) 0) m));
     }
 
@@ -121,16 +121,6 @@ columns_of g r = subst (λ (g : CheckedGrammar). Columns g.lefts g.lengths g.cod
 -- with them the record is the grammar's
 pub lent-record : {G : Grammar} {n q count used : ℕ} {ls ns cs : List ℕ} → ColumnsOf G n q count used ls ns cs → IsRecord (withColumns G n q count used ls ns cs)
 lent-record {G = G} C = record { grammar = G; wellFormed = C.wellFormed; same = C.same }
-
--- it has a nonterminal
-pub some-nonterminal : {G : Grammar} {n q count used : ℕ} {ls ns cs : List ℕ} → ColumnsOf G n q count used ls ns cs → 0 < n
-unfolding recordOf
-some-nonterminal C = let e = ap (λ (g : CheckedGrammar). g.nonterminals) C.same in omega (arith, e, C.wellFormed.nonterminals.0)
-
--- and no more than the most
-pub most-nonterminals : {G : Grammar} {n q count used : ℕ} {ls ns cs : List ℕ} → ColumnsOf G n q count used ls ns cs → n ≤ limits.maxNonterminals
-unfolding recordOf
-most-nonterminals C = let e = ap (λ (g : CheckedGrammar). g.nonterminals) C.same in omega (arith, e, C.wellFormed.nonterminals.1)
 
 -- and those of a record are its grammar's
 pub lent_of : (g : CheckedGrammar) (G : Grammar) → WellFormed limits G → g ≡ recordOf G

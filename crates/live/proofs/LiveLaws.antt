@@ -6,7 +6,7 @@ use mathlib.Core.List.{List, [], ◌∷◌, ◌++◌, map}
 use mathlib.Core.Logic.{◌⊎◌, inl, inr}
 use native.Mathlib.Omega.{arith}
 use lib.Dec.{ltb, leb, eqb}
-use lib.ListN.{length, get_or, set, take, replicate, length-replicate}
+use lib.ListN.{length, get_or, set, replicate, length-replicate}
 use lib.Seq.{get_or-set_same, get_or-set_other}
 use borrow.Author.Tests.{leb-true, leb-false, eqb-true, eqb-false}
 use Rattle.grammar.specs.Basics.{when, each, Mem, here, there}
@@ -14,12 +14,12 @@ use Rattle.grammar.specs.Limits.{limits}
 use Rattle.grammar.specs.Grammar.{Rule, Grammar, IsRule, WellFormed, start, rule}
 use Rattle.grammar.specs.Live.{Clause, has, hasAll, closure, nonterminalsOf, derivesIf, productive, isProductive, reachesFrom, usable, reachable, hasSentence, isLive}
 use Rattle.grammar.proofs.Answers.{no_bool, and_both, both-and, same_test}
-use Rattle.grammar.proofs.Lists.{no-element, mem-place, zeros, map-in, each_in}
+use Rattle.grammar.proofs.Lists.{no-element, mem-place, map-in, each_in}
 use Rattle.grammar.proofs.Plain.{mem-cases}
 use Rattle.grammar.proofs.Derives.{rule-listed}
 use Rattle.grammar.proofs.Closure.{All, all_map, all-is, has-is, closure-least}
 use Rattle.grammar.proofs.Live.{usable-out, clause-of, start-reached, next-reached}
-use Rattle.live.specs.Marks.{marked, allMarked, unmarked, Sound, left_at, rightAt, AllDerived, AllDerivedMarks, AllLed, AllLedMarks, Finished, bit, Answers}
+use Rattle.live.specs.Marks.{marked, allMarked, Sound, left_at, rightAt, AllDerived, AllDerivedMarks, AllLed, AllLedMarks, Finished, bit, Answers}
 use Rattle.live.proofs.MarkLaws.{marked-low, marked-high, all_sound}
 
 -- ---- marks and right sides
@@ -62,27 +62,10 @@ all-exact found marks (x ∷ α) h = go (leb limits.nonterminalBase x) refl (all
 
 -- ---- the rows at the start
 
-pub bare-zeros : (m : ℕ) → m ≡ unmarked (replicate m 0)
-unfolding unmarked
-bare-zeros zero = refl
-bare-zeros (suc m) = ap suc (bare-zeros m)
-
--- one less without that of the start
-pub bare-start : (m : ℕ) → 0 < m → m - 1 ≡ unmarked (set (replicate m 0) 0 1)
-unfolding unmarked
-bare-start zero h = absurd (omega arith)
-bare-start (suc m) h = let e : suc m - 1 ≡ m = omega arith in e ∙ bare-zeros m
-
--- the front of a row of zeros
-pub front_length : (k m : ℕ) → k ≤ m → k ≡ length (take k (replicate {A = ℕ} m 0))
-front_length zero m h = refl
-front_length (suc k) zero h = absurd (omega arith)
-front_length (suc k) (suc m) h = ap suc (front_length k m (omega arith))
-
-pub zeros-front : (k m : ℕ) → k ≤ m → ◌≡◌ {A = List ℕ} (take k (replicate m 0)) (replicate (length (take k (replicate {A = ℕ} m 0))) 0)
-zeros-front zero m h = refl
-zeros-front (suc k) zero h = absurd (omega arith)
-zeros-front (suc k) (suc m) h = ap (0 ∷◌) (zeros-front k m (omega arith))
+zeros : (m i : ℕ) → get_or (replicate {A = ℕ} m 0) i 0 ≡ 0
+zeros zero i = refl
+zeros (suc m) zero = refl
+zeros (suc m) (suc i) = zeros m i
 
 pub none-marked : (m : ℕ) (found : List ℕ) → Sound found (replicate m 0)
 none-marked m found x h e = no_bool (sym e ∙ marked-high (replicate m 0) x h ∙ ap (ltb 0) (zeros m (x - limits.nonterminalBase)))
@@ -134,8 +117,7 @@ module _ (G : Grammar) (W : WellFormed limits G) (lefts lengths codes : List ℕ
       let m = clause-of limits G W apart (suc i) (is-rule i h) ((all-is P (nonterminalsOf limits α)).0 f) in
       subst (λ x. has P x ≡ true) (sym (left i h)) ((has-is P (rule limits G (suc i)).left).1 m)
 
-  module _ (m : ℕ) (one-is : 0 < m) (old : List ℕ) (none : old ≡ replicate m 0) (marks : List ℕ)
-      (F : Finished (AllDerived lefts lengths codes 0 count) (AllDerivedMarks lefts lengths codes 0 count) old marks) where
+  module _ (marks : List ℕ) (F : Finished (AllDerived lefts lengths codes 0 count) (AllDerivedMarks lefts lengths codes 0 count) (replicate limits.maxNonterminals 0) marks) where
     productive-marked : (x : ℕ) → Mem x P → marked marks x ≡ true
     unfolding productive
     productive-marked = closure-least (λ x. marked marks x ≡ true) (map (derivesIf limits) G.rules) (λ c m a.
@@ -151,7 +133,7 @@ module _ (G : Grammar) (W : WellFormed limits G) (lefts lengths codes : List ℕ
 
     pub productive-exact : Exact P marks
     productive-exact x h =
-        same_test (marked marks x) (has P x) (F.sound P productive-closed (subst (Sound P) (sym none) (none-marked m P)) x h)
+        same_test (marked marks x) (has P x) (F.sound P productive-closed (none-marked limits.maxNonterminals P) x h)
         (λ e. productive-marked x ((has-is P x).0 e))
 
     -- there is a sentence if the first nonterminal is marked
@@ -175,8 +157,7 @@ module _ (G : Grammar) (W : WellFormed limits G) (lefts lengths codes : List ℕ
         every [] f = tt
         every (x ∷ l) f = (f x here, every l (λ y m. f y (there m)))
 
-    module _ (row : List ℕ) (no_other : row ≡ replicate m 0) (reached : List ℕ)
-        (T : Finished (AllLed lefts lengths codes marks 0 count) (AllLedMarks lefts lengths codes marks 0 count) (set row 0 1) reached) where
+    module _ (reached : List ℕ) (T : Finished (AllLed lefts lengths codes marks 0 count) (AllLedMarks lefts lengths codes marks 0 count) (set (replicate limits.maxNonterminals 0) 0 1) reached) where
       reachable-marked : (x : ℕ) → Mem x R → marked reached x ≡ true
       unfolding reachable
       reachable-marked = closure-least (λ x. marked reached x ≡ true)
@@ -194,7 +175,7 @@ module _ (G : Grammar) (W : WellFormed limits G) (lefts lengths codes : List ℕ
           kept : (c : Clause) → (record { premises = []; conclusion = start limits } ≡ c)
               ⊎ Mem c (each (usable limits (productive limits G.rules) G.rules) (reachesFrom limits))
               → All (λ x. marked reached x ≡ true) c.premises → marked reached c.conclusion ≡ true
-          kept c (inl q) a = subst (λ (c : Clause). marked reached c.conclusion ≡ true) q (T.kept (start limits) (subst (λ (l : List ℕ). marked (set l 0 1) (start limits) ≡ true) (sym no_other) (start_has m one-is)))
+          kept c (inl q) a = subst (λ (c : Clause). marked reached c.conclusion ≡ true) q (T.kept (start limits) (start_has limits.maxNonterminals (omega arith)))
           kept c (inr n) a =
               let r = each_in (usable limits (productive limits G.rules) G.rules) (reachesFrom limits) n in
               let u = usable-out limits G W apart r.0 G.rules r.1 in
@@ -205,7 +186,7 @@ module _ (G : Grammar) (W : WellFormed limits G) (lefts lengths codes : List ℕ
       reachable-exact : Exact R reached
       reachable-exact x h =
           same_test (marked reached x) (has R x)
-          (T.sound R reachable-closed (subst (λ (l : List ℕ). Sound R (set l 0 1)) (sym no_other) (start-marked m R ((has-is R (start limits)).1 (start-reached limits G W apart)))) x h)
+          (T.sound R reachable-closed (start-marked limits.maxNonterminals R ((has-is R (start limits)).1 (start-reached limits G W apart))) x h)
           (λ e. reachable-marked x ((has-is R x).0 e))
 
       -- the answers of the code are the definition's

@@ -1,9 +1,9 @@
-// Passes over the rules: each marks what follows from the marks, and the passes end when all is marked or one marks nothing.
+// Passes over the rules: each marks what follows from the marks, and the passes end when one marks nothing.
 // Grammars are mostly written with a nonterminal's rules after its use: so trees are looked for from the last rule to the
 // first, and what S reaches from the first rule to the last.
-ghost use Rattle.std.specs.Prelude.{◌+◌, ◌≤◌, ◌<◌, ◌≡◌, length};
+ghost use Rattle.std.specs.Prelude.{ℕ, ◌+◌, ◌≤◌, ◌<◌, ◌≡◌, length};
 ghost use Rattle.grammar.specs.Limits.{limits};
-ghost use Rattle.live.specs.Marks.{unmarked, Small, Passed, Derived, DerivedMarks, Led, LedMarks, before, Columns, AllDerived, AllDerivedMarks, AllLed, AllLedMarks, Finished};
+ghost use Rattle.live.specs.Marks.{Small, Passed, Derived, DerivedMarks, Led, LedMarks, before, Columns, AllDerived, AllDerivedMarks, AllLed, AllLedMarks, Finished};
 
 use super::marks::{all_marked, is_marked, mark, mark_codes};
 use super::wide;
@@ -47,8 +47,9 @@ fn derive_all<'a>(
     used: usize,
     marks: &mut [u8],
 ) -> usize
-    requires columns { Columns lefts.now lengths.now codes.now count (length marks.old) }
+    requires columns { Columns lefts.now lengths.now codes.now count }
     requires used_value { used ≡ before lengths.now count }
+    requires marks_len { length marks.old ≡ limits.maxNonterminals }
     ensures { Passed (AllDerived lefts.now lengths.now codes.now 0 count)
         (AllDerivedMarks lefts.now lengths.now codes.now 0 count) marks.old marks.new result }
 {
@@ -74,8 +75,9 @@ fn lead_all<'a>(
     productive: &[u8],
     marks: &mut [u8],
 ) -> usize
-    requires columns { Columns lefts.now lengths.now codes.now count (length marks.old) }
-    requires productive_len { length productive.now ≡ length marks.old }
+    requires columns { Columns lefts.now lengths.now codes.now count }
+    requires productive_len { length productive.now ≡ limits.maxNonterminals }
+    requires marks_len { length marks.old ≡ limits.maxNonterminals }
     ensures { Passed (AllLed lefts.now lengths.now codes.now productive.now 0 count)
         (AllLedMarks lefts.now lengths.now codes.now productive.now 0 count) marks.old marks.new result }
 {
@@ -92,56 +94,44 @@ fn lead_all<'a>(
     n
 }
 
-// Marks the nonterminals that have a tree, of which `bare` have no mark. Mostly one pass marks all.
+// Marks the nonterminals that have a tree.
 pub fn mark_productive<'a>(
     lefts: &'a [u16],
     lengths: &'a [u16],
     codes: &'a [u16],
     count: usize,
     used: usize,
-    bare: usize,
     marks: &mut [u8],
 )
-    requires columns { Columns lefts.now lengths.now codes.now count (length marks.old) }
+    requires columns { Columns lefts.now lengths.now codes.now count }
     requires used_value { used ≡ before lengths.now count }
-    requires bare_value { bare ≡ unmarked marks.old }
+    requires marks_len { length marks.old ≡ limits.maxNonterminals }
     ensures { Finished (AllDerived lefts.now lengths.now codes.now 0 count)
         (AllDerivedMarks lefts.now lengths.now codes.now 0 count) marks.old marks.new }
 {
-    let mut rest = bare;
     let mut fresh = 1;
     while 0 < fresh {
         fresh = derive_all(lefts, lengths, codes, count, used, marks);
-        rest -= fresh;
-        if rest < 1 {
-            return;
-        }
     }
 }
 
-// Marks what the marked nonterminals reach through rules that can stand in a tree; `bare` have no mark.
+// Marks what the marked nonterminals reach through rules that can stand in a tree.
 pub fn mark_reachable<'a>(
     lefts: &'a [u16],
     lengths: &'a [u16],
     codes: &'a [u16],
     count: usize,
     productive: &[u8],
-    bare: usize,
     marks: &mut [u8],
 )
-    requires columns { Columns lefts.now lengths.now codes.now count (length marks.old) }
-    requires productive_len { length productive.now ≡ length marks.old }
-    requires bare_value { bare ≡ unmarked marks.old }
+    requires columns { Columns lefts.now lengths.now codes.now count }
+    requires productive_len { length productive.now ≡ limits.maxNonterminals }
+    requires marks_len { length marks.old ≡ limits.maxNonterminals }
     ensures { Finished (AllLed lefts.now lengths.now codes.now productive.now 0 count)
         (AllLedMarks lefts.now lengths.now codes.now productive.now 0 count) marks.old marks.new }
 {
-    let mut unreached = bare;
     let mut fresh = 1;
     while 0 < fresh {
         fresh = lead_all(lefts, lengths, codes, count, productive, marks);
-        unreached -= fresh;
-        if unreached < 1 {
-            return;
-        }
     }
 }

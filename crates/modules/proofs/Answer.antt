@@ -1,33 +1,36 @@
 -- What the reader answers for the joined text: 1 at 1, 1 at 2, then the last tests of the joined rules; never 19. Assumes nothing.
-use Prim.Native.Nat.{ℕ, ◌+◌, ◌≤◌, ◌<◌}
-use mathlib.Core.Path.{◌≡◌, refl, ap, sym, subst, ◌∙◌}
-use mathlib.Core.Bool.{Bool, true, false, ◌&&◌}
-use mathlib.Core.List.{List, [], ◌∷◌, ◌++◌}
+use Prim.Native.Nat.{ℕ, zero, suc, ◌+◌, ◌≤◌, ◌<◌}
+use mathlib.Core.Path.{◌≡◌, refl, ap, ap₂, sym, subst, ◌∙◌}
+use mathlib.Core.Bool.{Bool, true, false, not, ◌&&◌}
+use mathlib.Core.List.{List, [], ◌∷◌, ◌++◌, map}
 use native.Mathlib.Omega.{arith}
 use borrow.Author.Tests.{le-leb, leb-true}
 use lib.Dec.{leb}
 use lib.ListN.{length, length-append}
 use Rattle.grammar.specs.Limits.{Limits}
+use Rattle.grammar.specs.Grammar.{Rule, Grammar}
 use Rattle.grammar.specs.Table.{encode, decode}
-use Rattle.grammar.specs.Live.{HasSentence}
+use Rattle.grammar.specs.Live.{HasSentence, hasSentence}
 use Rattle.grammar.specs.Refusal.{Answer, done, refused, refuseUnless, and_then, outOfRange, malformed, noSentence}
-use Rattle.grammar.proofs.Answers.{unless_holds}
+use Rattle.grammar.specs.TableCheck.{checkTable}
+use Rattle.grammar.proofs.Answers.{unless_holds, no_answer, then-goes, then-done, unless-done, done_inj}
 use Rattle.grammar.proofs.Rules.{decode-encode}
-use Rattle.grammar.proofs.Sentence.{refuses-exactly}
+use Rattle.grammar.proofs.WellFormed.{Taken}
+use Rattle.grammar.proofs.Sentence.{passes-exactly, refuses-exactly}
 use Rattle.text.specs.Pieces.{splitOn, join}
 use Rattle.text.specs.Names.{within, all, isName, hasDouble}
 use Rattle.text.specs.Keys.{key}
-use Rattle.text.specs.Read.{Source, grammarOf, refuseNone, names_of, declaration, ruleLines, wholeLine, readLines, readText}
-use Rattle.text.specs.Rules.{lastTests, checkText}
+use Rattle.text.specs.Read.{Source, symbolNames, grammarOf, refuseNone, names_of, declaration, ruleLines, wholeLine, readLines, readText}
+use Rattle.text.specs.Rules.{admit, lastTests, checkText}
 use Rattle.text.specs.Print.{printLine, printed}
-use Rattle.text.proofs.Pieces.{all_append, split-piece, split-pos}
+use Rattle.text.proofs.Pieces.{other, all_append, split-piece, split-pos}
 use Rattle.text.proofs.Names.{key-value, double-front}
 use Rattle.text.proofs.WellNamed.{WellNamedSource}
-use Rattle.text.proofs.ReadPrinted.{names-again, read-print, whole-step}
-use Rattle.text.proofs.Admit.{table-tests}
+use Rattle.text.proofs.ReadPrinted.{read-print, whole-step}
+use Rattle.text.proofs.Admit.{table-tests, text-checked}
 use Rattle.modules.specs.Joined.{meet, added, joinedTerminals, joinedNonterminals, joined}
 use Rattle.modules.proofs.Named.{terminals-named, nonterminals-named, joined_once, rules-fit}
-use Rattle.modules.proofs.ReadJoined.{line-free, rest, heads}
+use Rattle.modules.proofs.ReadJoined.{again, line-free, rest, heads}
 use Rattle.modules.proofs.Trees.{trees-stay}
 
 -- a declaring line of names without a double: only 1 is left
@@ -35,7 +38,7 @@ declares : (at k lo hi : ℕ) (earlier names : List (List ℕ)) → all isName n
     → declaration at k lo hi earlier (printLine k (join 44 names)) ≡ refuseUnless outOfRange at (within lo hi (length names)) (done names)
 unfolding declaration printLine refuseNone
 declares at k lo hi earlier names g o =
-    let e : names_of (join 44 names) ≡ names = names-again names g in
+    let e : names_of (join 44 names) ≡ names = again names g in
     rw (key-value (key k) (join 44 names), e, g, o) (unfold refuseUnless in refl)
 
 module _ (L : Limits) (ts ns : List (List ℕ)) (gt : all isName ts ≡ true) (gn : all isName ns ≡ true) (once : hasDouble (ts ++ ns) ≡ false) where

@@ -1,10 +1,13 @@
 -- Lists of names of which none is the same as one of another list. Assumes nothing.
-use Prim.Native.Nat.{ℕ, ◌+◌, ◌≤◌, ◌<◌}
-use mathlib.Core.Path.{◌≡◌, refl, ◌∙◌}
+use Prim.Native.Nat.{ℕ, zero, suc, ◌+◌, ◌≤◌, ◌<◌}
+use mathlib.Core.Path.{◌≡◌, refl, ap, ap₂, sym, subst, ◌∙◌}
 use mathlib.Core.Bool.{Bool, true, false, ◌||◌}
 use mathlib.Core.List.{List, [], ◌∷◌, ◌++◌}
+use native.Mathlib.Omega.{arith}
+use lib.ListN.{length, get_or, length-append}
 use Rattle.grammar.specs.Basics.{choose}
-use Rattle.text.specs.Names.{all, any, sameName, hasDouble}
+use Rattle.grammar.proofs.Answers.{no_bool}
+use Rattle.text.specs.Names.{all, any, sameName, hasDouble, place}
 use Rattle.text.proofs.Names.{or-neither, neither-or, same-sym}
 use Rattle.text.proofs.Pieces.{all_head, all_tail, all_cons}
 use Rattle.modules.specs.Joined.{meet, added}
@@ -22,6 +25,11 @@ pub any_append : (p : List ℕ → Bool) (xs ys : List (List ℕ)) → any p xs 
 unfolding any
 any_append p [] ys h k = k
 any_append p (x ∷ xs) ys h k = let o = or-neither (p x) (any p xs) h in neither-or (p x) (any p (xs ++ ys)) o.0 (any_append p xs ys o.1 k)
+
+pub any-front : (p : List ℕ → Bool) (xs ys : List (List ℕ)) → any p (xs ++ ys) ≡ false → any p xs ≡ false
+unfolding any
+any-front p [] ys h = refl
+any-front p (x ∷ xs) ys h = let o = or-neither (p x) (any p (xs ++ ys)) h in neither-or (p x) (any p xs) o.0 (any-front p xs ys o.1)
 
 pub any-back : (p : List ℕ → Bool) (xs ys : List (List ℕ)) → any p (xs ++ ys) ≡ false → any p ys ≡ false
 unfolding any

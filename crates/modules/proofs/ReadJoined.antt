@@ -1,14 +1,14 @@
 -- What the reader gives for the joined text is the joined source: its lists, its rules, so its table. Assumes nothing.
 use Prim.Native.Nat.{ℕ, zero, suc, ◌+◌, ◌≤◌, ◌<◌}
-use mathlib.Core.Path.{◌≡◌, refl, ap, sym, subst, ◌∙◌}
-use mathlib.Core.Bool.{true, false}
+use mathlib.Core.Path.{◌≡◌, refl, ap, ap₂, sym, subst, ◌∙◌}
+use mathlib.Core.Bool.{Bool, true, false, not}
 use mathlib.Core.List.{List, [], ◌∷◌, ◌++◌, map}
 use native.Mathlib.Omega.{arith}
 use borrow.Author.Tests.{not-true}
-use lib.ListN.{length, get_or, drop}
+use lib.ListN.{length, get_or, drop, length-append}
 use lib.Seq.{drop-append-add}
 use Rattle.grammar.specs.Limits.{Limits}
-use Rattle.grammar.specs.Refusal.{done}
+use Rattle.grammar.specs.Refusal.{Answer, done}
 use Rattle.grammar.proofs.Answers.{done_inj, unless-done, then-done}
 use Rattle.text.specs.Pieces.{splitOn, join, endedBy}
 use Rattle.text.specs.Names.{all, isName}
@@ -16,11 +16,11 @@ use Rattle.text.specs.Keys.{keyTable, keyLengths, key}
 use Rattle.text.specs.Read.{Source, symbolNames, names_of, readText}
 use Rattle.text.specs.Rules.{checkText, checkModule}
 use Rattle.text.specs.Print.{printLine, printRule, printed}
-use Rattle.text.proofs.Pieces.{other, all_append, all_cons, all-front, all_back, split-piece, join_free}
-use Rattle.text.proofs.Names.{no-line-end, names-free}
+use Rattle.text.proofs.Pieces.{other, all_append, all_cons, all-front, all_back, all_head, split-piece, join_free, split-join}
+use Rattle.text.proofs.Names.{no-line-end, no-comma, names-free, name-size}
 use Rattle.text.proofs.WellNamed.{WellNamedSource}
 use Rattle.text.proofs.PrintRead.{read-front, read_length, read-well}
-use Rattle.text.proofs.ReadPrinted.{names-again, read-print}
+use Rattle.text.proofs.ReadPrinted.{read-print}
 use Rattle.text.proofs.Admit.{text-checked}
 use Rattle.modules.specs.Joined.{meet, joinedTerminals, joinedNonterminals, joined, refuseClash, joinTexts}
 use Rattle.modules.proofs.Named.{terminals-named, nonterminals-named, joined_once, rules-fit}
@@ -32,6 +32,15 @@ unfolding all key keyTable keyLengths
 free zero h = refl
 free (suc zero) h = refl
 free (suc (suc k)) h = absurd (omega arith)
+
+pub again : (names : List (List ℕ)) → all isName names ≡ true → names_of (join 44 names) ≡ names
+unfolding names_of join
+again [] g = refl
+again (p ∷ ps) g = go p (name-size p (all_head isName p ps g)).0 (split-join 44 p ps (names-free 44 (p ∷ ps) no-comma g))
+  where
+    go : (p : List ℕ) → 1 ≤ length p → splitOn 44 (join 44 (p ∷ ps)) ≡ p ∷ ps → names_of (join 44 (p ∷ ps)) ≡ p ∷ ps
+    go [] h e = absurd (omega arith)
+    go (b ∷ p) h e = e
 
 pub line-free : (k : ℕ) (names : List (List ℕ)) → k < 2 → all isName names ≡ true → all (other 10) (printLine k (join 44 names)) ≡ true
 unfolding printLine
@@ -57,9 +66,9 @@ lines-apart p q a b h k e =
 line-names : (k : ℕ) (xs ys : List (List ℕ)) → all isName xs ≡ true → all isName ys ≡ true → printLine k (join 44 xs) ≡ printLine k (join 44 ys) → xs ≡ ys
 unfolding printLine
 line-names k xs ys g h e =
-    sym (names-again xs g)
+    sym (again xs g)
     ∙ ap names_of (sym (drop-append-add (key k) (61 ∷ join 44 xs) 1) ∙ ap (drop (length (key k) + 1)) e ∙ drop-append-add (key k) (61 ∷ join 44 ys) 1)
-    ∙ names-again ys h
+    ∙ again ys h
 
 unfoldable pub rest : Limits → Source → List ℕ
 rest L s = endedBy 10 (map (printRule L (length s.terminals) (symbolNames s)) s.rules)

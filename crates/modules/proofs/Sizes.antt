@@ -5,19 +5,19 @@ use mathlib.Core.Path.{◌≡◌, refl, ap, sym, subst, ◌∙◌}
 use mathlib.Core.Bool.{Bool, true, false, not}
 use mathlib.Core.List.{List, [], ◌∷◌, ◌++◌, map}
 use native.Mathlib.Omega.{arith}
-use borrow.Author.Tests.{leb-true}
+use borrow.Author.Tests.{not-true, leb-true}
 use lib.Dec.{leb}
 use lib.ListN.{length, length-append, length-map}
 use Rattle.grammar.specs.Basics.{choose}
 use Rattle.grammar.specs.Limits.{Limits, limits}
 use Rattle.grammar.specs.Grammar.{Rule, stateCount}
 use Rattle.grammar.specs.Table.{encode}
-use Rattle.grammar.specs.Refusal.{done, refuseUnless, and_then, outOfRange, ruleRepeated, tooManyStates, kindsClash}
+use Rattle.grammar.specs.Refusal.{Answer, done, refused, refuseUnless, and_then, outOfRange, ruleRepeated, tooManyStates, kindsClash}
 use Rattle.grammar.specs.TableCheck.{isAmong, checkTable}
 use Rattle.grammar.proofs.Answers.{no_answer, done_inj, unless_holds, unless-done, then-done, then-goes}
 use Rattle.grammar.proofs.WellFormed.{states-snoc}
-use Rattle.text.specs.Names.{any, sameName, isName}
-use Rattle.text.specs.Read.{Source}
+use Rattle.text.specs.Names.{any, sameName, all, isName}
+use Rattle.text.specs.Read.{Source, symbolNames}
 use Rattle.text.specs.Rules.{admit, lastTests, checkText, checkModule}
 use Rattle.text.specs.Print.{printed}
 use Rattle.text.proofs.Pieces.{all_append}

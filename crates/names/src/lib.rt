@@ -2,7 +2,7 @@
 ghost use Rattle.std.specs.Prelude.{◌≡◌, [], ◌≤◌, ◌<◌, length, get_or};
 ghost use Rattle.text.specs.Names.{within, isNameByte, isName, folded, sameName};
 ghost use Rattle.text.specs.Keys.{keyTable, keyLengths};
-ghost use Rattle.names.specs.Found.{Found, tally};
+ghost use Rattle.names.specs.Found.{Found};
 
 // The bytes that end a line, and that stand between names, after a left name, before a symbol, after a key.
 pub const LINE_END: u8 = 10;
@@ -46,21 +46,6 @@ pub fn find(s: &[u8], from: usize, c: u8) -> usize
     i
 }
 
-// How many bytes c there are.
-pub fn count(s: &[u8], c: u8) -> usize
-    ensures { result ≡ tally c s.now }
-{
-    let mut k = 0;
-    let mut i = 0;
-    while i < s.len() {
-        if s[i] == c {
-            k += 1;
-        }
-        i += 1;
-    }
-    k
-}
-
 fn between(b: u8, lo: u8, hi: u8) -> bool
     ensures { result ≡ within lo hi b }
 {
@@ -71,7 +56,7 @@ fn between(b: u8, lo: u8, hi: u8) -> bool
 }
 
 // An ASCII letter, a digit or a hyphen.
-pub fn is_name_byte(b: u8) -> bool
+fn is_name_byte(b: u8) -> bool
     ensures { result ≡ isNameByte b }
 {
     if between(b, 97, 122) {
@@ -119,8 +104,7 @@ pub fn fold(b: u8) -> u8
     b
 }
 
-// Are two names the same name? The last bytes are compared first, since many names have their fronts in common, and only bytes that
-// differ are folded.
+// Are two names the same name? The last bytes are compared first, since many names have their fronts in common.
 pub fn same_name(a: &[u8], b: &[u8]) -> bool
     ensures { result ≡ sameName a.now b.now }
 {
@@ -131,10 +115,8 @@ pub fn same_name(a: &[u8], b: &[u8]) -> bool
     let mut i = n;
     while 0 < i {
         i -= 1;
-        if a[i] != b[i] {
-            if fold(a[i]) != fold(b[i]) {
-                return false;
-            }
+        if fold(a[i]) != fold(b[i]) {
+            return false;
         }
     }
     true

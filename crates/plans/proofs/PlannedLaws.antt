@@ -20,7 +20,6 @@ use Rattle.triples.specs.Smallest.{successors}
 use Rattle.triples.specs.declared.Move.{Move}
 use Rattle.triples.specs.declared.Move.TheVariants.{Opening, Closing, Symbol, Still}
 use Rattle.triples.proofs.Index.{pair_lt, Digits, digits}
-use Rattle.grammar.proofs.Lists.{positive-factor}
 use Rattle.triple_laws.proofs.Members.{mem-place, place-mem}
 use Rattle.triple_laws.proofs.Records.{successors-exact, successors-below}
 use Rattle.triple_laws.proofs.Choices.{terminal-ahead}
@@ -32,6 +31,11 @@ use Rattle.plans.specs.Plan.{Rows, rows, side_of, aloneOf, layerAfter, shift_of,
 use Rattle.plans.specs.Contracts.{SideFits, Safe, Verified, Lists}
 use Rattle.plans.proofs.PlanLaws.{alone-le, layer-le, pairs-le, layer-times, product_le, next-left, next-right, next-shift, next-pair}
 use Rattle.plans.proofs.BlockLaws.{alone-opens, alone-later, alone-beside, alone-reads, layer-opens, layer-closes, layer-later, shift-facts, shift_is, any-symbol, a-terminal, terminal-a, pairs-facts, pairs_is, pairs-later, opens-layer}
+
+-- a product with something below it
+positive : (a b k : ℕ) → k < a * b → 0 < b
+positive a zero k h = absurd (omega arith)
+positive a (suc b) k h = omega arith
 
 -- sums in another order
 pub swapped : (x y z : ℕ) → x + y + z ≡ x + z + y
@@ -216,7 +220,7 @@ module _ (M : Moves) (R : Regular M) (t m : ℕ) (new : Tables) (X : Shows M t m
       → Reaches f p q (Q * Q + cell p (k / (side q).span) * Q + cell q (k % (side q).span))
   pair-each zero p q k hf hp hq l =
       let c = pairs-facts new.number m p q (side p) (side q) k l in
-      let z : 0 < (side q).span = positive-factor (side p).span (side q).span k c.3 in
+      let z : 0 < (side q).span = positive (side p).span (side q).span k c.3 in
       let x = closing-cell p (k / (side q).span) hp ((div-lt_iff_lt-mul z).1 c.3) c.0 in
       let y = closing-cell q (k % (side q).span) hq (mod-lt k z) c.1 in (
         1,
@@ -379,7 +383,7 @@ module _ (M : Moves) (R : Regular M) (t m : ℕ) (new : Tables) (X : Shows M t m
         right-base = omega (arith, w, product_le p Q (omega arith) few, layer-times (layerAfter m f (side q)) (Q * Q) (layer-le m f (side q)));
         pairs = λ k h.
             let l : k < (side p).span * (side q).span = omega (arith, pairs-le new.number m f p q (side p) (side q), h) in
-            let z = positive-factor (side p).span (side q).span k l in
+            let z = positive (side p).span (side q).span k l in
             let e = (div-lt_iff_lt-mul z).1 l in
             (z, omega (arith, e, x.order, x.inside), omega (arith, y.order, y.inside));
       }

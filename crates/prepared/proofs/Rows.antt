@@ -7,11 +7,12 @@ use native.Mathlib.Omega.{arith}
 use lib.ListN.{length}
 use Rattle.grammar.specs.Limits.{limits}
 use Rattle.grammar.specs.Grammar.{Grammar, WellFormed}
-use Rattle.grammar.specs.Live.{hasSentence, isLive}
-use Rattle.grammar.specs.Record.{recordOf}
+use Rattle.grammar.specs.Live.{isLive}
 use Rattle.grammar.specs.Refusal.{Answer, done, refused, tooManyStates}
-use Rattle.grammar.specs.TableCheck.{storedTable, checkTable}
+use Rattle.grammar.specs.TableCheck.{checkTable}
+use Rattle.grammar.specs.declared.CheckedGrammar.{CheckedGrammar}
 use Rattle.grammar.specs.declared.TableVerdict.TheVariants.{Passed, Refused}
+use Rattle.grammar.proofs.Sentence.{passed-stored}
 use Rattle.automaton.specs.Moves.{Moves}
 use Rattle.automaton.specs.PositionMoves.{moves_of}
 use Rattle.automaton.specs.Callers.{mostCallers, checkCallers}
@@ -20,8 +21,8 @@ use Rattle.triple_laws.proofs.Position.{position-regular}
 use Rattle.triple_laws.proofs.CallerPosition.{with-regular}
 use Rattle.triple_laws.proofs.CallerZero.{zero-states}
 use Rattle.triple_laws.proofs.CallerChecks.{many-states, within, table-stops, table-goes}
-use Rattle.table_check.specs.Stored.{gathered}
-use Rattle.table_check.proofs.StoredLaws.{stored-columns, stored-symbols}
+use Rattle.live.proofs.ColumnLaws.{lent_of}
+use Rattle.table_check.proofs.Callers.{PassedTable}
 use Rattle.moves.specs.Tables.{Tables, Built}
 use Rattle.moves.specs.Shows.{Shows}
 use Rattle.moves.proofs.Columns.{read}
@@ -68,14 +69,14 @@ prepares-of t n table m w rows G c p = record {
   passed-as = λ e. (G, table-goes limits t n table m G c ∙ (p.passed-as e).0, (p.passed-as e).1);
 }
 
--- the columns of a table that stores a grammar with a sentence
-pub checked-of : (t n : ℕ) (table : List ℕ) (G : Grammar) → storedTable limits t n table ≡ done G → (k m count used states : ℕ) (os ls ns cs : List ℕ)
-    → gathered k m count used states os ls ns cs ≡ recordOf G → hasSentence limits G ≡ true → IsChecked G k m states count used ls ns cs
+-- the record of a table that passed
+pub checked-of : (t n : ℕ) (table : List ℕ) (g : CheckedGrammar) (p : PassedTable t n table g)
+    → IsChecked p.grammar g.terminals g.nonterminals g.states g.count g.used g.lefts g.lengths g.codes
 unfolding isLive
-checked-of t n table G e k m count used states os ls ns cs s h = record {
-  columns = stored-columns t n table G e k m count used states os ls ns cs s;
-  terminals = (stored-symbols t n table G e k m count used states os ls ns cs s).0;
-  sentence = h;
+checked-of t n table g p = record {
+  columns = lent_of g p.grammar p.wellFormed p.same;
+  terminals = (read g p.grammar p.same).terminals;
+  sentence = (passed-stored limits t n table p.grammar p.checked).1;
 }
 
 module _ (G : Grammar) (t n q count used : ℕ) (lefts lengths codes : List ℕ) (k : IsChecked G t n q count used lefts lengths codes) where

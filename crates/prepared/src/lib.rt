@@ -1,17 +1,15 @@
 // What every entry over triples, and two_sides, does first: the refusals up to [11]'s 8, then the rows of moves, in rows that the caller
 // lends.
-ghost use Rattle.std.specs.Prelude.{◌≡◌, ℕ, ◌≤◌, length};
-ghost use Rattle.grammar.specs.Limits.{limits};
+ghost use Rattle.std.specs.Prelude.{◌≡◌, ℕ, ◌≤◌};
 ghost use Rattle.grammar.specs.Grammar.{Grammar};
 ghost use Rattle.grammar.specs.declared.TableVerdict.TheVariants.{Refused};
 ghost use Rattle.automaton.specs.Callers.{mostCallers};
-ghost use Rattle.moves.specs.Tables.{Tables, tables, Built};
+ghost use Rattle.moves.specs.Tables.{tables};
 ghost use Rattle.caller_rows.specs.Rows.{Begun};
 ghost use Rattle.prepared.specs.Prepared.{IsChecked, PreparesFor, Prepares};
 
 use grammar::{
-    MAX_CALLERS, MAX_RULES, MAX_STATES, NO_SENTENCE, TOO_MANY_CALLERS, TOO_MANY_STATES,
-    TableVerdict,
+    MAX_CALLERS, MAX_RULES, MAX_STATES, TOO_MANY_CALLERS, TOO_MANY_STATES, TableVerdict,
 };
 use moves::CLASSES;
 
@@ -77,7 +75,7 @@ fn add_callers<'a>(
     }
 }
 
-// For the checked grammar whose columns these are, and whose rows those of crate moves: 21 first, then with callers the rows that are built
+// The rows of the checked grammar whose columns these are: 21 first, then the rows of crate moves, or with callers those that are built
 // from them.
 fn prepare_rows<'a>(
     lefts: &'a [u16; MAX_RULES],
@@ -97,17 +95,17 @@ fn prepare_rows<'a>(
     targets: &mut [u16; MAX_STATES],
     after: &mut [u16; MAX_STATES],
 ) -> Prepared
-    requires checked { (G : Grammar) × (old : Tables) × IsChecked G t n q count used lefts.now lengths.now codes.now
-        × Built G old (tables ahead.old number.old member.old target.old first.old targets.old after.old) }
-    requires targets_len { length targets.old ≡ limits.maxStates }
-    ensures { (G : Grammar) (old : Tables) → IsChecked G t n q count used lefts.now lengths.now codes.now
-        → Built G old (tables ahead.old number.old member.old target.old first.old targets.old after.old)
-        → PreparesFor G callers result
+    requires { (G : Grammar) × IsChecked G t n q count used lefts.now lengths.now codes.now }
+    ensures { (G : Grammar) → IsChecked G t n q count used lefts.now lengths.now codes.now → PreparesFor G callers result
         (tables ahead.new number.new member.new target.new first.new targets.new after.new) }
 {
     if MAX_CALLERS < callers {
         return stopped(TOO_MANY_CALLERS, 0);
     }
+    moves::build(
+        lefts, lengths, codes, count, used, n, q, ahead, number, member, target, first, targets,
+        after,
+    );
     if 0 < callers {
         return add_callers(
             lefts, lengths, codes, count, used, t, n, q, callers, ahead, number, member, target,
@@ -123,8 +121,8 @@ fn prepare_rows<'a>(
     }
 }
 
-// The table check, then 21 and 8, then the rows. The check leaves the columns in rows of this function, since a record that is handed on
-// by value is copied; whether there is a sentence is told by the rows of crate moves, which find the live rules.
+// The table check, then 21 and 8, then the rows. The columns are lent from where the check left them, since a record that is handed on
+// by value is copied.
 pub fn prepare(
     t: usize,
     n: usize,
@@ -141,53 +139,22 @@ pub fn prepare(
     ensures { Prepares t n table.now callers result
         (tables ahead.new number.new member.new target.new first.new targets.new after.new) }
 {
-    let mut offsets = [0u16; MAX_RULES];
-    let mut lefts = [0u16; MAX_RULES];
-    let mut lengths = [0u16; MAX_RULES];
-    let mut codes = [0u16; MAX_STATES];
-    let s = table_check::check_columns(
-        t,
-        n,
-        table,
-        &mut offsets,
-        &mut lefts,
-        &mut lengths,
-        &mut codes,
-    );
-    let verdict = s.verdict;
+    let checked = table_check::check_table(t, n, table);
+    let verdict = checked.verdict;
     match verdict {
         TableVerdict::Refused(cause, at) => {
             return stopped(cause, at);
         }
         TableVerdict::Passed => {
-            let terminals = s.terminals;
-            let nonterminals = s.nonterminals;
-            let count = s.count;
-            let used = s.used;
-            let states = s.states;
-            let sentence = moves::build(
-                &lefts,
-                &lengths,
-                &codes,
-                count,
-                used,
-                nonterminals,
-                states,
-                ahead,
-                number,
-                member,
-                target,
-                first,
-                targets,
-                after,
-            );
-            if !sentence {
-                return stopped(NO_SENTENCE, 0);
-            }
+            let count = checked.grammar.count;
+            let used = checked.grammar.used;
+            let terminals = checked.grammar.terminals;
+            let nonterminals = checked.grammar.nonterminals;
+            let states = checked.grammar.states;
             return prepare_rows(
-                &lefts,
-                &lengths,
-                &codes,
+                &checked.grammar.lefts,
+                &checked.grammar.lengths,
+                &checked.grammar.codes,
                 count,
                 used,
                 terminals,

@@ -1,29 +1,30 @@
 -- The two lines of two strings say these strings again; so different pairs of strings never give the same lines.
 -- Assumes nothing.
-use Prim.Native.Nat.{ℕ, ◌+◌, ◌-◌, ◌≤◌, ◌<◌}
-use mathlib.Core.Path.{◌≡◌, refl, sym, ap, ◌∙◌}
+use Prim.Native.Nat.{ℕ, zero, suc, ◌+◌, ◌-◌, ◌≤◌, ◌<◌}
+use mathlib.Core.Path.{◌≡◌, refl, sym, ap, subst, ◌∙◌}
 use mathlib.Core.Bool.{Bool, true, false, not, ◌&&◌, ◌||◌}
-use mathlib.Core.Logic.{◌⊎◌}
+use mathlib.Core.Logic.{◌⊎◌, inl, inr}
 use mathlib.Core.List.{List, [], ◌∷◌, ◌++◌, map}
-use mathlib.Core.Option.{none, some}
+use mathlib.Core.Option.{Option, none, some}
 use native.Mathlib.Omega.{arith}
-use lib.Dec.{eqb, leb}
+use lib.Dec.{eqb, leb, ltb}
 use lib.ListN.{length, get_or}
-use borrow.Author.Tests.{not-true, le-leb, ne_eqb}
+use borrow.Author.Tests.{not-true, le-leb, leb-true, eqb-true, ne_eqb}
 use Rattle.grammar.specs.Basics.{choose}
 use Rattle.grammar.specs.Limits.{Limits}
 use Rattle.grammar.specs.Grammar.{Terminal, Nonterminal, start}
-use Rattle.grammar.specs.Refusal.{Answer, done, refused, refuseUnless, and_then}
-use Rattle.grammar.proofs.Answers.{both-and}
+use Rattle.grammar.specs.Refusal.{Answer, done, refused, refuseUnless, and_then, malformed, nameUnknown}
+use Rattle.grammar.proofs.Answers.{both-and, and_both, no_bool}
 use Rattle.automaton.specs.Strings.{Letter, opening, closing, symbol}
-use Rattle.text.specs.Pieces.{splitOn, join, ledBy}
+use Rattle.text.specs.Pieces.{lineEnd, space, equals, splitOn, join, ledBy, endedBy}
 use Rattle.text.specs.Names.{within, all, isName, isNameByte, sameName, hasDouble, place}
-use Rattle.text.specs.Read.{refuseNone, wholeLine, number_of, code_of, symbol_of}
+use Rattle.text.specs.Keys.{value_of}
+use Rattle.text.specs.Read.{refuseNone, wholeLine, number_of, isKnown, code_of, symbol_of}
 use Rattle.text.specs.Print.{name_of}
 use Rattle.text.proofs.Pieces.{all_head, all_cons, all_none, all_append, all-at, all_weaker, other, split-join, split-ended, join_free}
-use Rattle.text.proofs.Names.{within_both, name-size, name_free, no-line-end, no-space, place-again, number-known, right-number, key-value}
+use Rattle.text.proofs.Names.{within_both, name-size, name_free, no-line-end, no-space, place-again, number-known, Numbered, right-number, key-value}
 use Rattle.text.specs.Numbers.{decimal, numberFrom, isDecimal}
-use Rattle.readings.specs.Readings.{leftKey, rightKey, word, words, readingLines, Valid, AllValid, Word, bracket, name, ruleNumber, word_of, words_of, pieces_of, knownWord, letterOf, readWords, readStrings}
+use Rattle.readings.specs.Readings.{opens, closes, leftKey, rightKey, word, words, readingLines, Valid, AllValid, Word, bracket, name, ruleNumber, word_of, joined, words_of, pieces_of, atEnd, knownWord, letterOf, readWords, readStrings}
 use Rattle.text.proofs.Numbers.{number-decimal, decimal-digits, decimal-form}
 
 -- a digit is no byte below 48

@@ -6,6 +6,7 @@ use mathlib.Core.List.{List, [], ◌∷◌, map}
 use native.Mathlib.Omega.{arith}
 use native.Mathlib.Nat.{mul-add-div_right, mul-add-mod_self_right, div-eq_of_lt, mod-eq_of_lt}
 use Rattle.grammar.specs.Limits.{limits}
+use Rattle.grammar.specs.Grammar.{Terminal, Nonterminal}
 use Rattle.automaton.specs.Strings.{Letter, opening, closing, symbol}
 use Rattle.readings.specs.Readings.{Valid, AllValid}
 use Rattle.readings.specs.Letters.{kindUnit, letterNumber, ofKind, letterFrom}

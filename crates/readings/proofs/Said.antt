@@ -1,6 +1,6 @@
 -- What lines say is strings of the grammar's letters; and what lines are that say two strings. Assumes nothing.
 use Prim.Native.Nat.{ℕ, ◌+◌, ◌≤◌, ◌<◌}
-use mathlib.Core.Path.{◌≡◌, refl, ap, subst, ◌∙◌}
+use mathlib.Core.Path.{◌≡◌, refl, sym, ap, subst, ◌∙◌}
 use mathlib.Core.Bool.{Bool, true, false, ◌&&◌}
 use mathlib.Core.List.{List, [], ◌∷◌, map}
 use mathlib.Core.Option.{Option, none, some}
@@ -11,14 +11,14 @@ use lib.ListN.{length}
 use Rattle.grammar.specs.Basics.{choose}
 use Rattle.grammar.specs.Limits.{Limits}
 use Rattle.grammar.specs.Grammar.{start}
-use Rattle.grammar.specs.Refusal.{done, malformed, nameUnknown}
+use Rattle.grammar.specs.Refusal.{Answer, done, refuseUnless, and_then, malformed, nameUnknown}
 use Rattle.grammar.proofs.Answers.{and_both, done_inj, unless-done, then-done}
 use Rattle.automaton.specs.Strings.{Letter, opening, closing}
 use Rattle.text.specs.Pieces.{lineEnd, splitOn}
 use Rattle.text.specs.Names.{all, isName}
 use Rattle.text.specs.Numbers.{numberFrom, isDecimal}
 use Rattle.text.specs.Keys.{value_of}
-use Rattle.text.specs.Read.{number_of}
+use Rattle.text.specs.Read.{number_of, isKnown, code_of}
 use Rattle.text.proofs.Names.{known-number, code-right}
 use Rattle.text.proofs.Pieces.{all_head, all_tail}
 use Rattle.text.proofs.PrintRead.{none_done, whole-done}

@@ -15,7 +15,7 @@ use Rattle.grammar.proofs.Steps.{grammarOf}
 use Rattle.grammar.proofs.WellFormed.{room}
 use Rattle.grammar.proofs.Sentence.{takes-only}
 use Rattle.text.specs.Names.{all, isName}
-use Rattle.text.specs.Read.{symbolNames}
+use Rattle.text.specs.Read.{Source, symbolNames}
 use Rattle.text.specs.Spelled.{spelled}
 use Rattle.text.proofs.Enough.{ReadRows}
 use Rattle.report.specs.Report.{programText, programStates, judge, grammarLines, printed, reportOf}

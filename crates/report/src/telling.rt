@@ -1,6 +1,6 @@
 // What is printed for a text: the program's limits, the reader, the search, and the two sides of a witness in words.
 // Each function writes into an output that is never too short, and returns the place after what it wrote.
-ghost use Rattle.std.specs.Prelude.{◌≤◌, length};
+ghost use Rattle.std.specs.Prelude.{◌≡◌, ◌≤◌, length};
 ghost use Rattle.grammar.specs.Limits.{limits};
 ghost use Rattle.grammar.specs.TableCheck.{checkTable};
 ghost use Rattle.text.specs.Spelled.{spelled};

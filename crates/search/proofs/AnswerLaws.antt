@@ -11,10 +11,9 @@ use native.Mathlib.Decide.{ℕ_discrete}
 use lib.ListN.{length, get_or, take, drop, replicate}
 use lib.Seq.{length-take-le, get_or-take, take-suc, drop-cons}
 use borrow.Author.Tests.{eq-eqb}
-use Rattle.grammar.specs.Basics.{choose, Mem, over}
+use Rattle.grammar.specs.Basics.{choose, Mem, over, Distinct, more as fresh}
 use Rattle.grammar.specs.Refusal.{done}
 use Rattle.grammar.proofs.Answers.{no_bool, unless_holds}
-use Rattle.grammar.proofs.Lists.{positive, distinct-places}
 use Rattle.automaton.specs.Moves.{Moves, Regular}
 use Rattle.triples.specs.Index.{index, tripleCount}
 use Rattle.triples.specs.Smallest.{isElement, successors, smallest, size}
@@ -80,6 +79,14 @@ bytes-are held marks (suc m) b h small e =
         let r : (8 * b + k) % 8 ≡ k = omega arith in
         ap (λ (z : ℕ). get_or marks z 0 / 2 ^ ((8 * b + k) % 8) % 2) q ∙ ap (λ (z : ℕ). get_or marks b 0 / 2 ^ z % 2) r
 
+-- places of a list without doubles
+distinct-places : (l : List ℕ) → Distinct l → (k j : ℕ) → k < length l → j < length l → get_or l k 0 ≡ get_or l j 0 → k ≡ j
+distinct-places [] d k j hk hj e = absurd (omega arith)
+distinct-places (a ∷ l) d zero zero hk hj e = refl
+distinct-places (a ∷ l) (fresh n d) zero (suc j) hk hj e = absurd (n (subst (λ (b : ℕ). Mem b l) (sym e) (place-mem l j 0 (omega arith))))
+distinct-places (a ∷ l) (fresh n d) (suc k) zero hk hj e = absurd (n (subst (λ (b : ℕ). Mem b l) e (place-mem l k 0 (omega arith))))
+distinct-places (a ∷ l) (fresh n d) (suc k) (suc j) hk hj e = ap suc (distinct-places l d k j (omega arith) (omega arith) e)
+
 -- a sum over the first entries of a row, by their places
 total-taken : (f : ℕ → ℕ) (row : List ℕ) (n : ℕ) → n ≤ length row → total f (take n row) ≡ sum (λ k. f (get_or row k 0)) n
 unfolding total sum
@@ -136,6 +143,10 @@ module _ (M : Moves) (W : Regular M) (R : Rows) (targets : List ℕ) (t m Q : �
           explore-closed (successors M) (tripleCount M.states) some inside (get_or s.queue f.from 0) (get_or s.queue k 0)
           (again f.from (omega (arith, f.earlier)) (omega (arith, f.earlier)))
           (next-listed (get_or s.queue f.from 0) (get_or s.queue k 0) (queue-below f.from (omega (arith, f.earlier))) f.next)
+        where
+          positive : (k : ℕ) → (k ≡ 0 → ⊥) → 0 < k
+          positive zero z = absurd (z refl)
+          positive (suc k) z = omega arith
 
   -- the queue has 0 and every successor of what it has
   used-least : (i : ℕ) → Mem i (smallest M) → Mem i (used s)

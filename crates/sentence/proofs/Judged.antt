@@ -1,8 +1,9 @@
 -- From the rows of a grammar and a row of 0 to its complete chart. Assumes nothing.
-use Prim.Native.Nat.{ℕ, suc, ◌+◌, ◌≤◌, ◌<◌}
+use Prim.Native.Nat.{ℕ, zero, suc, ◌+◌, ◌≤◌, ◌<◌}
+use mathlib.Core.Path.{refl}
 use mathlib.Core.List.{List}
 use native.Mathlib.Omega.{arith}
-use lib.ListN.{get_or}
+use lib.ListN.{get_or, replicate}
 use Rattle.grammar.specs.Limits.{limits}
 use Rattle.grammar.specs.Grammar.{Grammar, rule, start}
 use Rattle.grammar.specs.declared.CheckedGrammar.{CheckedGrammar}
@@ -12,6 +13,11 @@ use Rattle.chart_start.specs.Sown.{Sows}
 use Rattle.chart_rows.specs.Wiring.{Zeros}
 use Rattle.chart_rows.specs.Preparing.{Showing}
 use Rattle.tree_walk.specs.Charted.{rows, Charted}
+
+pub zeros : (n : ℕ) → Zeros (replicate n 0)
+zeros zero k = refl
+zeros (suc n) zero = refl
+zeros (suc n) (suc k) = zeros n k
 
 module _ (G : Grammar) (g : CheckedGrammar) (ahead number lead next head home : List ℕ) (S : Showing G g ahead number lead next head home) where
   -- what the chart's start asks of the columns

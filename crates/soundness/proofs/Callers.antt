@@ -1,6 +1,6 @@
 -- Soundness for the automata with callers, for all m together: each follows the trees of the live rules, so an acceptable set at
 -- any m leaves every sentence one tree. Assumes nothing.
-use Prim.Native.Nat.{ℕ, suc, ◌+◌, ◌≤◌, ◌<◌}
+use Prim.Native.Nat.{ℕ, suc, zero, ◌+◌, ◌≤◌, ◌<◌}
 use mathlib.Core.Path.{◌≡◌, refl, subst, sym}
 use mathlib.Core.List.{List, [], ◌∷◌}
 use lib.ListN.{length, get_or, drop, take}
@@ -13,7 +13,7 @@ use Rattle.grammar.specs.Live.{Live, live-start, live-rule, UsesBelow, in-first}
 use Rattle.grammar.proofs.Trees.{is_same}
 use Rattle.grammar.proofs.Derives.{forest, tree-same, apart, has-derives}
 use Rattle.automaton.specs.Items.{length_of}
-use Rattle.automaton.specs.Callers.{Spot, last, spot, Place, Calls, SpotOpens, spot-start, spot-opens, SpotCloses, spot-ends, spot-closes, SpotShifts, spot-shifts, callers}
+use Rattle.automaton.specs.Callers.{Spot, first, last, spot, Place, Calls, SpotOpens, spot-start, spot-opens, SpotCloses, spot-ends, spot-closes, SpotShifts, spot-shifts, callers}
 use Rattle.triples.specs.Successor.{Acceptable}
 use Rattle.triples.specs.Certificate.{AcceptableCertificate}
 use Rattle.automaton.proofs.Callers.{calls, none_above}

@@ -9,6 +9,7 @@ use lib.Dec.{leb, ltb}
 use borrow.Author.Tests.{leb-true, le-leb, ltb-true, lt-ltb}
 use Rattle.grammar.specs.Basics.{Mem, here, there, when}
 use Rattle.grammar.proofs.Answers.{no_bool, and_both, both-and}
+use Rattle.grammar.proofs.Lists.{lt-or-le}
 use Rattle.triple_laws.proofs.Members.{no-element, first-or, element-as}
 use Rattle.moves.specs.Tables.{Ascends}
 use Rattle.steps.specs.Plan.{inside, between}

@@ -11,7 +11,7 @@ use borrow.Author.Tests.{le-leb, lt-leb, eq-eqb, ne_eqb}
 use Rattle.grammar.specs.Basics.{choose, Mem, here, there, when, each}
 use Rattle.grammar.specs.Limits.{limits}
 use Rattle.grammar.proofs.Answers.{no_bool}
-use Rattle.grammar.proofs.Lists.{positive, drop-next}
+use Rattle.grammar.proofs.Lists.{drop-next}
 use Rattle.triples.specs.Records.{step}
 use Rattle.triples.specs.declared.Move.TheVariants.{Closing}
 use Rattle.triples.specs.declared.Step.{Step}
@@ -154,6 +154,11 @@ module _ (i j : ℕ) (rs : List ℕ) where
   pair-none (u ∷ ls) k e =
       let z : k - length rs ≡ k = omega arith in
       image-past (pair u) rs (grid i j ls rs) k (omega arith) ∙ ap (nth (grid i j ls rs)) z ∙ pair-none ls k e
+
+-- a number that is not 0
+pub positive : (n : ℕ) → (n ≡ 0 → ⊥) → 0 < n
+positive zero h = absurd (h refl)
+positive (suc n) h = omega arith
 
 -- none for equal rules
 pub pairs-equal : (i j : ℕ) (ls rs : List ℕ) (k : ℕ) → i ≡ j → NoMore ≡ recordAnswer (nth (pairs i j ls rs) k)

@@ -15,7 +15,6 @@ use Rattle.grammar.specs.Basics.{choose}
 use Rattle.grammar.specs.Limits.{Limits}
 use Rattle.grammar.specs.Grammar.{Terminal, Nonterminal, start}
 use Rattle.grammar.proofs.Answers.{no_bool, and_both, both-and}
-pub use Rattle.grammar.proofs.Answers.{some_inj}
 use Rattle.text.specs.Names.{within, isNameByte, all, any, isName, folded, sameName, hasDouble, place}
 use Rattle.text.specs.Keys.{value_of}
 use Rattle.text.specs.Read.{number_of, isKnown, code_of, symbol_of}
@@ -28,6 +27,10 @@ use Rattle.text.proofs.Pieces.{all_weaker, other}
 -- no value is none
 pub no_value : {A X : Type 0} {x : A} → none ≡ some x → X
 no_value {x = x} h = let z : ◌≡◌ {A = ℕ} 0 1 = cc in absurd (let o : ⊥ = omega arith in o)
+
+-- some value is that value
+pub some_inj : {A : Type 0} {x y : A} → some x ≡ some y → x ≡ y
+some_inj {x = x} {y = y} h = cc
 
 -- neither holds
 pub or-neither : (a b : Bool) → a || b ≡ false → (a ≡ false) × (b ≡ false)

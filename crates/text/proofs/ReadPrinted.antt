@@ -30,8 +30,7 @@ use Rattle.text.proofs.PrintRead.{print-read, read-well}
 
 -- ---- a declaring line
 
--- names joined by commas are read again
-pub names-again : (names : List (List ℕ)) → all isName names ≡ true → names_of (join 44 names) ≡ names
+names-again : (names : List (List ℕ)) → all isName names ≡ true → names_of (join 44 names) ≡ names
 unfolding names_of join
 names-again [] h = refl
 names-again (p ∷ ps) h =

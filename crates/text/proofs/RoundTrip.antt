@@ -45,7 +45,7 @@ pub record SourceOf (t n : ℕ) (table bytes starts lengths : List ℕ) (s : Sou
   pub names : gather bytes starts lengths 0 (t + n) ≡ done (symbolNames s)
 
 -- a source's own names and rules make it again
-pub source-again : (s : Source) → source_of (length s.terminals) (symbolNames s) s.rules ≡ s
+source-again : (s : Source) → source_of (length s.terminals) (symbolNames s) s.rules ≡ s
 source-again s = λ i. record {
   terminals = take-append_seam s.terminals s.nonterminals i;
   nonterminals = drop-append_seam s.terminals s.nonterminals i;

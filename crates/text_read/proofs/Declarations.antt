@@ -43,7 +43,7 @@ unfolding wholeLine
 whole-last at p go = refl
 
 -- the value's part of a line's part of the text
-pub drop-take : (m s : ℕ) (l : List ℕ) → drop s (take m l) ≡ take (m - s) (drop s l)
+drop-take : (m s : ℕ) (l : List ℕ) → drop s (take m l) ≡ take (m - s) (drop s l)
 drop-take m zero l = ap (λ m. take m l) (let q : m ≡ m - 0 = omega arith in q)
 drop-take zero (suc s) l = (let q : 0 - suc s ≡ 0 = omega arith in ap (λ m. take m (drop (suc s) l)) (sym q))
 drop-take (suc m) (suc s) [] = sym (nil (suc m - suc s))

@@ -1,13 +1,13 @@
 -- The names of a value put into the rows and the tree after those before it, and both declaring lines' names in them.
 -- Assumes nothing.
-use Prim.Native.Nat.{ℕ, ◌+◌, ◌-◌, ◌≤◌, ◌<◌}
+use Prim.Native.Nat.{ℕ, ◌+◌, ◌≤◌, ◌<◌}
 use mathlib.Core.Path.{◌≡◌, refl, ap, ap₂, sym, subst, ◌∙◌}
 use mathlib.Core.List.{List, [], ◌++◌}
 use mathlib.Core.Bool.{Bool, true, false, not}
 use native.Mathlib.Omega.{arith}
 use borrow.Author.Tests.{eqb-true, eqb-false}
 use lib.Dec.{eqb}
-use lib.ListN.{length, take, drop, length-append}
+use lib.ListN.{length, take, get_or, length-append}
 use lib.Seq.{length-take-le, take-take, take-append-le}
 use Rattle.grammar.specs.Limits.{limits}
 use Rattle.grammar.proofs.Answers.{no_bool}
@@ -18,14 +18,13 @@ use Rattle.text.specs.Promise.{startsFrom, nameLengths}
 use Rattle.text.specs.Spelled.{spelled, Inside}
 use Rattle.text.proofs.Gather.{first-double}
 use Rattle.text.proofs.Spans.{length-spelled, length-starts, length-lengths, spans-spell, spans-inside, spelled-append, inside-append}
-use Rattle.names.specs.Found.{tally, part}
-use Rattle.lexicon.specs.Tree.{Spans, spare, Lexicon, Planted}
+use Rattle.names.specs.Found.{part}
+use Rattle.lexicon.specs.Tree.{Spans, Lexicon, Planted}
 use Rattle.lexicon.proofs.Growth.{planted-front}
-use Rattle.text_read.specs.Values.{allNames, smaller, NameRows, LinksBegun, NamesReady, NamesHeld, HeadReady}
+use Rattle.text_read.specs.Values.{allNames, NameRows, NamesReady, NamesHeld, HeadReady}
 use Rattle.text_read.specs.Texts.{FirstHead, FirstHeld, HeadsAt, HeadsRead}
-use Rattle.text_read.proofs.Rooms.{smaller-in, part-names, names-tally, tally-parts, tally-take, tally-drop}
+use Rattle.text_read.proofs.Rooms.{smaller-in, part-names}
 use Rattle.text_read.proofs.Places.{value-stands}
-use Rattle.text_read.proofs.Declarations.{drop-take}
 
 -- no name stands twice exactly where the first that does is past the last
 new_told : (names : List (List ℕ)) (g m : ℕ) → g ≡ firstDouble [] names → m ≡ length names → eqb g m ≡ not (hasDouble names)
@@ -43,16 +42,12 @@ pub value_room : (k lo hi : ℕ) (earlier text : List ℕ) (a e from : ℕ) (sta
 value_room k lo hi earlier text a e from starts lengths links h b count after inside counts most =
     let x = part-names text b e inside h.high in
     let m = smaller-in (length text) allNames (from + count) (omega (arith, x, counts, h.high, h.behind)) (omega (arith, h.few)) in
-    let y = tally-parts 44 a b (e - b) text (omega (arith, after)) in
-    let n = smaller-in (tally 44 text + 2) (smaller (length text) allNames) (from + count)
-    (omega (arith, y, counts, h.parted, names-tally (part b e text))) m in
     record {
       tree = h.tree;
       few = omega (arith, h.few);
       starts-room = omega (arith, m, h.rows.enough);
       lengths-room = omega (arith, m, h.rows.enough, h.rows.lent.paired);
-      links-room = omega (arith, n, h.fit);
-      fit = h.fit;
+      links-room = omega (arith, m, h.rows.enough, h.rows.lent.room);
       short = h.short;
     }
 
@@ -123,44 +118,37 @@ module _ (text : List ℕ) (b f count from : ℕ) (starts lengths links starts' 
       new_told _ g (from + count) e (sym (length-spelled text _ _ kept_spans.paired ∙ kept-count))
       ∙ ap (λ ns. not (hasDouble ns)) kept-spelled
 
-  pub kept-held : (links' : List ℕ) (g : ℕ) → length links' ≡ length links → spare links' ≡ spare links
+  pub kept-held : (links' : List ℕ) (g : ℕ)
       → (g ≡ length (take (from + count) starts') → Lexicon text (take (from + count) starts') (take (from + count) lengths') links')
       → eqb g (from + count) ≡ true → NamesHeld text b f from starts lengths starts' lengths' links' count
-  kept-held links' g same first x e = record {
-    starts-front = s;
-    lengths-front = l;
-    tree = x (eqb-true g (from + count) e ∙ sym kept-count);
-    fit = omega (arith, same, first, ready.fit);
-  }
+  kept-held links' g x e = record { starts-front = s; lengths-front = l; tree = x (eqb-true g (from + count) e ∙ sym kept-count) }
 
 -- ---- both lines
 
 -- an empty tree
-lexicon-none : (text links : List ℕ) → LinksBegun text links → Lexicon text [] [] links
-lexicon-none text links begun = record {
+lexicon-none : (text links : List ℕ) → ((i : ℕ) → get_or links i 0 ≡ 0) → Lexicon text [] [] links
+lexicon-none text links none = record {
   spans = record { paired = refl; inside = λ i h. absurd (omega arith) };
   few = omega arith;
-  room = omega (arith, begun.fit);
-  bare = λ e. begun.bare;
+  room = omega arith;
+  bare = λ e. none;
   grown = λ h. absurd (omega arith);
   apart = λ i j h l. absurd (omega arith);
 }
 
 pub ready-first : (text starts lengths links : List ℕ) (e : ℕ) → e ≤ length text → length text ≤ limits.maxText → NameRows (length text) starts lengths links
-    → LinksBegun text links → HeadReady 0 0 limits.maxTerminals [] text 0 e 0 starts lengths links
+    → ((i : ℕ) → get_or links i 0 ≡ 0) → HeadReady 0 0 limits.maxTerminals [] text 0 e 0 starts lengths links
 unfolding spelled names_of
-ready-first text starts lengths links e high short rows begun = record {
+ready-first text starts lengths links e high short rows none = record {
   known = omega arith;
   least = omega arith;
   low = omega arith;
   high = high;
   behind = omega arith;
-  parted = omega arith;
   few = omega arith;
-  tree = lexicon-none text links begun;
+  tree = lexicon-none text links none;
   spelt = refl;
   rows = rows;
-  fit = begun.fit;
   short = short;
 }
 
@@ -173,7 +161,6 @@ first-held text a e t starts lengths starts' lengths' links' h rows =
       lengths-front = ap (λ m. take m lengths') (sym k) ∙ h.lengths-front;
       tree = subst (λ (m : ℕ). Lexicon text (take m starts') (take m lengths') links') k h.tree;
       rows = rows;
-      fit = h.fit;
     }
 
 module _ (text : List ℕ) (a e t : ℕ) (starts lengths links : List ℕ) (h : FirstHead text a e t) (held : FirstHeld text a e t starts lengths links) where
@@ -185,26 +172,12 @@ module _ (text : List ℕ) (a e t : ℕ) (starts lengths links : List ℕ) (h : 
     low = low;
     high = high;
     behind = omega (arith, h.counts, h.starts, part-names text a e h.inside (omega (arith, h.ends)));
-    parted = omega (arith, h.counts, names-tally (part a e text), tally-front);
     few = omega (arith, h.most);
     tree = held.tree;
     spelt = ap₂ (spelled text) held.starts-front held.lengths-front ∙ spans-spell text a (names_of (part a e text)) _ (value-stands text a e);
     rows = held.rows;
-    fit = held.fit;
     short = h.short;
   }
-    where
-      -- the part lies in the front
-      tally-front : tally 44 (part a e text) ≤ tally 44 (take (e + 1) text)
-      tally-front =
-          let m : e + 1 - a ≡ e - a + 1 = omega (arith, h.inside) in
-          omega (
-            arith,
-            tally-drop 44 a (take (e + 1) text),
-            ap (tally 44) (drop-take (e + 1) a text),
-            tally-take 44 (e - a) (take (e + 1 - a) (drop a text)),
-            ap (tally 44) (take-take (e - a) (e + 1 - a) (drop a text) (omega (arith, m))),
-          )
 
   pub heads-read : (b f n : ℕ) (starts' lengths' links' : List ℕ) → HeadsAt text a e b f t n → NamesHeld text b f t starts lengths starts' lengths' links' n
       → HeadsRead text starts' lengths' links' f t n

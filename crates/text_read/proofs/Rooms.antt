@@ -1,18 +1,18 @@
 -- Rows suffice that have an entry for each byte of the text: a text has no more names than bytes, and a rule no more entries than its
 -- line has bytes. Assumes nothing.
-use Prim.Native.Nat.{ℕ, zero, suc, ◌+◌, ◌-◌, ◌*◌, ◌≤◌, ◌<◌}
+use Prim.Native.Nat.{ℕ, suc, ◌+◌, ◌-◌, ◌*◌, ◌≤◌, ◌<◌}
 use mathlib.Core.Path.{◌≡◌, refl, ap, sym, ◌∙◌}
 use mathlib.Core.List.{List, [], ◌∷◌}
 use mathlib.Core.Bool.{Bool, true, false}
 use native.Mathlib.Omega.{arith}
 use borrow.Author.Tests.{leb-true, leb-false}
 use lib.Dec.{eqb, leb}
-use lib.ListN.{length, take, drop, replicate, length-drop, length-replicate}
+use lib.ListN.{length, drop, replicate, length-drop, length-replicate}
 use lib.Seq.{length-take-le}
 use Rattle.grammar.specs.Basics.{choose}
 use Rattle.text.specs.Pieces.{onto, splitOn}
 use Rattle.text.specs.Read.{names_of}
-use Rattle.names.specs.Found.{tally, part}
+use Rattle.names.specs.Found.{part}
 use Rattle.text_read.specs.Values.{allNames, smaller, NameRows}
 use Rattle.text_read.specs.Lines.{ShapeAt, LineReady, keptRules, keptEntries}
 use Rattle.text_read.specs.Texts.{HeadsAt, smallText, Rows}
@@ -64,68 +64,6 @@ names-most : (v : List ℕ) → length (names_of v) ≤ length v + 1
 unfolding names_of
 names-most [] = omega arith
 names-most (b ∷ v) = pieces-most 44 (b ∷ v)
-
--- one more than commas
-pieces-tally : (c : ℕ) (s : List ℕ) → length (splitOn c s) ≡ suc (tally c s)
-unfolding splitOn tally
-pieces-tally c [] = refl
-pieces-tally c (b ∷ s) = go (eqb b c) (splitOn c s) (pieces-tally c s)
-  where
-    same : (ps : List (List ℕ)) → length (onto b ps) ≡ length ps
-    same [] = refl
-    same (p ∷ ps) = refl
-
-    go : (t : Bool) (ps : List (List ℕ)) → length ps ≡ suc (tally c s) → length (choose t ([] ∷ ps) (onto b ps)) ≡ suc (choose t (suc (tally c s)) (tally c s))
-    go true ps h = ap suc h
-    go false ps h = same ps ∙ h
-
-pub names-tally : (v : List ℕ) → length (names_of v) ≤ tally 44 v + 1
-unfolding names_of
-names-tally [] = omega arith
-names-tally (b ∷ v) = omega (arith, pieces-tally 44 (b ∷ v))
-
-pub tally-take : (c n : ℕ) (s : List ℕ) → tally c (take n s) ≤ tally c s
-unfolding tally
-tally-take c zero s = omega arith
-tally-take c (suc n) [] = omega arith
-tally-take c (suc n) (b ∷ s) = go (eqb b c) (tally-take c n s)
-  where
-    go : (t : Bool) → tally c (take n s) ≤ tally c s → choose t (suc (tally c (take n s))) (tally c (take n s)) ≤ choose t (suc (tally c s)) (tally c s)
-    go true h = omega arith
-    go false h = h
-
-pub tally-drop : (c n : ℕ) (s : List ℕ) → tally c (drop n s) ≤ tally c s
-unfolding tally
-tally-drop c zero s = omega arith
-tally-drop c (suc n) [] = omega arith
-tally-drop c (suc n) (b ∷ s) = go (eqb b c) (tally-drop c n s)
-  where
-    go : (t : Bool) → tally c (drop n s) ≤ tally c s → tally c (drop n s) ≤ choose t (suc (tally c s)) (tally c s)
-    go true h = omega arith
-    go false h = h
-
-pub tally-most : (c : ℕ) (s : List ℕ) → tally c s ≤ length s
-unfolding tally
-tally-most c [] = omega arith
-tally-most c (b ∷ s) = go (eqb b c) (tally-most c s)
-  where
-    go : (t : Bool) → tally c s ≤ length s → choose t (suc (tally c s)) (tally c s) ≤ suc (length s)
-    go true h = omega arith
-    go false h = omega arith
-
--- those of a front and of a part behind it
-pub tally-parts : (c a b n : ℕ) (s : List ℕ) → a ≤ b → tally c (take a s) + tally c (take n (drop b s)) ≤ tally c s
-unfolding tally
-tally-parts c zero b n s h = omega (arith, tally-take c n (drop b s), tally-drop c b s)
-tally-parts c (suc a) zero n s h = absurd (omega arith)
-tally-parts c (suc a) (suc b) zero [] h = omega arith
-tally-parts c (suc a) (suc b) (suc n) [] h = omega arith
-tally-parts c (suc a) (suc b) n (x ∷ s) h = go (eqb x c) (tally-parts c a b n s (omega arith))
-  where
-    go : (t : Bool) → tally c (take a s) + tally c (take n (drop b s)) ≤ tally c s
-        → choose t (suc (tally c (take a s))) (tally c (take a s)) + tally c (take n (drop b s)) ≤ choose t (suc (tally c s)) (tally c s)
-    go true h = omega arith
-    go false h = h
 
 pub part-names : (text : List ℕ) (b e : ℕ) → b ≤ e → e ≤ length text → length (names_of (part b e text)) ≤ e - b + 1
 part-names text b e h l =
@@ -204,7 +142,3 @@ rows-large bytes =
       paired = refl;
       most = omega (arith, w);
     }
-
--- a lent row of entries beside local rows of names
-pub rows-table : (text row : List ℕ) → smaller (length text) keptEntries ≤ length row → Rows (length text) row (replicate allNames 0) (replicate allNames 0)
-rows-table text row h = let r = rows-large (length text) in record { entries = h; names = r.names; some = r.some; paired = r.paired; most = r.most }

@@ -69,7 +69,14 @@ pub lengths_none : nameLengths [] ≡ []
 unfolding nameLengths
 lengths_none = refl
 
--- ---- two entries
+-- ---- two runs, and two entries
+
+-- the second run after the first
+pub second_run : (t m k : ℕ) (row row' xs ys : List ℕ) → t ≡ m → take (0 + m) row ≡ xs → take (t + k) row' ≡ take t row ++ ys
+    → take (t + k) row' ≡ xs ++ ys
+second_run t m k row row' xs ys e h q =
+    let z : t ≡ 0 + m = omega arith in
+    q ∙ ap (λ w. w ++ ys) (ap (λ m. take m row) z ∙ h)
 
 -- two entries put one after the other
 pub two-put : (row : List ℕ) (at x y : ℕ) → at + 1 < length row → take (at + 2) (set (set row at x) (at + 1) y) ≡ take at row ++ (x ∷ y ∷ [])

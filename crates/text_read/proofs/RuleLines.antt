@@ -2,7 +2,7 @@
 -- Assumes nothing.
 use Prim.Native.Nat.{ℕ, zero, suc, ◌+◌, ◌-◌, ◌*◌, ◌≤◌, ◌<◌}
 use mathlib.Core.Path.{◌≡◌, refl, ap, ap₂, sym, subst, ◌∙◌}
-use mathlib.Core.List.{List, [], ◌∷◌, ◌++◌, append-nil}
+use mathlib.Core.List.{List, [], ◌∷◌, ◌++◌, append_assoc, append-nil}
 use mathlib.Core.Bool.{Bool, true, false}
 use mathlib.Core.Option.{none}
 use native.Mathlib.Omega.{arith}
@@ -17,7 +17,6 @@ use Rattle.grammar.specs.Grammar.{Rule}
 use Rattle.grammar.specs.Table.{encode}
 use Rattle.grammar.specs.Refusal.{Answer, done, refused, refuseUnless, and_then}
 use Rattle.grammar.proofs.Answers.{then-goes, then-stops}
-use Rattle.grammar.proofs.Rules.{encode-append}
 use Rattle.text.specs.Pieces.{splitOn}
 use Rattle.text.specs.Names.{all, sameName, place}
 use Rattle.text.specs.Keys.{key, value_of}
@@ -190,6 +189,11 @@ after_more : (rules : List Rule) (r : Rule) (o : Answer (List Rule)) → after r
 unfolding after and_then
 after_more rules r (done rs) = ap done (sym (append_snoc rules r rs))
 after_more rules r (refused c p) = refl
+
+encode-append : (xs ys : List Rule) → encode (xs ++ ys) ≡ encode xs ++ encode ys
+unfolding encode
+encode-append [] ys = refl
+encode-append (x ∷ xs) ys = rw (encode-append xs ys, append_assoc)
 
 -- what is kept of one rule more
 take-kept : (m : ℕ) (rs : List Rule) (r : Rule) → take m (rs ++ (r ∷ [])) ≡ take m rs ++ choose (ltb (length rs) m) (r ∷ []) []

@@ -3,7 +3,7 @@
 use Prim.Native.Nat.{ℕ, suc, ◌+◌, ◌-◌, ◌≤◌, ◌<◌}
 use mathlib.Core.Path.{◌≡◌, refl, ap, sym, subst, ◌∙◌}
 use mathlib.Core.List.{List, [], ◌∷◌, ◌++◌, append-nil}
-use mathlib.Core.Bool.{Bool, true, false}
+use mathlib.Core.Bool.{Bool, true, false, ◌&&◌}
 use mathlib.Core.Option.{none, some}
 use native.Mathlib.Omega.{arith}
 use native.Mathlib.Nat.{add-zero}
@@ -14,7 +14,6 @@ use lib.ListN.{length, drop, get_or, drop_of_length-le, length-drop}
 use lib.Seq.{drop-cons, take_all}
 use Rattle.grammar.specs.Basics.{choose}
 use Rattle.grammar.specs.Refusal.{refused, done, refuseUnless}
-use Rattle.grammar.proofs.Answers.{and-false}
 use Rattle.text.specs.Pieces.{onto, splitOn}
 use Rattle.text.specs.Names.{within, all, isName, hasDouble}
 use Rattle.text.specs.Keys.{key, value_of}
@@ -139,7 +138,11 @@ within-below : (lo hi n : ℕ) → n < lo → within lo hi n ≡ false
 within-below lo hi n h = rw (lt-leb lo n h)
 
 within-above : (lo hi n : ℕ) → hi < n → within lo hi n ≡ false
-within-above lo hi n h = rw (lt-leb n hi h) (and-false (leb lo n))
+within-above lo hi n h = rw (lt-leb n hi h) (go (leb lo n))
+  where
+    go : (t : Bool) → t && false ≡ false
+    go true = refl
+    go false = refl
 
 module _ (at k lo hi : ℕ) (earlier : List (List ℕ)) (line : List ℕ) where
   pub decl-none : value_of (key k) line ≡ none → declaration at k lo hi earlier line ≡ refused 16 at

@@ -1,4 +1,3 @@
 pub mod Values
 pub mod Lines
 pub mod Texts
-pub mod Tables

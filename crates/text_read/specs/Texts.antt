@@ -15,7 +15,7 @@ use Rattle.text.specs.declared.TextRead.{TextRead}
 use Rattle.text.specs.declared.TextRead.TheVariants.{Read, Refused}
 use Rattle.names.specs.Found.{part}
 use Rattle.lexicon.specs.Tree.{Lexicon}
-use Rattle.text_read.specs.Values.{allNames, smaller, NameRows, HeadsFit}
+use Rattle.text_read.specs.Values.{allNames, smaller, NameRows}
 use Rattle.text_read.specs.Lines.{keptRules, keptEntries}
 use Rattle.text_read.specs.declared.Heads.{Heads}
 use Rattle.text_read.specs.declared.Heads.TheVariants as heads
@@ -48,7 +48,6 @@ pub record FirstHeld (text : List ℕ) (a e t : ℕ) (starts lengths links : Lis
   pub lengths-front : take t lengths ≡ nameLengths (names_of (part a e text))
   pub tree : Lexicon text (take t starts) (take t lengths) links
   pub rows : NameRows (length text) starts lengths links
-  pub fit : HeadsFit text links
 
 -- both lines are read: their values stand from a to e and from b to f, and have t and n names
 pub record HeadsAt (text : List ℕ) (a e b f t n : ℕ) : Type 0 where

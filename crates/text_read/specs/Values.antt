@@ -1,7 +1,7 @@
 -- What the reader's functions tell of a line's value and its names.
 -- An answer of the code is told by what the definition says: a fault by the refusal, a result by a record of facts.
 -- Assumes nothing.
-use Rattle.std.specs.Prelude.{ℕ, ◌+◌, ◌*◌, ◌≤◌, ◌<◌, ◌≡◌, List, [], ◌∷◌, ◌++◌, leb, length, take, get_or}
+use Rattle.std.specs.Prelude.{ℕ, ◌+◌, ◌*◌, ◌≤◌, ◌<◌, ◌≡◌, List, [], ◌∷◌, ◌++◌, leb, length, take}
 use Rattle.std.proofs.Math.Option.{none, some}
 use Rattle.grammar.specs.Basics.{choose}
 use Rattle.grammar.specs.Limits.{limits}
@@ -11,8 +11,8 @@ use Rattle.text.specs.Keys.{key, value_of}
 use Rattle.text.specs.Read.{names_of, declaration}
 use Rattle.text.specs.Promise.{startsFrom, nameLengths}
 use Rattle.text.specs.Spelled.{spelled}
-use Rattle.names.specs.Found.{tally, part}
-use Rattle.lexicon.specs.Tree.{Lexicon, spare}
+use Rattle.names.specs.Found.{part}
+use Rattle.lexicon.specs.Tree.{Lexicon}
 use Rattle.doubles.specs.Blocks.{BlockRows}
 use Rattle.text_read.specs.declared.Split.{Split}
 use Rattle.text_read.specs.declared.Split.TheVariants.{Value, Malformed}
@@ -33,19 +33,6 @@ smaller a b = choose (leb a b) a b
 pub record NameRows (bytes : ℕ) (starts lengths links : List ℕ) : Type 0 where
   pub enough : smaller bytes allNames ≤ length starts
   pub lent : BlockRows starts lengths links
-
--- at most so many names stand in the two declaring lines: each has one more than commas
-abbrev pub mostIn : List ℕ → ℕ
-mostIn text = smaller (tally 44 text + 2) (smaller (length text) allNames)
-
--- the heads of the row of links leave room for them
-abbrev pub HeadsFit : List ℕ → List ℕ → Type 0
-HeadsFit text links = spare links + 2 * mostIn text ≤ length links
-
--- and it has no link
-pub record LinksBegun (text links : List ℕ) : Type 0 where
-  pub fit : HeadsFit text links
-  pub bare : (i : ℕ) → 1 ≤ i → get_or links i 0 ≡ 0
 
 -- the value of a line of key k stands from start to end
 pub record HasValue (k : ℕ) (line : List ℕ) (start end : ℕ) : Type 0 where
@@ -75,8 +62,7 @@ pub record NamesReady (text : List ℕ) (from more : ℕ) (starts lengths links 
   pub few : from + more ≤ allNames
   pub starts-room : from + more ≤ length starts
   pub lengths-room : from + more ≤ length lengths
-  pub links-room : spare links + 2 * (from + more) ≤ length links
-  pub fit : HeadsFit text links
+  pub links-room : 2 * (from + more) ≤ length links
   pub short : length text ≤ limits.maxText
 
 -- the rows have the places of so many names, whose value stands from b to f, from entry `from` on, and the tree has these names too
@@ -84,7 +70,6 @@ pub record NamesHeld (text : List ℕ) (b f from : ℕ) (starts lengths starts' 
   pub starts-front : take (from + count) starts' ≡ take from starts ++ startsFrom b (names_of (part b f text))
   pub lengths-front : take (from + count) lengths' ≡ take from lengths ++ nameLengths (names_of (part b f text))
   pub tree : Lexicon text (take (from + count) starts') (take (from + count) lengths') links'
-  pub fit : HeadsFit text links'
 
 -- before a line of key k, from a to e of the text: the rows and the tree have the names of the earlier value, which stands before it
 pub record HeadReady (k lo hi : ℕ) (earlier text : List ℕ) (a e from : ℕ) (starts lengths links : List ℕ) : Type 0 where
@@ -93,12 +78,10 @@ pub record HeadReady (k lo hi : ℕ) (earlier text : List ℕ) (a e from : ℕ) 
   pub low : a ≤ e
   pub high : e ≤ length text
   pub behind : from ≤ a
-  pub parted : from ≤ tally 44 (take a text) + 1
   pub few : from + hi ≤ allNames
   pub tree : Lexicon text (take from starts) (take from lengths) links
   pub spelt : spelled text (take from starts) (take from lengths) ≡ names_of earlier
   pub rows : NameRows (length text) starts lengths links
-  pub fit : HeadsFit text links
   pub short : length text ≤ limits.maxText
 
 -- a declaring line from a to e of the text is read: its value starts at b and has so many names

@@ -148,7 +148,7 @@ fn rule_tests(t: usize, n: usize, row: &[u16], end: usize) -> TextRead
 }
 
 // The answer for a module's text, from what the lines give.
-pub fn module_tests(kept: TextKept, row: &[u16]) -> TextRead
+fn module_tests(kept: TextKept, row: &[u16]) -> TextRead
     requires { KeptWithin kept row.now }
     ensures { result ≡ moduleRead kept row.now }
 {

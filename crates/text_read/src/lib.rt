@@ -4,7 +4,6 @@ mod declaring;
 mod keeping;
 mod rules;
 mod symbols;
-mod tables;
 mod value;
 
 ghost use Rattle.std.specs.Prelude.{◌≡◌, ◌≤◌, length};
@@ -12,12 +11,10 @@ ghost use Rattle.grammar.specs.Basics.{over};
 ghost use Rattle.text.specs.Promise.{ReadsText};
 ghost use Rattle.text_read.specs.Texts.{smallText, TextIn};
 
-pub use declaring::fill;
 use grammar::{BUFFER_TOO_SHORT, MAX_LENGTH, MAX_NAMES, MAX_RULES};
 use keeping::{check_kept, keep_text};
 pub use keeping::{check_module, check_text, last_tests};
 pub use symbols::code_of;
-pub use tables::{check_module_table, check_table};
 use text::TextRead;
 
 // The entries of the rules that are kept, one more than a grammar has.

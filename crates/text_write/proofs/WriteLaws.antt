@@ -1,14 +1,15 @@
 -- The length that is told and the writer's answer, refusal by refusal.
 -- Assumes nothing.
-use Prim.Native.Nat.{ℕ, ◌+◌, ◌≤◌, ◌<◌}
+use Prim.Native.Nat.{ℕ, suc, ◌+◌, ◌≤◌, ◌<◌}
 use mathlib.Core.Path.{◌≡◌, refl, ap, sym, subst, ◌∙◌}
-use mathlib.Core.List.{List, [], ◌++◌}
+use mathlib.Core.List.{List, [], ◌∷◌, ◌++◌}
+use mathlib.Core.Bool.{Bool, true, false}
 use native.Mathlib.Omega.{arith}
 use native.Mathlib.Nat.{zero-add}
 use borrow.Author.Tests.{eq-eqb, ne_eqb}
 use lib.ListN.{length, take, drop, take-append-drop}
 use lib.Seq.{length-take-le}
-use Rattle.grammar.specs.Basics.{over}
+use Rattle.grammar.specs.Basics.{choose, over}
 use Rattle.grammar.specs.Limits.{limits}
 use Rattle.grammar.specs.Grammar.{Rule, Grammar}
 use Rattle.grammar.specs.Table.{decode}
@@ -17,7 +18,7 @@ use Rattle.grammar.specs.TableCheck.{checkTable, tableChecked}
 use Rattle.grammar.specs.declared.TableChecked.{TableChecked}
 use Rattle.grammar.specs.declared.TableVerdict.TheVariants.{Passed as AllPassed, Refused as TableRefused}
 use Rattle.grammar.proofs.Answers.{unless_holds, unless-fails, then-goes, then-stops}
-use Rattle.text.specs.Names.{all, isName}
+use Rattle.text.specs.Names.{all, any, isName, sameName}
 use Rattle.text.specs.Print.{gather, firstDouble, textFrom, writeInto}
 use Rattle.text.specs.Promise.{textWritten, textLength, afterwards, WritesText, LengthAnswer}
 use Rattle.text.specs.declared.TextLength.{TextLength}
@@ -28,12 +29,22 @@ use Rattle.text.specs.Spelled.{spelled}
 use Rattle.text.proofs.Sizes.{printed-most}
 use Rattle.text.proofs.RoundTrip.{made, into-refused, into-short, into-done}
 use Rattle.text.proofs.Promises.{told-as, told-refused}
-use Rattle.lexicon.proofs.Doubles.{first-within}
 use Rattle.text_write.specs.Contracts.{Coded, Wrote, text_of, Checked, Ready, namedText, NamedAnswer, stopsAt}
 use Rattle.text_write.proofs.LentLaws.{gather-refused, Cut, cut}
 use Rattle.text_write.proofs.TableLaws.{Passed, passed, symbols-most}
 
 -- ---- 18
+
+-- the lowest repeated name is one of them, or there is none
+double-most : (earlier names : List (List ℕ)) → firstDouble earlier names ≤ length names
+unfolding firstDouble
+double-most earlier [] = omega arith
+double-most earlier (x ∷ xs) = go (any (sameName x) earlier) (double-most (earlier ++ (x ∷ [])) xs)
+  where
+    go : (b : Bool) → firstDouble (earlier ++ (x ∷ [])) xs ≤ length xs
+        → choose b 0 (suc (firstDouble (earlier ++ (x ∷ [])) xs)) ≤ suc (length xs)
+    go true h = omega arith
+    go false h = omega arith
 
 module _ (t : ℕ) (names : List (List ℕ)) (rules : List Rule) where
   pub named-double : (i : ℕ) → i ≡ firstDouble [] names → i < length names → NamedAnswer t names rules (told.Refused nameRepeated i)
@@ -45,7 +56,7 @@ module _ (t : ℕ) (names : List (List ℕ)) (rules : List Rule) where
   pub named-bytes : (i k : ℕ) → i ≡ firstDouble [] names → length names ≤ i → k ≡ length (text_of t names rules)
       → NamedAnswer t names rules (told.Bytes k)
   named-bytes i k e h q =
-      let once : firstDouble [] names ≡ length names = omega (arith, first-within [] names) in
+      let once : firstDouble [] names ≡ length names = omega (arith, double-most [] names) in
       ap told.Bytes q
       ∙ sym (ap textLength (unless_holds nameRepeated (firstDouble [] names) _ (done (text_of t names rules)) (eq-eqb _ _ once)))
 

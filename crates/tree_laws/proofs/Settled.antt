@@ -5,16 +5,16 @@ use mathlib.Core.Path.{◌≡◌, refl, ap, ap₂, subst, ◌∙◌}
 use mathlib.Core.Bool.{Bool, true, false, ◌&&◌}
 use mathlib.Core.List.{List, [], ◌∷◌}
 use native.Mathlib.Omega.{arith}
-use native.Mathlib.Nat.{mul-zero, mul-one}
+use native.Mathlib.Nat.{mul-zero}
 use lib.Dec.{eqb, ltb, leb}
 use lib.ListN.{length, get_or}
-use borrow.Author.Tests.{le-leb, lt-leb, lt-ltb, ltb-true, eq-eqb, ne_eqb}
+use borrow.Author.Tests.{le-leb, lt-leb, lt-ltb, ltb-true, eq-eqb}
 use Rattle.grammar.specs.Basics.{choose}
 use Rattle.grammar.specs.Limits.{Limits}
-use Rattle.grammar.specs.Grammar.{Terminal, Grammar, IsRule, start, rule}
+use Rattle.grammar.specs.Grammar.{Terminal, Grammar, start}
 use Rattle.grammar.specs.Tree.{AppliesRuleOf}
 use Rattle.grammar.proofs.Answers.{and_both}
-use Rattle.tree_laws.specs.Chart.{cap, Places, Chart, splits, kin, Stable, Sums, made, Settled}
+use Rattle.tree_laws.specs.Chart.{cap, Places, Chart, splits, Stable, Sums, made, Settled}
 
 splits-same : (C D : Chart) (x q k l n : ℕ) → k + n ≤ suc l → ((h : ℕ) → k ≤ h → h ≤ l → D.item q h l ≡ C.item q h l)
     → ((h : ℕ) → k ≤ h → h ≤ l → D.whole x k h ≡ C.whole x k h) → splits D x q k l n ≡ splits C x q k l n
@@ -51,51 +51,6 @@ module _ (L : Limits) (G : Grammar) (w : List ℕ) where
       go true u = none-splits C x (suc p) i j (suc (j - i)) z
       go false true = z (suc i)
       go false false = refl
-
-  -- before a terminal that is not the row's nothing is made
-  pub leaf-none : (C : Chart) (x p i j : ℕ) → x < start L → (ltb i j && eqb (get_or w i 0) x) ≡ false → made L G w C x p i j ≡ 0
-  unfolding made
-  leaf-none C x p i j h e = rw (lt-leb (start L) x h, e) refl
-
-  -- splits that end before j have nothing past them at an end
-  end_none : (C : Chart) (x q i j n : ℕ) → ((k : ℕ) → k < j → C.item q k j ≡ 0) → i + n ≤ j → splits C x q i j n ≡ 0
-  unfolding splits
-  end_none C x q i j zero z h = refl
-  end_none C x q i j (suc n) z h =
-      let e : C.whole x i (i + n) * C.item q (i + n) j ≡ 0 = ap (λ k. C.whole x i (i + n) * k) (z (i + n) (omega arith)) ∙ mul-zero (C.whole x i (i + n)) in
-      omega (arith, end_none C x q i j n z (omega arith))
-
-  -- before an end a nonterminal derives the whole span
-  pub end-splits : (C : Chart) (x q i j : ℕ) → i ≤ j → ((k : ℕ) → C.item q k j ≡ choose (eqb k j) 1 0) → splits C x q i j (suc (j - i)) ≡ C.whole x i j
-  unfolding splits
-  end-splits C x q i j h z =
-      let t : i + (j - i) ≡ j = omega arith in
-      let e : C.whole x i (i + (j - i)) * C.item q (i + (j - i)) j ≡ C.whole x i j =
-      ap (λ k. C.whole x i k * C.item q k j) t ∙ ap (λ k. C.whole x i j * k) (z j ∙ rw (eq-eqb j j refl) refl) ∙ mul-one (C.whole x i j) in
-      omega (arith, end_none C x q i j (j - i) (λ k l. z k ∙ rw (ne_eqb k j (λ y. omega arith)) refl) (omega arith))
-
-  module _ (P : Places L G) where
-    none-kin : (C : Chart) (b i j m : ℕ) → ((r : ℕ) → 1 ≤ r → r ≤ m → C.item (P.first r) i j ≡ 0) → kin L G P C b i j m ≡ 0
-    unfolding kin
-    none-kin C b i j zero z = refl
-    none-kin C b i j (suc m) z = omega (arith, none-kin C b i j m (λ r h g. z r h (omega arith)), go (eqb (rule L G (suc m)).left b))
-      where
-        go : (t : Bool) → choose t (C.item (P.first (suc m)) i j) 0 ≡ 0
-        go true = z (suc m) (omega arith) (omega arith)
-        go false = refl
-
-    -- nor is anything made before an end, where nothing is counted in the span and it has more than one terminal
-    pub last_none : (C : Chart) (x p i j : ℕ) → Sums L G w P C → suc i < j → j ≤ length w → ((k : ℕ) → C.item (suc p) k j ≡ choose (eqb k j) 1 0)
-        → ((r : ℕ) → IsRule G r → C.item (P.first r) i j ≡ 0) → made L G w C x p i j ≡ 0
-    unfolding made cap
-    last_none C x p i j s h l z y = go (leb (start L) x) (ltb i j && eqb (get_or w i 0) x)
-      where
-        go : (t u : Bool) → choose t (splits C x (suc p) i j (suc (j - i))) (choose u (C.item (suc p) (suc i) j) 0) ≡ 0
-        go true u =
-            end-splits C x (suc p) i j (omega arith) z ∙ s x i j (omega arith) l
-            ∙ ap cap (none-kin C x i j (length G.rules) (λ r a b. y r (a, b)))
-        go false true = z (suc i) ∙ rw (ne_eqb (suc i) j (λ y. omega arith)) refl
-        go false false = refl
 
   module _ (P : Places L G) (low : (a : ℕ) → Terminal G.terminals a → a < start L) (high : (b r : ℕ) → AppliesRuleOf L G b r → start L ≤ b) where
     -- all settled, ends counted once, sums as they are: stable

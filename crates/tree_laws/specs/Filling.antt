@@ -27,15 +27,14 @@ module _ (L : Limits) (G : Grammar) (w : List ℕ) (P : Places L G) (Q : ℕ) wh
     pub settled : (p x k l : ℕ) (α : List ℕ) → P.rest p ≡ x ∷ α → k ≤ l → l ≤ length w → Done k l i j → Settled L G w C x p k l
     pub fresh : (p x k l : ℕ) (α : List ℕ) → P.rest p ≡ x ∷ α → j < l → C.item p k l ≡ 0
 
-  -- of a place inside a rule nothing is counted in column j that begins more than one before its mark, or nothing at all if that is 0;
-  -- and of no place anything that begins before i
-  pub record Column (C : Chart) (A : ℕ → ℕ) (i j : ℕ) : Type 0 where
-    pub idle : (p y x k : ℕ) (β α : List ℕ) → P.rest p ≡ y ∷ β → P.rest (suc p) ≡ x ∷ α → A (suc p) ≡ 0 → C.item (suc p) k j ≡ 0
-    pub bound : (p y x k : ℕ) (β α : List ℕ) → P.rest p ≡ y ∷ β → P.rest (suc p) ≡ x ∷ α → suc k < A (suc p) → C.item (suc p) k j ≡ 0
-    pub later : (p x k : ℕ) (α : List ℕ) → P.rest p ≡ x ∷ α → k < i → C.item p k j ≡ 0
+  -- of a place whose mark is 0 nothing is counted in column j; ends have a mark
+  pub record Column (C : Chart) (A : ℕ → ℕ) (j : ℕ) : Type 0 where
+    pub idle : (p x k : ℕ) (α : List ℕ) → P.rest p ≡ x ∷ α → A p ≡ 0 → C.item p k j ≡ 0
+    pub ends : (p : ℕ) → P.rest p ≡ [] → p < Q → A p ≡ 0 → ⊥
 
-  -- the span from i to j is at work: a place is settled unless the flag just past it is set
-  pub record Looking (C : Chart) (A F : ℕ → ℕ) (i j : ℕ) : Type 0 where
+  -- the span from i to j is at work: a place is settled unless the flag just past it is set, and no flag is set from q on
+  pub record Looking (C : Chart) (A F : ℕ → ℕ) (q i j : ℕ) : Type 0 where
     pub past : Past C (suc i) j
-    pub column : Column C A i j
+    pub column : Column C A j
     pub quiet : (p x : ℕ) (α : List ℕ) → P.rest p ≡ x ∷ α → F (suc p) ≡ 0 → Settled L G w C x p i j
+    pub high : (h : ℕ) → q ≤ h → h < Q → F h ≡ 0

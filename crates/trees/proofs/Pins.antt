@@ -4,15 +4,16 @@ use Prim.Native.Nat.{ℕ}
 use mathlib.Core.Path.{◌≡◌, refl, sym, ap, subst, ◌∙◌}
 use mathlib.Core.List.{List, [], ◌∷◌, ◌++◌}
 use native.Mathlib.Omega.{arith}
-use lib.ListN.{replicate}
+use lib.ListN.{length, replicate}
+use Rattle.grammar.specs.Basics.{over}
 use Rattle.grammar.specs.Limits.{limits}
 use Rattle.grammar.specs.Grammar.{Grammar, rule, stateCount}
 use Rattle.grammar.specs.Tree.{Tree, node, Trees, none, child, HasTree, DerivationTree, Children, SameTree, SameTrees, row, rowBelow, before, after}
-use Rattle.grammar.specs.Refusal.{done, refused, refuseUnless, and_then}
+use Rattle.grammar.specs.Refusal.{Answer, done, refused, refuseUnless, and_then}
 use Rattle.grammar.proofs.Answers.{no_answer, done_inj}
 use Rattle.grammar.specs.TableCheck.{sameCodes, isAmong, declaredFront, readRule, nextRule, checkFrom, storedTable, checkTable}
 use Rattle.grammar.specs.Live.{hasSentence, has, productive, rounds, concluded, waiting, hasAll, nonterminalsOf}
-use Rattle.trees.specs.Trees.{rulesOf, one, several, Agrees, count-1, count-2, rowFault, checkRow, treesRoom, maxRow, workSize, cleared}
+use Rattle.trees.specs.Trees.{rulesOf, rulesBelow, one, several, Agrees, count-1, count-2, rowFault, checkRow, treesRoom, maxRow, workSize, cleared}
 use Rattle.trees.specs.Promise.{FindsTrees, refuses, too_short}
 use Rattle.trees.specs.declared.TreesFound.TheVariants.{Refused}
 

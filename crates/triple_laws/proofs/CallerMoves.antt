@@ -1,7 +1,7 @@
 -- The lists of the automaton with m callers are its moves, for each m. Assumes nothing.
 use Prim.Native.Nat.{ℕ, zero, suc, ◌+◌, ◌≤◌, ◌<◌}
 use mathlib.Core.Path.{◌≡◌, refl, sym, ap, subst, ◌∙◌}
-use mathlib.Core.Bool.{Bool, true, ◌&&◌}
+use mathlib.Core.Bool.{Bool, true, false, ◌&&◌}
 use mathlib.Core.List.{List, [], ◌∷◌, ◌++◌, map}
 use mathlib.Core.Logic.{◌⊎◌, inl, inr, ◌↔◌}
 use native.Mathlib.Omega.{arith}
@@ -9,10 +9,10 @@ use native.Mathlib.Decide.{ℕ_discrete, dec_lt}
 use lib.Dec.{eqb}
 use lib.ListN.{length, get_or, take}
 use borrow.Author.Tests.{eqb-true, eq-eqb}
-use Rattle.grammar.specs.Basics.{when, Mem, here, there}
+use Rattle.grammar.specs.Basics.{choose, when, each, Mem, here, there}
 use Rattle.grammar.specs.Limits.{Limits}
 use Rattle.grammar.specs.Grammar.{Rule, Grammar, IsRule, rule, WellFormed}
-use Rattle.grammar.specs.Live.{isLive}
+use Rattle.grammar.specs.Live.{Live, isLive}
 use Rattle.grammar.proofs.Live.{is_live}
 use Rattle.grammar.proofs.Answers.{and_both, both-and}
 use Rattle.grammar.proofs.Derives.{rule-listed}
@@ -25,7 +25,7 @@ use Rattle.automaton.proofs.Callers.{calls, none_above}
 use Rattle.triple_laws.proofs.Members.{no-element, only_one, one_only, place-mem, mem-left, mem-right, mem-either, under-test, of-each, of_map}
 use Rattle.triple_laws.proofs.Rows.{Run, run-rules}
 use Rattle.triple_laws.proofs.Callers.{items-exact, place_out, place_in, left-code, chains-exact}
-use Rattle.triple_laws.proofs.Spots.{same-items, place-below, place-mem-below, in_rest, one_number, every-number, at}
+use Rattle.triple_laws.proofs.Spots.{same-items, place-below, place-mem-below, place-most, in_rest, one_number, every-number, at, no-first, no_last}
 
 pub past_end : (l : List Spot) (k : ℕ) → length l ≤ k → get_or l k last ≡ last
 past_end [] k h = refl

@@ -3,28 +3,28 @@ use Prim.Native.Nat.{ℕ, zero, suc, ◌+◌, ◌≤◌, ◌<◌}
 use mathlib.Core.Path.{◌≡◌, refl, sym, ap, subst, ◌∙◌}
 use mathlib.Core.Bool.{Bool, true, false, ◌&&◌}
 use mathlib.Core.List.{List, [], ◌∷◌, ◌++◌, map}
-use mathlib.Core.Logic.{◌⊎◌, ◌↔◌}
+use mathlib.Core.Logic.{◌⊎◌, inl, inr, ◌↔◌}
 use native.Mathlib.Omega.{arith}
 use native.Mathlib.Decide.{dec_lt}
 use lib.Dec.{eqb}
 use lib.ListN.{length, get_or, take}
-use Rattle.grammar.specs.Basics.{when, Mem, Distinct, none, more}
+use Rattle.grammar.specs.Basics.{when, Mem, here, there, Distinct, none, more}
 use Rattle.grammar.specs.Limits.{Limits}
 use Rattle.grammar.specs.Grammar.{Terminal, Rule, Grammar, IsRule, rule, WellFormed}
-use Rattle.grammar.specs.Live.{isLive}
+use Rattle.grammar.specs.Live.{Live, isLive}
 use Rattle.grammar.proofs.Live.{is_live}
 use Rattle.grammar.proofs.Derives.{rule-listed}
 use Rattle.automaton.specs.Items.{length_of}
 use Rattle.automaton.specs.Moves.{Regular}
-use Rattle.automaton.specs.Callers.{Spot, first, last, spot, SpotOpens, spot-start, spot-opens, SpotCloses, spot-ends, spot-closes}
-use Rattle.automaton.specs.Callers.{sameItems, place_of, code_at, spots, number_of}
+use Rattle.automaton.specs.Callers.{Spot, first, last, spot, Place, Calls, SpotOpens, spot-start, spot-opens, SpotCloses, spot-ends, spot-closes, SpotShifts, spot-shifts}
+use Rattle.automaton.specs.Callers.{sameItems, place_of, code_at, chains, chainsOf, spots, number_of}
 use Rattle.automaton.specs.CallerMoves.{spotAhead, spotAfter, liveRules, spotOpenings, returns, spotClosings, movesAt}
 use Rattle.automaton.proofs.Callers.{calls, none_above}
-use Rattle.triple_laws.proofs.Members.{no-element, only_one, place-mem, under-test, of_map}
+use Rattle.triple_laws.proofs.Members.{no-element, only_one, one_only, place-mem, mem-either, under-test, of_map}
 use Rattle.triple_laws.proofs.Members.{distinct-one, distinct_append, distinct-when, distinct-image, distinct-map}
 use Rattle.triple_laws.proofs.Rows.{Run, run-rules}
 use Rattle.triple_laws.proofs.Callers.{place_out, place_in, left-code, chains-exact}
-use Rattle.triple_laws.proofs.Spots.{place-mem-below, place-of-at, spots-distinct, same-rule, same-dot, same-chain}
+use Rattle.triple_laws.proofs.Spots.{place-mem-below, place-of-at, spots-distinct, one_number, same-rule, same-dot, same-chain}
 use Rattle.triple_laws.proofs.CallerMoves.{past_end, any, rules-out, live-chains, state, from-state, same-state, opens-from, closes-from, Returns, returns-out, after_is, number-last, last-state}
 use Rattle.triple_laws.proofs.CallerOrder.{later-number}
 

@@ -14,8 +14,8 @@ use Rattle.grammar.proofs.Answers.{no_bool}
 use Rattle.grammar.proofs.Plain.{mem-cases}
 use Rattle.automaton.specs.Items.{states, length_of, base}
 use Rattle.automaton.proofs.Items.{base-end}
-use Rattle.automaton.specs.Callers.{Spot, spot, up_to, itemsFrom, sameSpot, place_of, items, spots, number_of}
-use Rattle.triple_laws.proofs.Members.{no-element, only_one, of-each, of_map}
+use Rattle.automaton.specs.Callers.{Spot, first, last, spot, up_to, itemsFrom, sameSpot, place_of, items, chainsOf, spots, number_of}
+use Rattle.triple_laws.proofs.Members.{no-element, only_one, one_only, mem-left, mem-right, mem-either, of-each, of_map}
 use Rattle.triple_laws.proofs.Rows.{Run, run-zero, base-next, length-as}
 use Rattle.triple_laws.proofs.Callers.{upto-in, upto-out}
 use Rattle.triple_laws.proofs.Spots.{spot-same, spot-self}

@@ -23,7 +23,6 @@ use Rattle.triple_laws.proofs.Members.{only_one, one_only, place-mem, mem-left, 
 use Rattle.triple_laws.proofs.Members.{of_map}
 use Rattle.triple_laws.proofs.Rows.{run-rules, run-zero, item-ahead, ahead-item, rules-out, rules-in, ends-out, ends-in}
 use Rattle.triple_laws.proofs.Rows.{past-out, past-in, pasts}
-use Rattle.triple_laws.proofs.Callers.{left-code}
 
 module _ (L : Limits) (G : Grammar) (T : ℕ → Type 0) (taken : ℕ → Bool) (says : (i : ℕ) → i ≤ length G.rules → (taken i ≡ true) ↔ T i) where
   ahead-to : (x p : ℕ) → 1 ≤ x → ahead L G taken p ≡ x → Before L G T x p
@@ -55,6 +54,10 @@ module _ (L : Limits) (G : Grammar) (T : ℕ → Type 0) (taken : ℕ → Bool) 
 
 module _ (L : Limits) (G : Grammar) (T : ℕ → Type 0) (taken : ℕ → Bool) (says : (i : ℕ) → i ≤ length G.rules → (taken i ≡ true) ↔ T i)
     (W : WellFormed L G) (apart : L.maxTerminals < L.nonterminalBase) where
+  -- a rule's left code is not 0
+  pub left-code : (i : ℕ) → IsRule G i → 1 ≤ (rule L G i).left
+  left-code i r = omega (arith, (W.lefts (rule L G i) (rule-listed L G i r)).0)
+
   opening-out : (i p q : ℕ) → Mem {A = ℕ × ℕ} (i, q) (openings L G taken p) → Opens L G T i p q
   unfolding openings base rule
   opening-out i p q m = elim (mem-either (when (taken 0 && eqb p 0) ((0, 2) ∷ [])) (rulesOf taken (ahead L G taken p) 1 4 G.rules) m) [
@@ -66,7 +69,7 @@ module _ (L : Limits) (G : Grammar) (T : ℕ → Type 0) (taken : ℕ → Bool) 
     | inr k ↦
         let o = rules-out L G taken (ahead L G taken p) 1 4 G.rules (run-rules L G taken) refl i q k in
         let r : IsRule G i = (o.0, omega arith) in
-        opens-rule r ((says i r.1).0 o.4) ((ahead_before L G T taken says (rule L G i).left p (left-code L G W apart i r)).0 (sym o.2)) o.3
+        opens-rule r ((says i r.1).0 o.4) ((ahead_before L G T taken says (rule L G i).left p (left-code i r)).0 (sym o.2)) o.3
   ]
 
   opening-in : (i p q : ℕ) → Opens L G T i p q → Mem {A = ℕ × ℕ} (i, q) (openings L G taken p)
@@ -101,7 +104,7 @@ module _ (L : Limits) (G : Grammar) (T : ℕ → Type 0) (taken : ℕ → Bool) 
             let r : IsRule G c.0 = (d.0, omega arith) in
             let y : i ≡ c.0 = ap (λ (c : ℕ × ℕ). c.0) s.2 in
             let z : q ≡ s.0 = ap (λ (c : ℕ × ℕ). c.1) s.2 in
-            let b = (ahead_before L G T taken says (rule L G c.0).left f.0 (left-code L G W apart c.0 r)).0 (f.1 ∙ d.3) in
+            let b = (ahead_before L G T taken says (rule L G c.0).left f.0 (left-code c.0 r)).0 (f.1 ∙ d.3) in
             subst (λ i. Closes L G T i p q) (sym y) (closes-rule r ((says c.0 r.1).0 d.4) d.2 b (omega arith))
       ]
 
@@ -114,7 +117,7 @@ module _ (L : Limits) (G : Grammar) (T : ℕ → Type 0) (taken : ℕ → Bool) 
   closing-in i p q (closes-rule {r = k} r l e b f) =
       let x = (rule L G i).left in
       let h : suc (0 + k) ≡ q = omega arith in
-      let s = past-in x 0 (aheadRow L G taken) k (left-code L G W apart i r) (before-to L G T taken says x k b) in
+      let s = past-in x 0 (aheadRow L G taken) k (left-code i r) (before-to L G T taken says x k b) in
       mem-right (when (taken 0 && eqb p 3) ((0, 1) ∷ []))
       ((of-each (completed taken p 1 4 G.rules) (pasts (aheadRow L G taken))).1 (
         (i, x),

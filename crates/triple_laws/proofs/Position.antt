@@ -15,10 +15,10 @@ use Rattle.automaton.specs.Items.{Before}
 use Rattle.automaton.specs.Moves.{Regular, Lists}
 use Rattle.automaton.specs.Position.{Opens, opens-start, opens-rule, position_of, position, every}
 use Rattle.automaton.specs.PositionMoves.{ahead, movesBy, moves_of}
-use Rattle.automaton.proofs.Items.{states-four, one-item, one_symbol, before-below, opens-below, closes-below}
+use Rattle.automaton.proofs.Items.{states-four, one-item, before-below, opens-below, closes-below}
 use Rattle.triple_laws.proofs.Moves.{ahead_before, opening-listed, closing-listed, shift-ahead}
 use Rattle.triple_laws.proofs.MoveDoubles.{openings-distinct, closings-distinct}
-use Rattle.triple_laws.proofs.Classes.{before-low, before-no-close, one-closing, one-opening, opens-no-close}
+use Rattle.triple_laws.proofs.Classes.{one_symbol, before-low, before-no-close, one-closing, one-opening, opens-no-close}
 
 module _ (L : Limits) (G : Grammar) (T : ℕ → Type 0) (taken : ℕ → Bool) (says : (i : ℕ) → i ≤ length G.rules → (taken i ≡ true) ↔ T i)
     (W : WellFormed L G) (apart : L.maxTerminals < L.nonterminalBase) where

@@ -15,7 +15,6 @@ use Rattle.grammar.specs.Basics.{choose, when, Mem}
 use Rattle.grammar.specs.Limits.{Limits}
 use Rattle.grammar.specs.Grammar.{Rule, Grammar, rule}
 use Rattle.grammar.proofs.Answers.{and_both, both-and}
-use Rattle.grammar.proofs.Lists.{zeros}
 use Rattle.automaton.specs.Items.{length_of, base}
 use Rattle.automaton.proofs.Items.{base-apart}
 use Rattle.automaton.specs.PositionMoves.{shown, aheads, rulesOf, completed, past}
@@ -46,6 +45,11 @@ module _ (taken : ℕ → Bool) where
   shown-taken : (i : ℕ) (r : Rule) → taken i ≡ true → shown taken i r ≡ r.right
   unfolding shown
   shown-taken i r e = ap (λ b. choose b r.right (replicate (length r.right) 0)) e
+
+  zeros : (n k : ℕ) → ◌≡◌ {A = ℕ} (get_or (replicate n 0) k 0) 0
+  zeros zero k = refl
+  zeros (suc n) zero = refl
+  zeros (suc n) (suc k) = zeros n k
 
   -- a code that is shown is the rule's, and the rule is taken
   shown-code : (i : ℕ) (r : Rule) (k : ℕ) → 1 ≤ get_or (shown taken i r) k 0 → (taken i ≡ true) × (get_or r.right k 0 ≡ get_or (shown taken i r) k 0)

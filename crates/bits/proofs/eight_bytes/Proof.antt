@@ -3,6 +3,9 @@ use borrow.Author.Rules.{rules}
 use Rattle.bits.proofs.WindowLaws.{word-join}
 use Rattle.bits.proofs.eight_bytes.Statement.{statement}
 use Rattle.bits.proofs.eight_bytes.Tie as tie
+use Rattle.bits.proofs.eight_bytes.Reads as reads
+use Rattle.bits.proofs.eight_bytes.Lts as lts
+use Rattle.bits.proofs.four_bytes.Reads as four-bytes-reads
 
 four-bytes-requires : tie.Need-four-bytes-requires
 four-bytes-requires c κs = search rules

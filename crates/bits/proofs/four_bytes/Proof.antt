@@ -3,6 +3,9 @@ use borrow.Author.Rules.{rules}
 use Rattle.bits.proofs.WindowLaws.{word-join}
 use Rattle.bits.proofs.four_bytes.Statement.{statement}
 use Rattle.bits.proofs.four_bytes.Tie as tie
+use Rattle.bits.proofs.four_bytes.Reads as reads
+use Rattle.bits.proofs.four_bytes.Lts as lts
+use Rattle.bits.proofs.two_bytes.Reads as two-bytes-reads
 
 two-bytes-requires : tie.Need-two-bytes-requires
 two-bytes-requires c κs = search rules

@@ -4,6 +4,8 @@ use lib.Count.{trailing_le}
 use Rattle.bits.proofs.WindowLaws.{lowest-one}
 use Rattle.bits.proofs.lowest_one.Statement.{statement}
 use Rattle.bits.proofs.lowest_one.Tie as tie
+use Rattle.bits.proofs.lowest_one.Reads as reads
+use Rattle.bits.proofs.lowest_one.Lts as lts
 
 cast-result : tie.Need-overflow-cast-result
 cast-result c = omega (arith, trailing_le 64 c.args.w)

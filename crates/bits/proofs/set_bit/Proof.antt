@@ -9,6 +9,8 @@ use Rattle.bits.specs.Bits.{withBit}
 use Rattle.bits.proofs.Laws.{mask-bit}
 use Rattle.bits.proofs.set_bit.Statement.{statement}
 use Rattle.bits.proofs.set_bit.Tie as tie
+use Rattle.bits.proofs.set_bit.Reads as reads
+use Rattle.bits.proofs.set_bit.Lts as lts
 
 slice-read-bytes : tie.Need-slice-read-bytes
 slice-read-bytes c = search rules

@@ -7,6 +7,9 @@ use Rattle.bits.specs.Windows.{ClearTo}
 use Rattle.bits.proofs.WindowLaws.{clear-start, clear-eight}
 use Rattle.bits.proofs.skip_zeros.Statement.{statement}
 use Rattle.bits.proofs.skip_zeros.Tie as tie
+use Rattle.bits.proofs.skip_zeros.Reads as reads
+use Rattle.bits.proofs.skip_zeros.Lts as lts
+use Rattle.bits.proofs.eight_bytes.Reads as eight-bytes-reads
 
 abbrev invariant-loop : tie.invariant-loop
 invariant-loop bytes from b₀ b = ClearTo bytes from b

@@ -4,6 +4,9 @@ use Prim.Native.Nat.{◌+◌}
 use Rattle.bits.proofs.WindowLaws.{word-one, word-join}
 use Rattle.bits.proofs.two_bytes.Statement.{statement}
 use Rattle.bits.proofs.two_bytes.Tie as tie
+use Rattle.bits.proofs.two_bytes.Reads as reads
+use Rattle.bits.proofs.two_bytes.Lts as lts
+use Rattle.bits.proofs.wide.Reads as wide-reads
 
 shared-slice-read-wide : tie.Need-shared-slice-read-wide
 shared-slice-read-wide c = search rules

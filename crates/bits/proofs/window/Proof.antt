@@ -5,6 +5,10 @@ use lib.ListN.{length}
 use Rattle.bits.proofs.WindowLaws.{word-one, window-eight, window-one}
 use Rattle.bits.proofs.window.Statement.{statement}
 use Rattle.bits.proofs.window.Tie as tie
+use Rattle.bits.proofs.window.Reads as reads
+use Rattle.bits.proofs.window.Lts as lts
+use Rattle.bits.proofs.eight_bytes.Reads as eight-bytes-reads
+use Rattle.bits.proofs.wide.Reads as wide-reads
 
 add-if1 : tie.Need-overflow-add-if1
 add-if1 c = search rules

@@ -3,6 +3,8 @@ use borrow.Author.Rules.{rules}
 use borrow.Author.Tests.{le-leb, lt-leb}
 use Rattle.bits.proofs.window_end.Statement.{statement}
 use Rattle.bits.proofs.window_end.Tie as tie
+use Rattle.bits.proofs.window_end.Reads as reads
+use Rattle.bits.proofs.window_end.Lts as lts
 
 add-if1 : tie.Need-overflow-add-if1
 add-if1 c = search rules

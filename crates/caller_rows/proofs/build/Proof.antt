@@ -1,61 +1,41 @@
 -- build meets its contract: the levels are added, then the states of the last are sorted by class.
 use borrow.Author.Rules.{rules}
 use native.Mathlib.Omega.{arith}
-use Prim.Native.Nat.{ℕ}
-use mathlib.Core.Path.{◌≡◌, sym, subst}
+use mathlib.Core.Path.{◌≡◌}
 use lib.ListN.{length}
 use Rattle.grammar.specs.Limits.{limits}
 use Rattle.grammar.specs.Grammar.{Grammar}
-use Rattle.live.specs.Lent.{ColumnsOf}
-use Rattle.live.proofs.ColumnLaws.{lent-record}
-use Rattle.moves.proofs.Built.{columns_of}
 use Rattle.caller_rows.specs.Levels.{Reaches}
 use Rattle.caller_rows.specs.Rows.{Begun}
 use Rattle.caller_rows.proofs.BuiltLaws.{items-sizable, sortable, built-many, built-fits}
 use Rattle.caller_rows.proofs.build.Statement.{statement}
 use Rattle.caller_rows.proofs.build.Tie as tie
 
+-- from a place back to an earlier one
+abbrev live-rules-of-add-levels-arg6 : tie.After-add-levels-arg6 → tie.After-live-rules
+live-rules-of-add-levels-arg6 c = c.before.before.before.before.before.before.before
+
 -- from the calls back to the function's entry
 abbrev living : tie.After-add-levels → tie.After-live-rules
 living c = c.before.before.before.before.before.before.before.before
 
-abbrev counted : tie.After-live-rules → tie.After-wide
-counted c = c.before.before
-
 abbrev entry : tie.After-add-levels → tie.Start
-entry c = (counted (living c)).before
-
--- the columns, with n as it was made wide
-lent : (w : tie.After-wide) (G : Grammar) → let a = w.before.args in ColumnsOf G a.n a.q a.count a.used a.lefts.now a.lengths.now a.codes.now
-    → ColumnsOf G w.wide.result a.q a.count a.used a.lefts.now a.lengths.now a.codes.now
-lent w G C =
-    let a = w.before.args in
-    subst (λ (n : ℕ). ColumnsOf G n a.q a.count a.used a.lefts.now a.lengths.now a.codes.now) (sym w.wide.ensures) C
-
-wide-requires : tie.Need-wide-requires
-wide-requires c κs = search rules
-
-slice-aggregate-live-rules : tie.Need-slice-aggregate-live-rules
-slice-aggregate-live-rules c = search rules
+entry c = (living c).before
 
 live-rules-requires : tie.Need-live-rules-requires
-live-rules-requires c κs =
-    let w = c.before in
-    let p = w.before.requires.1 in
-    ((p.0, _, lent w p.0 p.1.columns), (columns_of _ (lent-record p.1.columns)).few)
+live-rules-requires c κs = let p = c.requires.1 in (p.0, _, _, p.1.columns)
 
 add-levels-requires : tie.Need-add-levels-requires
 add-levels-requires c κs =
-    let l = c.before.before.before.before.before.before.before in
-    let w = counted l in
-    let p = w.before.pre.1 in
-    (p.0, items-sizable p.0 _ _ _ _ _ _ _ _ _ _ p.1 (l.live-rules.ensures p.0 _ (lent w p.0 p.1.columns)))
+    let l = live-rules-of-add-levels-arg6 c in
+    let p = l.before.pre.1 in
+    (p.0, items-sizable p.0 _ _ _ _ _ _ _ _ _ _ p.1 (l.live-rules.ensures p.0 _ _ p.1.columns))
 
 -- what the levels reach
 reached : (c : tie.After-add-levels) (G : Grammar) → let a = (entry c).args in Begun G a.n a.q a.count a.used a.lefts.now a.lengths.now a.codes.now a.ahead.now
     → let l = c.add-levels.new.1.1.1.1.1.1.1.1 in
     Reaches G a.m c.add-levels.result.states c.add-levels.result.kinds l.0 l.1.0 l.1.1.0 l.1.1.1.0 l.1.1.1.1.0
-reached c G B = c.add-levels.ensures G (items-sizable G _ _ _ _ _ _ _ _ _ _ B ((living c).live-rules.ensures G _ (lent (counted (living c)) G B.columns)))
+reached c G B = c.add-levels.ensures G (items-sizable G _ _ _ _ _ _ _ _ _ _ B ((living c).live-rules.ensures G _ _ B.columns))
 
 returns : tie.Need-returns
 returns c G B = built-many G _ _ _ _ _ _ _ _ c.if1.true (reached c.before G B)
@@ -81,4 +61,4 @@ returns-2 c G B =
 pub build-spec : {M : Type 1} → statement M
 build-spec =
     tie.close
-    (tie.spec wide-requires slice-aggregate-live-rules live-rules-requires add-levels-requires returns sort-targets-requires returns-2)
+    (tie.spec live-rules-requires add-levels-requires returns sort-targets-requires returns-2)

@@ -1,6 +1,5 @@
--- settle meets its contract: the count stays where the others make no more of it.
+-- settle meets its contract: the count stays where it is 2 or the others make no more of it.
 use Prim.Native.Nat.{◌+◌, ◌-◌, ◌*◌, ◌<◌}
-use mathlib.Core.Path.{refl}
 use native.Mathlib.Omega.{arith}
 use lib.ListN.{length}
 use borrow.Author.Rules.{rules}
@@ -8,16 +7,9 @@ use Rattle.grammar.specs.Limits.{limits}
 use Rattle.trees.specs.Trees.{places}
 use Rattle.counts.specs.Counts.{itemCell}
 use Rattle.chart.proofs.Cells.{cell-fits, few-runs}
-use Rattle.chart.proofs.MadeLaws.{stored-none, stored-rise, settles-none, settles-rise}
+use Rattle.chart.proofs.MadeLaws.{settles-none, settles-full, settles-rise}
 use Rattle.chart.proofs.settle.Statement.{statement}
 use Rattle.chart.proofs.settle.Tie as tie
-
--- from a place back to an earlier one
-abbrev made-before : tie.After-cell → tie.After-made
-made-before k = k.before.before
-
-abbrev cell-start : tie.After-cell → tie.Start
-cell-start k = (made-before k).before.before.before.before
 
 -- the state's cell is one of the work row, and small
 inside : (e : tie.Start) → itemCell (length e.args.row.now + 1) (e.args.q - 1) e.args.i e.args.j < length e.args.work.now
@@ -36,15 +28,6 @@ few e =
       e.requires.1.0.rises,
     )
 
-made-requires : tie.Need-made-requires
-made-requires c κs = search rules
-
-same_length : tie.Need-same-length
-same_length c = search rules
-
-returns : tie.Need-returns
-returns c = (stored-none _ _ _ refl, λ b. settles-none _ _ _ _ refl (omega (arith, c.before.made.ensures.1 b, c.if1.true)))
-
 add-cell : tie.Need-overflow-add-cell
 add-cell c = search rules
 
@@ -55,48 +38,53 @@ cell-requires : tie.Need-cell-requires
 cell-requires c κs = search rules
 
 mul-old : tie.Need-overflow-mul-old
-mul-old c = omega (arith, c.cell.ensures, few (cell-start c))
+mul-old c = omega (arith, c.cell.ensures, few c.before.before.before)
 
 slice-read-old : tie.Need-slice-read-old
-slice-read-old c = omega (arith, c.before.cell.ensures, inside (cell-start c.before))
+slice-read-old c = let k = c.before in omega (arith, k.cell.ensures, inside k.before.before.before)
 
-same-length-2 : tie.Need-same-length-2
-same-length-2 c = search rules
+returns : tie.Need-returns
+returns c = settles-full _ _ _ _ c.before.before.cell.ensures c.if1.true
+
+made-requires : tie.Need-made-requires
+made-requires c κs = search rules
+
+same_length : tie.Need-same-length
+same_length c = search rules
 
 returns-2 : tie.Need-returns-2
-returns-2 c = let k = c.before.before in (stored-none _ _ _ k.cell.ensures, λ b. settles-none _ _ _ _ k.cell.ensures (omega (arith, (made-before k).made.ensures.1 b, c.if2.true)))
+returns-2 c = settles-none _ _ _ _ c.before.before.before.before.before.cell.ensures (omega (arith, c.before.made.ensures, c.if2.true))
 
 mul-work : tie.Need-overflow-mul-work
-mul-work c = let k = c.before.before in omega (arith, k.cell.ensures, few (cell-start k))
+mul-work c = let k = c.before.before.before.before.before in omega (arith, k.cell.ensures, few k.before.before.before)
 
 slice-write-work : tie.Need-slice-write-work
-slice-write-work c = let k = c.before.before in omega (arith, k.cell.ensures, inside (cell-start k))
+slice-write-work c = let k = c.before.before.before.before.before in omega (arith, k.cell.ensures, inside k.before.before.before)
 
 sub-result : tie.Need-overflow-sub-result
 sub-result c = search rules
 
-same-length-3 : tie.Need-same-length-3
-same-length-3 c = search rules
+same-length-2 : tie.Need-same-length-2
+same-length-2 c = search rules
 
 returns-3 : tie.Need-returns-3
-returns-3 c = let k = c.before.before in (stored-rise _ _ _ _ k.cell.ensures (made-before k).made.ensures.0 c.if2.false, λ b. settles-rise _ _ _ _ _ k.cell.ensures ((made-before k).made.ensures.1 b) c.if2.false)
+returns-3 c = settles-rise _ _ _ _ _ c.before.before.before.before.before.cell.ensures c.before.made.ensures c.if2.false
 
 pub settle-spec : {M : Type 1} → statement M
 settle-spec =
     tie.close
     (tie.spec
-    made-requires
-    same_length
-    returns
     add-cell
     sub-cell
     cell-requires
     mul-old
     slice-read-old
-    same-length-2
+    returns
+    made-requires
+    same_length
     returns-2
     mul-work
     slice-write-work
     sub-result
-    same-length-3
+    same-length-2
     returns-3)

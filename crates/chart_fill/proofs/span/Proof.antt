@@ -1,93 +1,125 @@
--- span meets its contract: one look after the other, until none is listed.
-use Prim.Native.Nat.{suc, ◌+◌, ◌*◌}
-use mathlib.Core.Path.{◌≡◌, refl, subst, ◌∙◌}
+-- span meets its contract: the flags are dropped from the highest on, and none is left.
+use Prim.Native.Nat.{suc, ◌+◌, ◌-◌, ◌*◌, ◌/◌, ◌≤◌}
+use mathlib.Core.Path.{◌≡◌, refl, sym, subst, ◌∙◌}
 use native.Mathlib.Omega.{arith}
 use lib.ListN.{length}
+use borrow.Author.Rules.{rules}
 use Rattle.grammar.specs.Limits.{limits}
 use Rattle.grammar.specs.Grammar.{Grammar}
 use Rattle.tree_laws.specs.Chart.{Places}
-use Rattle.chart.specs.Rows.{Listed, slack}
+use Rattle.chart.specs.Rows.{slack, block, Covered}
 use Rattle.chart.specs.Filling.{Sheet, Filled, Working}
 use Rattle.chart.proofs.MadeLaws.{span-at}
-use Rattle.chart.proofs.Listing.{listed-most, listed-clear}
-use Rattle.chart_fill.proofs.Laws.{span-start, span-end}
-use borrow.Author.Rules.{rules}
+use Rattle.chart_fill.proofs.Laws.{span-start, span-down, span-end, all-covered}
 use Rattle.chart_fill.proofs.span.Statement.{statement}
 use Rattle.chart_fill.proofs.span.Tie as tie
 
 abbrev invariant-loop : tie.invariant-loop
-invariant-loop work₀ ahead lead next head home row active₀ waiting₀ waits flags₀ todo₀ states i j w₀ depth₀ work active waiting flags todo w depth =
-    (length work ≡ length work₀)
-    × Listed states active waiting w
-    × Listed states flags todo depth
-    × ((G : Grammar) (P : Places limits G) → Sheet G P states ahead lead home → Filled G P states home row work₀ active₀ (suc i) j → Working G P states home row work active flags i j)
+invariant-loop work₀ ahead lead next head home row states i j seen₀ flags₀ blocks₀ q₀ work seen flags blocks q =
+    (q ≤ states)
+    × (length work ≡ length work₀)
+    × ((G : Grammar) (P : Places limits G) → Sheet G P states ahead lead home → Filled G P states home row work₀ seen₀ (suc i) j
+    → Working G P states home row work seen flags q i j × Covered states flags blocks)
+    × (length seen ≡ limits.maxStates)
+    × (length flags ≡ limits.maxStates)
+    × (length blocks ≡ limits.maxStates / block)
 
 abbrev decreases-loop : tie.decreases-loop
-decreases-loop work₀ ahead lead next head home row active₀ waiting₀ waits flags₀ todo₀ states i j w₀ depth₀ work active waiting flags todo w depth = slack work * (limits.maxStates + 1) + depth
+decreases-loop work₀ ahead lead next head home row states i j seen₀ flags₀ blocks₀ q₀ work seen flags blocks q = slack work * (limits.maxStates + 1) + q
 
 -- from a place back to an earlier one
-abbrev begun-start : tie.After-begin invariant-loop decreases-loop → tie.Start invariant-loop decreases-loop
-begun-start b = b.before.before.before.before.before.before.before.before.before.before
+abbrev look-loop : tie.After-look invariant-loop decreases-loop → tie.At-loop invariant-loop decreases-loop
+look-loop w = w.before.before.before.before.before.before
 
 abbrev loop-start : tie.At-loop invariant-loop decreases-loop → tie.Start invariant-loop decreases-loop
-loop-start l = begun-start l.before.before.before.before.before
+loop-start l = l.before.before.before.before.before.before.before
 
-begin-requires : tie.Need-begin-requires invariant-loop decreases-loop
-begin-requires c κs =
-    let e = c.before.before.before.before.before.before.before.before.before in
-    let l = e.requires.1.1.0 in
-    (e.requires.1.1.1, ((listed-most l, l.room, λ k h. ((l.held k h).0, (l.held k h).1)), (e.requires.1.0.rises, omega (arith, e.requires.1.0.inside))))
+long : (e : tie.Start invariant-loop decreases-loop) → length e.args.active ≡ limits.maxStates
+long e = search rules
+
+slice-aggregate-find : tie.Need-slice-aggregate-find invariant-loop decreases-loop
+slice-aggregate-find c = search rules
+
+find-requires : tie.Need-find-requires invariant-loop decreases-loop
+find-requires c κs = search rules
 
 loop-holds : tie.Need-loop-init invariant-loop decreases-loop
 loop-holds c =
-    let b = c.before.before.before.before in
-    let e = begun-start b in (
+    let f = c.before in
+    let e = f.before.before.before.before.before in
+    let a = e.args in (
+      f.find.ensures.0,
       refl,
-      e.pre.1.1.0,
-      b.begin.ensures.0,
-      λ G P S F. span-start S e.pre.1.0.rises (omega (arith, e.pre.1.0.inside)) e.pre.1.1.0 b.begin.ensures.1 F,
+      λ G P S F. let y = f.find.ensures.1 (λ h x g. absurd (omega arith)) (all-covered a.states (limits.maxStates / block) a.active (omega (arith, e.requires.0.ready.few))) in
+          (span-down S f.find.result y.0 (span-start S e.requires.1.rises F), y.1),
+      long e,
+      long e,
+      f.find.auto.1.1.1.0,
     )
+
+slice-aggregate-look : tie.Need-slice-aggregate-look invariant-loop decreases-loop
+slice-aggregate-look c = sym c.before.before.before.loop.invariant.3
+
+slice-aggregate-look-2 : tie.Need-slice-aggregate-look-2 invariant-loop decreases-loop
+slice-aggregate-look-2 c = sym c.before.before.before.before.loop.invariant.4
+
+sub-look : tie.Need-overflow-sub-look invariant-loop decreases-loop
+sub-look c = search rules
+
+slice-aggregate-look-3 : tie.Need-slice-aggregate-look-3 invariant-loop decreases-loop
+slice-aggregate-look-3 c = sym c.before.before.before.before.before.loop.invariant.5
 
 look-requires : tie.Need-look-requires invariant-loop decreases-loop
 look-requires c κs =
-    let l = c.before.before.before.before.before.before in
+    let l = c.before.before.before.before.before in
     let e = loop-start l in
-    (e.pre.0, (span-at e.pre.1.0 l.loop.invariant.0 e.pre.1.0.rises e.pre.1.0.inside, (l.loop.invariant.1, (l.loop.invariant.2, c.before.before.before.before.before.loop-test.true))))
+    let few = e.pre.0.ready.few in (
+      e.pre.0,
+      (
+        span-at e.pre.1 l.loop.invariant.1 e.pre.1.rises e.pre.1.inside,
+        (
+          (omega arith, omega (arith, l.loop.invariant.0)),
+          (omega (arith, few, l.loop.invariant.3), omega (arith, few, l.loop.invariant.4), omega (arith, few, l.loop.invariant.5)),
+        ),
+      ),
+    )
+
+slice-aggregate-find-2 : tie.Need-slice-aggregate-find-2 invariant-loop decreases-loop
+slice-aggregate-find-2 c = search rules
+
+find-requires-2 : tie.Need-find-requires-2 invariant-loop decreases-loop
+find-requires-2 c κs = search rules
 
 loop-less : tie.Need-loop-smaller invariant-loop decreases-loop
-loop-less c = let w = c.before.before.before.before.before.before.before.before.before.before in w.look.ensures.1.1.1
+loop-less c =
+    let f = c.before in
+    let w = f.before.before.before.before.before.before.before.before in
+    omega (arith, w.look.ensures.1.0.1, f.find2.ensures.0)
 
 loop-again : tie.Need-loop-preserved invariant-loop decreases-loop
 loop-again c =
-    let w = c.before.before.before.before.before.before.before.before.before.before in
-    let k = w.before.before.before.before.before.before.before.loop in (
-      w.look.auto.0 ∙ k.invariant.0,
-      w.look.ensures.1.0,
-      w.look.ensures.1.1.0,
-      λ G P S F. w.look.ensures.0 G P S (k.invariant.3 G P S F),
+    let f = c.before in
+    let w = f.before.before.before.before.before.before.before.before in
+    let l = look-loop w in
+    let k = l.loop in
+    let a = (loop-start l).args in (
+      omega (arith, w.look.ensures.1.0.0, f.find2.ensures.0),
+      w.look.auto.0 ∙ k.inv.1,
+      λ G P S F. let x = k.inv.2 G P S F in
+          let W = w.look.ensures.0 G P S
+          (subst (λ z. Working G P a.states a.home.now a.row.now k.work k.seen k.flags z a.i a.j) (let z : k.q ≡ suc (k.q - 1) = omega arith in z) x.0) in
+          let y = f.find2.ensures.1 W.looking.high (w.look.ensures.1.1 x.1) in
+          (span-down S f.find2.result y.0 W, y.1),
+      w.look.auto.1.1.1.1.1.1.1.0 ∙ k.inv.3,
+      w.look.auto.1.1.1.1.1.1.1.1.0 ∙ k.inv.4,
+      f.find2.auto.1.1.1.0 ∙ w.look.auto.1.1.1.1.1.1.1.1.1.1.1.1.1.0 ∙ k.inv.5,
     )
 
 same_length : tie.Need-same-length invariant-loop decreases-loop
-same_length c = c.before.loop.invariant.0
-
-same-length-2 : tie.Need-same-length-2 invariant-loop decreases-loop
-same-length-2 c = search rules
-
-same-length-3 : tie.Need-same-length-3 invariant-loop decreases-loop
-same-length-3 c = search rules
-
-same-length-4 : tie.Need-same-length-4 invariant-loop decreases-loop
-same-length-4 c = search rules
-
-same-length-5 : tie.Need-same-length-5 invariant-loop decreases-loop
-same-length-5 c = search rules
+same_length c = search rules
 
 returns : tie.Need-returns invariant-loop decreases-loop
-returns c =
-    let l = c.before in
-    let a = (loop-start l).args in
-    let none = subst (Listed a.states l.loop.flags l.loop.todo) (let z : l.loop.depth ≡ 0 = omega arith in z) l.loop.invariant.2 in
-    (λ G P S F. span-end S (listed-clear none refl) (l.loop.invariant.3 G P S F), (l.loop.invariant.1, none))
+returns c = let l = c.before.loop in λ G P S F. span-end S (omega arith) (l.invariant.2 G P S F).0
 
 pub span-spec : {M : Type 1} → statement M
 span-spec =
@@ -95,14 +127,17 @@ span-spec =
     (tie.spec
     invariant-loop
     decreases-loop
-    begin-requires
+    slice-aggregate-find
+    find-requires
     loop-holds
+    slice-aggregate-look
+    slice-aggregate-look-2
+    sub-look
+    slice-aggregate-look-3
     look-requires
+    slice-aggregate-find-2
+    find-requires-2
     loop-less
     loop-again
     same_length
-    same-length-2
-    same-length-3
-    same-length-4
-    same-length-5
     returns)

@@ -1,28 +1,26 @@
 -- ways meets its contract: the splits are the products of two parts of the row.
-use Prim.Native.Nat.{◌≤◌}
-use mathlib.Core.Path.{sym, ap, subst, ◌∙◌}
+use mathlib.Core.Path.{ap, ◌∙◌}
 use native.Mathlib.Omega.{arith}
 use borrow.Author.Rules.{rules}
 use Rattle.tree_laws.specs.Chart.{cap}
-use Rattle.tree_laws.proofs.Cap.{cap-most}
 use Rattle.counts.proofs.Laws.{parts_all, few-cells}
 use Rattle.counts.proofs.ways.Statement.{statement}
 use Rattle.counts.proofs.ways.Tie as tie
 
 mul-whole : tie.Need-overflow-mul-whole
-mul-whole c = let s = c.before in omega (arith, few-cells s.args.home s.args.m s.requires.0.home s.requires.0.small)
+mul-whole c = let s = c.before in omega (arith, few-cells s.args.home s.args.m s.requires.home s.requires.small)
 
 add-whole : tie.Need-overflow-add-whole
-add-whole c = let s = c.before in omega (arith, few-cells s.args.home s.args.m s.requires.0.home s.requires.0.small)
+add-whole c = let s = c.before in omega (arith, few-cells s.args.home s.args.m s.requires.home s.requires.small)
 
 mul-whole-2 : tie.Need-overflow-mul-whole-2
 mul-whole-2 c = search rules
 
 mul-rest : tie.Need-overflow-mul-rest
-mul-rest c = let s = c.before in omega (arith, few-cells s.args.after s.args.m s.requires.0.state s.requires.0.small)
+mul-rest c = let s = c.before in omega (arith, few-cells s.args.after s.args.m s.requires.state s.requires.small)
 
 add-rest : tie.Need-overflow-add-rest
-add-rest c = let s = c.before in omega (arith, few-cells s.args.after s.args.m s.requires.0.state s.requires.0.small)
+add-rest c = let s = c.before in omega (arith, few-cells s.args.after s.args.m s.requires.state s.requires.small)
 
 mul-rest-2 : tie.Need-overflow-mul-rest-2
 mul-rest-2 c = search rules
@@ -76,7 +74,7 @@ returns : tie.Need-returns
 returns c =
     let s = c.before.before.before.before in
     let a = s.args in
-    (subst (λ z. z ≤ 2) (sym c.products.ensures) (cap-most _), λ z. c.products.ensures ∙ ap cap (parts_all a.row.now a.m a.home a.after a.i a.from a.j s.requires.1.0 s.requires.1.1 s.requires.0.inside s.requires.0.home-cells s.requires.0.state-cells z))
+    c.products.ensures ∙ ap cap (parts_all a.row.now a.m a.home a.after a.i a.j s.requires.rises s.requires.inside s.requires.home-cells s.requires.state-cells)
 
 pub ways-spec : {M : Type 1} → statement M
 ways-spec =

@@ -1,7 +1,7 @@
 -- `doubles::keep` meets its contract: the names kept, and those from the next place on, are all from place a on. Assumes nothing.
 use borrow.Author.Rules.{rules}
 use native.Mathlib.Omega.{arith}
-use Prim.Native.Nat.{◌+◌, ◌-◌, ◌/◌, ◌≤◌, ◌<◌}
+use Prim.Native.Nat.{◌+◌, ◌-◌, ◌≤◌}
 use mathlib.Core.Path.{◌≡◌, refl, ◌∙◌}
 use lib.ListN.{length, take, length-set}
 use Rattle.doubles.specs.Blocks.{Block}
@@ -10,21 +10,14 @@ use Rattle.doubles.proofs.keep.Statement.{statement}
 use Rattle.doubles.proofs.keep.Tie as tie
 
 abbrev invariant-loop : tie.invariant-loop
-invariant-loop v a starts₀ lengths₀ n most next₀ k₀ starts lengths next k =
-    (a + k ≤ next) × (k ≤ (length starts₀ + 1) / 2) × (length starts ≡ length starts₀) × (length lengths ≡ length lengths₀) × Block v a (take k starts) (take k lengths) next
+invariant-loop v a starts₀ lengths₀ n next₀ k₀ starts lengths next k =
+    (a + k ≤ next) × (k ≤ length starts) × (length starts ≡ length starts₀) × (length lengths ≡ length lengths₀) × Block v a (take k starts) (take k lengths) next
 
 abbrev decreases-loop : tie.decreases-loop
-decreases-loop v a starts₀ lengths₀ n most next₀ k₀ starts lengths next k = (length starts₀ + 1) / 2 - k
+decreases-loop v a starts₀ lengths₀ n next₀ k₀ starts lengths next k = length starts₀ - k
 
 abbrev start : tie.At-loop invariant-loop decreases-loop → tie.Start invariant-loop decreases-loop
 start c = c.before.before.before.before
-
--- name k has an entry
-inside : (c : tie.In-loop invariant-loop decreases-loop) → c.before.loop.k < length c.before.loop.starts
-inside c = let e = start c.before in omega (arith, c.loop-test.true, c.before.loop.invariant.2, e.pre.2)
-
-add_most : tie.Need-overflow-add-most invariant-loop decreases-loop
-add_most c = omega (arith, c.before.before.before.requires.3)
 
 loop-holds : tie.Need-loop-init invariant-loop decreases-loop
 loop-holds c = let e = c.before.before.before in (omega arith, omega arith, refl, refl, block_none e.args.v.now e.args.a)
@@ -78,14 +71,13 @@ loop-again c =
     let e = start c.before.before.before in
     let l = c.before.before.before.loop in
     let t = c.before.before.loop-test.true in
-    let w = inside c.before.before in
     let f = c.find in (
       omega (arith, l.invariant.0, f.ensures.low),
-      omega (arith, t),
+      omega (arith, t, length-set l.starts l.k l.next),
       length-set l.starts l.k l.next ∙ l.invariant.2,
       length-set l.lengths l.k (f.result - l.next) ∙ l.invariant.3,
-      block_more e.args.v.now e.args.a l.next f.result (omega (arith, c.before.if1.false)) f.ensures.at l.starts l.lengths l.k w
-          (omega (arith, w, l.invariant.2, l.invariant.3, e.pre.4)) l.invariant.4,
+      block_more e.args.v.now e.args.a l.next f.result (omega (arith, c.before.if1.false)) f.ensures.at l.starts l.lengths l.k t
+          (omega (arith, t, l.invariant.2, l.invariant.3, e.pre.3)) l.invariant.4,
     )
 
 same-length-3 : tie.Need-same-length-3 invariant-loop decreases-loop
@@ -106,7 +98,6 @@ keep_spec =
     (tie.spec
     invariant-loop
     decreases-loop
-    add_most
     loop-holds
     same_length
     same-length-2

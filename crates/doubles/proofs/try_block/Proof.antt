@@ -44,7 +44,7 @@ clear-requires : tie.Need-clear-requires
 clear-requires c κs = search rules
 
 keep-requires : tie.Need-keep-requires
-keep-requires c κs = let p = (entry (cleared c)).requires in (p.0, p.1, p.2.some, p.2.few, p.2.paired)
+keep-requires c κs = let p = (entry (cleared c)).requires in (p.0, p.1, p.2.some, p.2.paired)
 
 slice-reshare-prefix-stand-twice : tie.Need-slice-reshare-prefix-stand-twice
 slice-reshare-prefix-stand-twice c = starts-room c.before.before.before.before

@@ -12,6 +12,11 @@ use Rattle.drafts.proofs.Adds.{Added, add-fault, add_done}
 use Rattle.drafts.proofs.Opens.{opened-told, shut-told, shut-steps, leaves-refused, leaves-done}
 use Rattle.drafts.proofs.add_rule.Statement.{statement}
 use Rattle.drafts.proofs.add_rule.Tie as tie
+use Rattle.drafts.proofs.add_rule.Reads as reads
+use Rattle.drafts.proofs.add_rule.Lts as lts
+use Rattle.drafts.proofs.adding.append.Reads as append-reads
+use Rattle.drafts.proofs.adding.try_rule.Reads as try-rule-reads
+use Rattle.drafts.proofs.reading.open_draft.Reads as open-draft-reads
 
 abbrev shut : tie.After-known-told → tie.Start
 shut c = c.before.before.before.before.before.before.before

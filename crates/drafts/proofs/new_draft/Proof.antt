@@ -12,6 +12,10 @@ use Rattle.drafts.proofs.Begins.{Starts, starts, new-refused}
 use Rattle.drafts.proofs.Opens.{leaves-refused, leaves-done}
 use Rattle.drafts.proofs.new_draft.Statement.{statement}
 use Rattle.drafts.proofs.new_draft.Tie as tie
+use Rattle.drafts.proofs.new_draft.Reads as reads
+use Rattle.drafts.proofs.new_draft.Lts as lts
+use Rattle.drafts.proofs.edits.begin.Reads as begin-reads
+use Rattle.table_check.proofs.check_up_to.Reads as check-up-to-reads
 
 abbrev refused : tie.After-known-told → tie.Start
 refused c = c.before.before.before.before.before.before

@@ -13,6 +13,11 @@ use Rattle.drafts.proofs.Opens.{opened-told, shut-told, shut-steps, leaves-refus
 use Rattle.drafts.proofs.Marks.{return-unknown, return-nothing, return-done, return-apart, open-holds}
 use Rattle.drafts.proofs.return_to_mark.Statement.{statement}
 use Rattle.drafts.proofs.return_to_mark.Tie as tie
+use Rattle.drafts.proofs.return_to_mark.Reads as reads
+use Rattle.drafts.proofs.return_to_mark.Lts as lts
+use Rattle.drafts.proofs.blocks.copy_within.Reads as copy-within-reads
+use Rattle.drafts.proofs.blocks.held.Reads as held_reads
+use Rattle.drafts.proofs.reading.open_draft.Reads as open-draft-reads
 
 abbrev held : tie.After-slice-known2 → tie.After-held
 held c = c.before.before.before.before.before.before.before

@@ -13,6 +13,10 @@ use Rattle.drafts.proofs.Opens.{opened-told, shut-told, shut-steps, leaves-refus
 use Rattle.drafts.proofs.Marks.{mark-unknown, mark-done, mark-apart}
 use Rattle.drafts.proofs.set_mark.Statement.{statement}
 use Rattle.drafts.proofs.set_mark.Tie as tie
+use Rattle.drafts.proofs.set_mark.Reads as reads
+use Rattle.drafts.proofs.set_mark.Lts as lts
+use Rattle.drafts.proofs.blocks.copy_within.Reads as copy-within-reads
+use Rattle.drafts.proofs.reading.open_draft.Reads as open-draft-reads
 
 abbrev shut : tie.After-known-told → tie.Start
 shut c = c.before.before.before.before.before.before

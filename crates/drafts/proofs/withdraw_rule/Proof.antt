@@ -15,6 +15,12 @@ use Rattle.drafts.proofs.Readouts.{table-room}
 use Rattle.drafts.proofs.Opens.{opened-told, shut-told, shut-steps, leaves-refused, leaves-done}
 use Rattle.drafts.proofs.withdraw_rule.Statement.{statement}
 use Rattle.drafts.proofs.withdraw_rule.Tie as tie
+use Rattle.drafts.proofs.withdraw_rule.Reads as reads
+use Rattle.drafts.proofs.withdraw_rule.Lts as lts
+use Rattle.drafts.proofs.blocks.wide.Reads as wide-reads
+use Rattle.drafts.proofs.edits.remove.Reads as remove-reads
+use Rattle.drafts.proofs.edits.rule_place.Reads as rule-place-reads
+use Rattle.drafts.proofs.reading.open_draft.Reads as open-draft-reads
 
 abbrev else2 : tie.After-slice-known3 → tie.Else2
 else2 c = c.before.before.before.before.before.before

@@ -10,7 +10,7 @@ use borrow.Author.Tests.{eqb-true, eqb-false}
 use lib.Dec.{eqb}
 use lib.ListN.{length, length-set}
 use Rattle.text.specs.Names.{sameName}
-use Rattle.lexicon.specs.Tree.{name_of, spare, Grown, Gap}
+use Rattle.lexicon.specs.Tree.{name_of, Grown, Gap}
 use Rattle.lexicon.proofs.Tree.{grow, told_same, told_free}
 use Rattle.lexicon.proofs.Numbers.{part-is, double-at}
 use Rattle.lexicon.proofs.Growth.{Begun, begun-root, begun-later}
@@ -23,7 +23,7 @@ Separate name k = (i j : ℕ) → i < j → j < k → sameName (name j) (name i)
 
 abbrev invariant-loop : tie.invariant-loop
 invariant-loop text starts lengths links₀ from n k₀ links k =
-    (1 ≤ k) × (k ≤ length starts) × (length links ≡ length links₀) × Grown (name_of text starts lengths) links k × Separate (name_of text starts lengths) k × (spare links ≡ spare links₀)
+    (1 ≤ k) × (k ≤ length starts) × (length links ≡ length links₀) × Grown (name_of text starts lengths) links k × Separate (name_of text starts lengths) k
 
 abbrev decreases-loop : tie.decreases-loop
 decreases-loop text starts lengths links₀ from n k₀ links k = length starts - k
@@ -42,7 +42,7 @@ abbrev turn : tie.After-wide2 invariant-loop decreases-loop → tie.At-loop inva
 turn c = (test c).before
 
 abbrev spelt : tie.After-seek invariant-loop decreases-loop → tie.After-wide2 invariant-loop decreases-loop
-spelt c = c.before.before.before.before
+spelt c = c.before.before.before
 
 abbrev name : tie.Start invariant-loop decreases-loop → ℕ → List ℕ
 name e = name_of e.args.text.now e.args.starts.now e.args.lengths.now
@@ -77,17 +77,14 @@ returns : tie.Need-returns invariant-loop decreases-loop
 returns c =
     let e = c.before.before.before.before.before in let a = e.args in (
       sym (double-at a.text.now a.starts.now a.lengths.now e.requires.spans 0 (omega arith) (λ i j h l. absurd (omega arith)) (λ h. absurd (omega (arith, h, c.if1.true)))),
-      (
-        λ q. record {
-          spans = e.requires.spans;
-          few = e.requires.few;
-          room = e.requires.room;
-          bare = λ q. e.requires.bare (omega (arith, e.requires.near, c.if1.true));
-          grown = λ h. absurd (omega (arith, h, c.if1.true));
-          apart = λ i j h l. absurd (omega (arith, l, c.if1.true));
-        },
-        refl,
-      ),
+      λ q. record {
+        spans = e.requires.spans;
+        few = e.requires.few;
+        room = e.requires.room;
+        bare = λ q. e.requires.bare (omega (arith, e.requires.near, c.if1.true));
+        grown = λ h. absurd (omega (arith, h, c.if1.true));
+        apart = λ i j h l. absurd (omega (arith, l, c.if1.true));
+      },
     )
 
 loop-holds : tie.Need-loop-init invariant-loop decreases-loop
@@ -100,7 +97,7 @@ loop-holds c =
     (λ w. subst (Begun a.text.now a.starts.now a.lengths.now a.links.now) (sym w.1)
     (begun-later a.text.now a.starts.now a.lengths.now a.links.now a.from e.pre (omega (arith, w.0.left))))
     c.if2.branch in
-    (b.low, b.high, refl, b.grown, b.apart, refl)
+    (b.low, b.high, refl, b.grown, b.apart)
 
 mul_wide : tie.Need-overflow-mul-wide invariant-loop decreases-loop
 mul_wide c = search rules
@@ -124,24 +121,19 @@ wide-requires-2 c κs = search rules
 add-e : tie.Need-overflow-add-e invariant-loop decreases-loop
 add-e c = omega (arith, inside c)
 
-sub-x : tie.Need-overflow-sub-x invariant-loop decreases-loop
-sub-x c = search rules
+sub-seek : tie.Need-overflow-sub-seek invariant-loop decreases-loop
+sub-seek c = search rules
 
-part-x-start : tie.Need-slice-bounds-x-start invariant-loop decreases-loop
-part-x-start c = search rules
+part-seek-start : tie.Need-slice-bounds-seek-start invariant-loop decreases-loop
+part-seek-start c = search rules
 
-part-x-end : tie.Need-slice-bounds-x-end invariant-loop decreases-loop
-part-x-end c = omega (arith, inside c)
-
-key-of-requires : tie.Need-key-of-requires invariant-loop decreases-loop
-key-of-requires c κs = search rules
+part-seek-end : tie.Need-slice-bounds-seek-end invariant-loop decreases-loop
+part-seek-end c = omega (arith, inside c.before)
 
 seek-requires : tie.Need-seek-requires invariant-loop decreases-loop
 seek-requires c κs =
-    let l = turn c.before.before.before in let e = start l in (
-      (e.pre.spans, l.loop.inv.1, omega (arith, l.loop.inv.1, e.pre.few), omega (arith, l.loop.inv.1, l.loop.inv.2, l.loop.inv.5, e.pre.room)),
-      (l.loop.inv.3, c.before.key_of.ensures),
-    )
+    let l = turn c.before.before in let e = start l in
+    ((e.pre.spans, l.loop.inv.1, omega (arith, l.loop.inv.1, e.pre.few), omega (arith, l.loop.inv.1, l.loop.inv.2, e.pre.room)), l.loop.inv.3)
 
 enum-known-i : tie.Need-enum-known-i invariant-loop decreases-loop
 enum-known-i c = search rules
@@ -160,7 +152,7 @@ returns-2 c =
     let p = part-is a.text.now a.starts.now a.lengths.now l.loop.k w.before.before.wide.result w.wide2.result w.before.before.wide.ensures w.wide2.ensures in (
       sym (double-at a.text.now a.starts.now a.lengths.now e.pre.spans l.loop.k l.loop.inv.1 l.loop.inv.4
           (λ q. (c.enum_told.given.0.0, h.inside, ap (λ (w : List ℕ). sameName w (name e c.enum_told.given.0.0)) (sym p) ∙ h.same))),
-      (λ q. absurd (omega (arith, q, t)), l.loop.inv.5),
+      λ q. absurd (omega (arith, q, t)),
     )
 
 cast-links : tie.Need-overflow-cast-links invariant-loop decreases-loop
@@ -168,11 +160,11 @@ cast-links c =
     let l = turn (spelt c.before.before.before) in let e = start l in omega (arith, l.loop.inv.1, e.pre.few)
 
 mul-links : tie.Need-overflow-mul-links invariant-loop decreases-loop
-mul-links c = let l = turn (spelt c.before.before.before) in let e = start l in omega (arith, (gap c).near, l.loop.inv.1, l.loop.inv.2, l.loop.inv.5, e.pre.room)
+mul-links c = let l = turn (spelt c.before.before.before) in let e = start l in omega (arith, (gap c).near, l.loop.inv.1, e.pre.few)
 
 slice-write-links : tie.Need-slice-write-links invariant-loop decreases-loop
 slice-write-links c =
-    let l = turn (spelt c.before.before.before) in let e = start l in omega (arith, (gap c).near, l.loop.inv.1, l.loop.inv.2, l.loop.inv.5, e.pre.room)
+    let l = turn (spelt c.before.before.before) in let e = start l in omega (arith, (gap c).near, l.loop.inv.1, l.loop.inv.2, e.pre.room)
 
 add-k : tie.Need-overflow-add-k invariant-loop decreases-loop
 add-k c = let l = turn (spelt c.before.before.before) in omega (arith, l.loop.inv.1, (start l).pre.few)
@@ -184,14 +176,12 @@ loop-again : tie.Need-loop-preserved invariant-loop decreases-loop
 loop-again c =
     let w = spelt c.before.before.before in let l = turn w in let e = start l in
     let t = (test w).loop-test.taken in
-    let g = gap c in
-    let o = grow (name e) l.loop.links l.loop.k c.before.i.given.0.0 l.loop.inv.3 g (omega (arith, g.near, l.loop.inv.1, l.loop.inv.2, l.loop.inv.5, e.pre.room)) in (
+    let g = gap c in (
       omega arith,
       omega (arith, t),
       length-set l.loop.links c.before.i.given.0.0 l.loop.k ∙ l.loop.inv.2,
-      o.0,
+      grow (name e) l.loop.links l.loop.k c.before.i.given.0.0 l.loop.inv.3 g (omega (arith, g.near, l.loop.inv.1, l.loop.inv.2, e.pre.room)),
       separate-more (name e) l.loop.k l.loop.inv.4 g.absent,
-      o.1 ∙ l.loop.inv.5,
     )
 
 same-length-2 : tie.Need-same-length-2 invariant-loop decreases-loop
@@ -204,7 +194,7 @@ returns-3 c =
     let g = subst (λ (k : ℕ). Grown (name e) l.loop.links k) z l.loop.invariant.3 in
     let s = subst (λ (k : ℕ). Separate (name e) k) z l.loop.invariant.4 in (
       sym (double-at a.text.now a.starts.now a.lengths.now e.pre.spans (length a.starts.now) (omega arith) s (λ h. absurd (omega (arith, h)))),
-      (λ q. record { spans = e.pre.spans; few = e.pre.few; room = omega (arith, e.pre.room, l.loop.invariant.2, l.loop.invariant.5); bare = λ z. absurd (omega (arith, z, l.loop.invariant.0)); grown = λ h. g; apart = s }, l.loop.invariant.5),
+      λ q. record { spans = e.pre.spans; few = e.pre.few; room = omega (arith, e.pre.room, l.loop.invariant.2); bare = λ z. absurd (omega (arith, z, l.loop.invariant.0)); grown = λ h. g; apart = s },
     )
 
 pub grow_spec : {M : Type 1} → statement M
@@ -222,10 +212,9 @@ grow_spec =
     shared-slice-read-wide-2
     wide-requires-2
     add-e
-    sub-x
-    part-x-start
-    part-x-end
-    key-of-requires
+    sub-seek
+    part-seek-start
+    part-seek-end
     seek-requires
     enum-known-i
     enum_told

@@ -6,8 +6,7 @@ use Rattle.grammar.specs.Limits.{limits}
 use Rattle.grammar.specs.Grammar.{Grammar, WellFormed}
 use Rattle.grammar.specs.Record.{recordOf}
 use Rattle.tree_walk.specs.Charted.{Rows, rows, Charted}
-use Rattle.grammar.proofs.Lists.{zeros}
-use Rattle.sentence.proofs.Judged.{sow-asks, charted-of}
+use Rattle.sentence.proofs.Judged.{zeros, sow-asks, charted-of}
 use Rattle.sentence.proofs.judge.Statement.{statement}
 use Rattle.sentence.proofs.judge.Tie as tie
 

@@ -4,7 +4,7 @@ use borrow.Author.Rules.{rules}
 use native.Mathlib.Omega.{arith}
 use borrow.Author.Tests.{not-true, not-false}
 use Prim.Native.Nat.{ℕ, ◌+◌, ◌-◌, ◌≤◌}
-use mathlib.Core.Path.{◌≡◌, refl, ap, sym, subst, ◌∙◌}
+use mathlib.Core.Path.{◌≡◌, ap, sym, subst, ◌∙◌}
 use mathlib.Core.Bool.{Bool, true, false}
 use mathlib.Core.List.{List}
 use lib.ListN.{length, take, drop, length-drop}
@@ -19,21 +19,30 @@ use Rattle.grammar.specs.declared.CheckedGrammar.{CheckedGrammar}
 use Rattle.grammar.specs.declared.TableVerdict.TheVariants.{Passed}
 use Rattle.grammar.proofs.Plain.{in-range}
 use Rattle.grammar.proofs.Steps.{grammarOf, table-out}
-use Rattle.grammar.proofs.Sentence.{with-sentence, without-sentence}
+use Rattle.grammar.proofs.WellFormed as formed
+use Rattle.grammar.proofs.Sentence.{with-sentence, without-sentence, not-stored}
 use Rattle.live.specs.Lent.{ColumnsOf}
-use Rattle.table_check.specs.Contracts.{Keyed, nextOrFull}
-use Rattle.table_check.proofs.KeyLaws.{keyed-start, keyed-long}
-use Rattle.table_check.proofs.StoredLaws.{stored-columns, stored-symbols, answer, either}
+use Rattle.live.proofs.ColumnLaws.{lent_of}
+use Rattle.table_check.specs.Contracts.{nextOrFull}
 use Rattle.table_check.proofs.RecordLaws.{paste-part}
-use Rattle.table_check.proofs.WalkLaws.{decoded, Walk, Room, walk_start, walk_before, walk-room, walk-on, walk_end, walk-fault, length-read, fault-read}
+use Rattle.table_check.proofs.WalkLaws.{Walk, Room, walk_start, walk_before, walk-room, walk-on, walk_end, walk-fault, length-read, fault-read}
 use Rattle.table_check.proofs.check_up_to.Statement.{statement}
 use Rattle.table_check.proofs.check_up_to.Tie as tie
 
 abbrev invariant-loop : tie.invariant-loop
-invariant-loop t n table whole terminals nonterminals g₀ keys₀ at₀ g keys at = Walk table t n g at × Keyed table keys at
+invariant-loop t n table whole terminals nonterminals g₀ at₀ g at = Walk table t n g at
 
 abbrev decreases-loop : tie.decreases-loop
-decreases-loop t n table whole terminals nonterminals g₀ keys₀ at₀ g keys at = length table - at
+decreases-loop t n table whole terminals nonterminals g₀ at₀ g at = length table - at
+
+-- what is asked for: the grammar that the table stores, and where the whole is asked for, with a sentence
+abbrev answer : (t n : ℕ) (table : List ℕ) → Bool → Answer Grammar
+answer t n table whole = choose whole (checkTable limits t n table) (storedTable limits t n table)
+
+-- a table that stores no grammar is refused either way
+either : (t n : ℕ) (table : List ℕ) (whole : Bool) (cause at : ℕ) → storedTable limits t n table ≡ refused cause at → answer t n table whole ≡ refused cause at
+either t n table true cause at e = not-stored limits t n table cause at e
+either t n table false cause at e = e
 
 -- t and n are in their ranges
 ranges : (c : tie.Else1 invariant-loop decreases-loop) → let a = c.before.before.before.args in in_range limits a.t a.n ≡ true
@@ -41,7 +50,7 @@ ranges c = sym c.before.in-range.ensures ∙ not-false c.before.in-range.result 
 
 -- from a rule without fault back to the turn's start; from the end of the turn back to the rule
 abbrev turnAt : tie.After-known-told2 invariant-loop decreases-loop → tie.At-loop invariant-loop decreases-loop
-turnAt c = c.before.before.before.before.before.before.before.before.before.before
+turnAt c = c.before.before.before.before.before.before.before.before
 
 abbrev ruleAt : tie.After-code invariant-loop decreases-loop → tie.After-known-told2 invariant-loop decreases-loop
 ruleAt c = c.before.before.before.before.before
@@ -49,11 +58,11 @@ ruleAt c = c.before.before.before.before.before
 -- the rule at the offset is without fault, so the record has room for it
 told : (c : tie.After-known-told2 invariant-loop decreases-loop) → let a = (turnAt c).before.before.before.before.before.args in let l = (turnAt c).loop in
     nextOrFull a.t a.n a.table.now l.g.count l.at ≡ done c.before.read2.given.0.0
-told c = length-read _ c.before.read2.given.0.0 (sym c.before.before.before.before.next-rule.ensures.0 ∙ c.before.read2.given.1)
+told c = length-read _ c.before.read2.given.0.0 (sym c.before.before.before.next-rule.ensures ∙ c.before.read2.given.1)
 
 room : (c : tie.After-known-told2 invariant-loop decreases-loop) → let a = (turnAt c).before.before.before.before.before.args in let l = (turnAt c).loop in
     Room l.g a.table.now l.at c.before.read2.given.0.0
-room c = walk-room c.before.read2.given.0.0 (turnAt c).loop.invariant.0 (told c)
+room c = walk-room c.before.read2.given.0.0 (turnAt c).loop.invariant (told c)
 
 in-range-requires : tie.Need-in-range-requires invariant-loop decreases-loop
 in-range-requires c κs = search rules
@@ -79,17 +88,10 @@ without-rules-requires c κs = search rules
 loop-holds : tie.Need-loop-init invariant-loop decreases-loop
 loop-holds c =
     let a = c.before.before.before.before.args in
-    (subst (λ (g : CheckedGrammar). Walk a.table.now a.t a.n g 0) (sym c.without-rules.ensures) (walk_start a.table.now a.t a.n (ranges c.before)), keyed-start a.table.now)
-
-slice-aggregate-next-rule : tie.Need-slice-aggregate-next-rule invariant-loop decreases-loop
-slice-aggregate-next-rule c =
-    let l = c.before.before.before.before.before.loop in
-    let xs = c.before.before.before.before.before.before.before.before.before.before.args.table.now in
-    let w = l.invariant.0 in
-    sym (keyed-long xs l.keys l.at _ l.invariant.1 refl (omega (arith, ap length (decoded xs l.at w.rules w.front), w.count)))
+    subst (λ (g : CheckedGrammar). Walk a.table.now a.t a.n g 0) (sym c.without-rules.ensures) (walk_start a.table.now a.t a.n (ranges c.before))
 
 next-rule-requires : tie.Need-next-rule-requires invariant-loop decreases-loop
-next-rule-requires c κs = let i = c.before.before.before.before.before.loop.invariant in (walk_before i.0, i.1)
+next-rule-requires c κs = walk_before c.before.before.before.before.loop.invariant
 
 enum-known-read : tie.Need-enum-known-read invariant-loop decreases-loop
 enum-known-read c = search rules
@@ -100,10 +102,10 @@ refuse-requires-2 c κs = search rules
 returns-2 : tie.Need-returns-2 invariant-loop decreases-loop
 returns-2 c =
     let e = c.before.before.read.given in
-    let n = c.before.before.before.before.before in
-    let t = n.before.before.before.before.before.before in
+    let n = c.before.before.before.before in
+    let t = n.before.before.before.before.before in
     let a = t.before.before.before.before.before.args in
-    let o = walk-fault e.0.0 e.0.1.0 t.loop.invariant.0 n.before.before.before.before.before.loop-test.true (fault-read _ e.0.0 e.0.1.0 (sym n.next-rule.ensures.0 ∙ e.1)) in
+    let o = walk-fault e.0.0 e.0.1.0 t.loop.invariant n.before.before.before.before.loop-test.true (fault-read _ e.0.0 e.0.1.0 (sym n.next-rule.ensures ∙ e.1)) in
     c.refuse2.ensures ∙ ap tableChecked (sym (either a.t a.n a.table.now a.whole _ _ o))
 
 enum-known-read-2 : tie.Need-enum-known-read-2 invariant-loop decreases-loop
@@ -197,47 +199,39 @@ loop-again c =
     let k = b.before.read2.given.0.0 in
     let t = turnAt b in
     let a = t.before.before.before.before.before.args in
-    let e : t.loop.at + 2 + k - (t.loop.at + 2) ≡ k = omega arith in (
-      walk-on k c.code.result _ t.loop.inv.0 b.before.before.before.before.before.before.before.before.before.loop-test.taken (told b)
-          (c.before.before.put-codes.ensures ∙ paste-part t.loop.g.codes (drop (t.loop.at + 2) a.table.now) t.loop.g.used (t.loop.at + 2 + k - (t.loop.at + 2)) k e (simp length-drop (omega (arith, (room b).whole))))
-          c.code.ensures,
-      b.before.before.before.before.next-rule.ensures.1 k b.before.read2.given.1,
-    )
+    let e : t.loop.at + 2 + k - (t.loop.at + 2) ≡ k = omega arith in
+    walk-on k c.code.result _ t.loop.inv b.before.before.before.before.before.before.before.loop-test.taken (told b)
+    (c.before.before.put-codes.ensures ∙ paste-part t.loop.g.codes (drop (t.loop.at + 2) a.table.now) t.loop.g.used (t.loop.at + 2 + k - (t.loop.at + 2)) k e (simp length-drop (omega (arith, (room b).whole))))
+    c.code.ensures
 
 -- at the table's end: the grammar that it stores, whose columns the record has
 abbrev start : tie.After-loop invariant-loop decreases-loop → tie.Start invariant-loop decreases-loop
 start c = c.before.before.before.before.before.before
 
 abbrev Whole : tie.After-loop invariant-loop decreases-loop → Grammar
-Whole c = let a = (start c).args in grammarOf a.t a.n c.before.loop.invariant.0.rules
+Whole c = let a = (start c).args in grammarOf a.t a.n c.before.loop.invariant.rules
 
 stored : (c : tie.After-loop invariant-loop decreases-loop) → let a = (start c).args in storedTable limits a.t a.n a.table.now ≡ done (Whole c)
-stored c = walk_end c.before.loop.invariant.0 c.loop-test.false
+stored c = walk_end c.before.loop.invariant c.loop-test.false
 
 columns : (c : tie.After-loop invariant-loop decreases-loop) → let g = c.before.loop.g in
-    ColumnsOf (Whole c) (start c).args.n g.states g.count g.used g.lefts g.lengths g.codes
-columns c =
-    let a = (start c).args in
-    let g = c.before.loop.g in
-    let s = c.before.loop.invariant.0.shows in
-    let m = (stored-symbols a.t a.n a.table.now (Whole c) (stored c) g.terminals g.nonterminals g.count g.used g.states g.offsets g.lefts g.lengths g.codes s).1 in
-    subst (λ (n : ℕ). ColumnsOf (Whole c) n g.states g.count g.used g.lefts g.lengths g.codes) m
-    (stored-columns a.t a.n a.table.now (Whole c) (stored c) g.terminals g.nonterminals g.count g.used g.states g.offsets g.lefts g.lengths g.codes s)
+    ColumnsOf (Whole c) g.nonterminals g.states g.count g.used g.lefts g.lengths g.codes
+columns c = lent_of _ (Whole c) (formed.stored-only limits formed.room _ _ _ (Whole c) (stored c)).wellFormed c.before.loop.invariant.shows
 
 -- from the question for a sentence back to the table's end
 abbrev ended : tie.After-has-sentence invariant-loop decreases-loop → tie.After-loop invariant-loop decreases-loop
 ended c = c.before.before.before.before.before.before
 
 sentence : (c : tie.After-has-sentence invariant-loop decreases-loop) → c.has-sentence.result ≡ hasSentence limits (Whole (ended c))
-sentence c = c.has-sentence.ensures _ _ (columns (ended c))
+sentence c = c.has-sentence.ensures _ _ _ (columns (ended c))
 
 -- the record is the grammar's
 passed : (c : tie.After-loop invariant-loop decreases-loop) → let a = (start c).args in answer a.t a.n a.table.now a.whole ≡ done (Whole c)
     → record { verdict = Passed; grammar = c.before.loop.g } ≡ tableChecked (answer a.t a.n a.table.now a.whole)
-passed c e = ap (λ (g : CheckedGrammar). record { verdict = Passed; grammar = g }) c.before.loop.invariant.0.shows ∙ ap tableChecked (sym e)
+passed c e = ap (λ (g : CheckedGrammar). record { verdict = Passed; grammar = g }) c.before.loop.invariant.shows ∙ ap tableChecked (sym e)
 
 has-sentence-requires : tie.Need-has-sentence-requires invariant-loop decreases-loop
-has-sentence-requires c κs = let l = c.before.before.before.before.before in (Whole l, _, columns l)
+has-sentence-requires c κs = let l = c.before.before.before.before.before in (Whole l, _, _, columns l)
 
 refuse-requires-3 : tie.Need-refuse-requires-3 invariant-loop decreases-loop
 refuse-requires-3 c κs = search rules
@@ -285,7 +279,6 @@ check-up-to-spec =
     cast-nonterminals
     without-rules-requires
     loop-holds
-    slice-aggregate-next-rule
     next-rule-requires
     enum-known-read
     refuse-requires-2

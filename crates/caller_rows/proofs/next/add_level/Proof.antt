@@ -6,8 +6,8 @@ use mathlib.Core.Path.{◌≡◌, sym}
 use lib.ListN.{length}
 use Rattle.grammar.specs.Limits.{limits}
 use Rattle.grammar.specs.Grammar.{Grammar}
-use Rattle.grammar.proofs.Lists.{zeros}
 use Rattle.moves.proofs.Built.{columns_of}
+use Rattle.caller_rows.proofs.PlaceLaws.{zeros}
 use Rattle.caller_rows.specs.Levels.{writtenFrom, sizedBy, Sizable, Level}
 use Rattle.caller_rows.proofs.BuiltLaws.{sizable-by}
 use Rattle.caller_rows.proofs.AddLaws.{record_of, counted, ready, said, segments, down-small, next_level}

@@ -16,6 +16,15 @@ use Rattle.certificate_check.specs.Columns.{Noted, ClosedAt, ClosedFrom}
 use Rattle.certificate_check.proofs.ColumnLaws.{meet-fits, near-held, wide-mask, closed_none, closed-more, closed-end}
 use Rattle.certificate_check.proofs.columns.columns_closed.Statement.{statement}
 use Rattle.certificate_check.proofs.columns.columns_closed.Tie as tie
+use Rattle.certificate_check.proofs.columns.columns_closed.Reads as reads
+use Rattle.certificate_check.proofs.columns.columns_closed.Lts as lts
+use Rattle.bits.proofs.lowest_one.Reads as lowest-one-reads
+use Rattle.bits.proofs.wide_window.Reads as wide-window-reads
+use Rattle.certificate_check.proofs.columns.column_held.Reads as column-held-reads
+use Rattle.certificate_check.proofs.columns.meet.Reads as meet-reads
+use Rattle.indices.proofs.index_of.Reads as index-of-reads
+use Rattle.plans.proofs.layer_after.Reads as layer-after-reads
+use Rattle.plans.proofs.side_of.Reads as side-of-reads
 
 abbrev invariant-loop : tie.invariant-loop
 invariant-loop ahead number member first after targets t m q bytes f a b n seen₀ x base near window w₀ c₀ seen w c =

@@ -1,12 +1,15 @@
 -- columns_met meets its contract: one target more in each turn.
 use borrow.Author.Rules.{rules}
 use native.Mathlib.Omega.{arith}
-use mathlib.Core.Path.{◌≡◌}
-use Prim.Native.Nat.{◌-◌, ◌≤◌}
+use mathlib.Core.Path.{◌≡◌, sym, subst}
+use Prim.Native.Nat.{ℕ, ◌-◌, ◌≤◌}
 use Rattle.certificate_check.specs.Columns.{ColumnsMet}
 use Rattle.certificate_check.proofs.ColumnLaws.{columns-none, columns-more}
 use Rattle.certificate_check.proofs.columns.columns_met.Statement.{statement}
 use Rattle.certificate_check.proofs.columns.columns_met.Tie as tie
+use Rattle.certificate_check.proofs.columns.columns_met.Reads as reads
+use Rattle.certificate_check.proofs.columns.columns_met.Lts as lts
+use Rattle.plans.proofs.wide.Reads as wide-reads
 
 abbrev invariant-loop : tie.invariant-loop
 invariant-loop targets near begin from k span h₀ h = (h ≤ span) × ColumnsMet targets near begin from k h

@@ -10,6 +10,10 @@ use Rattle.certificate_check.specs.Columns.{Noting}
 use Rattle.certificate_check.proofs.ColumnLaws.{note-more, note-pairs}
 use Rattle.certificate_check.proofs.columns.parts_held.Statement.{statement}
 use Rattle.certificate_check.proofs.columns.parts_held.Tie as tie
+use Rattle.certificate_check.proofs.columns.parts_held.Reads as reads
+use Rattle.certificate_check.proofs.columns.parts_held.Lts as lts
+use Rattle.certificate_check.proofs.columns.pairs_held.Reads as pairs-held-reads
+use Rattle.plans.proofs.wide.Reads as wide-reads
 
 -- from the classes back to the function's entry
 abbrev start : tie.After-wide2 → tie.Start

@@ -10,6 +10,10 @@ use Rattle.certificate_check.specs.Columns.{Noting}
 use Rattle.certificate_check.proofs.ColumnLaws.{note-more, note-row}
 use Rattle.certificate_check.proofs.columns.right_held.Statement.{statement}
 use Rattle.certificate_check.proofs.columns.right_held.Tie as tie
+use Rattle.certificate_check.proofs.columns.right_held.Reads as reads
+use Rattle.certificate_check.proofs.columns.right_held.Lts as lts
+use Rattle.certificate_check.proofs.columns.row_held.Reads as row-held-reads
+use Rattle.plans.proofs.wide.Reads as wide-reads
 
 -- from the class back to the function's entry
 abbrev start : tie.After-wide → tie.Start

@@ -11,6 +11,10 @@ use Rattle.certificate_check.specs.Columns.{span_of, target_of, RowTo}
 use Rattle.certificate_check.proofs.ColumnLaws.{row-none, row_more, row-bit, row-times}
 use Rattle.certificate_check.proofs.columns.row_held.Statement.{statement}
 use Rattle.certificate_check.proofs.columns.row_held.Tie as tie
+use Rattle.certificate_check.proofs.columns.row_held.Reads as reads
+use Rattle.certificate_check.proofs.columns.row_held.Lts as lts
+use Rattle.bits.proofs.is_set.Reads as is-set-reads
+use Rattle.plans.proofs.wide.Reads as wide-reads
 
 abbrev invariant-loop : tie.invariant-loop
 invariant-loop first targets q bytes kind row c from end span base k₀ k = (k ≤ span) × (from ≡ get_or first kind 0) × (span ≡ span_of first kind) × (base ≡ row * q) × RowTo first targets q bytes kind row k

@@ -6,6 +6,9 @@ use native.Mathlib.Omega.{arith}
 use Rattle.drafts.proofs.Adds.{append-cell, append-row}
 use Rattle.drafts.proofs.adding.append.Statement.{statement}
 use Rattle.drafts.proofs.adding.append.Tie as tie
+use Rattle.drafts.proofs.adding.append.Reads as reads
+use Rattle.drafts.proofs.adding.append.Lts as lts
+use Rattle.drafts.proofs.edits.put_entries.Reads as put-entries-reads
 
 abbrev start-of-slice-known3 : tie.After-slice-known3 → tie.Start
 start-of-slice-known3 c = c.before.before.before.before.before.before.before

@@ -5,6 +5,8 @@ use native.Mathlib.Omega.{arith}
 use Rattle.drafts.proofs.Adds.{looked-cut, looked-all}
 use Rattle.drafts.proofs.adding.at_most.Statement.{statement}
 use Rattle.drafts.proofs.adding.at_most.Tie as tie
+use Rattle.drafts.proofs.adding.at_most.Reads as reads
+use Rattle.drafts.proofs.adding.at_most.Lts as lts
 
 returns : tie.Need-returns
 returns c = looked-cut c.before.args.m c.if1.true

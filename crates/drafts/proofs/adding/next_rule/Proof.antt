@@ -13,6 +13,10 @@ use Rattle.table_check.proofs.WalkLaws.{next-full, next-fault, next-repeated, ne
 use Rattle.drafts.proofs.Earlier.{led-leading, led-few, led-states}
 use Rattle.drafts.proofs.adding.next_rule.Statement.{statement}
 use Rattle.drafts.proofs.adding.next_rule.Tie as tie
+use Rattle.drafts.proofs.adding.next_rule.Reads as reads
+use Rattle.drafts.proofs.adding.next_rule.Lts as lts
+use Rattle.drafts.proofs.adding.stands_before.Reads as stands-before-reads
+use Rattle.table_check.proofs.read_rule.Reads as read-rule-reads
 
 abbrev start : tie.After-known-told → tie.Start
 start c = c.before.before.before.before.before.before

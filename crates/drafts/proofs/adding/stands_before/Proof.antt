@@ -9,6 +9,10 @@ use Rattle.grammar.specs.TableCheck.{sameRule}
 use Rattle.drafts.proofs.Earlier.{Behind, behind-start, behind-whole, behind-found, behind_more, behind-end}
 use Rattle.drafts.proofs.adding.stands_before.Statement.{statement}
 use Rattle.drafts.proofs.adding.stands_before.Tie as tie
+use Rattle.drafts.proofs.adding.stands_before.Reads as reads
+use Rattle.drafts.proofs.adding.stands_before.Lts as lts
+use Rattle.drafts.proofs.blocks.wide.Reads as wide-reads
+use Rattle.table_check.proofs.same_rule.Reads as same-rule-reads
 
 abbrev invariant-loop : tie.invariant-loop
 invariant-loop table at k o₀ o = Behind table at k o

@@ -12,6 +12,11 @@ use Rattle.drafts.proofs.Readouts.{table-room, counts-held}
 use Rattle.drafts.proofs.adding.try_rule.Statement.{statement}
 use Rattle.drafts.proofs.adding.try_rule.Tie as tie
 use Rattle.drafts.proofs.adding.try_rule.Reads as reads
+use Rattle.drafts.proofs.adding.try_rule.Lts as lts
+use Rattle.drafts.proofs.adding.at_most.Reads as at-most-reads
+use Rattle.drafts.proofs.adding.next_rule.Reads as next-rule-reads
+use Rattle.drafts.proofs.blocks.wide.Reads as wide-reads
+use Rattle.drafts.proofs.edits.put_entries.Reads as put-entries-reads
 
 -- where the draft's table has been copied, where the entries have been counted, and where both are copied
 abbrev start-of-both : tie.After-put-entries2 → tie.Start

@@ -10,6 +10,9 @@ use Rattle.drafts.specs.Edits.{ending}
 use Rattle.drafts.proofs.Walks.{walk_start, walk-on, walk-short, walk-cut, walk_end, end_none, no-entry}
 use Rattle.drafts.proofs.blocks.block_end.Statement.{statement}
 use Rattle.drafts.proofs.blocks.block_end.Tie as tie
+use Rattle.drafts.proofs.blocks.block_end.Reads as reads
+use Rattle.drafts.proofs.blocks.block_end.Lts as lts
+use Rattle.drafts.proofs.blocks.wide.Reads as wide-reads
 
 abbrev invariant-loop : tie.invariant-loop
 invariant-loop block cell count i₀ at₀ i at = (i ≤ count) × (at ≤ length block) × (walk (count - i) block at ≡ end_of block)

@@ -9,6 +9,8 @@ use lib.Seq.{paste, paste-zero}
 use Rattle.drafts.proofs.Copies.{copy_more, copy-length}
 use Rattle.drafts.proofs.blocks.copy_within.Statement.{statement}
 use Rattle.drafts.proofs.blocks.copy_within.Tie as tie
+use Rattle.drafts.proofs.blocks.copy_within.Reads as reads
+use Rattle.drafts.proofs.blocks.copy_within.Lts as lts
 
 abbrev invariant-loop : tie.invariant-loop
 invariant-loop row₀ from to n i₀ row i = (i ≤ n) × (row ≡ paste row₀ to (drop from row₀) i)

@@ -9,6 +9,9 @@ use Rattle.drafts.specs.Edits.{ending}
 use Rattle.drafts.specs.Row.{blockSize, end_of}
 use Rattle.drafts.proofs.blocks.held.Statement.{statement}
 use Rattle.drafts.proofs.blocks.held.Tie as tie
+use Rattle.drafts.proofs.blocks.held.Reads as reads
+use Rattle.drafts.proofs.blocks.held.Lts as lts
+use Rattle.drafts.proofs.blocks.block_end.Reads as block-end-reads
 
 mul-from : tie.Need-overflow-mul-from
 mul-from c = search rules

@@ -11,6 +11,10 @@ use Rattle.drafts.specs.Draft.{marksCount}
 use Rattle.drafts.proofs.Entries.{begin-row, begin-lengths, emptied-length}
 use Rattle.drafts.proofs.edits.begin.Statement.{statement}
 use Rattle.drafts.proofs.edits.begin.Tie as tie
+use Rattle.drafts.proofs.edits.begin.Reads as reads
+use Rattle.drafts.proofs.edits.begin.Lts as lts
+use Rattle.drafts.proofs.edits.empty_marks.Reads as empty-marks-reads
+use Rattle.drafts.proofs.edits.put_entries.Reads as put-entries-reads
 
 abbrev start : tie.After-put-entries → tie.Start
 start c = c.before.before.before.before

@@ -10,6 +10,8 @@ use Rattle.drafts.specs.Draft.{marksCount}
 use Rattle.drafts.proofs.Entries.{emptied-length, emptied-more, emptied-none}
 use Rattle.drafts.proofs.edits.empty_marks.Statement.{statement}
 use Rattle.drafts.proofs.edits.empty_marks.Tie as tie
+use Rattle.drafts.proofs.edits.empty_marks.Reads as reads
+use Rattle.drafts.proofs.edits.empty_marks.Lts as lts
 
 abbrev invariant-loop : tie.invariant-loop
 invariant-loop row₀ k₀ row k = (k ≤ marksCount) × (row ≡ emptied k row₀)

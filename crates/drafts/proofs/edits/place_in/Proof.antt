@@ -9,6 +9,9 @@ use Rattle.drafts.specs.Row.{walk}
 use Rattle.drafts.proofs.Walks.{walk-whole, walk-next, walk_end}
 use Rattle.drafts.proofs.edits.place_in.Statement.{statement}
 use Rattle.drafts.proofs.edits.place_in.Tie as tie
+use Rattle.drafts.proofs.edits.place_in.Reads as reads
+use Rattle.drafts.proofs.edits.place_in.Lts as lts
+use Rattle.drafts.proofs.blocks.wide.Reads as wide-reads
 
 abbrev invariant-loop : tie.invariant-loop
 invariant-loop block m i₀ at₀ i at = (i ≤ m) × (at ≤ length block) × (walk (m - i) block at ≡ walk m block 1)

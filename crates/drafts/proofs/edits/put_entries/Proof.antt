@@ -6,9 +6,11 @@ use mathlib.Core.Path.{◌≡◌, ap, ◌∙◌}
 use native.Mathlib.Omega.{arith}
 use lib.ListN.{length}
 use lib.Seq.{paste, paste-zero, length-paste}
-use Rattle.table_check.proofs.RecordLaws.{paste_more}
+use Rattle.drafts.proofs.Entries.{put-more}
 use Rattle.drafts.proofs.edits.put_entries.Statement.{statement}
 use Rattle.drafts.proofs.edits.put_entries.Tie as tie
+use Rattle.drafts.proofs.edits.put_entries.Reads as reads
+use Rattle.drafts.proofs.edits.put_entries.Lts as lts
 
 abbrev invariant-loop : tie.invariant-loop
 invariant-loop row₀ at entries m i₀ row i = (i ≤ m) × (row ≡ paste row₀ at entries i)
@@ -46,7 +48,7 @@ loop-again c =
     let a = s.args in
     let l = c.before.before.loop in
     let t = c.before.loop-test.true in
-    (omega arith, paste_more a.row.now l.row a.entries.now a.at l.i (omega (arith, s.requires.0, t)) (omega (arith, s.requires.1, t)) l.invariant.1)
+    (omega arith, put-more a.row.now l.row a.entries.now a.at l.i (omega (arith, s.requires.0, t)) (omega (arith, s.requires.1, t)) l.invariant.1)
 
 same_length : tie.Need-same-length invariant-loop decreases-loop
 same_length c =

@@ -6,6 +6,10 @@ use native.Mathlib.Omega.{arith}
 use Rattle.drafts.proofs.Removals.{remove-apart, remove-cell, remove-row}
 use Rattle.drafts.proofs.edits.remove.Statement.{statement}
 use Rattle.drafts.proofs.edits.remove.Tie as tie
+use Rattle.drafts.proofs.edits.remove.Reads as reads
+use Rattle.drafts.proofs.edits.remove.Lts as lts
+use Rattle.drafts.proofs.blocks.copy_within.Reads as copy-within-reads
+use Rattle.drafts.proofs.blocks.wide.Reads as wide-reads
 
 abbrev start-of-slice-known4 : tie.After-slice-known4 → tie.Start
 start-of-slice-known4 c = c.before.before.before.before.before.before.before.before

@@ -13,6 +13,10 @@ use Rattle.drafts.proofs.Opens.{opened-told, shut-told, open-refused}
 use Rattle.drafts.proofs.Readouts.{Counted, counts-held, table-room}
 use Rattle.drafts.proofs.reading.draft_counts.Statement.{statement}
 use Rattle.drafts.proofs.reading.draft_counts.Tie as tie
+use Rattle.drafts.proofs.reading.draft_counts.Reads as reads
+use Rattle.drafts.proofs.reading.draft_counts.Lts as lts
+use Rattle.drafts.proofs.reading.open_draft.Reads as open-draft-reads
+use Rattle.drafts.proofs.blocks.wide.Reads as wide-reads
 
 abbrev begin : tie.After-known-told2 → tie.Start
 begin c = c.before.before.before.before.before

@@ -12,6 +12,9 @@ use Rattle.drafts.proofs.Readouts.{table_none, table-held, table-room}
 use Rattle.drafts.proofs.Opens.{opened-told, shut-told}
 use Rattle.drafts.proofs.reading.draft_table.Statement.{statement}
 use Rattle.drafts.proofs.reading.draft_table.Tie as tie
+use Rattle.drafts.proofs.reading.draft_table.Reads as reads
+use Rattle.drafts.proofs.reading.draft_table.Lts as lts
+use Rattle.drafts.proofs.reading.open_draft.Reads as open-draft-reads
 
 abbrev start-of-result : tie.After-result → tie.Start
 start-of-result c = c.before.before.before.before.before.before

@@ -8,6 +8,9 @@ use Rattle.drafts.specs.Edits.{opening}
 use Rattle.drafts.proofs.Opens.{open-short, open-ends, open-nothing}
 use Rattle.drafts.proofs.reading.open_draft.Statement.{statement}
 use Rattle.drafts.proofs.reading.open_draft.Tie as tie
+use Rattle.drafts.proofs.reading.open_draft.Reads as reads
+use Rattle.drafts.proofs.reading.open_draft.Lts as lts
+use Rattle.drafts.proofs.blocks.held.Reads as held_reads
 
 abbrev start-of-known-told : tie.After-known-told → tie.Start
 start-of-known-told c = c.before.before.before.before.before.before

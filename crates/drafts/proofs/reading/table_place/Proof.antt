@@ -11,6 +11,9 @@ use Rattle.drafts.proofs.Opens.{opened-told, shut-told, open-refused}
 use Rattle.drafts.proofs.Readouts.{counts-held, table-room}
 use Rattle.drafts.proofs.reading.table_place.Statement.{statement}
 use Rattle.drafts.proofs.reading.table_place.Tie as tie
+use Rattle.drafts.proofs.reading.table_place.Reads as reads
+use Rattle.drafts.proofs.reading.table_place.Lts as lts
+use Rattle.drafts.proofs.reading.open_draft.Reads as open-draft-reads
 
 abbrev begin : tie.After-known-told2 → tie.Start
 begin c = c.before.before.before.before.before

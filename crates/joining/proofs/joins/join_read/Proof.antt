@@ -1,27 +1,89 @@
--- `joining::joins::join_read` meets its contract: the names, then the rules. Assumes nothing.
+-- `joining::joins::join_read` meets its contract: names, rules and last tests, one after the other. Assumes nothing.
 use borrow.Author.Rules.{rules}
 use native.Mathlib.Omega.{arith}
-use Prim.Native.Nat.{ℕ}
-use lib.ListN.{replicate, length-replicate}
-use Rattle.grammar.specs.Limits.{limits}
-use Rattle.joining.proofs.Rooms.{terminals-room, nonterminals-room}
-use Rattle.joining.proofs.JoinLaws.{named, names-refused, names-passed, join_kept}
+use mathlib.Core.Path.{sym}
+use lib.Seq.{length-take-le}
+use Rattle.joining.proofs.JoinLaws.{robot-names-fit, addon-names-fit, addon-table-fits, names-few, numbers_fit, named, names-refused, rules-ready, last-refused, last-joined}
 use Rattle.joining.proofs.joins.join_read.Statement.{statement}
 use Rattle.joining.proofs.joins.join_read.Tie as tie
 
 -- from a place back to an earlier one
-abbrev lent : tie.After-count-kinds → tie.Start
-lent c = c.before.before.before.before.before.before
+abbrev lent : tie.After-slice-known3 → tie.Start
+lent c = c.before.before.before.before.before.before.before.before.before.before
 
-slice-aggregate-count-kinds : tie.Need-slice-aggregate-count-kinds
-slice-aggregate-count-kinds c = search rules
+abbrev args : tie.After-join-names → tie.After-slice-known3
+args c = c.before.before.before.before.before.before.before
 
-slice-aggregate-count-kinds-2 : tie.Need-slice-aggregate-count-kinds-2
-slice-aggregate-count-kinds-2 c = search rules
+abbrev counted : tie.After-known-told2 → tie.After-join-names
+counted c = c.before.before.before.before.before.before.before
 
-count-kinds-requires : tie.Need-count-kinds-requires
-count-kinds-requires c κs =
-    let s = c.before.before.before.before.before in named s.requires (replicate limits.maxTerminals 0) (replicate limits.maxNonterminals 0) terminals-room nonterminals-room
+abbrev put : tie.After-put-rules → tie.After-known-told2
+put c = c.before.before.before.before.before
+
+abbrev tested : tie.After-last-tests → tie.After-put-rules
+tested c = c.before.before.before.before
+
+abbrev start : tie.After-known-told2 → tie.Start
+start c = lent (args (counted c))
+
+add-m : tie.Need-overflow-add-m
+add-m c = let p = names-few (lent c).requires in omega (arith, p.0, p.1)
+
+add-k : tie.Need-overflow-add-k
+add-k c = let p = names-few (lent c).requires in omega (arith, p.2, p.3)
+
+slice-aggregate-join-names : tie.Need-slice-aggregate-join-names
+slice-aggregate-join-names c = sym (length-take-le _ _ (robot-names-fit (lent c.before).requires).0)
+
+slice-aggregate-join-names-2 : tie.Need-slice-aggregate-join-names-2
+slice-aggregate-join-names-2 c = sym (length-take-le _ _ (robot-names-fit (lent c.before.before).requires).1)
+
+slice-aggregate-join-names-3 : tie.Need-slice-aggregate-join-names-3
+slice-aggregate-join-names-3 c = sym (length-take-le _ _ (addon-names-fit (lent c.before.before.before).requires).0)
+
+slice-aggregate-join-names-4 : tie.Need-slice-aggregate-join-names-4
+slice-aggregate-join-names-4 c = sym (length-take-le _ _ (addon-names-fit (lent c.before.before.before.before).requires).1)
+
+join-names-requires : tie.Need-join-names-requires
+join-names-requires c κs = named (lent c.before.before.before.before.before.before).requires
+
+returns : tie.Need-returns
+returns c =
+    let w = c.before.before.before.before.before.before.before in
+    names-refused (lent (args w)).requires _ _ w.join_names.result c.before.cause.given.1 w.join_names.ensures
+
+slice-aggregate-put-rules : tie.Need-slice-aggregate-put-rules
+slice-aggregate-put-rules c = sym (length-take-le _ _ (addon-table-fits (start c.before).requires))
+
+slice-reshare-prefix-put-rules : tie.Need-slice-reshare-prefix-put-rules
+slice-reshare-prefix-put-rules c = let k = c.before in omega (arith, (numbers_fit (start k).requires).0, (counted k).join_names.auto.1.1.1.1.1.1.1.1.0)
+
+slice-aggregate-put-rules-2 : tie.Need-slice-aggregate-put-rules-2
+slice-aggregate-put-rules-2 c = let k = c.before.before in sym (length-take-le _ _ (omega (arith, (numbers_fit (start k).requires).0, (counted k).join_names.auto.1.1.1.1.1.1.1.1.0)))
+
+slice-reshare-prefix-put-rules-2 : tie.Need-slice-reshare-prefix-put-rules-2
+slice-reshare-prefix-put-rules-2 c = let k = c.before.before in omega (arith, (numbers_fit (start k).requires).1, (counted k).join_names.auto.1.1.1.1.1.1.1.1.1.0)
+
+slice-aggregate-put-rules-3 : tie.Need-slice-aggregate-put-rules-3
+slice-aggregate-put-rules-3 c = let k = c.before.before.before in sym (length-take-le _ _ (omega (arith, (numbers_fit (start k).requires).1, (counted k).join_names.auto.1.1.1.1.1.1.1.1.1.0)))
+
+put-rules-requires : tie.Need-put-rules-requires
+put-rules-requires c κs =
+    let k = c.before.before.before.before in let w = counted k in
+    rules-ready (lent (args w)).requires _ _ w.join_names.result k.before.a.given.1 w.join_names.ensures
+
+last-tests-requires : tie.Need-last-tests-requires
+last-tests-requires c κs = c.before.before.before.put-rules.ensures.inside
+
+returns-2 : tie.Need-returns-2
+returns-2 c =
+    let l = c.before.before.before in let p = tested l in let k = put p in let w = counted k in
+    last-refused (lent (args w)).requires _ _ w.join_names.result k.before.a.given.1 w.join_names.ensures p.put-rules.ensures l.last-tests.ensures c.before.cause2.given.1
+
+returns-3 : tie.Need-returns-3
+returns-3 c =
+    let l = c.before.before.before in let p = tested l in let k = put p in let w = counted k in
+    last-joined (lent (args w)).requires _ _ w.join_names.result k.before.a.given.1 w.join_names.ensures p.put-rules.ensures l.last-tests.ensures c.before.entries.given.1
 
 enum-known-cause : tie.Need-enum-known-cause
 enum-known-cause c = search rules
@@ -29,62 +91,66 @@ enum-known-cause c = search rules
 enum-known-a : tie.Need-enum-known-a
 enum-known-a c = search rules
 
-slice-aggregate-join-rules : tie.Need-slice-aggregate-join-rules
-slice-aggregate-join-rules c = search rules
+enum-known-cause-2 : tie.Need-enum-known-cause-2
+enum-known-cause-2 c = search rules
 
-slice-aggregate-join-rules-2 : tie.Need-slice-aggregate-join-rules-2
-slice-aggregate-join-rules-2 c = search rules
-
-join-rules-requires : tie.Need-join-rules-requires
-join-rules-requires c κs =
-    let k = c.before.before.before in let w = c.before.before.before.before.before.before.before.before in let x = w.count-kinds in
-    names-passed (lent w).requires x.new.1.1.1.1.0 x.new.1.1.1.1.1.0 x.result x.ensures _ _ k.before.a.given.1
-
-slice-aggregate-keep-numbers : tie.Need-slice-aggregate-keep-numbers
-slice-aggregate-keep-numbers c = search rules
-
-slice-aggregate-keep-numbers-2 : tie.Need-slice-aggregate-keep-numbers-2
-slice-aggregate-keep-numbers-2 c = search rules
-
-keep-numbers-requires : tie.Need-keep-numbers-requires
-keep-numbers-requires c κs =
-    let w = c.before.before.before.before.before.before.before.before.before.before.before.before.before.before in let x = w.count-kinds in let j = c.before.before.before.before.before.join-rules in
-    record {
-      terminals-are = omega (arith, x.auto.1.1.1.1.0, length-replicate {A = ℕ} limits.maxTerminals 0);
-      nonterminals-are = omega (arith, x.auto.1.1.1.1.1.0, length-replicate {A = ℕ} limits.maxNonterminals 0);
-      room = omega (arith, (lent w).requires.robot-passed.room, j.auto.1.1.1.1.1.1.1.0);
-    }
-
-returns : tie.Need-returns
-returns c =
-    let w = c.before.before.before.before.before in let x = w.count-kinds in
-    names-refused (lent w).requires x.new.1.1.1.1.0 x.new.1.1.1.1.1.0 x.result x.ensures _ _ c.before.cause.given.1
+enum-known-entries : tie.Need-enum-known-entries
+enum-known-entries c = search rules
 
 same_length : tie.Need-same-length
 same_length c = search rules
 
-returns-2 : tie.Need-returns-2
-returns-2 c =
-    let d = c.before.before.keep-numbers in let j = c.before.before.before.before.before.before.before.before.join-rules in let k = c.before.before.before.before.before.before.before.before.before.before.before.before in let w = c.before.before.before.before.before.before.before.before.before.before.before.before.before.before.before.before.before in let x = w.count-kinds in
-    join_kept (names-passed (lent w).requires x.new.1.1.1.1.0 x.new.1.1.1.1.1.0 x.result x.ensures _ _ k.before.a.given.1)
-    j.new.1.1.1.1.1.1.1.0 d.new.1.1.0 j.result j.ensures d.ensures
-    (omega (arith, (lent w).requires.robot-passed.room, j.auto.1.1.1.1.1.1.1.0, d.auto.1.1.0))
+same-length-2 : tie.Need-same-length-2
+same-length-2 c = search rules
+
+same-length-3 : tie.Need-same-length-3
+same-length-3 c = search rules
+
+same-length-4 : tie.Need-same-length-4
+same-length-4 c = search rules
+
+same-length-5 : tie.Need-same-length-5
+same-length-5 c = search rules
+
+same-length-6 : tie.Need-same-length-6
+same-length-6 c = search rules
+
+same-length-7 : tie.Need-same-length-7
+same-length-7 c = search rules
+
+same-length-8 : tie.Need-same-length-8
+same-length-8 c = search rules
 
 pub join-read-spec : {M : Type 1} → statement M
 join-read-spec =
     tie.close
     (tie.spec
-    slice-aggregate-count-kinds
-    slice-aggregate-count-kinds-2
-    count-kinds-requires
+    add-m
+    add-k
+    slice-aggregate-join-names
+    slice-aggregate-join-names-2
+    slice-aggregate-join-names-3
+    slice-aggregate-join-names-4
+    join-names-requires
     enum-known-cause
     enum-known-a
-    slice-aggregate-join-rules
-    slice-aggregate-join-rules-2
-    join-rules-requires
-    slice-aggregate-keep-numbers
-    slice-aggregate-keep-numbers-2
-    keep-numbers-requires
-    returns
+    slice-aggregate-put-rules
+    slice-reshare-prefix-put-rules
+    slice-aggregate-put-rules-2
+    slice-reshare-prefix-put-rules-2
+    slice-aggregate-put-rules-3
+    put-rules-requires
+    last-tests-requires
+    enum-known-cause-2
+    enum-known-entries
     same_length
-    returns-2)
+    same-length-2
+    returns
+    same-length-3
+    same-length-4
+    same-length-5
+    returns-2
+    same-length-6
+    same-length-7
+    same-length-8
+    returns-3)

@@ -73,14 +73,14 @@ lead-requires c κs =
     let a = c.before.before.before.before.before.before.before.before.before.before.before.before.args in
     let l = c.before.before.before.before.before.before.loop in
     let p = c.before.before.before.before.before.before.before.before.before.before.before.before.requires in
-    let e : length a.marks.now ≡ length l.marks = sym l.invariant.2.long in
+    let e : limits.maxNonterminals ≡ length l.marks = sym (l.invariant.2.long ∙ p.1.1) in
     let k = p.0.known l.i (omega arith) in
-    let s = small-part (length a.marks.now) a.codes.now (l.u + c.before.before.before.wide.result - l.u) l.u p.0.small in (
+    let s = small-part limits.maxNonterminals a.codes.now (l.u + c.before.before.before.wide.result - l.u) l.u p.0.small in (
       omega (arith, e, k.1),
       (
         k.0,
         (
-          subst (λ m. Small m (take (l.u + c.before.before.before.wide.result - l.u) (drop l.u a.codes.now))) (sym p.1) s,
+          subst (λ m. Small m (take (l.u + c.before.before.before.wide.result - l.u) (drop l.u a.codes.now))) (sym p.1.0) s,
           subst (λ m. Small m (take (l.u + c.before.before.before.wide.result - l.u) (drop l.u a.codes.now))) e s,
         ),
       ),

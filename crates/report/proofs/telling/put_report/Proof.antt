@@ -2,11 +2,13 @@
 use borrow.Author.Rules.{rules}
 use native.Mathlib.Omega.{arith}
 use mathlib.Core.Path.{◌≡◌, ap, sym, ◌∙◌}
+use mathlib.Core.List.{List}
 use Prim.Native.Nat.{ℕ, ◌+◌, ◌≤◌, ◌<◌}
 use lib.ListN.{length, replicate, length-replicate}
 use lib.Seq.{length-take-le}
 use Rattle.grammar.specs.Limits.{limits}
 use Rattle.grammar.specs.Refusal.{refused}
+use Rattle.text.specs.declared.TextRead.TheVariants as reader
 use Rattle.text.proofs.Enough.{Enough, rows-refused, ReadRows, read-rows}
 use Rattle.text_write.proofs.Filling.{wrote_as}
 use Rattle.report.specs.Report.{judge, reportOf}

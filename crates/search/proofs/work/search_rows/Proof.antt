@@ -16,6 +16,11 @@ use Rattle.search.proofs.WorkLaws.{rest-is, zero-marks}
 use Rattle.search.proofs.AnswerLaws.{told, looked-is}
 use Rattle.search.proofs.work.search_rows.Statement.{statement}
 use Rattle.search.proofs.work.search_rows.Tie as tie
+use Rattle.search.proofs.work.search_rows.Reads as reads
+use Rattle.search.proofs.work.search_rows.Lts as lts
+use Rattle.explore.proofs.explore.Reads as explore-reads
+use Rattle.search.proofs.finish.answer.Reads as answer-reads
+use Rattle.clearing.proofs.clear.Reads as clear_reads
 
 -- from a place back to an earlier one
 abbrev clear-start : tie.After-clear → tie.Start

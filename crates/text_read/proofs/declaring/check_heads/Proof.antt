@@ -1,7 +1,7 @@
 -- `text_read::declaring::check_heads` meets its contract: the first line read; the rest is that of `second_head`. Assumes nothing.
 use borrow.Author.Rules.{rules}
 use native.Mathlib.Omega.{arith}
-use mathlib.Core.Path.{refl, subst, ◌∙◌}
+use mathlib.Core.Path.{refl, subst}
 use mathlib.Core.List.{[]}
 use Rattle.grammar.specs.Limits.{limits}
 use Rattle.names.proofs.Pieces.{names-none}
@@ -14,10 +14,7 @@ use Rattle.text_read.proofs.declaring.check_heads.Tie as tie
 
 -- from a place back to an earlier one
 abbrev entry : tie.After-find → tie.Start
-entry c = c.before.before.before.before.before.before.before.before.before
-
-abbrev begun : tie.After-find → tie.After-begin
-begun c = c.before.before.before
+entry c = c.before.before.before.before.before
 
 abbrev ended : tie.After-declare → tie.Else1
 ended c = c.before.before.before.before.before
@@ -33,11 +30,6 @@ told : (d : tie.After-declare) → DeclaredTold 1 0 0 limits.maxTerminals [] (en
 told d =
     subst (λ ns. DeclaredTold 1 0 0 limits.maxTerminals ns (entry (ended d).before).args.text.now 0 (ended d).before.find.result d.declare.result)
     (names-none [] refl) d.declare.ensures.0
-
-begin-requires : tie.Need-begin-requires
-begin-requires c κs =
-    let e = c.before.before.before.before.before in
-    (e.requires.0, e.requires.1.enough, e.requires.1.lent.room, omega (arith, e.requires.1.lent.room, e.requires.1.lent.some), e.requires.2)
 
 find-requires : tie.Need-find-requires
 find-requires c κs = search rules
@@ -57,9 +49,7 @@ part-declare-end c = search rules
 declare-requires : tie.Need-declare-requires
 declare-requires c κs =
     let f = c.before.before.before.before.before in let e = entry f in let a = e.args in
-    let b = (begun f).begin in
-    ready-first a.text.now a.starts.now a.lengths.now b.last.1.1.0 f.find.result f.find.ensures.high e.pre.0
-    (rows-kept e.pre.1 refl refl b.kept.1.1.0) b.ensures
+    ready-first a.text.now a.starts.now a.lengths.now a.links.now f.find.result f.find.ensures.high e.pre.0 e.pre.1 e.pre.2
 
 enum-known-cause : tie.Need-enum-known-cause
 enum-known-cause c = search rules
@@ -78,7 +68,7 @@ second-head-requires c κs =
       first-held a.text.now g.0.0 f.find.result g.0.1.0 a.starts.now a.lengths.now x.0 x.1.0 x.1.1.0
           (told-held a.text.now f.find.result 0 a.starts.now a.lengths.now x.0 x.1.0 x.1.1.0 d.declare.result
           g.0.0 g.0.1.0 g.1 d.declare.ensures.1)
-          (rows-kept e.pre.1 y.0 y.1.0 (y.1.1.0 ∙ (begun f).begin.kept.1.1.0)),
+          (rows-kept e.pre.1 y.0 y.1.0 y.1.1.0),
     )
 
 same_length : tie.Need-same-length
@@ -90,9 +80,6 @@ same-length-2 c = search rules
 same-length-3 : tie.Need-same-length-3
 same-length-3 c = search rules
 
-same-length-4 : tie.Need-same-length-4
-same-length-4 c = search rules
-
 returns-2 : tie.Need-returns-2
 returns-2 c =
     let d = declared c.before.before in let l = ended d in let f = l.before in let a = (entry f).args in
@@ -100,14 +87,14 @@ returns-2 c =
     first-fault a.text.now f.find.result f.find.ensures.at (omega (arith, l.if1.left)) g.0.0 g.0.1.0
     (told-fault 1 0 0 limits.maxTerminals [] a.text.now 0 f.find.result d.declare.result g.0.0 g.0.1.0 g.1 (told d))
 
+same-length-4 : tie.Need-same-length-4
+same-length-4 c = search rules
+
 same-length-5 : tie.Need-same-length-5
 same-length-5 c = search rules
 
 same-length-6 : tie.Need-same-length-6
 same-length-6 c = search rules
-
-same-length-7 : tie.Need-same-length-7
-same-length-7 c = search rules
 
 returns-3 : tie.Need-returns-3
 returns-3 c = search rules
@@ -116,9 +103,7 @@ pub check-heads-spec : {M : Type 1} → statement M
 check-heads-spec =
     tie.close
     (tie.spec
-    begin-requires
     find-requires
-    same_length
     returns
     sub-declare
     part-declare-start
@@ -127,11 +112,11 @@ check-heads-spec =
     enum-known-cause
     enum-known-start
     second-head-requires
+    same_length
     same-length-2
     same-length-3
-    same-length-4
     returns-2
+    same-length-4
     same-length-5
     same-length-6
-    same-length-7
     returns-3)

@@ -67,7 +67,7 @@ returns c =
       kept-told a.text.now a.b a.f a.count a.from a.starts.now a.lengths.now a.links.now w.fill.last.1.1.1.0 w.fill.last.1.1.1.1.0
           e.pre.0 e.pre.1 e.pre.2 e.pre.3 w.fill.ensures.0 w.fill.ensures.1 g.grow.result g.grow.ensures.0,
       kept-held a.text.now a.b a.f a.count a.from a.starts.now a.lengths.now a.links.now w.fill.last.1.1.1.0 w.fill.last.1.1.1.1.0
-          e.pre.0 e.pre.1 e.pre.2 e.pre.3 w.fill.ensures.0 w.fill.ensures.1 g.grow.new.1.1.1.0 g.grow.result g.grow.auto.1.1.1.0 g.grow.ensures.1.1 g.grow.ensures.1.0,
+          e.pre.0 e.pre.1 e.pre.2 e.pre.3 w.fill.ensures.0 w.fill.ensures.1 g.grow.new.1.1.1.0 g.grow.result g.grow.ensures.1,
     )
 
 pub keep_spec : {M : Type 1} → statement M
