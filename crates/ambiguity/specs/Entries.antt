@@ -15,42 +15,42 @@ use Rattle.grammar.specs.Limits.{limits}
 use Rattle.grammar.specs.Grammar.{Grammar, WellFormed}
 use Rattle.grammar.specs.Table.{encode}
 use Rattle.grammar.specs.Live.{HasSentence}
-use Rattle.grammar.specs.Refusal.{tooManyStates, tooManyCallers}
+use Rattle.grammar.specs.Refusal.{too_many_states, too_many_callers}
 use Rattle.grammar.specs.TableCheck.{TableAnswer}
 use Rattle.grammar.specs.declared.TableChecked.{TableChecked}
 use Rattle.grammar.specs.declared.TableVerdict.TheVariants.{Refused}
-use Rattle.automaton.specs.Callers.{mostCallers}
-use Rattle.automaton.specs.CallerMoves.{movesWith}
+use Rattle.automaton.specs.Callers.{most_callers}
+use Rattle.automaton.specs.CallerMoves.{moves_with}
 use Rattle.steps.specs.Steps.{NthAnswer}
 use Rattle.steps.specs.declared.StepAnswer.{StepAnswer}
 
--- t, n and the table are those of a well-formed grammar within the limits
+-- t, n and the table are those of a well_formed grammar within the limits
 pub record IsTableOf (t n : ℕ) (table : List ℕ) (G : Grammar) : Type 0 where
-  pub wellFormed : WellFormed limits G
+  pub well_formed : WellFormed limits G
   pub terminals : G.terminals ≡ t
   pub nonterminals : G.nonterminals ≡ n
   pub stored : table ≡ encode G.rules
 
 -- and the grammar has a sentence: these are the tables that pass
 pub record Stores (t n : ℕ) (table : List ℕ) (G : Grammar) : Type 0 where
-  pub isTable : IsTableOf t n table G
+  pub is_table : IsTableOf t n table G
   pub sentence : HasSentence limits G
 
 -- Q with m callers, the number of states of `callers limits G m` (`listed` in specs/Callers.antt)
-abbrev pub statesAt : Grammar → ℕ → ℕ
-statesAt G m = (movesWith limits G m).states
+abbrev pub states_at : Grammar → ℕ → ℕ
+states_at G m = (moves_with limits G m).states
 
 -- the table of a grammar that no refusal up to [11]'s 8 stops with m callers
 pub record StoresAt (t n : ℕ) (table : List ℕ) (m : ℕ) (G : Grammar) : Type 0 where
   pub stores : Stores t n table G
-  pub few-callers : m ≤ mostCallers
-  pub few-states : statesAt G m ≤ limits.maxStates
+  pub few-callers : m ≤ most_callers
+  pub few-states : states_at G m ≤ limits.max_states
 
 -- a refusal up to [11]'s 8: as the table check gives it; 21 at 0 for a greater m; then 8 at 0 for too many states with m callers
 pub data StopsAt (t n : ℕ) (table : List ℕ) (m : ℕ) : ℕ → ℕ → Type 0 where
   by-table : {cause at : ℕ} (r : TableChecked) → TableAnswer t n table r → r.verdict ≡ Refused cause at → StopsAt t n table m cause at
-  by-callers : (G : Grammar) → Stores t n table G → mostCallers < m → StopsAt t n table m tooManyCallers 0
-  by-states : (G : Grammar) → Stores t n table G → m ≤ mostCallers → limits.maxStates < statesAt G m → StopsAt t n table m tooManyStates 0
+  by-callers : (G : Grammar) → Stores t n table G → most_callers < m → StopsAt t n table m too_many_callers 0
+  by-states : (G : Grammar) → Stores t n table G → m ≤ most_callers → limits.max_states < states_at G m → StopsAt t n table m too_many_states 0
 
 -- k is a usize
 abbrev pub Usize : ℕ → Type 0

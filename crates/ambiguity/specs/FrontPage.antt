@@ -11,18 +11,18 @@
 -- Assumes nothing.
 use Rattle.std.specs.Prelude.{ℕ, ◌+◌, ◌≤◌, ◌<◌, ◌≡◌, List, map, ◌⊎◌, ◌↔◌}
 use Rattle.grammar.specs.Basics.{Mem}
-use Rattle.grammar.specs.Limits.{byteLimits, limits}
+use Rattle.grammar.specs.Limits.{byte_limits, limits}
 use Rattle.grammar.specs.Grammar.{Grammar, WellFormed}
 use Rattle.grammar.specs.Tree.{HasTwoTrees}
 use Rattle.grammar.specs.Live.{HasSentence, Live}
-use Rattle.grammar.specs.Record.{recordOf}
+use Rattle.grammar.specs.Record.{record_of}
 use Rattle.grammar.specs.declared.TableChecked.{TableChecked}
 use Rattle.grammar.specs.declared.TableVerdict.TheVariants.{Passed, Refused}
-use Rattle.grammar.specs.TableCheck.{checkTable, TableAnswer}
+use Rattle.grammar.specs.TableCheck.{check_table, TableAnswer}
 use Rattle.automaton.specs.Strings.{Potential, Unambiguous}
 use Rattle.automaton.specs.Position.{position_of, every}
 use Rattle.automaton.specs.Callers.{callers}
-use Rattle.triples.specs.Index.{tripleCount}
+use Rattle.triples.specs.Index.{triple_count}
 use Rattle.triples.specs.Certificate.{AcceptableCertificate}
 use Rattle.triples.specs.Witness.{Witness}
 use Rattle.triples.specs.declared.CheckVerdict.{CheckVerdict}
@@ -44,14 +44,14 @@ use Rattle.text.specs.declared.TextWritten.{TextWritten}
 use Rattle.modules.specs.Shown.{part_of}
 use Rattle.modules.specs.Promise.{JoinsTexts, WritesJoined, ShowsPlace, ShowsName}
 use Rattle.modules.specs.declared.Place.{Place}
-use Rattle.grammar.specs.Refusal.{done, noSentence}
+use Rattle.grammar.specs.Refusal.{done, no_sentence}
 use Rattle.text.specs.Read.{Source}
-use Rattle.text.specs.Rules.{checkText}
+use Rattle.text.specs.Rules.{check_text}
 use Rattle.readings.specs.Promise.{ReadsBack}
 use Rattle.readings.specs.declared.ReadBack.{ReadBack}
 use Rattle.report.specs.Report.{Reports}
 use Rattle.report.specs.declared.Reported.{Reported}
-use Rattle.ambiguity.specs.Entries.{Usize, IsTableOf, Stores, StoresAt, StopsAt, statesAt, StepAnswers}
+use Rattle.ambiguity.specs.Entries.{Usize, IsTableOf, Stores, StoresAt, StopsAt, states_at, StepAnswers}
 use Rattle.triples.specs.Numbers.{StepAt}
 use Rattle.ambiguity.specs.Searches.{SearchTheorems}
 use Rattle.ambiguity.specs.Texts.{TextTheorems}
@@ -67,7 +67,7 @@ use Rattle.trees.specs.declared.TreesFound.{TreesFound}
 use Rattle.trees.specs.declared.TreesRoom.{TreesRoom}
 use Rattle.ambiguity.specs.Trees.{TreesTheorems, ListedTheorems, TreesRoomTheorems}
 use Rattle.drafts.specs.Draft.{Draft, Edit}
-use Rattle.drafts.specs.Row.{draftIn}
+use Rattle.drafts.specs.Row.{draft_in}
 use Rattle.drafts.specs.Promise.{BeginsDraft, EditsDraft}
 use Rattle.drafts.specs.Reading.{ShowsTable}
 use Rattle.drafts.specs.declared.DraftAnswer.{DraftAnswer}
@@ -75,14 +75,14 @@ use Rattle.ambiguity.specs.Drafts.{BeginTheorems, EditTheorems, PlaceTheorems, D
 
 module _ (t n : ℕ) (table : List ℕ) where
   pub record TableTheorems (r : TableChecked) : Type 0 where
-    -- passed exactly if the table is that of a well-formed grammar with a sentence, and then with that grammar's record
-    pub passes : (G : Grammar) → Stores t n table G → (r.verdict ≡ Passed) × (r.grammar ≡ recordOf G)
-    pub passes-only : r.verdict ≡ Passed → (G : Grammar) × Stores t n table G × (r.grammar ≡ recordOf G)
-    -- document 02, [4]: refused with 19, at 0, exactly if it is that of a well-formed grammar without one
-    pub without : (at : ℕ) → (r.verdict ≡ Refused noSentence at)
+    -- passed exactly if the table is that of a well_formed grammar with a sentence, and then with that grammar's record
+    pub passes : (G : Grammar) → Stores t n table G → (r.verdict ≡ Passed) × (r.grammar ≡ record_of G)
+    pub passes_only : r.verdict ≡ Passed → (G : Grammar) × Stores t n table G × (r.grammar ≡ record_of G)
+    -- document 02, [4]: refused with 19, at 0, exactly if it is that of a well_formed grammar without one
+    pub without : (at : ℕ) → (r.verdict ≡ Refused no_sentence at)
         ↔ ((at ≡ 0) × ((G : Grammar) × IsTableOf t n table G × ¬ HasSentence limits G))
     -- so rule 0 is live in every grammar that passes
-    pub rule-0-live : (G : Grammar) → Stores t n table G → Live limits G 0
+    pub rule_0_live : (G : Grammar) → Stores t n table G → Live limits G 0
 
 -- each entry over triples, with m callers
 module _ (t n : ℕ) (table : List ℕ) (m : ℕ) where
@@ -90,15 +90,15 @@ module _ (t n : ℕ) (table : List ℕ) (m : ℕ) where
     -- the refusals up to [11]'s 8 come first
     pub refused : (cause at : ℕ) → StopsAt t n table m cause at → (k : ℕ) → Usize k → ask k ≡ step.Refused cause at
     -- of a triple out of range every answer is that there are no more
-    pub outside : (G : Grammar) → StoresAt t n table m G → ¬ ((f < 2) × (p < statesAt G m) × (q < statesAt G m)) → (k : ℕ) → Usize k → ask k ≡ step.NoMore
+    pub outside : (G : Grammar) → StoresAt t n table m G → ¬ ((f < 2) × (p < states_at G m) × (q < states_at G m)) → (k : ℕ) → Usize k → ask k ≡ step.NoMore
     -- of a triple in range the answers are exactly the steps to its successors
-    pub exact : (G : Grammar) → StoresAt t n table m G → f < 2 → p < statesAt G m → q < statesAt G m → (s : Step)
+    pub exact : (G : Grammar) → StoresAt t n table m G → f < 2 → p < states_at G m → q < states_at G m → (s : Step)
         → ((k : ℕ) × Usize k × (ask k ≡ step.Record s))
         ↔ StepAt (callers limits G m) f p q s.layer s.left s.right s.on_left s.on_right
     -- a record stands at one place only
     pub once : (G : Grammar) → StoresAt t n table m G → (k l : ℕ) (s : Step) → Usize k → Usize l → ask k ≡ step.Record s → ask l ≡ step.Record s → k ≡ l
     -- there is a number of records, at most 2Q² + 2: below it each place has one, and from it on there are no more
-    pub count : (G : Grammar) → StoresAt t n table m G → (c : ℕ) × (c ≤ tripleCount (statesAt G m) + 2)
+    pub count : (G : Grammar) → StoresAt t n table m G → (c : ℕ) × (c ≤ triple_count (states_at G m) + 2)
         × ((k : ℕ) → k < c → (s : Step) × (ask k ≡ step.Record s)) × ((k : ℕ) → c ≤ k → Usize k → ask k ≡ step.NoMore)
 
   pub record WitnessTheorems (row : List ℕ) (v : CheckVerdict) : Type 0 where
@@ -112,12 +112,12 @@ module _ (t n : ℕ) (table : List ℕ) (m : ℕ) where
   pub record RecordTheorems (entries : List TripleRecord) (v : CheckVerdict) : Type 0 where
     pub refused : (cause at : ℕ) → StopsAt t n table m cause at → v ≡ check.Refused cause at
     -- records in range are answered as the row of their indices is
-    pub alike : (G : Grammar) → StoresAt t n table m G → ((e : TripleRecord) → Mem e entries → InRange (statesAt G m) e)
-        → (w : CheckVerdict) → WitnessAnswer t n table m (map (index_of (statesAt G m)) entries) w → v ≡ w
+    pub alike : (G : Grammar) → StoresAt t n table m G → ((e : TripleRecord) → Mem e entries → InRange (states_at G m) e)
+        → (w : CheckVerdict) → WitnessAnswer t n table m (map (index_of (states_at G m)) entries) w → v ≡ w
     -- accepted exactly if all are in range and their indices are a witness
     pub accepted : (G : Grammar) → StoresAt t n table m G
         → (v ≡ check.Accepted)
-        ↔ (((e : TripleRecord) → Mem e entries → InRange (statesAt G m) e) × Witness (callers limits G m) (map (index_of (statesAt G m)) entries))
+        ↔ (((e : TripleRecord) → Mem e entries → InRange (states_at G m) e) × Witness (callers limits G m) (map (index_of (states_at G m)) entries))
     -- demand 2: accepted records show that two strings part
     pub potential : (G : Grammar) → StoresAt t n table m G → v ≡ check.Accepted → Potential (callers limits G m)
 
@@ -162,24 +162,24 @@ pub record FrontPage : Type 1 where
   pub joined-names : (robot addon : List ℕ) (i : ℕ) (part : List ℕ) → ShowsName robot addon i part → ShownTheorems robot addon i part
   pub joined-places : (robot addon : List ℕ) (i : ℕ) (place : Place) → ShowsPlace robot addon i place
       → ShownTheorems robot addon i (part_of robot addon place)
-  pub joined-texts : (robot addon out : List ℕ) (w : TextWritten) (out' : List ℕ) → WritesJoined robot addon out w out'
+  pub joined_texts : (robot addon out : List ℕ) (w : TextWritten) (out' : List ℕ) → WritesJoined robot addon out w out'
       → JoinedTextTheorems robot addon out w out'
   pub reports : (text out : List ℕ) (r : Reported) (out' : List ℕ) → Reports text out r out' → ReportTheorems text out r out'
-  pub readings : (text : List ℕ) (s : Source) → checkText limits text ≡ done s → ReadingTheorems s
+  pub readings : (text : List ℕ) (s : Source) → check_text limits text ≡ done s → ReadingTheorems s
   pub backs : (text lines left right : List ℕ) (r : ReadBack) (left' right' : List ℕ) → ReadsBack text lines left right r left' right'
       → BackTheorems text lines left right r left' right'
   -- document 02, [12]: the trees of one sentence, and the room told beforehand for them
   pub trees : (t n : ℕ) (table w work list : List ℕ) (r : TreesFound) (work' list' : List ℕ) → FindsTrees t n table w work list r work' list'
       → TreesTheorems t n table w work list r work' list'
-  pub trees-rooms : (t n : ℕ) (table : List ℕ) (r : TreesRoom) → TreesRoomAnswer t n table r → TreesRoomTheorems t n table r
+  pub trees_rooms : (t n : ℕ) (table : List ℕ) (r : TreesRoom) → TreesRoomAnswer t n table r → TreesRoomTheorems t n table r
   pub listed : (G : Grammar) → WellFormed limits G → ListedTheorems G
   -- document 02, [13]: a grammar while it is edited, in a row: begun, edited, read out; and what an edit does to a draft
-  pub drafts-begun : (t n : ℕ) (table before : List ℕ) (r : DraftAnswer) (row : List ℕ) → BeginsDraft t n table before r row
+  pub drafts_begun : (t n : ℕ) (table before : List ℕ) (r : DraftAnswer) (row : List ℕ) → BeginsDraft t n table before r row
       → BeginTheorems t n table before r row
-  pub drafts-edited : (before : List ℕ) (s : Edit) (r : DraftAnswer) (row : List ℕ) → EditsDraft before s r row → EditTheorems before s r row
+  pub drafts_edited : (before : List ℕ) (s : Edit) (r : DraftAnswer) (row : List ℕ) → EditsDraft before s r row → EditTheorems before s r row
   pub draft-tables : (row part : List ℕ) → ShowsTable row part → PlaceTheorems row part
-  pub drafts : (row : List ℕ) (d : Draft) → draftIn row ≡ done d → DraftTheorems d
+  pub drafts : (row : List ℕ) (d : Draft) → draft_in row ≡ done d → DraftTheorems d
   -- document 02, [8]: a byte table that passed under document 01's limits, carried over
-  pub carried : (t n : ℕ) (table : List ℕ) (G : Grammar) → checkTable byteLimits t n table ≡ done G → CarriedTheorems t n table G
+  pub carried : (t n : ℕ) (table : List ℕ) (G : Grammar) → check_table byte_limits t n table ≡ done G → CarriedTheorems t n table G
   pub automata : (G : Grammar) → WellFormed limits G → AutomatonTheorems G
   pub indices : (Q : ℕ) → IndexTheorems Q

@@ -3,13 +3,13 @@
 use Rattle.std.specs.Prelude.{ℕ, ◌+◌, ◌*◌, ◌≤◌, ◌<◌, ◌≡◌, List, ◌⊎◌, length}
 use Rattle.grammar.specs.Limits.{limits}
 use Rattle.grammar.specs.Grammar.{Grammar}
-use Rattle.grammar.specs.Refusal.{bufferTooShort}
+use Rattle.grammar.specs.Refusal.{buffer_too_short}
 use Rattle.grammar.specs.declared.TableChecked.{TableChecked}
 use Rattle.grammar.specs.declared.TableVerdict.TheVariants.{Refused}
 use Rattle.grammar.specs.TableCheck.{TableAnswer}
 use Rattle.automaton.specs.AllMoves.{MoveOf, ListsMoves}
 use Rattle.automaton.specs.Callers.{callers}
-use Rattle.triples.specs.Index.{tripleCount}
+use Rattle.triples.specs.Index.{triple_count}
 use Rattle.triples.specs.Certificate.{byte_count}
 use Rattle.search.specs.Promise.{Lent, Searches}
 use Rattle.search.specs.declared.SearchVerdict.{SearchVerdict}
@@ -21,7 +21,7 @@ use Rattle.text.specs.declared.TextLength.{TextLength}
 use Rattle.text.specs.declared.TextLength.TheVariants as size
 use Rattle.text.specs.declared.TextWritten.{TextWritten}
 use Rattle.text.specs.declared.TextWritten.TheVariants as writer
-use Rattle.ambiguity.specs.Entries.{StoresAt, StopsAt, statesAt}
+use Rattle.ambiguity.specs.Entries.{StoresAt, StopsAt, states_at}
 
 -- at least so many bytes are lent for the certificate and so many entries in each row; less in one of them
 abbrev pub LentThat : ℕ → ℕ → Lent → Type 0
@@ -35,13 +35,13 @@ module _ (t n : ℕ) (table : List ℕ) (m : ℕ) where
     -- the refusals up to [11]'s 8; else Q, the bytes that hold 2Q² bits, 2Q², and M
     pub refused : (cause at : ℕ) → StopsAt t n table m cause at → r ≡ room.Refused cause at
     pub told : (G : Grammar) → StoresAt t n table m G
-        → (x : ℕ) × (r ≡ room.Room (statesAt G m) (byte_count (statesAt G m)) (tripleCount (statesAt G m)) x)
+        → (x : ℕ) × (r ≡ room.Room (states_at G m) (byte_count (states_at G m)) (triple_count (states_at G m)) x)
     -- a search lent that much never answers 14
     pub enough : (q b e x : ℕ) → r ≡ room.Room q b e x → (before : Lent) (v : SearchVerdict) (after : Lent) → Searches t n table m before v after
-        → LentThat b e before → (at : ℕ) → ¬ (v ≡ search.Refused bufferTooShort at)
+        → LentThat b e before → (at : ℕ) → ¬ (v ≡ search.Refused buffer_too_short at)
     -- one lent less always does, and nothing is changed
     pub short : (q b e x : ℕ) → r ≡ room.Room q b e x → (before : Lent) (v : SearchVerdict) (after : Lent) → Searches t n table m before v after
-        → LentLess b e before → (v ≡ search.Refused bufferTooShort 0) × (after ≡ before)
+        → LentLess b e before → (v ≡ search.Refused buffer_too_short 0) × (after ≡ before)
     -- document 02, [6]: what the search then says it looked at is at most M² + 2×Q×M, by these numbers
     pub looked : (q b e x : ℕ) → r ≡ room.Room q b e x → (before : Lent) (v : SearchVerdict) (after : Lent) → Searches t n table m before v after
         → (k l : ℕ) → (v ≡ search.Unambiguous k l) ⊎ (v ≡ search.Potential k l) → l ≤ x * x + 2 * (q * x)
@@ -62,6 +62,6 @@ module _ (t n : ℕ) (table bytes starts lengths : List ℕ) where
         → WritesText t n table bytes starts lengths out v out' → k ≤ length out → v ≡ writer.Written k
     -- lent fewer it always answers 14, and the output is unchanged
     pub short : (k : ℕ) → r ≡ size.Bytes k → (out : List ℕ) (v : TextWritten) (out' : List ℕ)
-        → WritesText t n table bytes starts lengths out v out' → length out < k → (v ≡ writer.Refused bufferTooShort 0) × (out' ≡ out)
+        → WritesText t n table bytes starts lengths out v out' → length out < k → (v ≡ writer.Refused buffer_too_short 0) × (out' ≡ out)
     -- it is never told 14
-    pub never-14 : (at : ℕ) → ¬ (r ≡ size.Refused bufferTooShort at)
+    pub never_14 : (at : ℕ) → ¬ (r ≡ size.Refused buffer_too_short at)

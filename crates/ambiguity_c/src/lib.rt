@@ -4,10 +4,10 @@ mod replies;
 
 ghost use Rattle.std.specs.Prelude.{get_or, ◌≡◌};
 ghost use Rattle.channels.specs.Commands.{certificate};
-ghost use Rattle.channels.specs.Promise.{planRoom};
+ghost use Rattle.channels.specs.Promise.{plan_room};
 ghost use Rattle.drafts.specs.Draft.{add, withdraw, mark, return};
 ghost use Rattle.drafts.specs.Reading.{CountsDraft, PlacesTable};
-ghost use Rattle.drafts.specs.Row.{draftRoom};
+ghost use Rattle.drafts.specs.Row.{draft_room};
 ghost use Rattle.grammar.specs.TableCheck.{TableAnswer};
 ghost use Rattle.modules.specs.Promise.{ShowsPlace};
 ghost use Rattle.rooms.specs.Room.{RoomAnswer};
@@ -17,7 +17,7 @@ ghost use Rattle.text.specs.Promise.{LengthAnswer};
 ghost use Rattle.trees.specs.Promise.{TreesRoomAnswer};
 ghost use Rattle.triples.specs.Verdict.{CertificateAnswer, WitnessAnswer};
 ghost use Rattle.witness_records.specs.Records.{RecordsAnswer};
-ghost use Rattle.ambiguity_c.specs.Replies.{tableReply, stepReply, checkReply, roomReply, lengthReply, partReply, treesRoomReply, draftCountsReply, draftTableReply};
+ghost use Rattle.ambiguity_c.specs.Replies.{table_reply, step_reply, check_reply, room_reply, length_reply, part_reply, trees_room_reply, draft_counts_reply, draft_table_reply};
 ghost use Rattle.ambiguity_c.specs.Lent.{Replies, RepliesSearch, RepliesRead, RepliesWritten, RepliesJoin, RepliesJoined, RepliesReport, RepliesBack, RepliesTrees, RepliesBegun, RepliesEdited, RepliesPlan};
 
 use ambiguity::TripleRecord;
@@ -199,7 +199,7 @@ pub struct PlanReply {
 
 #[unsafe(no_mangle)]
 pub extern "C" fn ambiguity_check_table(t: usize, n: usize, table: &[u16]) -> TableReply
-    ensures { Replies (TableAnswer t n table.now) tableReply result }
+    ensures { Replies (TableAnswer t n table.now) table_reply result }
 {
     let checked = ambiguity::check_table(t, n, table);
     let verdict = checked.verdict;
@@ -217,7 +217,7 @@ pub extern "C" fn ambiguity_nth_step(
     right: usize,
     nth: usize,
 ) -> StepReply
-    ensures { Replies (NthAnswer t n table.now callers layer left right nth) stepReply result }
+    ensures { Replies (NthAnswer t n table.now callers layer left right nth) step_reply result }
 {
     let answer = ambiguity::nth_step(t, n, table, callers, layer, left, right, nth);
     replies::step_told(answer)
@@ -231,7 +231,7 @@ pub extern "C" fn ambiguity_check_certificate(
     callers: usize,
     bytes: &[u8],
 ) -> CheckReply
-    ensures { Replies (CertificateAnswer t n table.now callers bytes.now) checkReply result }
+    ensures { Replies (CertificateAnswer t n table.now callers bytes.now) check_reply result }
 {
     let verdict = ambiguity::check_certificate(t, n, table, callers, bytes);
     replies::check_told(verdict)
@@ -245,7 +245,7 @@ pub extern "C" fn ambiguity_check_witness(
     callers: usize,
     row: &[u32],
 ) -> CheckReply
-    ensures { Replies (WitnessAnswer t n table.now callers row.now) checkReply result }
+    ensures { Replies (WitnessAnswer t n table.now callers row.now) check_reply result }
 {
     let verdict = ambiguity::check_witness(t, n, table, callers, row);
     replies::check_told(verdict)
@@ -259,7 +259,7 @@ pub extern "C" fn ambiguity_check_witness_records(
     callers: usize,
     entries: &[TripleRecord],
 ) -> CheckReply
-    ensures { Replies (RecordsAnswer t n table.now callers entries.now) checkReply result }
+    ensures { Replies (RecordsAnswer t n table.now callers entries.now) check_reply result }
 {
     let verdict = ambiguity::check_witness_records(t, n, table, callers, entries);
     replies::check_told(verdict)
@@ -320,7 +320,7 @@ pub extern "C" fn ambiguity_search_room(
     table: &[u16],
     callers: usize,
 ) -> RoomReply
-    ensures { Replies (RoomAnswer t n table.now callers) roomReply result }
+    ensures { Replies (RoomAnswer t n table.now callers) room_reply result }
 {
     let answer = ambiguity::search_room(t, n, table, callers);
     replies::room_told(answer)
@@ -335,7 +335,7 @@ pub extern "C" fn ambiguity_written_length(
     starts: &[u32],
     lengths: &[u32],
 ) -> LengthReply
-    ensures { Replies (LengthAnswer t n table.now bytes.now starts.now lengths.now) lengthReply result }
+    ensures { Replies (LengthAnswer t n table.now bytes.now starts.now lengths.now) length_reply result }
 {
     let answer = ambiguity::written_length(t, n, table, bytes, starts, lengths);
     replies::length_told(answer)
@@ -372,7 +372,7 @@ pub extern "C" fn ambiguity_join_texts(robot: &[u8], addon: &[u8], table: &mut [
 
 #[unsafe(no_mangle)]
 pub extern "C" fn ambiguity_joined_name(robot: &[u8], addon: &[u8], symbol: usize) -> PartReply
-    ensures { Replies (ShowsPlace robot.now addon.now symbol) partReply result }
+    ensures { Replies (ShowsPlace robot.now addon.now symbol) part_reply result }
 {
     let place = ambiguity::joined_place(robot, addon, symbol);
     replies::part_told(place)
@@ -403,7 +403,7 @@ pub extern "C" fn ambiguity_find_trees<'a>(
 
 #[unsafe(no_mangle)]
 pub extern "C" fn ambiguity_trees_room(t: usize, n: usize, table: &[u16]) -> TreesRoomReply
-    ensures { Replies (TreesRoomAnswer t n table.now) treesRoomReply result }
+    ensures { Replies (TreesRoomAnswer t n table.now) trees_room_reply result }
 {
     let answer = ambiguity::trees_room(t, n, table);
     replies::trees_room_told(answer)
@@ -411,7 +411,7 @@ pub extern "C" fn ambiguity_trees_room(t: usize, n: usize, table: &[u16]) -> Tre
 
 #[unsafe(no_mangle)]
 pub extern "C" fn ambiguity_draft_room() -> usize
-    ensures { result ≡ draftRoom }
+    ensures { result ≡ draft_room }
 {
     ambiguity::draft_room()
 }
@@ -463,7 +463,7 @@ pub extern "C" fn ambiguity_return_to_mark(draft: &mut [u16], number: usize) -> 
 
 #[unsafe(no_mangle)]
 pub extern "C" fn ambiguity_draft_counts(draft: &[u16]) -> DraftCountsReply
-    ensures { Replies (CountsDraft draft.now) draftCountsReply result }
+    ensures { Replies (CountsDraft draft.now) draft_counts_reply result }
 {
     let answer = ambiguity::draft_counts(draft);
     replies::draft_counts_told(answer)
@@ -471,7 +471,7 @@ pub extern "C" fn ambiguity_draft_counts(draft: &[u16]) -> DraftCountsReply
 
 #[unsafe(no_mangle)]
 pub extern "C" fn ambiguity_draft_table(draft: &[u16]) -> DraftTableReply
-    ensures { Replies (PlacesTable draft.now) draftTableReply result }
+    ensures { Replies (PlacesTable draft.now) draft_table_reply result }
 {
     let answer = ambiguity::table_place(draft);
     replies::draft_table_told(answer)
@@ -491,7 +491,7 @@ pub extern "C" fn ambiguity_read_plan<'a>(
 
 #[unsafe(no_mangle)]
 pub extern "C" fn ambiguity_plan_room() -> usize
-    ensures { result ≡ planRoom }
+    ensures { result ≡ plan_room }
 {
     channels::plan_room()
 }

@@ -1,6 +1,6 @@
 // The answers of the entries, told in numbers: an arm for each case of specs/Replies.antt.
 ghost use Rattle.std.specs.Prelude.{◌≡◌};
-ghost use Rattle.ambiguity_c.specs.Replies.{verdictReply, moveReply, recordReply, noRecord, stepReply, checkReply, searchReply, readReply, writeReply, reportReply, readBackReply, roomReply, lengthReply, partReply, treesReply, treesRoomReply, draftReply, draftCountsReply, draftTableReply, planReply};
+ghost use Rattle.ambiguity_c.specs.Replies.{verdict_reply, move_reply, record_reply, no_record, step_reply, check_reply, search_reply, read_reply, write_reply, report_reply, read_back_reply, room_reply, length_reply, part_reply, trees_reply, trees_room_reply, draft_reply, draft_counts_reply, draft_table_reply, plan_reply};
 
 use super::{
     CheckReply, DraftCountsReply, DraftReply, DraftTableReply, LengthReply, MoveReply, PartReply,
@@ -15,7 +15,7 @@ use ambiguity::{
 use channels::PlanRead;
 
 pub fn table_told(verdict: TableVerdict, states: usize) -> TableReply
-    ensures { result ≡ verdictReply verdict states }
+    ensures { result ≡ verdict_reply verdict states }
 {
     match verdict {
         TableVerdict::Passed => TableReply {
@@ -32,7 +32,7 @@ pub fn table_told(verdict: TableVerdict, states: usize) -> TableReply
 }
 
 pub fn check_told(verdict: CheckVerdict) -> CheckReply
-    ensures { result ≡ checkReply verdict }
+    ensures { result ≡ check_reply verdict }
 {
     match verdict {
         CheckVerdict::Accepted => CheckReply { cause: 0, at: 0 },
@@ -44,7 +44,7 @@ pub fn check_told(verdict: CheckVerdict) -> CheckReply
 }
 
 fn move_told(side: Move) -> MoveReply
-    ensures { result ≡ moveReply side }
+    ensures { result ≡ move_reply side }
 {
     match side {
         Move::Still => MoveReply {
@@ -67,7 +67,7 @@ fn move_told(side: Move) -> MoveReply
 }
 
 fn record_told(step: Step) -> StepReply
-    ensures { result ≡ recordReply step }
+    ensures { result ≡ record_reply step }
 {
     let on_left = step.on_left;
     let on_right = step.on_right;
@@ -86,7 +86,7 @@ fn record_told(step: Step) -> StepReply
 }
 
 fn no_record(cause: u64, at: u64, kind: u64) -> StepReply
-    ensures { result ≡ noRecord cause at kind }
+    ensures { result ≡ no_record cause at kind }
 {
     StepReply {
         cause: cause,
@@ -107,7 +107,7 @@ fn no_record(cause: u64, at: u64, kind: u64) -> StepReply
 }
 
 pub fn step_told(answer: StepAnswer) -> StepReply
-    ensures { result ≡ stepReply answer }
+    ensures { result ≡ step_reply answer }
 {
     match answer {
         StepAnswer::Record(step) => record_told(step),
@@ -117,7 +117,7 @@ pub fn step_told(answer: StepAnswer) -> StepReply
 }
 
 pub fn search_told(answer: SearchVerdict) -> SearchReply
-    ensures { result ≡ searchReply answer }
+    ensures { result ≡ search_reply answer }
 {
     match answer {
         SearchVerdict::Unambiguous(size, looked) => SearchReply {
@@ -145,7 +145,7 @@ pub fn search_told(answer: SearchVerdict) -> SearchReply
 }
 
 pub fn read_told(answer: TextRead) -> ReadReply
-    ensures { result ≡ readReply answer }
+    ensures { result ≡ read_reply answer }
 {
     match answer {
         TextRead::Read {
@@ -173,7 +173,7 @@ pub fn read_told(answer: TextRead) -> ReadReply
 }
 
 pub fn write_told(answer: TextWritten) -> WriteReply
-    ensures { result ≡ writeReply answer }
+    ensures { result ≡ write_reply answer }
 {
     match answer {
         TextWritten::Written(length) => WriteReply {
@@ -190,7 +190,7 @@ pub fn write_told(answer: TextWritten) -> WriteReply
 }
 
 pub fn room_told(answer: SearchRoom) -> RoomReply
-    ensures { result ≡ roomReply answer }
+    ensures { result ≡ room_reply answer }
 {
     match answer {
         SearchRoom::Room {
@@ -218,7 +218,7 @@ pub fn room_told(answer: SearchRoom) -> RoomReply
 }
 
 pub fn length_told(answer: TextLength) -> LengthReply
-    ensures { result ≡ lengthReply answer }
+    ensures { result ≡ length_reply answer }
 {
     match answer {
         TextLength::Bytes(length) => LengthReply {
@@ -235,7 +235,7 @@ pub fn length_told(answer: TextLength) -> LengthReply
 }
 
 pub fn report_told(answer: Reported) -> ReportReply
-    ensures { result ≡ reportReply answer }
+    ensures { result ≡ report_reply answer }
 {
     match answer {
         Reported::Written(length) => ReportReply {
@@ -252,7 +252,7 @@ pub fn report_told(answer: Reported) -> ReportReply
 }
 
 pub fn back_told(answer: ReadBack) -> ReadBackReply
-    ensures { result ≡ readBackReply answer }
+    ensures { result ≡ read_back_reply answer }
 {
     match answer {
         ReadBack::Read { left, right } => ReadBackReply {
@@ -280,7 +280,7 @@ pub fn back_told(answer: ReadBack) -> ReadBackReply
 }
 
 pub fn part_told(place: Place) -> PartReply
-    ensures { result ≡ partReply place }
+    ensures { result ≡ part_reply place }
 {
     match place {
         Place::Robot(start, length) => PartReply {
@@ -302,7 +302,7 @@ pub fn part_told(place: Place) -> PartReply
 }
 
 pub fn trees_told(answer: TreesFound) -> TreesReply
-    ensures { result ≡ treesReply answer }
+    ensures { result ≡ trees_reply answer }
 {
     match answer {
         TreesFound::Nothing => TreesReply {
@@ -333,7 +333,7 @@ pub fn trees_told(answer: TreesFound) -> TreesReply
 }
 
 pub fn trees_room_told(answer: TreesRoom) -> TreesRoomReply
-    ensures { result ≡ treesRoomReply answer }
+    ensures { result ≡ trees_room_reply answer }
 {
     match answer {
         TreesRoom::Entries(entries) => TreesRoomReply {
@@ -350,7 +350,7 @@ pub fn trees_room_told(answer: TreesRoom) -> TreesRoomReply
 }
 
 pub fn draft_told(answer: DraftAnswer) -> DraftReply
-    ensures { result ≡ draftReply answer }
+    ensures { result ≡ draft_reply answer }
 {
     match answer {
         DraftAnswer::Done => DraftReply { cause: 0, at: 0 },
@@ -362,7 +362,7 @@ pub fn draft_told(answer: DraftAnswer) -> DraftReply
 }
 
 pub fn draft_counts_told(answer: DraftCounts) -> DraftCountsReply
-    ensures { result ≡ draftCountsReply answer }
+    ensures { result ≡ draft_counts_reply answer }
 {
     match answer {
         DraftCounts::Counts {
@@ -393,7 +393,7 @@ pub fn draft_counts_told(answer: DraftCounts) -> DraftCountsReply
 }
 
 pub fn draft_table_told(answer: TablePlace) -> DraftTableReply
-    ensures { result ≡ draftTableReply answer }
+    ensures { result ≡ draft_table_reply answer }
 {
     match answer {
         TablePlace::Stands { start, entries } => DraftTableReply {
@@ -412,7 +412,7 @@ pub fn draft_table_told(answer: TablePlace) -> DraftTableReply
 }
 
 pub fn plan_told(answer: PlanRead) -> PlanReply
-    ensures { result ≡ planReply answer }
+    ensures { result ≡ plan_reply answer }
 {
     match answer {
         PlanRead::Nothing => PlanReply {

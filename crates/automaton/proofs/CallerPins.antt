@@ -8,14 +8,14 @@ use mathlib.Core.List.{List, [], ◌∷◌}
 use lib.ListN.{length}
 use Rattle.grammar.specs.Basics.{each}
 use Rattle.grammar.specs.Limits.{Limits, limits}
-use Rattle.grammar.specs.Refusal.{Answer, done, refused, refuseUnless, and_then, tooManyStates, noSentence, tooManyCallers}
-use Rattle.grammar.specs.Table.{decodeUpTo}
-use Rattle.grammar.specs.TableCheck.{sameCodes, isAmong, declaredFront, readRule, nextRule, checkFrom, storedTable, checkTable}
-use Rattle.grammar.specs.Grammar.{Rule, Grammar, rule, stateCount}
-use Rattle.grammar.specs.Live.{has, hasAll, concluded, waiting, rounds, nonterminalsOf, productive, usable, reachable, hasSentence, isLive}
-use Rattle.automaton.specs.Callers.{Spot, first, last, spot, up_to, itemsFrom, sameItems, place_of, items, code_at, itemsBefore, chains, spots}
-use Rattle.automaton.specs.Callers.{checkCallers, checkWith}
-use Rattle.automaton.specs.CallerMoves.{spotAhead, spotAfter, liveRules, spotOpenings, returns, spotClosings, movesAt, movesWith}
+use Rattle.grammar.specs.Refusal.{Answer, done, refused, refuse_unless, and_then, too_many_states, no_sentence, too_many_callers}
+use Rattle.grammar.specs.Table.{decode_up_to}
+use Rattle.grammar.specs.TableCheck.{same_codes, is_among, declared_front, read_rule, next_rule, check_from, stored_table, check_table}
+use Rattle.grammar.specs.Grammar.{Rule, Grammar, rule, state_count}
+use Rattle.grammar.specs.Live.{has, has_all, concluded, waiting, rounds, nonterminals_of, productive, usable, reachable, has_sentence, is_live}
+use Rattle.automaton.specs.Callers.{Spot, first, last, spot, up_to, items_from, same_items, place_of, items, code_at, items_before, chains, spots}
+use Rattle.automaton.specs.Callers.{check_callers, check_with}
+use Rattle.automaton.specs.CallerMoves.{spot_ahead, spot_after, live_rules, spot_openings, returns, spot_closings, moves_at, moves_with}
 
 abbrev pub of : ℕ → List ℕ → Rule
 of b w = record { left = b; right = w }
@@ -59,62 +59,62 @@ stray = record {
 }
 
 -- to unfold this is to unfold all that it uses
-unfoldable pub statesOf : Grammar → ℕ → List Spot
-unfolding rule each has hasAll concluded waiting rounds nonterminalsOf productive usable reachable hasSentence isLive up_to itemsFrom sameItems items code_at itemsBefore chains spots
-statesOf G m = spots limits G m
+unfoldable pub states_of : Grammar → ℕ → List Spot
+unfolding rule each has has_all concluded waiting rounds nonterminals_of productive usable reachable has_sentence is_live up_to items_from same_items items code_at items_before chains spots
+states_of G m = spots limits G m
 
 -- Q at m = 0, 1, 2
-counts : (length (statesOf small 0) ≡ 10) × (length (statesOf small 1) ≡ 11) × (length (statesOf small 2) ≡ 11)
-    × (length (statesOf biology 0) ≡ 17) × (length (statesOf biology 1) ≡ 19) × (length (statesOf biology 2) ≡ 19)
-    × (length (statesOf commands 0) ≡ 27) × (length (statesOf commands 1) ≡ 47) × (length (statesOf commands 2) ≡ 93)
-    × (length (statesOf nested 0) ≡ 19) × (length (statesOf nested 1) ≡ 23) × (length (statesOf nested 2) ≡ 27)
-unfolding statesOf
+counts : (length (states_of small 0) ≡ 10) × (length (states_of small 1) ≡ 11) × (length (states_of small 2) ≡ 11)
+    × (length (states_of biology 0) ≡ 17) × (length (states_of biology 1) ≡ 19) × (length (states_of biology 2) ≡ 19)
+    × (length (states_of commands 0) ≡ 27) × (length (states_of commands 1) ≡ 47) × (length (states_of commands 2) ≡ 93)
+    × (length (states_of nested 0) ≡ 19) × (length (states_of nested 1) ≡ 23) × (length (states_of nested 2) ≡ 27)
+unfolding states_of
 counts = (refl, refl, refl, refl, refl, refl, refl, refl, refl, refl, refl, refl)
 
 -- ---- the states in their order
 
 -- rule 0 has no callers, S's rules S' → ·S, and A's rules both places before A
-small_one : statesOf small 1
+small_one : states_of small 1
     ≡ first ∷ last ∷ spot 0 0 [] ∷ spot 0 1 [] ∷ spot 1 0 ((0, 0) ∷ []) ∷ spot 2 0 ((0, 0) ∷ []) ∷ spot 2 1 ((0, 0) ∷ []) ∷ spot 2 2 ((0, 0) ∷ [])
     ∷ spot 2 3 ((0, 0) ∷ []) ∷ spot 3 0 ((2, 0) ∷ []) ∷ spot 3 0 ((2, 2) ∷ []) ∷ []
-unfolding statesOf
+unfolding states_of
 small_one = refl
 
 -- by item, then by callers from the nearest: B's chain through A → ·B comes first, though S → ·C stands before S → ·A and S → a·A
-nested-two : statesOf nested 2
+nested_two : states_of nested 2
     ≡ first ∷ last ∷ spot 0 0 [] ∷ spot 0 1 [] ∷ spot 1 0 ((0, 0) ∷ []) ∷ spot 1 1 ((0, 0) ∷ []) ∷ spot 2 0 ((0, 0) ∷ []) ∷ spot 2 1 ((0, 0) ∷ [])
     ∷ spot 3 0 ((0, 0) ∷ []) ∷ spot 3 1 ((0, 0) ∷ []) ∷ spot 3 2 ((0, 0) ∷ []) ∷ spot 4 0 ((2, 0) ∷ (0, 0) ∷ []) ∷ spot 4 0 ((3, 1) ∷ (0, 0) ∷ [])
     ∷ spot 4 1 ((2, 0) ∷ (0, 0) ∷ []) ∷ spot 4 1 ((3, 1) ∷ (0, 0) ∷ []) ∷ spot 5 0 ((1, 0) ∷ (0, 0) ∷ []) ∷ spot 5 1 ((1, 0) ∷ (0, 0) ∷ [])
     ∷ spot 6 0 ((4, 0) ∷ (2, 0) ∷ []) ∷ spot 6 0 ((4, 0) ∷ (3, 1) ∷ []) ∷ spot 6 0 ((5, 0) ∷ (1, 0) ∷ []) ∷ spot 6 1 ((4, 0) ∷ (2, 0) ∷ [])
     ∷ spot 6 1 ((4, 0) ∷ (3, 1) ∷ []) ∷ spot 6 1 ((5, 0) ∷ (1, 0) ∷ []) ∷ spot 7 0 ((6, 0) ∷ (4, 0) ∷ []) ∷ spot 7 0 ((6, 0) ∷ (5, 0) ∷ [])
     ∷ spot 7 1 ((6, 0) ∷ (4, 0) ∷ []) ∷ spot 7 1 ((6, 0) ∷ (5, 0) ∷ []) ∷ []
-unfolding statesOf
-nested-two = refl
+unfolding states_of
+nested_two = refl
 
 -- without callers every item is a state, with them only those of live rules, and no rule that is not live calls
-stray-counts : (length (statesOf stray 0) ≡ 15) × (length (statesOf stray 2) ≡ 8)
-unfolding statesOf
+stray-counts : (length (states_of stray 0) ≡ 15) × (length (states_of stray 2) ≡ 8)
+unfolding states_of
 stray-counts = (refl, refl)
 
-stray-one : statesOf stray 1
+stray-one : states_of stray 1
     ≡ first ∷ last ∷ spot 0 0 [] ∷ spot 0 1 [] ∷ spot 1 0 ((0, 0) ∷ []) ∷ spot 1 1 ((0, 0) ∷ []) ∷ spot 3 0 ((1, 0) ∷ []) ∷ spot 3 1 ((1, 0) ∷ []) ∷ []
-unfolding statesOf
+unfolding states_of
 stray-one = refl
 
 -- ---- the moves, by states' numbers
 
 -- what a state opens and closes, each with the state it leads to, and the state after a shift
 opened : Grammar → ℕ → ℕ → List (ℕ × ℕ)
-unfolding statesOf place_of liveRules spotOpenings
-opened G m p = (movesAt limits G m).openings p
+unfolding states_of place_of live_rules spot_openings
+opened G m p = (moves_at limits G m).openings p
 
 closed : Grammar → ℕ → ℕ → List (ℕ × ℕ)
-unfolding statesOf place_of spotAfter returns spotClosings
-closed G m p = (movesAt limits G m).closings p
+unfolding states_of place_of spot_after returns spot_closings
+closed G m p = (moves_at limits G m).closings p
 
 shifted : Grammar → ℕ → ℕ → ℕ × ℕ
-unfolding statesOf place_of spotAhead spotAfter
-shifted G m p = ((movesAt limits G m).ahead p, (movesAt limits G m).after p)
+unfolding states_of place_of spot_ahead spot_after
+shifted G m p = ((moves_at limits G m).ahead p, (moves_at limits G m).after p)
 
 -- S' → ·S opens S's rules; S → b·A c and S → ·A d open A → ·e, each its own where one caller is remembered
 biology-opens : (opened biology 0 2 ≡ (1, 4) ∷ (2, 8) ∷ (3, 12) ∷ []) × (opened biology 0 5 ≡ (4, 15) ∷ []) × (opened biology 0 12 ≡ (4, 15) ∷ [])
@@ -143,31 +143,31 @@ unfolding closed
 nested-closes = (refl, refl, refl, refl, refl, refl, refl)
 
 -- the moves with two callers have the states with two callers
-with_two : ((movesWith limits nested 1).states ≡ 23) × ((movesWith limits nested 2).states ≡ 27)
-unfolding statesOf
+with_two : ((moves_with limits nested 1).states ≡ 23) × ((moves_with limits nested 2).states ≡ 27)
+unfolding states_of
 with_two = (refl, refl)
 
 -- ---- refusals
 
 -- the limits in force, but for the states
-abbrev upToStates : ℕ → Limits
-upToStates q = record { maxTerminals = limits.maxTerminals; nonterminalBase = limits.nonterminalBase; maxNonterminals = limits.maxNonterminals; maxLength = limits.maxLength; maxRules = limits.maxRules; maxStates = q; maxText = limits.maxText }
+abbrev up_to_states : ℕ → Limits
+up_to_states q = record { max_terminals = limits.max_terminals; nonterminal_base = limits.nonterminal_base; max_nonterminals = limits.max_nonterminals; max_length = limits.max_length; max_rules = limits.max_rules; max_states = q; max_text = limits.max_text }
 
 unfoldable pub check : ℕ → ℕ → ℕ → List ℕ → ℕ → Answer Grammar
-unfolding statesOf decodeUpTo stateCount sameCodes isAmong declaredFront readRule nextRule checkFrom storedTable checkTable checkCallers checkWith refuseUnless and_then
-check q t n table m = checkWith (upToStates q) t n table m
+unfolding states_of decode_up_to state_count same_codes is_among declared_front read_rule next_rule check_from stored_table check_table check_callers check_with refuse_unless and_then
+check q t n table m = check_with (up_to_states q) t n table m
 
 -- the biology grammar's table, and that of S → S
-abbrev biologyTable : List ℕ
-biologyTable = 32768 ∷ 3 ∷ 1 ∷ 32769 ∷ 2 ∷ 32768 ∷ 3 ∷ 1 ∷ 3 ∷ 4 ∷ 32768 ∷ 2 ∷ 32769 ∷ 4 ∷ 32769 ∷ 1 ∷ 3 ∷ []
+abbrev biology_table : List ℕ
+biology_table = 32768 ∷ 3 ∷ 1 ∷ 32769 ∷ 2 ∷ 32768 ∷ 3 ∷ 1 ∷ 3 ∷ 4 ∷ 32768 ∷ 2 ∷ 32769 ∷ 4 ∷ 32769 ∷ 1 ∷ 3 ∷ []
 
-abbrev loopTable : List ℕ
-loopTable = 32768 ∷ 1 ∷ 32768 ∷ []
+abbrev loop_table : List ℕ
+loop_table = 32768 ∷ 1 ∷ 32768 ∷ []
 
 -- 17 states without callers and 19 with one: 8 stands at 0, and without callers at the offset of the rule, before 21; 19 too
-refusals : (check 19 4 2 biologyTable 2 ≡ done biology) × (check 19 4 2 biologyTable 3 ≡ refused tooManyCallers 0)
-    × (check 18 4 2 biologyTable 0 ≡ done biology) × (check 18 4 2 biologyTable 1 ≡ refused tooManyStates 0)
-    × (check 18 4 2 biologyTable 3 ≡ refused tooManyCallers 0) × (check 16 4 2 biologyTable 3 ≡ refused tooManyStates 14)
-    × (check 19 0 1 loopTable 3 ≡ refused noSentence 0)
+refusals : (check 19 4 2 biology_table 2 ≡ done biology) × (check 19 4 2 biology_table 3 ≡ refused too_many_callers 0)
+    × (check 18 4 2 biology_table 0 ≡ done biology) × (check 18 4 2 biology_table 1 ≡ refused too_many_states 0)
+    × (check 18 4 2 biology_table 3 ≡ refused too_many_callers 0) × (check 16 4 2 biology_table 3 ≡ refused too_many_states 14)
+    × (check 19 0 1 loop_table 3 ≡ refused no_sentence 0)
 unfolding check
 refusals = (refl, refl, refl, refl, refl, refl, refl)

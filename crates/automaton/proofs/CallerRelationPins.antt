@@ -11,23 +11,23 @@ use lib.ListN.{length, get_or, take, drop}
 use Rattle.grammar.specs.Limits.{Limits, limits}
 use Rattle.grammar.specs.Refusal.{done}
 use Rattle.grammar.specs.Table.{encode}
-use Rattle.grammar.specs.TableCheck.{storedTable}
+use Rattle.grammar.specs.TableCheck.{stored_table}
 use Rattle.grammar.specs.Grammar.{Grammar, IsRule, rule}
-use Rattle.grammar.specs.Live.{Live, isLive}
+use Rattle.grammar.specs.Live.{Live, is_live}
 use Rattle.grammar.proofs.Answers.{no_bool}
 use Rattle.grammar.proofs.WellFormed.{stored-only, room}
-use Rattle.grammar.proofs.Live.{is_live}
+use Rattle.grammar.proofs.Live.{is_live_lem}
 use Rattle.automaton.specs.Callers.{Spot, spot, Place, Calls, enough, from_start, called}
 use Rattle.automaton.specs.Callers.{SpotOpens, spot-opens, SpotCloses, spot-closes}
-use Rattle.automaton.proofs.CallerPins.{nested, stray, statesOf, check}
+use Rattle.automaton.proofs.CallerPins.{nested, stray, states_of, check}
 
 module _ (L : Limits) (G : Grammar) where
   -- a caller's rule is live, its dot stands before the left side of the rule it calls, and the others call it
-  caller-live : {m i j d : ℕ} {cs : List (ℕ × ℕ)} → Calls L G (suc m) i ((j, d) ∷ cs) → Live L G j
-  caller-live (called r p c) = p.live
+  caller_live : {m i j d : ℕ} {cs : List (ℕ × ℕ)} → Calls L G (suc m) i ((j, d) ∷ cs) → Live L G j
+  caller_live (called r p c) = p.live
 
-  caller-before : {m i j d : ℕ} {cs : List (ℕ × ℕ)} → Calls L G (suc m) i ((j, d) ∷ cs) → get_or (rule L G j).right d 0 ≡ (rule L G i).left
-  caller-before (called r p c) = p.symbol
+  caller_before : {m i j d : ℕ} {cs : List (ℕ × ℕ)} → Calls L G (suc m) i ((j, d) ∷ cs) → get_or (rule L G j).right d 0 ≡ (rule L G i).left
+  caller_before (called r p c) = p.symbol
 
   farther-callers : {m i j d : ℕ} {cs : List (ℕ × ℕ)} → Calls L G (suc m) i ((j, d) ∷ cs) → Calls L G m j cs
   farther-callers (called r p c) = c
@@ -53,14 +53,14 @@ module _ (L : Limits) (G : Grammar) where
       nearest bs = get_or bs 0 (0, 0)
 
 -- the test of live rules, in a grammar whose table passes
-by-test : (G : Grammar) → storedTable limits G.terminals G.nonterminals (encode G.rules) ≡ done G → (i : ℕ) → i ≤ length G.rules
-    → (isLive limits G i ≡ true) ↔ Live limits G i
-by-test G e = is_live limits G (stored-only limits room G.terminals G.nonterminals (encode G.rules) G e).wellFormed (omega arith)
+by-test : (G : Grammar) → stored_table limits G.terminals G.nonterminals (encode G.rules) ≡ done G → (i : ℕ) → i ≤ length G.rules
+    → (is_live limits G i ≡ true) ↔ Live limits G i
+by-test G e = is_live_lem limits G (stored-only limits room G.terminals G.nonterminals (encode G.rules) G e).well_formed (omega arith)
 
 -- ---- S → C; S → A; S → a A; A → B; C → B; B → D; D → b
 
 -- S → ·A and S → a·A call A → B, which calls B → D: all are live
-alive : (i : ℕ) → i ≤ 7 → isLive limits nested i ≡ true → Live limits nested i
+alive : (i : ℕ) → i ≤ 7 → is_live limits nested i ≡ true → Live limits nested i
 unfolding encode check
 alive i h = (by-test nested refl i h).0
 
@@ -71,29 +71,29 @@ b-rule : IsRule nested 6
 b-rule = (omega arith, omega arith)
 
 a_first : Place limits nested 32769 2 0
-unfolding statesOf
+unfolding states_of
 a_first = record { live = alive 2 (omega arith) refl; rule-of = omega arith; inside = omega arith; symbol = refl }
 
-a-behind : Place limits nested 32769 3 1
-unfolding statesOf
-a-behind = record { live = alive 3 (omega arith) refl; rule-of = omega arith; inside = omega arith; symbol = refl }
+a_behind : Place limits nested 32769 3 1
+unfolding states_of
+a_behind = record { live = alive 3 (omega arith) refl; rule-of = omega arith; inside = omega arith; symbol = refl }
 
 b-first : Place limits nested 32770 4 0
-unfolding statesOf
+unfolding states_of
 b-first = record { live = alive 4 (omega arith) refl; rule-of = omega arith; inside = omega arith; symbol = refl }
 
 -- with two callers B → D has A → ·B, and then S → a·A
-chain-of-two : Calls limits nested 2 6 ((4, 0) ∷ (3, 1) ∷ [])
-unfolding statesOf
-chain-of-two = called b-rule b-first (called a-rule a-behind enough)
+chain_of_two : Calls limits nested 2 6 ((4, 0) ∷ (3, 1) ∷ [])
+unfolding states_of
+chain_of_two = called b-rule b-first (called a-rule a_behind enough)
 
 -- with one caller B → D· by A → ·B returns to A → B· by S → ·A, and to A → B· by S → a·A
 filled_in : SpotCloses limits nested 1 6 (spot 6 1 ((4, 0) ∷ [])) (spot 4 1 ((2, 0) ∷ []))
     × SpotCloses limits nested 1 6 (spot 6 1 ((4, 0) ∷ [])) (spot 4 1 ((3, 1) ∷ []))
-unfolding statesOf
+unfolding states_of
 filled_in =
     let l = alive 6 (omega arith) refl in
-    (spot-closes b-rule l b-first (called a-rule a_first enough) refl refl, spot-closes b-rule l b-first (called a-rule a-behind enough) refl refl)
+    (spot-closes b-rule l b-first (called a-rule a_first enough) refl refl, spot-closes b-rule l b-first (called a-rule a_behind enough) refl refl)
 
 -- ---- S → A; B → A; A → a; S → A C; C → C
 
@@ -102,5 +102,5 @@ dead : ¬ Live limits stray 2
 unfolding encode check
 dead l = no_bool (sym ((by-test stray refl 2 (omega arith)).1 l))
 
-no-dead-caller : {m : ℕ} {cs : List (ℕ × ℕ)} → ¬ Calls limits stray (suc m) 3 ((2, 0) ∷ cs)
-no-dead-caller c = dead (caller-live limits stray c)
+no_dead_caller : {m : ℕ} {cs : List (ℕ × ℕ)} → ¬ Calls limits stray (suc m) 3 ((2, 0) ∷ cs)
+no_dead_caller c = dead (caller_live limits stray c)

@@ -29,11 +29,11 @@ module _ (M : Moves) where
       ++ when (leb 1 (M.ahead p)) (moved p (symbol (M.ahead p)) (M.after p) ∷ [])
 
   -- all moves, and document 02's M, their number
-  unfoldable pub allMoves : List Moved
-  allMoves = each (numbers M.states) leaving
+  unfoldable pub all_moves : List Moved
+  all_moves = each (numbers M.states) leaving
 
-  abbrev pub moveCount : ℕ
-  moveCount = length allMoves
+  abbrev pub move_count : ℕ
+  move_count = length all_moves
 
 -- a move of an automaton, from a state to a state
 pub record MoveOf (A : Automaton) : Type 0 where

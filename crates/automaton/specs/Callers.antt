@@ -5,9 +5,9 @@ use Rattle.std.specs.Prelude.{ℕ, zero, suc, ◌≤◌, ◌<◌, ◌≡◌, Boo
 use Rattle.grammar.specs.Basics.{choose, when, each}
 use Rattle.grammar.specs.Limits.{Limits}
 use Rattle.grammar.specs.Grammar.{Terminal, Rule, Grammar, IsRule, rule}
-use Rattle.grammar.specs.Live.{Live, isLive}
-use Rattle.grammar.specs.Refusal.{Answer, done, refuseUnless, and_then, tooManyStates, tooManyCallers}
-use Rattle.grammar.specs.TableCheck.{checkTable}
+use Rattle.grammar.specs.Live.{Live, is_live}
+use Rattle.grammar.specs.Refusal.{Answer, done, refuse_unless, and_then, too_many_states, too_many_callers}
+use Rattle.grammar.specs.TableCheck.{check_table}
 use Rattle.automaton.specs.Automaton.{Automaton}
 use Rattle.automaton.specs.Items.{length_of}
 
@@ -56,59 +56,59 @@ up_to zero = 0 ∷ []
 up_to (suc n) = up_to n ++ (suc n ∷ [])
 
 -- the items of some rules, numbered from i: by rule, then by dot
-unfoldable pub itemsFrom : ℕ → List Rule → List (ℕ × ℕ)
-itemsFrom i [] = []
-itemsFrom i (r ∷ rs) = map (λ d. (i, d)) (up_to (length r.right)) ++ itemsFrom (suc i) rs
+unfoldable pub items_from : ℕ → List Rule → List (ℕ × ℕ)
+items_from i [] = []
+items_from i (r ∷ rs) = map (λ d. (i, d)) (up_to (length r.right)) ++ items_from (suc i) rs
 
-unfoldable pub sameItems : List (ℕ × ℕ) → List (ℕ × ℕ) → Bool
-sameItems [] [] = true
-sameItems [] (c ∷ cs) = false
-sameItems (b ∷ bs) [] = false
-sameItems (b ∷ bs) (c ∷ cs) = (eqb b.0 c.0 && eqb b.1 c.1) && sameItems bs cs
+unfoldable pub same_items : List (ℕ × ℕ) → List (ℕ × ℕ) → Bool
+same_items [] [] = true
+same_items [] (c ∷ cs) = false
+same_items (b ∷ bs) [] = false
+same_items (b ∷ bs) (c ∷ cs) = (eqb b.0 c.0 && eqb b.1 c.1) && same_items bs cs
 
-abbrev pub sameSpot : Spot → Spot → Bool
-sameSpot first first = true
-sameSpot first last = false
-sameSpot first (spot j e ds) = false
-sameSpot last first = false
-sameSpot last last = true
-sameSpot last (spot j e ds) = false
-sameSpot (spot i d cs) first = false
-sameSpot (spot i d cs) last = false
-sameSpot (spot i d cs) (spot j e ds) = (eqb i j && eqb d e) && sameItems cs ds
+abbrev pub same_spot : Spot → Spot → Bool
+same_spot first first = true
+same_spot first last = false
+same_spot first (spot j e ds) = false
+same_spot last first = false
+same_spot last last = true
+same_spot last (spot j e ds) = false
+same_spot (spot i d cs) first = false
+same_spot (spot i d cs) last = false
+same_spot (spot i d cs) (spot j e ds) = (eqb i j && eqb d e) && same_items cs ds
 
 -- the place of a state in a list, or the list's length
 unfoldable pub place_of : Spot → List Spot → ℕ
 place_of s [] = 0
-place_of s (t ∷ ts) = choose (sameSpot t s) 0 (suc (place_of s ts))
+place_of s (t ∷ ts) = choose (same_spot t s) 0 (suc (place_of s ts))
 
 module _ (L : Limits) (G : Grammar) where
   unfoldable pub items : List (ℕ × ℕ)
-  items = itemsFrom 0 (rule L G 0 ∷ G.rules)
+  items = items_from 0 (rule L G 0 ∷ G.rules)
 
   -- the code after the dot, or 0; a rule that is not live shows none
   unfoldable pub code_at : ℕ × ℕ → ℕ
-  code_at c = choose (isLive L G c.0) (get_or (rule L G c.0).right c.1 0) 0
+  code_at c = choose (is_live L G c.0) (get_or (rule L G c.0).right c.1 0) 0
 
   -- the live items before x, in order
-  unfoldable pub itemsBefore : ℕ → List (ℕ × ℕ) → List (ℕ × ℕ)
-  itemsBefore x [] = []
-  itemsBefore x (c ∷ cs) = when (eqb (code_at c) x) (c ∷ []) ++ itemsBefore x cs
+  unfoldable pub items_before : ℕ → List (ℕ × ℕ) → List (ℕ × ℕ)
+  items_before x [] = []
+  items_before x (c ∷ cs) = when (eqb (code_at c) x) (c ∷ []) ++ items_before x cs
 
   -- the chains of m callers of rule i, from the nearest
   unfoldable pub chains : ℕ → ℕ → List (List (ℕ × ℕ))
   chains zero i = [] ∷ []
   chains (suc m) zero = [] ∷ []
-  chains (suc m) (suc i) = each (itemsBefore (rule L G (suc i)).left items) (λ c. map (λ cs. c ∷ cs) (chains m c.0))
+  chains (suc m) (suc i) = each (items_before (rule L G (suc i)).left items) (λ c. map (λ cs. c ∷ cs) (chains m c.0))
 
   -- at m = 0 every item is a state; above it, items of rules that are not live have no states
-  abbrev pub chainsOf : ℕ → ℕ → List (List (ℕ × ℕ))
-  chainsOf zero i = [] ∷ []
-  chainsOf (suc m) i = when (isLive L G i) (chains (suc m) i)
+  abbrev pub chains_of : ℕ → ℕ → List (List (ℕ × ℕ))
+  chains_of zero i = [] ∷ []
+  chains_of (suc m) i = when (is_live L G i) (chains (suc m) i)
 
   -- the states: 0, 1, then by item, then by callers from the nearest, a missing one first
   unfoldable pub spots : ℕ → List Spot
-  spots m = first ∷ last ∷ each items (λ c. map (spot c.0 c.1) (chainsOf m c.0))
+  spots m = first ∷ last ∷ each items (λ c. map (spot c.0 c.1) (chains_of m c.0))
 
   abbrev pub number_of : ℕ → Spot → ℕ
   number_of m s = place_of s (spots m)
@@ -130,16 +130,16 @@ module _ (L : Limits) (G : Grammar) where
 -- ---- refusals
 
 -- no more callers are remembered
-abbrev pub mostCallers : ℕ
-mostCallers = 2
+abbrev pub most_callers : ℕ
+most_callers = 2
 
 -- 21 at 0 for a greater m, then 8 at 0 for more states with m callers than the limit
-unfoldable pub checkCallers : Limits → Grammar → ℕ → Answer Grammar
-checkCallers L G m =
-    refuseUnless tooManyCallers 0 (leb m mostCallers)
-    (refuseUnless tooManyStates 0 (leb (callers L G m).states L.maxStates)
+unfoldable pub check_callers : Limits → Grammar → ℕ → Answer Grammar
+check_callers L G m =
+    refuse_unless too_many_callers 0 (leb m most_callers)
+    (refuse_unless too_many_states 0 (leb (callers L G m).states L.max_states)
     (done G))
 
 -- t, n, a table and m: the table check first
-unfoldable pub checkWith : Limits → ℕ → ℕ → List ℕ → ℕ → Answer Grammar
-checkWith L t n table m = and_then (checkTable L t n table) (λ G. checkCallers L G m)
+unfoldable pub check_with : Limits → ℕ → ℕ → List ℕ → ℕ → Answer Grammar
+check_with L t n table m = and_then (check_table L t n table) (λ G. check_callers L G m)

@@ -5,7 +5,7 @@
 use Rattle.std.specs.Prelude.{ℕ, ◌≤◌, ◌<◌, ◌≡◌, Bool, List, ◌↔◌}
 use Rattle.grammar.specs.Basics.{Mem, Distinct}
 use Rattle.grammar.specs.Grammar.{Terminal}
-use Rattle.grammar.specs.TableCheck.{isTerminal}
+use Rattle.grammar.specs.TableCheck.{is_terminal}
 use Rattle.automaton.specs.Automaton.{Automaton}
 
 pub record Moves : Type 0 where
@@ -22,8 +22,8 @@ pub record Moves : Type 0 where
 
 module _ (M : Moves) where
   -- a terminal is ahead of the state
-  abbrev pub terminalAhead : ℕ → Bool
-  terminalAhead p = isTerminal M.terminals (M.ahead p)
+  abbrev pub terminal_ahead : ℕ → Bool
+  terminal_ahead p = is_terminal M.terminals (M.ahead p)
 
   -- the automaton that has just these moves: state 0 is the start, 1 the end; laws go over it, no claim is made of it
   abbrev pub listed : Automaton
@@ -39,7 +39,7 @@ module _ (M : Moves) where
     Shifts = λ x p q. (M.ahead p ≡ x) × (1 ≤ x) × (q ≡ M.after p);
   }
 
-  -- the lists are regular, as those of a well-formed grammar's items are
+  -- the lists are regular, as those of a well_formed grammar's items are
   pub record Regular : Type 0 where
     -- there are at least 0, 1 and the two items of rule 0
     pub four : 4 ≤ M.states
@@ -49,16 +49,16 @@ module _ (M : Moves) where
     pub shifts-below : (p : ℕ) → 1 ≤ M.ahead p → M.after p < M.states
     pub later : (p : ℕ) → 1 ≤ M.ahead p → p < M.after p
     -- no move is listed twice; two openings to one state are of one rule, all closings of a state are of one rule
-    pub opens-once : (p : ℕ) → Distinct (M.openings p)
-    pub closes-once : (p : ℕ) → Distinct (M.closings p)
+    pub opens_once : (p : ℕ) → Distinct (M.openings p)
+    pub closes_once : (p : ℕ) → Distinct (M.closings p)
     pub one-opening : (i j p q : ℕ) → Mem {A = ℕ × ℕ} (i, q) (M.openings p) → Mem {A = ℕ × ℕ} (j, q) (M.openings p) → i ≡ j
     pub one-closing : (i j p q r : ℕ) → Mem {A = ℕ × ℕ} (i, q) (M.closings p) → Mem {A = ℕ × ℕ} (j, r) (M.closings p) → i ≡ j
     -- no opening leads where the shift leads
-    pub opens-apart : (i p q : ℕ) → 1 ≤ M.ahead p → Mem {A = ℕ × ℕ} (i, q) (M.openings p) → ¬ (q ≡ M.after p)
+    pub opens_apart : (i p q : ℕ) → 1 ≤ M.ahead p → Mem {A = ℕ × ℕ} (i, q) (M.openings p) → ¬ (q ≡ M.after p)
     -- a state before a terminal does not open; one that stands before a symbol, or opens, does not close
-    pub terminal-no-open : (i p q : ℕ) → Terminal M.terminals (M.ahead p) → Mem {A = ℕ × ℕ} (i, q) (M.openings p) → ⊥
-    pub ahead-no-close : (i p q : ℕ) → 1 ≤ M.ahead p → Mem {A = ℕ × ℕ} (i, q) (M.closings p) → ⊥
-    pub opens-no-close : (i j p q r : ℕ) → Mem {A = ℕ × ℕ} (i, q) (M.openings p) → Mem {A = ℕ × ℕ} (j, r) (M.closings p) → ⊥
+    pub terminal_no_open : (i p q : ℕ) → Terminal M.terminals (M.ahead p) → Mem {A = ℕ × ℕ} (i, q) (M.openings p) → ⊥
+    pub ahead_no_close : (i p q : ℕ) → 1 ≤ M.ahead p → Mem {A = ℕ × ℕ} (i, q) (M.closings p) → ⊥
+    pub opens_no_close : (i j p q r : ℕ) → Mem {A = ℕ × ℕ} (i, q) (M.openings p) → Mem {A = ℕ × ℕ} (j, r) (M.closings p) → ⊥
 
 -- the lists are the moves of an automaton, by the numbers of its states; regular lists have no others from numbers below Q, since
 -- theirs lead to numbers below Q

@@ -12,8 +12,8 @@ use lib.Dec.{eqb, leb}
 use lib.ListN.{length, get_or}
 use lib.Pow.{pow-add, pow_pos, pow_mono, shr_lt, shr-shr}
 use Rattle.grammar.specs.Basics.{choose}
-use Rattle.triples.specs.Certificate.{bit, isSet}
-use Rattle.bits.specs.Windows.{Word, Window, windowEnd, wideBits, Columns, LowestOne, ClearTo}
+use Rattle.triples.specs.Certificate.{bit, is_set}
+use Rattle.bits.specs.Windows.{Word, Window, window_end, wide_bits, Columns, LowestOne, ClearTo}
 
 -- a bit of x + 2 ^ s * y is one of x below s, and one of y from s on
 join-low : (x y s c : ℕ) → c < s → (x + 2 ^ s * y) / 2 ^ c % 2 ≡ x / 2 ^ c % 2
@@ -69,8 +69,8 @@ word-join bytes b n x y s t = record { most = most; bits = bits }
     ]
 
 -- the window on a number of n bytes from the byte of i on
-window-of : (bytes : List ℕ) (i n w : ℕ) → 0 < n → Word bytes (i / 8) n w → Window bytes i (i / 8 * 8 + 8 * n) (w / 2 ^ (i % 8))
-window-of bytes i n w p s = record { most = most; bits = bits }
+window_of : (bytes : List ℕ) (i n w : ℕ) → 0 < n → Word bytes (i / 8) n w → Window bytes i (i / 8 * 8 + 8 * n) (w / 2 ^ (i % 8))
+window_of bytes i n w p s = record { most = most; bits = bits }
   where
     most : w / 2 ^ (i % 8) < 2 ^ (i / 8 * 8 + 8 * n - i)
     most =
@@ -82,29 +82,29 @@ window-of bytes i n w p s = record { most = most; bits = bits }
         let e : 8 * (i / 8) + (i % 8 + c) ≡ i + c = omega arith in
         ap (λ (m : ℕ). m % 2) (shr-shr w (i % 8) c) ∙ s.bits (i % 8 + c) (omega arith) ∙ ap (bit bytes) e
 
-pub window-eight : (bytes : List ℕ) (n i w : ℕ) → i / 8 + 8 ≤ n → Word bytes (i / 8) 8 w → Window bytes i (windowEnd n i) (w / 2 ^ (i % 8))
-window-eight bytes n i w h s =
-    subst (λ (t : Bool). Window bytes i (choose t (i / 8 * 8 + 64) (i / 8 * 8 + 8)) (w / 2 ^ (i % 8))) (sym (le-leb (i / 8 + 8) n h)) (window-of bytes i 8 w (omega arith) s)
+pub window_eight : (bytes : List ℕ) (n i w : ℕ) → i / 8 + 8 ≤ n → Word bytes (i / 8) 8 w → Window bytes i (window_end n i) (w / 2 ^ (i % 8))
+window_eight bytes n i w h s =
+    subst (λ (t : Bool). Window bytes i (choose t (i / 8 * 8 + 64) (i / 8 * 8 + 8)) (w / 2 ^ (i % 8))) (sym (le-leb (i / 8 + 8) n h)) (window_of bytes i 8 w (omega arith) s)
 
-pub window-one : (bytes : List ℕ) (n i w : ℕ) → n < i / 8 + 8 → Word bytes (i / 8) 1 w → Window bytes i (windowEnd n i) (w / 2 ^ (i % 8))
-window-one bytes n i w h s =
-    subst (λ (t : Bool). Window bytes i (choose t (i / 8 * 8 + 64) (i / 8 * 8 + 8)) (w / 2 ^ (i % 8))) (sym (lt-leb (i / 8 + 8) n h)) (window-of bytes i 1 w (omega arith) s)
+pub window_one : (bytes : List ℕ) (n i w : ℕ) → n < i / 8 + 8 → Word bytes (i / 8) 1 w → Window bytes i (window_end n i) (w / 2 ^ (i % 8))
+window_one bytes n i w h s =
+    subst (λ (t : Bool). Window bytes i (choose t (i / 8 * 8 + 64) (i / 8 * 8 + 8)) (w / 2 ^ (i % 8))) (sym (lt-leb (i / 8 + 8) n h)) (window_of bytes i 1 w (omega arith) s)
 
 -- the bits from i on, of eight bytes from its byte on, and of the last eight
-pub columns-eight : (bytes : List ℕ) (i w : ℕ) → Word bytes (i / 8) 8 w → Columns bytes i (w / 2 ^ (i % 8))
-columns-eight bytes i w s = let v = window-of bytes i 8 w (omega arith) s in record { bits = λ c h l. v.bits c (omega arith) }
+pub columns_eight : (bytes : List ℕ) (i w : ℕ) → Word bytes (i / 8) 8 w → Columns bytes i (w / 2 ^ (i % 8))
+columns_eight bytes i w s = let v = window_of bytes i 8 w (omega arith) s in record { bits = λ c h l. v.bits c (omega arith) }
 
 pub columns-last : (bytes : List ℕ) (i b w : ℕ) → b + 8 ≡ length bytes → 8 * b ≤ i → Word bytes b 8 w → Columns bytes i (w / 2 ^ (i - 8 * b))
 columns-last bytes i b w q h s = record { bits = bits }
   where
-    bits : (c : ℕ) → c < wideBits → i + c < 8 * length bytes → w / 2 ^ (i - 8 * b) / 2 ^ c % 2 ≡ bit bytes (i + c)
+    bits : (c : ℕ) → c < wide_bits → i + c < 8 * length bytes → w / 2 ^ (i - 8 * b) / 2 ^ c % 2 ≡ bit bytes (i + c)
     bits c l u =
         let e : 8 * b + (i - 8 * b + c) ≡ i + c = omega arith in
         ap (λ (m : ℕ). m % 2) (shr-shr w (i - 8 * b) c) ∙ s.bits (i - 8 * b + c) (omega arith) ∙ ap (bit bytes) e
 
 -- the lowest n of them
-pub columns-window : (bytes : List ℕ) (i n v : ℕ) → Columns bytes i v → n ≤ wideBits → i + n ≤ 8 * length bytes → Window bytes i (i + n) (v % 2 ^ n)
-columns-window bytes i n v s h l = record { most = most; bits = bits }
+pub columns_window : (bytes : List ℕ) (i n v : ℕ) → Columns bytes i v → n ≤ wide_bits → i + n ≤ 8 * length bytes → Window bytes i (i + n) (v % 2 ^ n)
+columns_window bytes i n v s h l = record { most = most; bits = bits }
   where
     most : v % 2 ^ n < 2 ^ (i + n - i)
     most = let e : n ≡ i + n - i = omega arith in subst (λ (m : ℕ). v % 2 ^ n < 2 ^ m) e (mod-lt v (pow_pos n))
@@ -117,8 +117,8 @@ columns-window bytes i n v s h l = record { most = most; bits = bits }
         sym (join-low (v % 2 ^ n) (v / 2 ^ n) n c (omega arith)) ∙ ap (λ (m : ℕ). m / 2 ^ c % 2) whole ∙ s.bits c (omega arith) (omega arith)
 
 -- a window without the bits up to its k-th
-pub window-next : (bytes : List ℕ) (i e w k j : ℕ) → Window bytes i e w → i + k < e → j ≡ i + k + 1 → Window bytes j e (w / 2 ^ k / 2)
-window-next bytes i e w k j s h q = subst (Window bytes j e) (sym (shr-shr w k 1)) (record { most = most; bits = bits })
+pub window_next : (bytes : List ℕ) (i e w k j : ℕ) → Window bytes i e w → i + k < e → j ≡ i + k + 1 → Window bytes j e (w / 2 ^ k / 2)
+window_next bytes i e w k j s h q = subst (Window bytes j e) (sym (shr-shr w k 1)) (record { most = most; bits = bits })
   where
     most : w / 2 ^ (k + 1) < 2 ^ (e - j)
     most = let l : e - i ≡ e - j + (k + 1) = omega arith in shr_lt (e - j) (k + 1) (subst (λ (m : ℕ). w < 2 ^ m) l s.most)
@@ -129,16 +129,16 @@ window-next bytes i e w k j s h q = subst (Window bytes j e) (sym (shr-shr w k 1
         ap (λ (m : ℕ). m % 2) (shr-shr w (k + 1) c) ∙ s.bits (k + 1 + c) (omega arith) ∙ ap (bit bytes) f
 
 -- a window ends after its index, at most 64 bits on
-pub window-near : (n i : ℕ) → (i < windowEnd n i) × (windowEnd n i ≤ i + 64)
-window-near n i = go (leb (i / 8 + 8) n)
+pub window_near : (n i : ℕ) → (i < window_end n i) × (window_end n i ≤ i + 64)
+window_near n i = go (leb (i / 8 + 8) n)
   where
     go : (t : Bool) → (i < choose t (i / 8 * 8 + 64) (i / 8 * 8 + 8)) × (choose t (i / 8 * 8 + 64) (i / 8 * 8 + 8) ≤ i + 64)
     go true = (omega arith, omega arith)
     go false = (omega arith, omega arith)
 
 -- a window that is 0 has no set bit
-pub window-clear : (bytes : List ℕ) (i e w : ℕ) → Window bytes i e w → w ≡ 0 → (k : ℕ) → i ≤ k → k < e → isSet bytes k ≡ false
-window-clear bytes i e w s z k h l =
+pub window_clear : (bytes : List ℕ) (i e w : ℕ) → Window bytes i e w → w ≡ 0 → (k : ℕ) → i ≤ k → k < e → is_set bytes k ≡ false
+window_clear bytes i e w s z k h l =
     let q : i + (k - i) ≡ k = omega arith in
     let b : bit bytes k ≡ 0 =
     ap (bit bytes) (sym q) ∙ sym (s.bits (k - i) (omega arith)) ∙ ap (λ (n : ℕ). n / 2 ^ (k - i) % 2) z ∙ ap (λ (n : ℕ). n % 2) (zero-div (2 ^ (k - i))) in
@@ -148,8 +148,8 @@ window-clear bytes i e w s z k h l =
 abbrev Whole : ℕ → ℕ → Type 0
 Whole n e = (8 * (e / 8) ≡ e) × (e / 8 ≤ n)
 
-pub window-whole : (n i : ℕ) → i < 8 * n → (8 * (windowEnd n i / 8) ≡ windowEnd n i) × (windowEnd n i / 8 ≤ n)
-window-whole n i h = elim (dec_lt n (i / 8 + 8)) [
+pub window_whole : (n i : ℕ) → i < 8 * n → (8 * (window_end n i / 8) ≡ window_end n i) × (window_end n i / 8 ≤ n)
+window_whole n i h = elim (dec_lt n (i / 8 + 8)) [
   | yes l ↦ subst (λ (t : Bool). Whole n (choose t (i / 8 * 8 + 64) (i / 8 * 8 + 8))) (sym (lt-leb (i / 8 + 8) n l)) (omega arith, omega arith)
   | no m ↦ subst (λ (t : Bool). Whole n (choose t (i / 8 * 8 + 64) (i / 8 * 8 + 8))) (sym (le-leb (i / 8 + 8) n (omega arith))) (omega arith, omega arith)
 ]
@@ -158,18 +158,18 @@ window-whole n i h = elim (dec_lt n (i / 8 + 8)) [
 pub clear-start : (bytes : List ℕ) (from : ℕ) → from ≤ length bytes → ClearTo bytes from from
 clear-start bytes from h = record { low = omega arith; high = h; clear = λ k l u. absurd (omega arith) }
 
-pub clear-eight : (bytes : List ℕ) (from b w : ℕ) → ClearTo bytes from b → b + 8 ≤ length bytes → Word bytes b 8 w → w ≡ 0 → ClearTo bytes from (b + 8)
-clear-eight bytes from b w old h s z = record { low = omega (arith, old.low); high = h; clear = clear }
+pub clear_eight : (bytes : List ℕ) (from b w : ℕ) → ClearTo bytes from b → b + 8 ≤ length bytes → Word bytes b 8 w → w ≡ 0 → ClearTo bytes from (b + 8)
+clear_eight bytes from b w old h s z = record { low = omega (arith, old.low); high = h; clear = clear }
   where
     eight : Window bytes (8 * b) (8 * b + 64) w
     eight =
         let e : 64 ≡ 8 * b + 64 - 8 * b = omega arith in
         record { most = subst (λ (n : ℕ). w < 2 ^ n) e s.most; bits = λ c l. s.bits c (omega arith) }
 
-    clear : (k : ℕ) → 8 * from ≤ k → k < 8 * (b + 8) → isSet bytes k ≡ false
+    clear : (k : ℕ) → 8 * from ≤ k → k < 8 * (b + 8) → is_set bytes k ≡ false
     clear k l u = elim (dec_lt k (8 * b)) [
       | yes y ↦ old.clear k l y
-      | no n ↦ window-clear bytes (8 * b) (8 * b + 64) w eight z k (omega arith) (omega arith)
+      | no n ↦ window_clear bytes (8 * b) (8 * b + 64) w eight z k (omega arith) (omega arith)
     ]
 
 -- the lowest 1 lies in the window
@@ -184,14 +184,14 @@ lowest-within bytes i e w r s o = elim (dec_lt (i + r) e) [
 ]
 
 -- no bit before the lowest 1 is set
-pub lowest-clear : (bytes : List ℕ) (i e w r : ℕ) → Window bytes i e w → LowestOne w r → (k : ℕ) → i ≤ k → k < i + r → isSet bytes k ≡ false
-lowest-clear bytes i e w r s o k h l =
+pub lowest_clear : (bytes : List ℕ) (i e w r : ℕ) → Window bytes i e w → LowestOne w r → (k : ℕ) → i ≤ k → k < i + r → is_set bytes k ≡ false
+lowest_clear bytes i e w r s o k h l =
     let u = lowest-within bytes i e w r s o in
     let q : i + (k - i) ≡ k = omega arith in
     let b : bit bytes k ≡ 0 = ap (bit bytes) (sym q) ∙ sym (s.bits (k - i) (omega arith)) ∙ o.below (k - i) (omega arith) in
     ap (λ (n : ℕ). eqb n 1) b
 
-pub lowest-found : (bytes : List ℕ) (i e w r : ℕ) → Window bytes i e w → LowestOne w r → isSet bytes (i + r) ≡ true
+pub lowest-found : (bytes : List ℕ) (i e w r : ℕ) → Window bytes i e w → LowestOne w r → is_set bytes (i + r) ≡ true
 lowest-found bytes i e w r s o = ap (λ (n : ℕ). eqb n 1) (sym (s.bits r (lowest-within bytes i e w r s o)) ∙ o.one)
 
 -- the zeros below the lowest 1, counted
@@ -211,10 +211,10 @@ trailing_below (suc k) n c h = go (n % 2) refl c h (λ d l. trailing_below k (n 
     go zero e (suc c) l rest = sym (half-bit n c) ∙ rest c (omega arith)
     go (suc b) e c l rest = absurd (omega arith)
 
-trailing-one : (k n : ℕ) → 0 < n → n < 2 ^ k → n / 2 ^ count_trailing_zeros k n % 2 ≡ 1
+trailing_one : (k n : ℕ) → 0 < n → n < 2 ^ k → n / 2 ^ count_trailing_zeros k n % 2 ≡ 1
 unfolding count_trailing_zeros
-trailing-one zero n h l = absurd (omega arith)
-trailing-one (suc k) n h l = go (n % 2) refl (λ p q. trailing-one k (n / 2) p q)
+trailing_one zero n h l = absurd (omega arith)
+trailing_one (suc k) n h l = go (n % 2) refl (λ p q. trailing_one k (n / 2) p q)
   where
     go : (b : ℕ) → n % 2 ≡ b → (0 < n / 2 → n / 2 < 2 ^ k → n / 2 / 2 ^ count_trailing_zeros k (n / 2) % 2 ≡ 1)
         → n / 2 ^ under b (count_trailing_zeros k (n / 2)) % 2 ≡ 1
@@ -222,14 +222,14 @@ trailing-one (suc k) n h l = go (n % 2) refl (λ p q. trailing-one k (n / 2) p q
     go (suc b) e rest = let q : n / 1 ≡ n = omega arith in let o : n % 2 ≡ 1 = omega arith in ap (λ (m : ℕ). m % 2) q ∙ o
 
 pub lowest-one : (w : ℕ) → 0 < w → w < 2 ^ 64 → LowestOne w (count_trailing_zeros 64 w)
-lowest-one w h l = record { most = most; one = trailing-one 64 w h l; below = λ c u. trailing_below 64 w c u }
+lowest-one w h l = record { most = most; one = trailing_one 64 w h l; below = λ c u. trailing_below 64 w c u }
   where
     most : count_trailing_zeros 64 w < 64
     most = elim (dec_lt (count_trailing_zeros 64 w) 64) [
       | yes u ↦ u
       | no n ↦
           let s : count_trailing_zeros 64 w ≡ 64 = omega (arith, trailing_le 64 w) in
-          let o : w / 2 ^ 64 % 2 ≡ 1 = ap (λ (m : ℕ). w / 2 ^ m % 2) (sym s) ∙ trailing-one 64 w h l in
+          let o : w / 2 ^ 64 % 2 ≡ 1 = ap (λ (m : ℕ). w / 2 ^ m % 2) (sym s) ∙ trailing_one 64 w h l in
           let z : w / 2 ^ 64 ≡ 0 = div-eq_of_lt l in
           absurd (omega (arith, o, z))
     ]

@@ -1,7 +1,7 @@
 -- Bits of several bytes as one number. Assumes nothing.
 use Rattle.std.specs.Prelude.{ℕ, ◌+◌, ◌-◌, ◌*◌, ◌/◌, ◌%◌, ◌^◌, ◌≤◌, ◌<◌, ◌≡◌, false, List, leb, length}
 use Rattle.grammar.specs.Basics.{choose}
-use Rattle.triples.specs.Certificate.{bit, isSet}
+use Rattle.triples.specs.Certificate.{bit, is_set}
 
 -- a number with the bits of n bytes from byte b on
 pub record Word (bytes : List ℕ) (b n w : ℕ) : Type 0 where
@@ -14,16 +14,16 @@ pub record Window (bytes : List ℕ) (i e w : ℕ) : Type 0 where
   pub bits : (c : ℕ) → i + c < e → w / 2 ^ c % 2 ≡ bit bytes (i + c)
 
 -- a window reaches over eight bytes where n bytes have so many left, else over one
-abbrev pub windowEnd : ℕ → ℕ → ℕ
-windowEnd n i = choose (leb (i / 8 + 8) n) (i / 8 * 8 + 64) (i / 8 * 8 + 8)
+abbrev pub window_end : ℕ → ℕ → ℕ
+window_end n i = choose (leb (i / 8 + 8) n) (i / 8 * 8 + 64) (i / 8 * 8 + 8)
 
 -- eight bytes have so many bits from an index in the first of them on
-abbrev pub wideBits : ℕ
-wideBits = 57
+abbrev pub wide_bits : ℕ
+wide_bits = 57
 
 -- a number with so many bits from index i on, as far as there are bytes
 pub record Columns (bytes : List ℕ) (i w : ℕ) : Type 0 where
-  pub bits : (c : ℕ) → c < wideBits → i + c < 8 * length bytes → w / 2 ^ c % 2 ≡ bit bytes (i + c)
+  pub bits : (c : ℕ) → c < wide_bits → i + c < 8 * length bytes → w / 2 ^ c % 2 ≡ bit bytes (i + c)
 
 -- bit r of a number is 1, and no lower one is
 pub record LowestOne (w r : ℕ) : Type 0 where
@@ -35,4 +35,4 @@ pub record LowestOne (w r : ℕ) : Type 0 where
 pub record ClearTo (bytes : List ℕ) (from r : ℕ) : Type 0 where
   pub low : from ≤ r
   pub high : r ≤ length bytes
-  pub clear : (k : ℕ) → 8 * from ≤ k → k < 8 * r → isSet bytes k ≡ false
+  pub clear : (k : ℕ) → 8 * from ≤ k → k < 8 * r → is_set bytes k ≡ false

@@ -1,13 +1,13 @@
 // Bits in bytes, as a certificate has them: index 8b+c is bit c of byte b.
 ghost use Rattle.std.specs.Prelude.{◌≡◌, ◌+◌, ◌*◌, ◌^◌, ◌≤◌, ◌<◌, length};
-ghost use Rattle.triples.specs.Certificate.{isSet};
-ghost use Rattle.bits.specs.Bits.{withBit};
-ghost use Rattle.bits.specs.Windows.{Word, Window, windowEnd, Columns, LowestOne, ClearTo};
+ghost use Rattle.triples.specs.Certificate.{is_set};
+ghost use Rattle.bits.specs.Bits.{with_bit};
+ghost use Rattle.bits.specs.Windows.{Word, Window, window_end, Columns, LowestOne, ClearTo};
 
 // Is the bit 1?
 pub fn is_set(bytes: &[u8], i: usize) -> bool
     requires { i < 8 * length bytes.now }
-    ensures { result ≡ isSet bytes.now i }
+    ensures { result ≡ is_set bytes.now i }
 {
     (bytes[i / 8] >> (i % 8)) % 2 == 1
 }
@@ -15,7 +15,7 @@ pub fn is_set(bytes: &[u8], i: usize) -> bool
 // Makes the bit 1.
 pub fn set_bit(bytes: &mut [u8], i: usize)
     requires { i < 8 * length bytes.old }
-    ensures { bytes.new ≡ withBit bytes.old i }
+    ensures { bytes.new ≡ with_bit bytes.old i }
 {
     let b = i / 8;
     bytes[b] = bytes[b] | (1u8 << (i % 8));
@@ -53,7 +53,7 @@ fn eight_bytes(bytes: &[u8], b: usize) -> u64
 // The bits from i on, of eight bytes if there are so many, else of one.
 pub fn window(bytes: &[u8], i: usize) -> u64
     requires { i < 8 * length bytes.now }
-    ensures { Window bytes.now i (windowEnd (length bytes.now) i) result }
+    ensures { Window bytes.now i (window_end (length bytes.now) i) result }
 {
     let b = i / 8;
     if b + 8 <= bytes.len() {
@@ -78,7 +78,7 @@ pub fn wide_window(bytes: &[u8], i: usize) -> u64
 // Where the window from i on ends.
 pub fn window_end(bytes: &[u8], i: usize) -> usize
     requires { (i < 8 * length bytes.now) × (i < 2 ^ 32) }
-    ensures { result ≡ windowEnd (length bytes.now) i }
+    ensures { result ≡ window_end (length bytes.now) i }
 {
     if i / 8 + 8 <= bytes.len() {
         return i / 8 * 8 + 64;

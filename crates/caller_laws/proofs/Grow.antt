@@ -12,20 +12,20 @@ use Rattle.grammar.specs.Basics.{when, each, Mem, here, there}
 use Rattle.grammar.specs.Limits.{Limits}
 use Rattle.grammar.specs.Grammar.{Grammar, rule, WellFormed}
 use Rattle.grammar.specs.Tree.{Tree, Trees, DerivationTree, applies, Children, terminal, nonterminal}
-use Rattle.grammar.specs.Live.{Uses, at-root, further, UsesBelow, in-first, in-others, Live, live-start, live-rule, isLive}
-use Rattle.grammar.proofs.Live.{is_live}
+use Rattle.grammar.specs.Live.{Uses, at-root, further, UsesBelow, in-first, in-others, Live, live-start, live-rule, is_live}
+use Rattle.grammar.proofs.Live.{is_live_lem}
 use Rattle.automaton.specs.Items.{length_of}
-use Rattle.automaton.specs.Callers.{Place, enough, called, items, itemsBefore, chains, chainsOf, spots}
-use Rattle.triple_laws.proofs.Callers.{items-exact, before-out, left-code, chains-exact}
+use Rattle.automaton.specs.Callers.{Place, enough, called, items, items_before, chains, chains_of, spots}
+use Rattle.triple_laws.proofs.Callers.{items_exact, before-out, left-code, chains_exact}
 use Rattle.caller_laws.proofs.Levels.{shown-live}
-use Rattle.caller_laws.proofs.Blocks.{map-many, begins, begins-next, begins-two, states-are}
+use Rattle.caller_laws.proofs.Blocks.{map_many, begins, begins-next, begins_two, states_are}
 
 -- longer parts make a longer whole
-each-grow : {A B : Type 0} (l : List A) (f g : A → List B) → ((a : A) → Mem a l → length (f a) ≤ length (g a)) → length (each l f) ≤ length (each l g)
+each_grow : {A B : Type 0} (l : List A) (f g : A → List B) → ((a : A) → Mem a l → length (f a) ≤ length (g a)) → length (each l f) ≤ length (each l g)
 unfolding each
-each-grow [] f g h = omega arith
-each-grow (a ∷ l) f g h =
-    omega (arith, h a here, each-grow l f g (λ b m. h b (there m)), length-append (f a) (each l f), length-append (g a) (each l g))
+each_grow [] f g h = omega arith
+each_grow (a ∷ l) f g h =
+    omega (arith, h a here, each_grow l f g (λ b m. h b (there m)), length-append (f a) (each l f), length-append (g a) (each l g))
 
 -- a list with an element is not empty
 some-length : {A : Type 0} {a : A} {l : List A} → Mem a l → 1 ≤ length l
@@ -60,27 +60,27 @@ module _ (L : Limits) (G : Grammar) where
   live-called (live-rule s u) h =
       used-called s.derives (0, 0, record { live = live-start s; rule-of = omega arith; inside = omega arith; symbol = refl }) (λ j v. live-rule s v) u
 
-module _ (L : Limits) (G : Grammar) (W : WellFormed L G) (apart : L.maxTerminals < L.nonterminalBase) where
+module _ (L : Limits) (G : Grammar) (W : WellFormed L G) (apart : L.max_terminals < L.nonterminal_base) where
   -- a live rule has no fewer chains with one caller more
-  chains-grow : (m i : ℕ) → i ≤ length G.rules → isLive L G i ≡ true → length (chains L G m i) ≤ length (chains L G (suc m) i)
+  chains_grow : (m i : ℕ) → i ≤ length G.rules → is_live L G i ≡ true → length (chains L G m i) ≤ length (chains L G (suc m) i)
   unfolding chains
-  chains-grow zero zero h l = omega arith
-  chains-grow zero (suc i) h l =
-      let c = live-called L G ((is_live L G W apart (suc i) h).0 l) (omega arith) in
-      some-length ((chains-exact L G W apart 1 (suc i) ((c.0, c.1) ∷ []) h).1 (called (omega arith, h) c.2 enough))
-  chains-grow (suc m) zero h l = omega arith
-  chains-grow (suc m) (suc i) h l =
+  chains_grow zero zero h l = omega arith
+  chains_grow zero (suc i) h l =
+      let c = live-called L G ((is_live_lem L G W apart (suc i) h).0 l) (omega arith) in
+      some-length ((chains_exact L G W apart 1 (suc i) ((c.0, c.1) ∷ []) h).1 (called (omega arith, h) c.2 enough))
+  chains_grow (suc m) zero h l = omega arith
+  chains_grow (suc m) (suc i) h l =
       let x = (rule L G (suc i)).left in
-      each-grow (itemsBefore L G x (items L G)) (λ c. map (λ cs. c ∷ cs) (chains L G m c.0)) (λ c. map (λ cs. c ∷ cs) (chains L G (suc m) c.0))
+      each_grow (items_before L G x (items L G)) (λ c. map (λ cs. c ∷ cs) (chains L G m c.0)) (λ c. map (λ cs. c ∷ cs) (chains L G (suc m) c.0))
       (λ c k.
       let b = before-out L G W apart x c (items L G) k in
-      let t = (items-exact L G W apart c.0 c.1).0 b.0 in
+      let t = (items_exact L G W apart c.0 c.1).0 b.0 in
       let v = shown-live L G c.0 c.1 (omega (arith, b.1, left-code L G W apart (suc i) (omega arith, h))) in
-      omega (arith, chains-grow m c.0 t.0 v, map-many (λ cs. c ∷ cs) (chains L G m c.0), map-many (λ cs. c ∷ cs) (chains L G (suc m) c.0)))
+      omega (arith, chains_grow m c.0 t.0 v, map_many (λ cs. c ∷ cs) (chains L G m c.0), map_many (λ cs. c ∷ cs) (chains L G (suc m) c.0)))
 
   -- nor any rule, if there is a caller
-  width-grow : (m i : ℕ) → i ≤ length G.rules → length (chainsOf L G (suc m) i) ≤ length (chainsOf L G (suc (suc m)) i)
-  width-grow m i h = go (isLive L G i) (chains-grow (suc m) i h)
+  width_grow : (m i : ℕ) → i ≤ length G.rules → length (chains_of L G (suc m) i) ≤ length (chains_of L G (suc (suc m)) i)
+  width_grow m i h = go (is_live L G i) (chains_grow (suc m) i h)
     where
       go : (b : Bool) → (b ≡ true → length (chains L G (suc m) i) ≤ length (chains L G (suc (suc m)) i))
           → length (when b (chains L G (suc m) i)) ≤ length (when b (chains L G (suc (suc m)) i))
@@ -88,13 +88,13 @@ module _ (L : Limits) (G : Grammar) (W : WellFormed L G) (apart : L.maxTerminals
       go false k = omega arith
 
   -- and so each rule begins no earlier
-  begins-grow : (m n : ℕ) → n ≤ suc (length G.rules) → begins L G (suc m) n ≤ begins L G (suc (suc m)) n
-  begins-grow m zero h = omega (arith, begins-two L G (suc m), begins-two L G (suc (suc m)))
-  begins-grow m (suc n) h =
-      let z = mul-le-mul_left (suc (length_of L G n)) (width-grow m n (omega (arith, h))) in
-      omega (arith, z, begins-grow m n (omega (arith, h)), begins-next L G (suc m) n, begins-next L G (suc (suc m)) n)
+  begins_grow : (m n : ℕ) → n ≤ suc (length G.rules) → begins L G (suc m) n ≤ begins L G (suc (suc m)) n
+  begins_grow m zero h = omega (arith, begins_two L G (suc m), begins_two L G (suc (suc m)))
+  begins_grow m (suc n) h =
+      let z = mul-le-mul_left (suc (length_of L G n)) (width_grow m n (omega (arith, h))) in
+      omega (arith, z, begins_grow m n (omega (arith, h)), begins-next L G (suc m) n, begins-next L G (suc (suc m)) n)
 
   -- there are no fewer states with m + 2 callers than with m + 1
-  pub spots-grow : (m : ℕ) → length (spots L G (suc m)) ≤ length (spots L G (suc (suc m)))
-  spots-grow m =
-      omega (arith, states-are L G (suc m), states-are L G (suc (suc m)), begins-grow m (suc (length G.rules)) (omega arith))
+  pub spots_grow : (m : ℕ) → length (spots L G (suc m)) ≤ length (spots L G (suc (suc m)))
+  spots_grow m =
+      omega (arith, states_are L G (suc m), states_are L G (suc (suc m)), begins_grow m (suc (length G.rules)) (omega arith))

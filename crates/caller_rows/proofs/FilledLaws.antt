@@ -9,7 +9,7 @@ use lib.ListN.{length, get_or, set, length-set}
 use borrow.Author.Tests.{ne_eqb}
 use Rattle.grammar.specs.Basics.{choose}
 use lib.Seq.{get_or-set_same, get_or-set_other}
-use Rattle.caller_rows.specs.Contracts.{Filled}
+use Rattle.caller_rows.specs.Clauses.{Filled}
 
 -- no entry is written
 pub filled_none : (old : List ℕ) (f : ℕ → ℕ) → Filled old old 0 f

@@ -10,11 +10,11 @@ use lib.Dec.{eqb}
 use lib.ListN.{length, get_or, set, take, drop, length-take, length-drop}
 use Rattle.grammar.specs.Limits.{limits}
 use lib.Seq.{get_or-take, get_or-drop}
-use Rattle.live.specs.Marks.{before, rightAt}
-use Rattle.caller_rows.specs.Contracts.{Filled, start_of}
-use Rattle.caller_rule.specs.RuleRows.{Alike, codeBefore, lowBefore, WroteBlocks, Six, Wide, memberClass, targetClass, Ruled, RuleWritten}
-use Rattle.caller_rows.specs.LevelRows.{LevelRow, ends, EndsWritten, callersOf, Levelled, FrontWritten, LevelWritten}
-use Rattle.caller_rule.proofs.WroteLaws.{past_end, less-mul}
+use Rattle.live.specs.Marks.{before, right_at}
+use Rattle.caller_rows.specs.Clauses.{Filled, start_of}
+use Rattle.caller_rule.specs.RuleRows.{Alike, code_before, low_before, WroteBlocks, Six, Wide, member_class, target_class, Ruled, RuleWritten}
+use Rattle.caller_rows.specs.LevelRows.{LevelRow, ends, EndsWritten, callers_of, Levelled, FrontWritten, LevelWritten}
+use Rattle.caller_rule.proofs.WroteLaws.{past_end, less_mul}
 use Rattle.caller_rows.proofs.FilledLaws.{filled_none, filled_next}
 
 -- ---- where a rule begins
@@ -34,14 +34,14 @@ start_up lengths widths i (suc n) h = elim (ℕ_discrete i n) [
 ]
 
 -- four states stand before the rules
-pub start-four : (lengths widths : List ℕ) (n : ℕ) → 4 ≤ start_of lengths widths n
+pub start_four : (lengths widths : List ℕ) (n : ℕ) → 4 ≤ start_of lengths widths n
 unfolding start_of
-start-four lengths widths zero = omega arith
-start-four lengths widths (suc n) = let z = start-four lengths widths n in omega (arith, z)
+start_four lengths widths zero = omega arith
+start_four lengths widths (suc n) = let z = start_four lengths widths n in omega (arith, z)
 
 -- a later rule begins later
-pub start-rises : (lengths widths : List ℕ) (i n : ℕ) → i ≤ n → start_of lengths widths i ≤ start_of lengths widths n
-start-rises lengths widths i n h = elim (ℕ_discrete i n) [
+pub start_rises : (lengths widths : List ℕ) (i n : ℕ) → i ≤ n → start_of lengths widths i ≤ start_of lengths widths n
+start_rises lengths widths i n h = elim (ℕ_discrete i n) [
   | yes e ↦ omega (arith, ap (start_of lengths widths) e)
   | no e ↦ let z = start_up lengths widths i n (omega (arith, h, e)) in omega (arith, z)
 ]
@@ -52,7 +52,7 @@ pub row-start : (old mid new : List ℕ) (ends : ℕ → ℕ) (g : ℕ → ℕ �
 row-start old mid new ends g start width dots f a b = record {
   size = b.size ∙ a.size;
   first_two = λ p h. b.outside p (inl h) ∙ a.inside p h;
-  next-two = λ d h. ap (λ (k : ℕ). get_or new k 0) (let z : 2 + d ≡ 2 + d * 1 + 0 = omega arith in z) ∙ b.inside d 0 h (omega arith);
+  next_two = λ d h. ap (λ (k : ℕ). get_or new k 0) (let z : 2 + d ≡ 2 + d * 1 + 0 = omega arith in z) ∙ b.inside d 0 h (omega arith);
   rules = λ i d r h. absurd (omega arith);
 }
 
@@ -62,11 +62,11 @@ pub row_next : (lengths widths old mid new : List ℕ) (n at w m : ℕ) (ends ze
     → WroteBlocks mid new at w m g → at ≡ start_of lengths widths n → w ≡ get_or widths n 0 → m ≡ get_or lengths n 0 + 1 → ((d r : ℕ) → g d r ≡ f n d r)
     → LevelRow old new (n + 1) ends zeroth (start_of lengths widths) (λ i. get_or widths i 0) (λ i. get_or lengths i 0 + 1) f
 row_next lengths widths old mid new n at w m ends zeroth f g a b ea ew em s =
-    let four = start-four lengths widths n in
+    let four = start_four lengths widths n in
     record {
       size = b.size ∙ a.size;
       first_two = λ p h. b.outside p (inl (omega (arith, h, ea, four))) ∙ a.first_two p h;
-      next-two = λ d h. b.outside (2 + d) (inl (omega (arith, h, ea, four))) ∙ a.next-two d h;
+      next_two = λ d h. b.outside (2 + d) (inl (omega (arith, h, ea, four))) ∙ a.next_two d h;
       rules = λ i d r h k l. elim (ℕ_discrete i n) [
         | yes z ↦ subst (λ i. d < get_or lengths i 0 + 1 → r < get_or widths i 0 → get_or new (start_of lengths widths i + d * get_or widths i 0 + r) 0 ≡ f i d r) (sym z)
             (λ k l.
@@ -76,7 +76,7 @@ row_next lengths widths old mid new n at w m ends zeroth f g a b ea ew em s =
         | no z ↦
             let i' : i < n = omega (arith, h, z) in
             let x = start_up lengths widths i n i' in
-            let y = less-mul d (get_or lengths i 0 + 1) (get_or widths i 0) k in
+            let y = less_mul d (get_or lengths i 0 + 1) (get_or widths i 0) k in
             b.outside (start_of lengths widths i + d * get_or widths i 0 + r) (inl (omega (arith, x, y, l, ea))) ∙ a.rules i d r i' k l
       ];
     }
@@ -98,14 +98,14 @@ ends-wide q K old new W X = record {
 }
 
 -- 0 is a state
-one_below : (r : ℕ) → get_or (0 ∷ []) r 0 < limits.maxStates
+one_below : (r : ℕ) → get_or (0 ∷ []) r 0 < limits.max_states
 one_below zero = omega arith
 one_below (suc r) = omega arith
 
 -- what rule 0 is written from is small
-pub start-ruled : (ranks : List ℕ) (K : ℕ) → K ≤ limits.maxStates → limits.maxStates ≤ length ranks → ((c : ℕ) → get_or ranks c 0 ≤ limits.maxStates)
-    → Ruled (limits.nonterminalBase ∷ []) (0 ∷ []) ranks K 1 2 2
-start-ruled ranks K k n l = record {
+pub start_ruled : (ranks : List ℕ) (K : ℕ) → K ≤ limits.max_states → limits.max_states ≤ length ranks → ((c : ℕ) → get_or ranks c 0 ≤ limits.max_states)
+    → Ruled (limits.nonterminal_base ∷ []) (0 ∷ []) ranks K 1 2 2
+start_ruled ranks K k n l = record {
   kinds = k;
   short = omega arith;
   ranked = n;
@@ -119,15 +119,15 @@ start-ruled ranks K k n l = record {
 -- ---- one rule of a level
 
 -- a part by its place and length
-pub part-is : (l : List ℕ) (u u' k k' : ℕ) → u ≡ u' → k ≡ k' → take (u + k - u) (drop u l) ≡ take k' (drop u' l)
-part-is l u u' k k' e f = ap (λ (n : ℕ). take n (drop u l)) (let z : u + k - u ≡ k = omega arith in z) ∙ (λ j. take (f j) (drop (e j) l))
+pub part_is : (l : List ℕ) (u u' k k' : ℕ) → u ≡ u' → k ≡ k' → take (u + k - u) (drop u l) ≡ take k' (drop u' l)
+part_is l u u' k k' e f = ap (λ (n : ℕ). take n (drop u l)) (let z : u + k - u ≡ k = omega arith in z) ∙ (λ j. take (f j) (drop (e j) l))
 
 -- it has that length
-pub part-many : (l : List ℕ) (u k : ℕ) → u + k ≤ length l → length (take k (drop u l)) ≡ k
-part-many l u k h = omega (arith, length-take k (drop u l), length-drop u l)
+pub part_many : (l : List ℕ) (u k : ℕ) → u + k ≤ length l → length (take k (drop u l)) ≡ k
+part_many l u k h = omega (arith, length-take k (drop u l), length-drop u l)
 
 -- and no greater entries
-part-below : (l : List ℕ) (u k r : ℕ) → ((j : ℕ) → j < length l → get_or l j 0 < limits.maxStates) → get_or (take k (drop u l)) r 0 < limits.maxStates
+part-below : (l : List ℕ) (u k r : ℕ) → ((j : ℕ) → j < length l → get_or l j 0 < limits.max_states) → get_or (take k (drop u l)) r 0 < limits.max_states
 part-below l u k r h = elim (dec_lt r k) [
   | yes i ↦
       let e = get_or-take k (drop u l) r 0 i ∙ get_or-drop u l r 0 in
@@ -141,49 +141,49 @@ part-below l u k r h = elim (dec_lt r k) [
 module _ (lefts lengths codes : List ℕ) (count K : ℕ) (first callers below widths ranks : List ℕ) (given : Levelled lefts lengths codes count K first callers below widths ranks)
     (i : ℕ) (h : i < count) where
   abbrev C : List ℕ
-  C = rightAt lengths codes i
+  C = right_at lengths codes i
 
   abbrev D : List ℕ
-  D = callersOf lefts first widths callers i
+  D = callers_of lefts first widths callers i
 
-  pub codes-many : length C ≡ get_or lengths i 0
-  codes-many = part-many codes (before lengths i) (get_or lengths i 0) (given.codes-in i h)
+  pub codes_many : length C ≡ get_or lengths i 0
+  codes_many = part_many codes (before lengths i) (get_or lengths i 0) (given.codes_in i h)
 
-  pub callers-many : length D ≡ get_or widths i 0
-  callers-many = part-many callers (get_or first (get_or lefts i 0 - limits.nonterminalBase) 0) (get_or widths i 0) (given.callers-in i h)
+  pub callers_many : length D ≡ get_or widths i 0
+  callers_many = part_many callers (get_or first (get_or lefts i 0 - limits.nonterminal_base) 0) (get_or widths i 0) (given.callers_in i h)
 
-  own-ruled : (low at : ℕ) → low ≡ start_of lengths below i → at ≡ start_of lengths widths i → Ruled C D ranks K (get_or below i 0) low at
-  own-ruled low at el ea =
+  own_ruled : (low at : ℕ) → low ≡ start_of lengths below i → at ≡ start_of lengths widths i → Ruled C D ranks K (get_or below i 0) low at
+  own_ruled low at el ea =
       let x = start_up lengths widths i count h in
       let y = start_up lengths below i count h in
-      let p : (length C + 1) * length D ≡ (get_or lengths i 0 + 1) * get_or widths i 0 = λ j. (codes-many j + 1) * callers-many j in
-      let q : (length C + 1) * get_or below i 0 ≡ (get_or lengths i 0 + 1) * get_or below i 0 = λ j. (codes-many j + 1) * get_or below i 0 in
+      let p : (length C + 1) * length D ≡ (get_or lengths i 0 + 1) * get_or widths i 0 = λ j. (codes_many j + 1) * callers_many j in
+      let q : (length C + 1) * get_or below i 0 ≡ (get_or lengths i 0 + 1) * get_or below i 0 = λ j. (codes_many j + 1) * get_or below i 0 in
       record {
         kinds = given.kinds;
-        short = omega (arith, codes-many, given.short i h);
+        short = omega (arith, codes_many, given.short i h);
         ranked = given.ranked;
-        below = λ r k. part-below callers (get_or first (get_or lefts i 0 - limits.nonterminalBase) 0) (get_or widths i 0) r given.callers-small;
+        below = λ r k. part-below callers (get_or first (get_or lefts i 0 - limits.nonterminal_base) 0) (get_or widths i 0) r given.callers-small;
         little = given.little;
-        many = omega (arith, callers-many, given.callers-in i h, given.callers-few);
+        many = omega (arith, callers_many, given.callers_in i h, given.callers-few);
         room = omega (arith, x, p, ea, given.room);
         low-room = omega (arith, y, q, el, given.low-room);
       }
 
   -- as the code cuts them out
-  pub one-ruled : (C' D' : List ℕ) (low at : ℕ) → C' ≡ C → D' ≡ D → low ≡ start_of lengths below i → at ≡ start_of lengths widths i
+  pub one_ruled : (C' D' : List ℕ) (low at : ℕ) → C' ≡ C → D' ≡ D → low ≡ start_of lengths below i → at ≡ start_of lengths widths i
       → Ruled C' D' ranks K (get_or below i 0) low at
-  one-ruled C' D' low at ec ed el ea = subst₂ (λ C D. Ruled C D ranks K (get_or below i 0) low at) (sym ec) (sym ed) (own-ruled low at el ea)
+  one_ruled C' D' low at ec ed el ea = subst₂ (λ C D. Ruled C D ranks K (get_or below i 0) low at) (sym ec) (sym ed) (own_ruled low at el ea)
 
   pub one_written : (C' D' : List ℕ) (low at : ℕ) (old new : Six) → C' ≡ C → D' ≡ D
       → RuleWritten (i + 1) C' K D' ranks (get_or below i 0) low at (length C' + 1) old new
       → RuleWritten (i + 1) C K D ranks (get_or below i 0) low at (get_or lengths i 0 + 1) old new
   one_written C' D' low at old new ec ed X =
-      subst (λ (n : ℕ). RuleWritten (i + 1) C K D ranks (get_or below i 0) low at (n + 1) old new) codes-many
+      subst (λ (n : ℕ). RuleWritten (i + 1) C K D ranks (get_or below i 0) low at (n + 1) old new) codes_many
       (subst₂ (λ C D. RuleWritten (i + 1) C K D ranks (get_or below i 0) low at (length C + 1) old new) ec ed X)
 
 -- room for fewer
-pub wide-less : (n q : ℕ) (rows : Six) → n ≤ q → Wide q rows → Wide n rows
-wide-less n q rows h W = record {
+pub wide_less : (n q : ℕ) (rows : Six) → n ≤ q → Wide q rows → Wide n rows
+wide_less n q rows h W = record {
   ahead = omega (arith, h, W.ahead);
   number = omega (arith, h, W.number);
   member = omega (arith, h, W.member);
@@ -196,8 +196,8 @@ module _ (lefts lengths codes : List ℕ) (K : ℕ) (first callers below widths 
   abbrev All : ℕ → Six → Six → Type 0
   All n old new = LevelWritten lefts lengths codes K first callers below widths ranks n old new
 
-  pub level-start : (old new : Six) → FrontWritten K ranks old new → All 0 old new
-  level-start old new X =
+  pub level_start : (old new : Six) → FrontWritten K ranks old new → All 0 old new
+  level_start old new X =
       let e = X.1 in
       let r = X.2 in
       record {
@@ -209,8 +209,8 @@ module _ (lefts lengths codes : List ℕ) (K : ℕ) (first callers below widths 
         down = row-start _ _ _ _ _ _ _ _ _ e.down r.down;
       }
 
-  pub level-wide : (q n : ℕ) (old new : Six) → Wide q old → All n old new → Wide q new
-  level-wide q n old new W X = record {
+  pub level_wide : (q n : ℕ) (old new : Six) → Wide q old → All n old new → Wide q new
+  level_wide q n old new W X = record {
     ahead = omega (arith, W.ahead, X.ahead.size);
     number = omega (arith, W.number, X.number.size);
     member = omega (arith, W.member, X.member.size);
@@ -219,22 +219,22 @@ module _ (lefts lengths codes : List ℕ) (K : ℕ) (first callers below widths 
     down = omega (arith, W.down, X.down.size);
   }
 
-  pub level-next : (count n : ℕ) → Levelled lefts lengths codes count K first callers below widths ranks → n < count → (low at : ℕ) (old mid new : Six)
+  pub level_next : (count n : ℕ) → Levelled lefts lengths codes count K first callers below widths ranks → n < count → (low at : ℕ) (old mid new : Six)
       → low ≡ start_of lengths below n → at ≡ start_of lengths widths n → All n old mid
-      → RuleWritten (n + 1) (rightAt lengths codes n) K (callersOf lefts first widths callers n) ranks (get_or below n 0) low at (get_or lengths n 0 + 1) mid new
+      → RuleWritten (n + 1) (right_at lengths codes n) K (callers_of lefts first widths callers n) ranks (get_or below n 0) low at (get_or lengths n 0 + 1) mid new
       → All (n + 1) old new
-  level-next count n given h low at old mid new el ea X Y =
-      let w = callers-many lefts lengths codes count K first callers below widths ranks given n h in
-      let D : List ℕ = callersOf lefts first widths callers n in
-      let C : List ℕ = rightAt lengths codes n in
+  level_next count n given h low at old mid new el ea X Y =
+      let w = callers_many lefts lengths codes count K first callers below widths ranks given n h in
+      let D : List ℕ = callers_of lefts first widths callers n in
+      let C : List ℕ = right_at lengths codes n in
       let m : ℕ = get_or below n 0 in
       record {
         ahead = row_next lengths widths _ _ _ n at (length D) (get_or lengths n 0 + 1) _ _ _ _ X.ahead Y.ahead ea w refl (λ d r. refl);
         number = row_next lengths widths _ _ _ n at (length D) (get_or lengths n 0 + 1) _ _ _ _ X.number Y.number ea w refl (λ d r. refl);
         member = row_next lengths widths _ _ _ n at (length D) (get_or lengths n 0 + 1) _ _ _ _ X.member Y.member ea w refl
-            (λ d r. λ j. memberClass (eqb d (length C)) (get_or C d 0) K (get_or D r 0) (el j + d * m + get_or ranks (get_or D r 0) 0));
+            (λ d r. λ j. member_class (eqb d (length C)) (get_or C d 0) K (get_or D r 0) (el j + d * m + get_or ranks (get_or D r 0) 0));
         target = row_next lengths widths _ _ _ n at (length D) (get_or lengths n 0 + 1) _ _ _ _ X.target Y.target ea w refl
-            (λ d r. λ j. targetClass (eqb d 0) (codeBefore C d) K (get_or D r 0) (lowBefore (el j + d * m) m d + get_or ranks (get_or D r 0) 0));
+            (λ d r. λ j. target_class (eqb d 0) (code_before C d) K (get_or D r 0) (low_before (el j + d * m) m d + get_or ranks (get_or D r 0) 0));
         after = row_next lengths widths _ _ _ n at (length D) (get_or lengths n 0 + 1) _ _ _ _ X.after Y.after ea w refl
             (λ d r. λ j. ea j + d * length D + r + length D);
         down = row_next lengths widths _ _ _ n at (length D) (get_or lengths n 0 + 1) _ _ _ _ X.down Y.down ea w refl
@@ -254,8 +254,8 @@ rule-kept q i codes K callers ranks narrow low at n old new W X = record {
 }
 
 -- rows have the lengths that they have
-pub alike-none : (old : Six) → Alike old old
-alike-none old = record { ahead = refl; number = refl; member = refl; target = refl; after = refl; down = refl }
+pub alike_none : (old : Six) → Alike old old
+alike_none old = record { ahead = refl; number = refl; member = refl; target = refl; after = refl; down = refl }
 
 -- and still after a rule
 pub alike_next : (i : ℕ) (codes : List ℕ) (K : ℕ) (callers ranks : List ℕ) (narrow low at n : ℕ) (old mid new : Six) → Alike old mid

@@ -11,9 +11,9 @@ use lib.ListN.{length, get_or, drop, replicate, length-append, length-take, leng
 use lib.Seq.{get_or-take, get_or-drop, get_or-append-add}
 use borrow.Author.Tests.{eqb-true, eqb-false, eq-eqb, ne_eqb}
 use Rattle.grammar.specs.Basics.{when, over, Mem, Distinct, none, more}
-use Rattle.triple_laws.proofs.Members.{no-element, place-mem, mem-either, distinct_append}
-use Rattle.moves.specs.Tables.{placesFrom, places, joined, segment}
-use Rattle.moves.proofs.Places.{places-exactly, places-ascend, ascends-distinct}
+use Rattle.triple_laws.proofs.Members.{no_element, place_mem, mem_either, distinct_append}
+use Rattle.moves.specs.Tables.{places_from, places, joined, segment}
+use Rattle.moves.proofs.Places.{places_exactly, places_ascend, ascends_distinct}
 
 -- two tests of equations that hold together
 same_test : (x c y d : ℕ) → (x ≡ c) ↔ (y ≡ d) → eqb x c ≡ eqb y d
@@ -24,19 +24,19 @@ same_test x c y d e = go (eqb x c) refl
     go false q = sym (ne_eqb y d (λ z. eqb-false x c q (e.1 z)))
 
 -- rows that have two classes at the same places
-pub places-alike : (i c d : ℕ) (xs ys : List ℕ) → length xs ≡ length ys → ((p : ℕ) → p < length xs → (get_or xs p 0 ≡ c) ↔ (get_or ys p 0 ≡ d))
-    → placesFrom i c xs ≡ placesFrom i d ys
-unfolding placesFrom
-places-alike i c d [] [] l e = refl
-places-alike i c d [] (y ∷ ys) l e = absurd (omega (arith, l))
-places-alike i c d (x ∷ xs) [] l e = absurd (omega (arith, l))
-places-alike i c d (x ∷ xs) (y ∷ ys) l e =
+pub places_alike : (i c d : ℕ) (xs ys : List ℕ) → length xs ≡ length ys → ((p : ℕ) → p < length xs → (get_or xs p 0 ≡ c) ↔ (get_or ys p 0 ≡ d))
+    → places_from i c xs ≡ places_from i d ys
+unfolding places_from
+places_alike i c d [] [] l e = refl
+places_alike i c d [] (y ∷ ys) l e = absurd (omega (arith, l))
+places_alike i c d (x ∷ xs) [] l e = absurd (omega (arith, l))
+places_alike i c d (x ∷ xs) (y ∷ ys) l e =
     ap₂ (λ b k. when b (i ∷ []) ++ k) (same_test x c y d (e 0 (omega arith)))
-    (places-alike (i + 1) c d xs ys (omega (arith, l)) (λ p h. e (suc p) (omega (arith, h))))
+    (places_alike (i + 1) c d xs ys (omega (arith, l)) (λ p h. e (suc p) (omega (arith, h))))
 
 -- a row without a class
-places-none : (i c : ℕ) (xs : List ℕ) → ((p : ℕ) → p < length xs → get_or xs p 0 ≡ c → ⊥) → placesFrom i c xs ≡ []
-unfolding placesFrom
+places-none : (i c : ℕ) (xs : List ℕ) → ((p : ℕ) → p < length xs → get_or xs p 0 ≡ c → ⊥) → places_from i c xs ≡ []
+unfolding places_from
 places-none i c [] e = refl
 places-none i c (x ∷ xs) e =
     ap₂ (λ b k. when b (i ∷ []) ++ k) (ne_eqb x c (e 0 (omega arith))) (places-none (i + 1) c xs (λ p h. e (suc p) (omega (arith, h))))
@@ -44,7 +44,7 @@ places-none i c (x ∷ xs) e =
 -- a row that has a class at its first place only
 pub places-first : (c : ℕ) (row : List ℕ) → 0 < length row → get_or row 0 0 ≡ c → ((p : ℕ) → suc p < length row → get_or row (suc p) 0 ≡ c → ⊥)
     → places row c ≡ 0 ∷ []
-unfolding placesFrom
+unfolding places_from
 places-first c [] h q e = absurd (omega (arith, h))
 places-first c (x ∷ xs) h q e =
     ap₂ (λ b k. when b (0 ∷ []) ++ k) (eq-eqb x c q) (places-none (0 + 1) c xs (λ p l. e p (omega (arith, l))))
@@ -58,16 +58,16 @@ pub record Placed (row : List ℕ) (n : ℕ) (l : List ℕ) : Type 0 where
 -- such are the places of these classes
 pub joined-placed : (row : List ℕ) (n : ℕ) → Placed row n (joined (places row) n)
 unfolding joined
-joined-placed row zero = record { once = none; class = λ t m. absurd (no-element m); within = λ t m. absurd (no-element m) }
+joined-placed row zero = record { once = none; class = λ t m. absurd (no_element m); within = λ t m. absurd (no_element m) }
 joined-placed row (suc n) =
     let r = joined-placed row n in
-    let p : (t : ℕ) → Mem t (places row n) → (t < length row) × (get_or row t 0 ≡ n) = λ t m. (places-exactly row n t).0 m in
+    let p : (t : ℕ) → Mem t (places row n) → (t < length row) × (get_or row t 0 ≡ n) = λ t m. (places_exactly row n t).0 m in
     record {
       once = distinct_append (joined (places row) n) (places row n) r.once
-          (ascends-distinct 0 (0 + length row) (places row n) (places-ascend n row 0))
+          (ascends_distinct 0 (0 + length row) (places row n) (places_ascend n row 0))
           (λ t a b. let z = r.class t a in let y = (p t b).1 in omega (arith, z, y));
-      class = λ t m. ⊎_elim (λ a. let z = r.class t a in omega (arith, z)) (λ b. let y = (p t b).1 in omega (arith, y)) (mem-either (joined (places row) n) (places row n) m);
-      within = λ t m. ⊎_elim (λ a. r.within t a) (λ b. (p t b).0) (mem-either (joined (places row) n) (places row n) m);
+      class = λ t m. ⊎_elim (λ a. let z = r.class t a in omega (arith, z)) (λ b. let y = (p t b).1 in omega (arith, y)) (mem_either (joined (places row) n) (places row n) m);
+      within = λ t m. ⊎_elim (λ a. r.within t a) (λ b. (p t b).0) (mem_either (joined (places row) n) (places row n) m);
     }
 
 -- how long a segment is at most
@@ -83,12 +83,12 @@ segment-at first targets c r h =
     get_or-take (get_or first (c + 1) 0 - get_or first c 0) (drop (get_or first c 0) targets) r 0 h ∙ get_or-drop (get_or first c 0) targets r 0
 
 -- places of a list without doubles
-pub distinct-places : (l : List ℕ) → Distinct l → (k j : ℕ) → k < length l → j < length l → get_or l k 0 ≡ get_or l j 0 → k ≡ j
-distinct-places [] d k j hk hj e = absurd (omega arith)
-distinct-places (a ∷ l) d zero zero hk hj e = refl
-distinct-places (a ∷ l) (more n d) zero (suc j) hk hj e = absurd (n (subst (λ (b : ℕ). Mem b l) (sym e) (place-mem l j 0 (omega arith))))
-distinct-places (a ∷ l) (more n d) (suc k) zero hk hj e = absurd (n (subst (λ (b : ℕ). Mem b l) e (place-mem l k 0 (omega arith))))
-distinct-places (a ∷ l) (more n d) (suc k) (suc j) hk hj e = ap suc (distinct-places l d k j (omega arith) (omega arith) e)
+pub distinct_places : (l : List ℕ) → Distinct l → (k j : ℕ) → k < length l → j < length l → get_or l k 0 ≡ get_or l j 0 → k ≡ j
+distinct_places [] d k j hk hj e = absurd (omega arith)
+distinct_places (a ∷ l) d zero zero hk hj e = refl
+distinct_places (a ∷ l) (more n d) zero (suc j) hk hj e = absurd (n (subst (λ (b : ℕ). Mem b l) (sym e) (place_mem l j 0 (omega arith))))
+distinct_places (a ∷ l) (more n d) (suc k) zero hk hj e = absurd (n (subst (λ (b : ℕ). Mem b l) e (place_mem l k 0 (omega arith))))
+distinct_places (a ∷ l) (more n d) (suc k) (suc j) hk hj e = ap suc (distinct_places l d k j (omega arith) (omega arith) e)
 
 -- past its front a row is as it was
 pub over-past : (front old : List ℕ) (k : ℕ) → length front ≤ k → get_or (over front old) k 0 ≡ get_or old k 0

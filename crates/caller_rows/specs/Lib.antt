@@ -1,4 +1,4 @@
-pub mod Contracts
+pub mod Clauses
 pub mod LevelRows
 pub mod Levels
 pub mod Rows

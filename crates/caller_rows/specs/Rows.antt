@@ -4,9 +4,9 @@ use Rattle.std.specs.Prelude.{ℕ, ◌≤◌, ◌<◌, ◌≡◌, true, List, le
 use Rattle.grammar.specs.Basics.{over}
 use Rattle.grammar.specs.Limits.{limits}
 use Rattle.grammar.specs.Grammar.{Grammar}
-use Rattle.grammar.specs.Live.{isLive}
-use Rattle.automaton.specs.PositionMoves.{aheadRow}
-use Rattle.automaton.specs.CallerMoves.{movesAt}
+use Rattle.grammar.specs.Live.{is_live}
+use Rattle.automaton.specs.PositionMoves.{ahead_row}
+use Rattle.automaton.specs.CallerMoves.{moves_at}
 use Rattle.live.specs.Lent.{ColumnsOf}
 use Rattle.moves.specs.Tables.{Tables}
 use Rattle.moves.specs.Shows.{Shows}
@@ -15,12 +15,12 @@ use Rattle.caller_rows.specs.declared.Built.{Built}
 -- the columns of a grammar with a sentence, and the codes ahead of its items, as crate moves writes them over the front of a row
 pub record Begun (G : Grammar) (n q count used : ℕ) (lefts lengths codes ahead : List ℕ) : Type 0 where
   pub columns : ColumnsOf G n q count used lefts lengths codes
-  pub sentence : isLive limits G 0 ≡ true
+  pub sentence : is_live limits G 0 ≡ true
   pub old : List ℕ
-  pub items : ahead ≡ over (aheadRow limits G (isLive limits G)) old
+  pub items : ahead ≡ over (ahead_row limits G (is_live limits G)) old
 
 -- the rows show the moves with m callers if these have no more states than the limit
 pub record BuiltWith (G : Grammar) (m : ℕ) (b : Built) (rows : Tables) : Type 0 where
-  pub fits : b.states ≤ limits.maxStates
-      → (b.states ≡ (movesAt limits G m).states) × Shows (movesAt limits G m) G.terminals b.kinds rows × (length rows.targets ≡ limits.maxStates)
-  pub many : limits.maxStates < b.states → limits.maxStates < (movesAt limits G m).states
+  pub fits : b.states ≤ limits.max_states
+      → (b.states ≡ (moves_at limits G m).states) × Shows (moves_at limits G m) G.terminals b.kinds rows × (length rows.targets ≡ limits.max_states)
+  pub many : limits.max_states < b.states → limits.max_states < (moves_at limits G m).states

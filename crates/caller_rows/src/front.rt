@@ -16,7 +16,7 @@ fn write_ends(
     after: &mut [u16],
     down: &mut [u16],
 )
-    requires kinds_le_max_states { kinds ≤ limits.maxStates }
+    requires kinds_le_max_states { kinds ≤ limits.max_states }
     requires wide { Wide 2 (six ahead.old number.old member.old target.old after.old down.old) }
     ensures { EndsWritten kinds
         (six ahead.old number.old member.old target.old after.old down.old)
@@ -47,9 +47,9 @@ fn write_start(
     after: &mut [u16],
     down: &mut [u16],
 )
-    requires kinds_le_max_states { (kinds ≤ limits.maxStates) × (limits.maxStates ≤ length ranks.now) × ((c : ℕ) → get_or ranks.now c 0 ≤ limits.maxStates) }
+    requires kinds_le_max_states { (kinds ≤ limits.max_states) × (limits.max_states ≤ length ranks.now) × ((c : ℕ) → get_or ranks.now c 0 ≤ limits.max_states) }
     requires wide { Wide 4 (six ahead.old number.old member.old target.old after.old down.old) }
-    ensures { RuleWritten 0 (limits.nonterminalBase ∷ []) kinds (0 ∷ []) ranks.now 1 2 2 2
+    ensures { RuleWritten 0 (limits.nonterminal_base ∷ []) kinds (0 ∷ []) ranks.now 1 2 2 2
         (six ahead.old number.old member.old target.old after.old down.old)
         (six ahead.new number.new member.new target.new after.new down.new) }
 {
@@ -71,7 +71,7 @@ pub fn write_front(
     after: &mut [u16],
     down: &mut [u16],
 )
-    requires kinds_le_max_states { (kinds ≤ limits.maxStates) × (limits.maxStates ≤ length ranks.now) × ((c : ℕ) → get_or ranks.now c 0 ≤ limits.maxStates) }
+    requires kinds_le_max_states { (kinds ≤ limits.max_states) × (limits.max_states ≤ length ranks.now) × ((c : ℕ) → get_or ranks.now c 0 ≤ limits.max_states) }
     requires wide { Wide 4 (six ahead.old number.old member.old target.old after.old down.old) }
     ensures { FrontWritten kinds ranks.now
         (six ahead.old number.old member.old target.old after.old down.old)

@@ -1,10 +1,10 @@
 // One level of states: the first four, then rule by rule.
 ghost use Rattle.std.specs.Prelude.{◌≡◌, ◌+◌, ◌<◌, get_or};
 ghost use Rattle.grammar.specs.Limits.{limits};
-ghost use Rattle.live.specs.Marks.{before, rightAt};
-ghost use Rattle.caller_rows.specs.Contracts.{start_of};
+ghost use Rattle.live.specs.Marks.{before, right_at};
+ghost use Rattle.caller_rows.specs.Clauses.{start_of};
 ghost use Rattle.caller_rule.specs.RuleRows.{six, Wide, RuleWritten};
-ghost use Rattle.caller_rows.specs.LevelRows.{callersOf, Levelled, LevelWritten, RulesWritten};
+ghost use Rattle.caller_rows.specs.LevelRows.{callers_of, Levelled, LevelWritten, RulesWritten};
 
 use super::front::write_front;
 use super::ranks::wide;
@@ -35,9 +35,9 @@ fn write_one<'a>(
 )
     requires levelled { Levelled lefts.now lengths.now codes.now count kinds first.now callers.now below.now widths.now ranks.now }
     requires i_lt_count { (i < count) × (u ≡ before lengths.now i) × (low ≡ start_of lengths.now below.now i) × (at ≡ start_of lengths.now widths.now i) }
-    requires wide { Wide limits.maxStates (six ahead.old number.old member.old target.old after.old down.old) }
-    ensures { RuleWritten (i + 1) (rightAt lengths.now codes.now i) kinds
-        (callersOf lefts.now first.now widths.now callers.now i) ranks.now (get_or below.now i 0) low at (get_or lengths.now i 0 + 1)
+    requires wide { Wide limits.max_states (six ahead.old number.old member.old target.old after.old down.old) }
+    ensures { RuleWritten (i + 1) (right_at lengths.now codes.now i) kinds
+        (callers_of lefts.now first.now widths.now callers.now i) ranks.now (get_or below.now i 0) low at (get_or lengths.now i 0 + 1)
         (six ahead.old number.old member.old target.old after.old down.old)
         (six ahead.new number.new member.new target.new after.new down.new) }
 {
@@ -84,7 +84,7 @@ fn write_rules<'a>(
     down: &mut [u16],
 )
     requires levelled { Levelled lefts.now lengths.now codes.now count kinds first.now callers.now below.now widths.now ranks.now }
-    requires wide { Wide limits.maxStates (six ahead.old number.old member.old target.old after.old down.old) }
+    requires wide { Wide limits.max_states (six ahead.old number.old member.old target.old after.old down.old) }
     ensures { RulesWritten lefts.now lengths.now codes.now kinds first.now callers.now below.now widths.now ranks.now count
         (six ahead.old number.old member.old target.old after.old down.old)
         (six ahead.new number.new member.new target.new after.new down.new) }
@@ -126,7 +126,7 @@ pub fn write_level<'a>(
     down: &mut [u16],
 )
     requires levelled { Levelled lefts.now lengths.now codes.now count kinds first.now callers.now below.now widths.now ranks.now }
-    requires wide { Wide limits.maxStates (six ahead.old number.old member.old target.old after.old down.old) }
+    requires wide { Wide limits.max_states (six ahead.old number.old member.old target.old after.old down.old) }
     ensures { LevelWritten lefts.now lengths.now codes.now kinds first.now callers.now below.now widths.now ranks.now count
         (six ahead.old number.old member.old target.old after.old down.old)
         (six ahead.new number.new member.new target.new after.new down.new) }

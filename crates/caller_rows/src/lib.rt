@@ -13,7 +13,7 @@ ghost use Rattle.std.specs.Prelude.{ℕ, ◌+◌, ◌*◌, ◌≤◌, ◌<◌, l
 ghost use Rattle.grammar.specs.Limits.{limits};
 ghost use Rattle.grammar.specs.Grammar.{Grammar};
 ghost use Rattle.moves.specs.Tables.{tables, Sorted};
-ghost use Rattle.caller_rows.specs.Levels.{writtenFrom, Sizable, Reaches};
+ghost use Rattle.caller_rows.specs.Levels.{written_from, Sizable, Reaches};
 ghost use Rattle.caller_rows.specs.Rows.{Begun, BuiltWith};
 
 use grammar::{MAX_RULES, MAX_STATES};
@@ -46,8 +46,8 @@ fn add_levels<'a>(
     target: &mut [u16; MAX_STATES],
     after: &mut [u16; MAX_STATES],
 ) -> Built
-    requires { (G : Grammar) × Sizable G 0 (writtenFrom G n count lefts.now lengths.now codes.now) live.now items ahead.old }
-    ensures { (G : Grammar) → Sizable G 0 (writtenFrom G n count lefts.now lengths.now codes.now) live.now items ahead.old
+    requires { (G : Grammar) × Sizable G 0 (written_from G n count lefts.now lengths.now codes.now) live.now items ahead.old }
+    ensures { (G : Grammar) → Sizable G 0 (written_from G n count lefts.now lengths.now codes.now) live.now items ahead.old
         → Reaches G m result.states result.kinds ahead.new number.new member.new target.new after.new }
 {
     let mut below = [1u16; MAX_RULES];
@@ -71,8 +71,8 @@ fn add_levels<'a>(
 
 // Sorts the first q states by the class that leads to them.
 fn sort_targets(target: &[u16], q: usize, kinds: u16, first: &mut [u16], targets: &mut [u16])
-    requires q_le_max_states { (q ≤ limits.maxStates) × (q ≤ length target.now) × (q ≤ length targets.old) }
-    requires kinds_le_max_states { (kinds ≤ limits.maxStates) × (2 * kinds + 1 < length first.old) }
+    requires q_le_max_states { (q ≤ limits.max_states) × (q ≤ length target.now) × (q ≤ length targets.old) }
+    requires kinds_le_max_states { (kinds ≤ limits.max_states) × (2 * kinds + 1 < length first.old) }
     requires by_index { (p : ℕ) → p < q → get_or target.now p 0 ≤ 2 * kinds + 1 }
     ensures { Sorted (take q target.now) (2 * kinds + 1) targets.old first.new targets.new }
 {

@@ -1,7 +1,7 @@
 // The level above a level: sized, written if it has room, and made ready for the one above it.
 ghost use Rattle.std.specs.Prelude.{ℕ};
 ghost use Rattle.grammar.specs.Grammar.{Grammar};
-ghost use Rattle.caller_rows.specs.Levels.{writtenFrom, Level, Added};
+ghost use Rattle.caller_rows.specs.Levels.{written_from, Level, Added};
 
 use super::level::write_level;
 use super::ranks::next_ranks;
@@ -26,9 +26,9 @@ pub fn add_level<'a>(
     target: &mut [u16; MAX_STATES],
     after: &mut [u16; MAX_STATES],
 ) -> usize
-    requires { (G : Grammar) × (m : ℕ) × Level G m (writtenFrom G n count lefts.now lengths.now codes.now) live.now q ahead.old below.old ranks.old }
-    ensures { (G : Grammar) (m : ℕ) → Level G m (writtenFrom G n count lefts.now lengths.now codes.now) live.now q ahead.old below.old ranks.old
-        → Added G m (writtenFrom G n count lefts.now lengths.now codes.now) live.now result ahead.new number.new member.new target.new after.new
+    requires { (G : Grammar) × (m : ℕ) × Level G m (written_from G n count lefts.now lengths.now codes.now) live.now q ahead.old below.old ranks.old }
+    ensures { (G : Grammar) (m : ℕ) → Level G m (written_from G n count lefts.now lengths.now codes.now) live.now q ahead.old below.old ranks.old
+        → Added G m (written_from G n count lefts.now lengths.now codes.now) live.now result ahead.new number.new member.new target.new after.new
         below.new ranks.new }
 {
     let mut first = [0u16; STARTS];

@@ -1,7 +1,7 @@
 // Which states stand before a nonterminal, and the place of a state among those before the same one.
 ghost use Rattle.std.specs.Prelude.{◌≡◌, ◌+◌, ◌≤◌, length, get_or};
 ghost use Rattle.grammar.specs.Limits.{limits};
-ghost use Rattle.caller_rows.specs.Contracts.{Filled, Under, keyOf, key_at, Rankable, SegmentRanked, Segments, RanksWritten, RanksPassed};
+ghost use Rattle.caller_rows.specs.Clauses.{Filled, Under, key_of, key_at, Rankable, SegmentRanked, Segments, RanksWritten, RanksPassed};
 
 use grammar::{MAX_STATES, NONTERMINAL_BASE};
 
@@ -13,8 +13,8 @@ pub fn wide(x: u16) -> usize
 
 // The number of a nonterminal, or n + 1.
 fn key_of(x: u16, n: u16) -> u16
-    requires { n ≤ limits.maxNonterminals }
-    ensures { result ≡ keyOf n x }
+    requires { n ≤ limits.max_nonterminals }
+    ensures { result ≡ key_of n x }
 {
     if NONTERMINAL_BASE <= x {
         return x - NONTERMINAL_BASE;
@@ -24,7 +24,7 @@ fn key_of(x: u16, n: u16) -> u16
 
 // Of each state the number of the nonterminal ahead; state 0 stands before S', which has number n; n + 1 is for no nonterminal.
 pub fn write_keys<'a>(ahead: &'a [u16], q: usize, n: u16, keys: &mut [u16])
-    requires { (1 ≤ q) × (q ≤ length ahead.now) × (q ≤ length keys.old) × (n ≤ limits.maxNonterminals) }
+    requires { (1 ≤ q) × (q ≤ length ahead.now) × (q ≤ length keys.old) × (n ≤ limits.max_nonterminals) }
     ensures { Filled keys.old keys.new q (key_at ahead.now n) }
 {
     let mut p = 0;
@@ -38,7 +38,7 @@ pub fn write_keys<'a>(ahead: &'a [u16], q: usize, n: u16, keys: &mut [u16])
 // Of the states of one segment their places in it.
 fn rank_segment<'a>(callers: &'a [u16], from: usize, to: usize, ranks: &mut [u16])
     requires rankable { Rankable callers.now to }
-    requires from_le_to { (from ≤ to) × (limits.maxStates ≤ length ranks.old) }
+    requires from_le_to { (from ≤ to) × (limits.max_states ≤ length ranks.old) }
     ensures { SegmentRanked callers.now from to ranks.old ranks.new }
 {
     let mut k = from;
@@ -52,7 +52,7 @@ fn rank_segment<'a>(callers: &'a [u16], from: usize, to: usize, ranks: &mut [u16
 // Of each state that is listed its place among those before the same nonterminal.
 fn write_ranks<'a>(first: &'a [u16], callers: &'a [u16], n: u16, ranks: &mut [u16])
     requires segments { Segments first.now callers.now (n + 1) }
-    requires max_states_in_bounds { limits.maxStates ≤ length ranks.old }
+    requires max_states_in_bounds { limits.max_states ≤ length ranks.old }
     ensures { RanksWritten first.now callers.now (n + 1) ranks.old ranks.new }
 {
     let kinds = wide(n) + 1;
@@ -67,7 +67,7 @@ fn write_ranks<'a>(first: &'a [u16], callers: &'a [u16], n: u16, ranks: &mut [u1
 
 // Of each state the rank of what it is at the level below.
 fn pass_ranks<'a>(ranks: &'a [u16], down: &'a [u16], q: usize, passed: &mut [u16])
-    requires { (q ≤ length down.now) × (q ≤ length passed.old) × Under down.now q limits.maxStates × (limits.maxStates ≤ length ranks.now) }
+    requires { (q ≤ length down.now) × (q ≤ length passed.old) × Under down.now q limits.max_states × (limits.max_states ≤ length ranks.now) }
     ensures { Filled passed.old passed.new q (λ p. get_or ranks.now (get_or down.now p 0) 0) }
 {
     let mut p = 0;
@@ -88,7 +88,7 @@ pub fn next_ranks<'a>(
     ranks: &mut [u16],
 )
     requires segments { Segments first.now callers.now (n + 1) }
-    requires q_in_bounds { (q ≤ length down.now) × (q ≤ length ranks.old) × Under down.now q limits.maxStates }
+    requires q_in_bounds { (q ≤ length down.now) × (q ≤ length ranks.old) × Under down.now q limits.max_states }
     ensures { RanksPassed first.now callers.now (n + 1) down.now q ranks.old ranks.new }
 {
     let mut places = [0u16; MAX_STATES];

@@ -3,8 +3,8 @@ ghost use Rattle.std.specs.Prelude.{◌≡◌, ℕ, ◌+◌, ◌-◌, ◌*◌, �
 ghost use Rattle.grammar.specs.Basics.{choose};
 ghost use Rattle.grammar.specs.Limits.{limits};
 ghost use Rattle.grammar.specs.Grammar.{Grammar};
-ghost use Rattle.caller_rows.specs.Contracts.{Filled, Segmented, width_of, width_at, mostProduct, start_of};
-ghost use Rattle.caller_rows.specs.Levels.{sizedBy, Sizable, Sized};
+ghost use Rattle.caller_rows.specs.Clauses.{Filled, Segmented, width_of, width_at, most_product, start_of};
+ghost use Rattle.caller_rows.specs.Levels.{sized_by, Sizable, Sized};
 
 use super::ranks::{wide, write_keys};
 use grammar::{MAX_NONTERMINALS, MAX_RULES, MAX_STATES, NONTERMINAL_BASE};
@@ -15,7 +15,7 @@ pub const STARTS: usize = MAX_NONTERMINALS + 3;
 // Where the callers of a rule begin.
 pub fn segment_at<'a>(first: &'a [u16], left: u16) -> usize
     requires { Segmented first.now left }
-    ensures { result ≡ get_or first.now (left - limits.nonterminalBase) 0 }
+    ensures { result ≡ get_or first.now (left - limits.nonterminal_base) 0 }
 {
     let b = wide(left - NONTERMINAL_BASE);
     wide(first[b])
@@ -62,14 +62,14 @@ fn write_widths<'a>(
 
 // The states of a rule with k symbols and w callers.
 pub fn rule_states(k: u16, w: u16) -> usize
-    ensures { (result ≡ (k + 1) * w) × (result ≤ mostProduct) }
+    ensures { (result ≡ (k + 1) * w) × (result ≤ most_product) }
 {
     (wide(k) + 1) * wide(w)
 }
 
 // How many states there are: 4, and for each rule its dots times its callers.
 fn state_count<'a>(lengths: &'a [u16], count: usize, widths: &'a [u16]) -> usize
-    requires { (count ≤ length lengths.now) × (count ≤ length widths.now) × (count ≤ limits.maxRules) }
+    requires { (count ≤ length lengths.now) × (count ≤ length widths.now) × (count ≤ limits.max_rules) }
     ensures { result ≡ start_of lengths.now widths.now count }
 {
     let mut q = 4;
@@ -95,9 +95,9 @@ pub fn size_level<'a>(
     callers: &mut [u16; MAX_STATES],
     widths: &mut [u16; MAX_RULES],
 ) -> usize
-    requires by_index { (G : Grammar) × (m : ℕ) × Sizable G m (sizedBy G n count lefts.now lengths.now) live.now q ahead.now }
-    requires by_index_2 { (k : ℕ) → get_or callers.old k 0 < limits.maxStates }
-    ensures { (G : Grammar) (m : ℕ) → Sizable G m (sizedBy G n count lefts.now lengths.now) live.now q ahead.now
+    requires by_index { (G : Grammar) × (m : ℕ) × Sizable G m (sized_by G n count lefts.now lengths.now) live.now q ahead.now }
+    requires by_index_2 { (k : ℕ) → get_or callers.old k 0 < limits.max_states }
+    ensures { (G : Grammar) (m : ℕ) → Sizable G m (sized_by G n count lefts.now lengths.now) live.now q ahead.now
         → Sized G m n count lefts.now lengths.now live.now q first.new callers.new widths.old widths.new result }
 {
     let mut keys = [0u16; MAX_STATES];

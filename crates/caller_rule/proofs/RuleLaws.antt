@@ -8,23 +8,23 @@ use native.Mathlib.Nat.{suc-mul}
 use lib.Dec.{eqb}
 use lib.ListN.{length, get_or}
 use Rattle.grammar.specs.Limits.{limits}
-use Rattle.caller_rule.specs.RuleRows.{codeBefore, lowBefore, Six, Small, Wide, memberClass, targetClass, ItemWritten, Ruled, RuleWritten}
-use Rattle.caller_rule.proofs.WroteLaws.{blocks-none, next-mul, less-mul, blocks-next}
+use Rattle.caller_rule.specs.RuleRows.{code_before, low_before, Six, Small, Wide, member_class, target_class, ItemWritten, Ruled, RuleWritten}
+use Rattle.caller_rule.proofs.WroteLaws.{blocks_none, next_mul, less_mul, blocks_next}
 
 -- the code before a dot that is not the first
-pub before-code : (codes : List ℕ) (d : ℕ) → (d ≡ 0 → ⊥) → get_or codes (d - 1) 0 ≡ codeBefore codes d
+pub before-code : (codes : List ℕ) (d : ℕ) → (d ≡ 0 → ⊥) → get_or codes (d - 1) 0 ≡ code_before codes d
 before-code codes zero n = absurd (n refl)
 before-code codes (suc d) n = ap (λ (k : ℕ). get_or codes k 0) (let z : suc d - 1 ≡ d = omega arith in z)
 
 -- the number one dot earlier
-pub before-low : (l narrow d : ℕ) → (d ≡ 0 → ⊥) → l - narrow ≡ lowBefore l narrow d
+pub before-low : (l narrow d : ℕ) → (d ≡ 0 → ⊥) → l - narrow ≡ low_before l narrow d
 before-low l narrow zero n = absurd (n refl)
 before-low l narrow (suc d) n = refl
 
 -- that number is no greater
-low-less : (l narrow d : ℕ) → lowBefore l narrow d ≤ l
-low-less l narrow zero = omega arith
-low-less l narrow (suc d) = omega arith
+low_less : (l narrow d : ℕ) → low_before l narrow d ≤ l
+low_less l narrow zero = omega arith
+low_less l narrow (suc d) = omega arith
 
 -- at a dot that is not the first there is such a number
 pub step_less : (d n l low : ℕ) → l ≡ low + d * n → (d ≡ 0 → ⊥) → n ≤ l
@@ -34,20 +34,20 @@ step_less (suc d) n l low e m = let q = suc-mul d n in omega (arith, q, e)
 module _ (i : ℕ) (codes : List ℕ) (K : ℕ) (callers ranks : List ℕ) (narrow low at : ℕ) where
   pub rule-none : (old : Six) → RuleWritten i codes K callers ranks narrow low at 0 old old
   rule-none old = record {
-    ahead = blocks-none _ _ _ _;
-    number = blocks-none _ _ _ _;
-    member = blocks-none _ _ _ _;
-    target = blocks-none _ _ _ _;
-    after = blocks-none _ _ _ _;
-    down = blocks-none _ _ _ _;
+    ahead = blocks_none _ _ _ _;
+    number = blocks_none _ _ _ _;
+    member = blocks_none _ _ _ _;
+    target = blocks_none _ _ _ _;
+    after = blocks_none _ _ _ _;
+    down = blocks_none _ _ _ _;
   }
 
   module _ (d l p : ℕ) (el : l ≡ low + d * narrow) (ep : p ≡ at + d * length callers) where
-    pub rule-small : (b : ℕ) → Ruled codes callers ranks K narrow low at → d ≤ length codes → b ≡ lowBefore l narrow d → Small callers ranks K l b p
+    pub rule-small : (b : ℕ) → Ruled codes callers ranks K narrow low at → d ≤ length codes → b ≡ low_before l narrow d → Small callers ranks K l b p
     rule-small b R h eb =
-        let x = less-mul d (length codes + 1) (length callers) (omega (arith, h)) in
-        let y = less-mul d (length codes + 1) narrow (omega (arith, h)) in
-        let z = low-less l narrow d in
+        let x = less_mul d (length codes + 1) (length callers) (omega (arith, h)) in
+        let y = less_mul d (length codes + 1) narrow (omega (arith, h)) in
+        let z = low_less l narrow d in
         record {
           kinds = R.kinds;
           many = R.many;
@@ -56,25 +56,25 @@ module _ (i : ℕ) (codes : List ℕ) (K : ℕ) (callers ranks : List ℕ) (narr
           below = R.below;
           little = R.little;
           low-few = omega (arith, y, el, R.low-room);
-          behind-few = omega (arith, y, z, eb, el, R.low-room);
+          behind_few = omega (arith, y, z, eb, el, R.low-room);
         }
 
-    pub rule-room : Ruled codes callers ranks K narrow low at → d ≤ length codes → (p + length callers ≤ limits.maxStates) × (l + narrow ≤ limits.maxStates)
+    pub rule-room : Ruled codes callers ranks K narrow low at → d ≤ length codes → (p + length callers ≤ limits.max_states) × (l + narrow ≤ limits.max_states)
     rule-room R h =
-        let x = less-mul d (length codes + 1) (length callers) (omega (arith, h)) in
-        let y = less-mul d (length codes + 1) narrow (omega (arith, h)) in
+        let x = less_mul d (length codes + 1) (length callers) (omega (arith, h)) in
+        let y = less_mul d (length codes + 1) narrow (omega (arith, h)) in
         (omega (arith, x, ep, R.room), omega (arith, y, el, R.low-room))
 
     pub rule-place : (w : ℕ) → w ≡ length callers → p + w ≡ at + (d + 1) * length callers
-    rule-place w e = let q = next-mul d (length callers) in omega (arith, q, e, ep)
+    rule-place w e = let q = next_mul d (length callers) in omega (arith, q, e, ep)
 
     pub rule-low : l + narrow ≡ low + (d + 1) * narrow
-    rule-low = let q = next-mul d narrow in omega (arith, q, el)
+    rule-low = let q = next_mul d narrow in omega (arith, q, el)
 
     pub rule-wide : (old new : Six) → d ≤ length codes → Wide (at + (length codes + 1) * length callers) old
         → RuleWritten i codes K callers ranks narrow low at d old new → Wide (p + length callers) new
     rule-wide old new h W X =
-        let x = less-mul d (length codes + 1) (length callers) (omega (arith, h)) in
+        let x = less_mul d (length codes + 1) (length callers) (omega (arith, h)) in
         record {
           ahead = omega (arith, x, ep, W.ahead, X.ahead.size);
           number = omega (arith, x, ep, W.number, X.number.size);
@@ -84,19 +84,19 @@ module _ (i : ℕ) (codes : List ℕ) (K : ℕ) (callers ranks : List ℕ) (narr
           down = omega (arith, x, ep, W.down, X.down.size);
         }
 
-    pub rule-next : (x y : ℕ) (begins ends : Bool) (b : ℕ) (old mid new : Six) → x ≡ get_or codes d 0 → y ≡ codeBefore codes d → begins ≡ eqb d 0
-        → ends ≡ eqb d (length codes) → b ≡ lowBefore l narrow d → RuleWritten i codes K callers ranks narrow low at d old mid
+    pub rule-next : (x y : ℕ) (begins ends : Bool) (b : ℕ) (old mid new : Six) → x ≡ get_or codes d 0 → y ≡ code_before codes d → begins ≡ eqb d 0
+        → ends ≡ eqb d (length codes) → b ≡ low_before l narrow d → RuleWritten i codes K callers ranks narrow low at d old mid
         → ItemWritten i x y begins ends K callers ranks l b p (length callers) mid new
         → RuleWritten i codes K callers ranks narrow low at (d + 1) old new
     rule-next x y begins ends b old mid new ex ey eb ee eo X I =
-        let eo' : b ≡ lowBefore (low + d * narrow) narrow d = eo ∙ ap (λ (l : ℕ). lowBefore l narrow d) el in
+        let eo' : b ≡ low_before (low + d * narrow) narrow d = eo ∙ ap (λ (l : ℕ). low_before l narrow d) el in
         record {
-          ahead = blocks-next _ _ _ at p _ d _ _ X.ahead I.ahead ep (λ r. ex);
-          number = blocks-next _ _ _ at p _ d _ _ X.number I.number ep (λ r. refl);
-          member = blocks-next _ _ _ at p _ d _ _ X.member I.member ep
-              (λ r. λ j. memberClass (ee j) (ex j) K (get_or callers r 0) (el j + get_or ranks (get_or callers r 0) 0));
-          target = blocks-next _ _ _ at p _ d _ _ X.target I.target ep
-              (λ r. λ j. targetClass (eb j) (ey j) K (get_or callers r 0) (eo' j + get_or ranks (get_or callers r 0) 0));
-          after = blocks-next _ _ _ at p _ d _ _ X.after I.after ep (λ r. ap (λ (p : ℕ). p + r + length callers) ep);
-          down = blocks-next _ _ _ at p _ d _ _ X.down I.down ep (λ r. ap (λ (l : ℕ). l + get_or ranks (get_or callers r 0) 0) el);
+          ahead = blocks_next _ _ _ at p _ d _ _ X.ahead I.ahead ep (λ r. ex);
+          number = blocks_next _ _ _ at p _ d _ _ X.number I.number ep (λ r. refl);
+          member = blocks_next _ _ _ at p _ d _ _ X.member I.member ep
+              (λ r. λ j. member_class (ee j) (ex j) K (get_or callers r 0) (el j + get_or ranks (get_or callers r 0) 0));
+          target = blocks_next _ _ _ at p _ d _ _ X.target I.target ep
+              (λ r. λ j. target_class (eb j) (ey j) K (get_or callers r 0) (eo' j + get_or ranks (get_or callers r 0) 0));
+          after = blocks_next _ _ _ at p _ d _ _ X.after I.after ep (λ r. ap (λ (p : ℕ). p + r + length callers) ep);
+          down = blocks_next _ _ _ at p _ d _ _ X.down I.down ep (λ r. ap (λ (l : ℕ). l + get_or ranks (get_or callers r 0) 0) el);
         }

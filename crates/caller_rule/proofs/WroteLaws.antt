@@ -35,30 +35,30 @@ past_end (x ∷ l) (suc d) h = past_end l d (omega arith)
 -- ---- blocks
 
 -- no block is written
-pub blocks-none : (old : List ℕ) (at w : ℕ) (f : ℕ → ℕ → ℕ) → WroteBlocks old old at w 0 f
-blocks-none old at w f = record { size = refl; inside = λ d r h. absurd (omega arith); outside = λ k h. refl }
+pub blocks_none : (old : List ℕ) (at w : ℕ) (f : ℕ → ℕ → ℕ) → WroteBlocks old old at w 0 f
+blocks_none old at w f = record { size = refl; inside = λ d r h. absurd (omega arith); outside = λ k h. refl }
 
 -- one time more
-pub next-mul : (n w : ℕ) → (n + 1) * w ≡ n * w + w
-next-mul n w = ap (λ (k : ℕ). k * w) (add-one n) ∙ suc-mul n w
+pub next_mul : (n w : ℕ) → (n + 1) * w ≡ n * w + w
+next_mul n w = ap (λ (k : ℕ). k * w) (add-one n) ∙ suc-mul n w
 
 -- a block ends where a later one begins, or before
-pub less-mul : (d n w : ℕ) → d < n → d * w + w ≤ n * w
-less-mul d n w h = omega (arith, mul-le-mul_right w h, suc-mul d w)
+pub less_mul : (d n w : ℕ) → d < n → d * w + w ≤ n * w
+less_mul d n w h = omega (arith, mul-le-mul_right w h, suc-mul d w)
 
 -- one block more
-pub blocks-next : (old mid new : List ℕ) (at p w n : ℕ) (f : ℕ → ℕ → ℕ) (g : ℕ → ℕ) → WroteBlocks old mid at w n f → Wrote mid new p w g
+pub blocks_next : (old mid new : List ℕ) (at p w n : ℕ) (f : ℕ → ℕ → ℕ) (g : ℕ → ℕ) → WroteBlocks old mid at w n f → Wrote mid new p w g
     → p ≡ at + n * w → ((r : ℕ) → g r ≡ f n r) → WroteBlocks old new at w (n + 1) f
-blocks-next old mid new at p w n f g a b e s = record {
+blocks_next old mid new at p w n f g a b e s = record {
   size = b.size ∙ a.size;
   inside = λ d r h k. elim (ℕ_discrete d n) [
     | yes z ↦ subst (λ d. get_or new (at + d * w + r) 0 ≡ f d r) (sym z) (ap (λ (p : ℕ). get_or new (p + r) 0) (sym e) ∙ b.inside r k ∙ s r)
     | no z ↦
-        let q = less-mul d n w (omega (arith, h, z)) in
+        let q = less_mul d n w (omega (arith, h, z)) in
         b.outside (at + d * w + r) (inl (omega (arith, q, e, k))) ∙ a.inside d r (omega (arith, h, z)) k
   ];
   outside = λ k h.
-      let q = next-mul n w in
+      let q = next_mul n w in
       b.outside k (elim h [ inl i ↦ inl (omega (arith, i, e)) | inr i ↦ inr (omega (arith, i, q, e)) ])
       ∙ a.outside k (elim h [ inl i ↦ inl i | inr i ↦ inr (omega (arith, i, q)) ]);
 }

@@ -1,7 +1,7 @@
 // The states of one rule with its callers: dot by dot, caller by caller, in rows of numbers that are lent.
 ghost use Rattle.std.specs.Prelude.{◌≡◌, ◌+◌, ◌*◌, ◌≤◌, length, get_or};
 ghost use Rattle.grammar.specs.Limits.{limits};
-ghost use Rattle.caller_rule.specs.RuleRows.{memberClass, targetClass, Small, six, Wide, ItemWritten, codeBefore, lowBefore, Ruled, RuleWritten};
+ghost use Rattle.caller_rule.specs.RuleRows.{member_class, target_class, Small, six, Wide, ItemWritten, code_before, low_before, Ruled, RuleWritten};
 
 use grammar::NONTERMINAL_BASE;
 
@@ -13,8 +13,8 @@ fn wide(x: u16) -> usize
 
 // The class that a state moves by.
 fn member_class(ends: bool, x: u16, kinds: u16, c: u16, d: u16) -> u16
-    requires { (kinds ≤ limits.maxStates) × (d ≤ 2 * limits.maxStates) }
-    ensures { result ≡ memberClass ends x kinds c d }
+    requires { (kinds ≤ limits.max_states) × (d ≤ 2 * limits.max_states) }
+    ensures { result ≡ member_class ends x kinds c d }
 {
     if ends {
         return c;
@@ -27,8 +27,8 @@ fn member_class(ends: bool, x: u16, kinds: u16, c: u16, d: u16) -> u16
 
 // The class that leads to it.
 fn target_class(begins: bool, y: u16, kinds: u16, c: u16, e: u16) -> u16
-    requires { (kinds ≤ limits.maxStates) × (c ≤ limits.maxStates) }
-    ensures { result ≡ targetClass begins y kinds c e }
+    requires { (kinds ≤ limits.max_states) × (c ≤ limits.max_states) }
+    ensures { result ≡ target_class begins y kinds c e }
 {
     if begins {
         return kinds + c;
@@ -92,7 +92,7 @@ fn code_at(codes: &[u16], d: usize) -> u16
 
 // The code before a dot, or 0.
 fn code_before(codes: &[u16], d: usize) -> u16
-    ensures { result ≡ codeBefore codes.now d }
+    ensures { result ≡ code_before codes.now d }
 {
     if d == 0 {
         return 0;
@@ -103,7 +103,7 @@ fn code_before(codes: &[u16], d: usize) -> u16
 // The number one dot earlier, or 0.
 fn low_before(l: u16, narrow: u16, d: usize) -> u16
     requires { (d ≡ 0 → ⊥) → narrow ≤ l }
-    ensures { result ≡ lowBefore l narrow d }
+    ensures { result ≡ low_before l narrow d }
 {
     if d == 0 {
         return 0;

@@ -6,10 +6,10 @@ use mathlib.Core.Bool.{Bool, true, false, not, ◌&&◌}
 use mathlib.Core.List.{List, [], ◌∷◌, ◌++◌, map, map-append, map-map}
 use lib.Dec.{eqb, ltb, leb}
 use Rattle.grammar.specs.Basics.{choose, when, each}
-use Rattle.grammar.specs.TableCheck.{isTerminal}
-use Rattle.automaton.specs.Moves.{Moves, terminalAhead}
-use Rattle.triples.specs.Index.{index, layerOf, left_of, rightOf}
-use Rattle.triples.specs.Records.{step, leftAlone, rightAlone, bothShift, bothClose, choices, key, insert, ordered, records, nextIndex}
+use Rattle.grammar.specs.TableCheck.{is_terminal}
+use Rattle.automaton.specs.Moves.{Moves, terminal_ahead}
+use Rattle.triples.specs.Index.{index, layer_of, left_of, right_of}
+use Rattle.triples.specs.Records.{step, left_alone, right_alone, both_shift, both_close, choices, key, insert, ordered, records, next_index}
 use Rattle.triples.specs.Smallest.{successors}
 use Rattle.triples.specs.declared.Move.{Move}
 use Rattle.triples.specs.declared.Move.TheVariants.{Opening, Closing, Symbol, Still}
@@ -29,22 +29,22 @@ pub record Alike (b d : ℕ) (M N : Moves) : Type 0 where
   pub closings : (p : ℕ) → N.closings p ≡ M.closings p
 
 -- a step record with its shifts' codes moved
-unfoldable pub movedMove : ℕ → ℕ → Move → Move
-movedMove b d (Opening i) = Opening i
-movedMove b d (Closing i) = Closing i
-movedMove b d (Symbol x) = Symbol (moved b d x)
-movedMove b d Still = Still
+unfoldable pub moved_move : ℕ → ℕ → Move → Move
+moved_move b d (Opening i) = Opening i
+moved_move b d (Closing i) = Closing i
+moved_move b d (Symbol x) = Symbol (moved b d x)
+moved_move b d Still = Still
 
-unfoldable pub movedStep : ℕ → ℕ → Step → Step
-movedStep b d s = step s.layer s.left s.right (movedMove b d s.on_left) (movedMove b d s.on_right)
+unfoldable pub moved_step : ℕ → ℕ → Step → Step
+moved_step b d s = step s.layer s.left s.right (moved_move b d s.on_left) (moved_move b d s.on_right)
 
 module _ (b d : ℕ) (M N : Moves) (A : Alike b d M N) (some : 0 < b) where
-  terminal-same : (p : ℕ) → terminalAhead N p ≡ terminalAhead M p
+  terminal-same : (p : ℕ) → terminal_ahead N p ≡ terminal_ahead M p
   terminal-same p =
-      ap₂ (λ (t x : ℕ). isTerminal t x) A.terminals (A.ahead p) ∙ moved-terminal b d M.terminals (M.ahead p) A.low
+      ap₂ (λ (t x : ℕ). is_terminal t x) A.terminals (A.ahead p) ∙ moved-terminal b d M.terminals (M.ahead p) A.low
 
-  shift_same : (f p q : ℕ) → bothShift N f p q ≡ map (movedStep b d) (bothShift M f p q)
-  unfolding bothShift movedStep movedMove
+  shift_same : (f p q : ℕ) → both_shift N f p q ≡ map (moved_step b d) (both_shift M f p q)
+  unfolding both_shift moved_step moved_move
   shift_same f p q =
       ap₂ (λ (x y : ℕ). when (leb 1 x && eqb x y) (step f (N.after p) (N.after q) (Symbol x) (Symbol x) ∷ [])) (A.ahead p) (A.ahead q)
       ∙ ap₂ (λ (u v : ℕ). when (leb 1 (moved b d x) && eqb (moved b d x) (moved b d y)) (step f u v (Symbol (moved b d x)) (Symbol (moved b d x)) ∷ []))
@@ -60,122 +60,122 @@ module _ (b d : ℕ) (M N : Moves) (A : Alike b d M N) (some : 0 < b) where
       y = M.ahead q
 
       go : (c : Bool) → when c (step f (M.after p) (M.after q) (Symbol (moved b d x)) (Symbol (moved b d x)) ∷ [])
-          ≡ map (movedStep b d) (when c (step f (M.after p) (M.after q) (Symbol x) (Symbol x) ∷ []))
+          ≡ map (moved_step b d) (when c (step f (M.after p) (M.after q) (Symbol x) (Symbol x) ∷ []))
       go true = refl
       go false = refl
 
   -- records of one side, and of two closings, hold no codes
-  left-same : (f q : ℕ) (kind : ℕ → Move) → ((i : ℕ) → movedMove b d (kind i) ≡ kind i) → (ms : List (ℕ × ℕ))
-      → leftAlone f q kind ms ≡ map (movedStep b d) (leftAlone f q kind ms)
-  unfolding leftAlone movedStep movedMove
+  left-same : (f q : ℕ) (kind : ℕ → Move) → ((i : ℕ) → moved_move b d (kind i) ≡ kind i) → (ms : List (ℕ × ℕ))
+      → left_alone f q kind ms ≡ map (moved_step b d) (left_alone f q kind ms)
+  unfolding left_alone moved_step moved_move
   left-same f q kind h ms =
       map_same _ _ (λ m. ap (λ (k : Move). step f m.1 q k Still) (sym (h m.0))) ms
-      ∙ sym (map-map (movedStep b d) (λ m. step f m.1 q (kind m.0) Still) ms)
+      ∙ sym (map-map (moved_step b d) (λ m. step f m.1 q (kind m.0) Still) ms)
 
-  right-same : (f p : ℕ) (kind : ℕ → Move) → ((i : ℕ) → movedMove b d (kind i) ≡ kind i) → (ms : List (ℕ × ℕ))
-      → rightAlone f p kind ms ≡ map (movedStep b d) (rightAlone f p kind ms)
-  unfolding rightAlone movedStep movedMove
+  right-same : (f p : ℕ) (kind : ℕ → Move) → ((i : ℕ) → moved_move b d (kind i) ≡ kind i) → (ms : List (ℕ × ℕ))
+      → right_alone f p kind ms ≡ map (moved_step b d) (right_alone f p kind ms)
+  unfolding right_alone moved_step moved_move
   right-same f p kind h ms =
       map_same _ _ (λ m. ap (λ (k : Move). step f p m.1 Still k) (sym (h m.0))) ms
-      ∙ sym (map-map (movedStep b d) (λ m. step f p m.1 Still (kind m.0)) ms)
+      ∙ sym (map-map (moved_step b d) (λ m. step f p m.1 Still (kind m.0)) ms)
 
-  close-same : (p q : ℕ) → bothClose N p q ≡ map (movedStep b d) (bothClose M p q)
-  unfolding bothClose movedStep movedMove
+  close-same : (p q : ℕ) → both_close N p q ≡ map (moved_step b d) (both_close M p q)
+  unfolding both_close moved_step moved_move
   close-same p q =
       ap₂ (λ (us vs : List (ℕ × ℕ)). each us (λ m. each vs (λ n. when (not (eqb m.0 n.0)) (step 1 m.1 n.1 (Closing m.0) (Closing n.0) ∷ []))))
       (A.closings p) (A.closings q)
-      ∙ each_map (movedStep b d) (M.closings p) _ _ (λ m. each_map (movedStep b d) (M.closings q) _ _ (λ n. go m n (not (eqb m.0 n.0))))
+      ∙ each_map (moved_step b d) (M.closings p) _ _ (λ m. each_map (moved_step b d) (M.closings q) _ _ (λ n. go m n (not (eqb m.0 n.0))))
     where
       go : (m n : ℕ × ℕ) (c : Bool) → when c (step 1 m.1 n.1 (Closing m.0) (Closing n.0) ∷ [])
-          ≡ map (movedStep b d) (when c (step 1 m.1 n.1 (Closing m.0) (Closing n.0) ∷ []))
+          ≡ map (moved_step b d) (when c (step 1 m.1 n.1 (Closing m.0) (Closing n.0) ∷ []))
       go m n true = refl
       go m n false = refl
 
-  when-same : (c e : Bool) (us vs : List Step) → c ≡ e → us ≡ map (movedStep b d) vs → when c us ≡ map (movedStep b d) (when e vs)
+  when-same : (c e : Bool) (us vs : List Step) → c ≡ e → us ≡ map (moved_step b d) vs → when c us ≡ map (moved_step b d) (when e vs)
   when-same c true us vs q h = ap (λ (k : Bool). when k us) q ∙ h
   when-same c false us vs q h = ap (λ (k : Bool). when k us) q
 
   -- the first records are the second ones with their codes moved
   record As (us vs : List Step) : Type 0 where
-    pub same : us ≡ map (movedStep b d) vs
+    pub same : us ≡ map (moved_step b d) vs
 
-  told : {us vs : List Step} → us ≡ map (movedStep b d) vs → As us vs
+  told : {us vs : List Step} → us ≡ map (moved_step b d) vs → As us vs
   told h = record { same = h }
 
   under : {c e : Bool} {us vs : List Step} → c ≡ e → As us vs → As (when c us) (when e vs)
   under {c = c} {e = e} {us = us} {vs = vs} q h = told (when-same c e us vs q h.same)
 
   join : {us vs us' vs' : List Step} → As us us' → As vs vs' → As (us ++ vs) (us' ++ vs')
-  join {us' = us'} {vs' = vs'} h k = told (ap₂ (λ (x y : List Step). x ++ y) h.same k.same ∙ sym (map-append (movedStep b d) us' vs'))
+  join {us' = us'} {vs' = vs'} h k = told (ap₂ (λ (x y : List Step). x ++ y) h.same k.same ∙ sym (map-append (moved_step b d) us' vs'))
 
-  opened : (i : ℕ) → movedMove b d (Opening i) ≡ Opening i
-  unfolding movedMove
+  opened : (i : ℕ) → moved_move b d (Opening i) ≡ Opening i
+  unfolding moved_move
   opened i = refl
 
-  closed : (i : ℕ) → movedMove b d (Closing i) ≡ Closing i
-  unfolding movedMove
+  closed : (i : ℕ) → moved_move b d (Closing i) ≡ Closing i
+  unfolding moved_move
   closed i = refl
 
-  left_open : (f p q : ℕ) → As (leftAlone f q (λ i. Opening i) (N.openings p)) (leftAlone f q (λ i. Opening i) (M.openings p))
+  left_open : (f p q : ℕ) → As (left_alone f q (λ i. Opening i) (N.openings p)) (left_alone f q (λ i. Opening i) (M.openings p))
   left_open f p q = record {
-    same = ap (λ (ms : List (ℕ × ℕ)). leftAlone f q (λ i. Opening i) ms) (A.openings p) ∙ left-same f q (λ i. Opening i) opened (M.openings p);
+    same = ap (λ (ms : List (ℕ × ℕ)). left_alone f q (λ i. Opening i) ms) (A.openings p) ∙ left-same f q (λ i. Opening i) opened (M.openings p);
   }
 
-  right-open : (f p q : ℕ) → As (rightAlone f p (λ i. Opening i) (N.openings q)) (rightAlone f p (λ i. Opening i) (M.openings q))
-  right-open f p q = record {
-    same = ap (λ (ms : List (ℕ × ℕ)). rightAlone f p (λ i. Opening i) ms) (A.openings q) ∙ right-same f p (λ i. Opening i) opened (M.openings q);
+  right_open : (f p q : ℕ) → As (right_alone f p (λ i. Opening i) (N.openings q)) (right_alone f p (λ i. Opening i) (M.openings q))
+  right_open f p q = record {
+    same = ap (λ (ms : List (ℕ × ℕ)). right_alone f p (λ i. Opening i) ms) (A.openings q) ∙ right-same f p (λ i. Opening i) opened (M.openings q);
   }
 
-  left-close : (f p q : ℕ) → As (leftAlone f q (λ i. Closing i) (N.closings p)) (leftAlone f q (λ i. Closing i) (M.closings p))
+  left-close : (f p q : ℕ) → As (left_alone f q (λ i. Closing i) (N.closings p)) (left_alone f q (λ i. Closing i) (M.closings p))
   left-close f p q = record {
-    same = ap (λ (ms : List (ℕ × ℕ)). leftAlone f q (λ i. Closing i) ms) (A.closings p) ∙ left-same f q (λ i. Closing i) closed (M.closings p);
+    same = ap (λ (ms : List (ℕ × ℕ)). left_alone f q (λ i. Closing i) ms) (A.closings p) ∙ left-same f q (λ i. Closing i) closed (M.closings p);
   }
 
-  right-close : (f p q : ℕ) → As (rightAlone f p (λ i. Closing i) (N.closings q)) (rightAlone f p (λ i. Closing i) (M.closings q))
+  right-close : (f p q : ℕ) → As (right_alone f p (λ i. Closing i) (N.closings q)) (right_alone f p (λ i. Closing i) (M.closings q))
   right-close f p q = record {
-    same = ap (λ (ms : List (ℕ × ℕ)). rightAlone f p (λ i. Closing i) ms) (A.closings q) ∙ right-same f p (λ i. Closing i) closed (M.closings q);
+    same = ap (λ (ms : List (ℕ × ℕ)). right_alone f p (λ i. Closing i) ms) (A.closings q) ∙ right-same f p (λ i. Closing i) closed (M.closings q);
   }
 
-  shift : (f p q : ℕ) → As (bothShift N f p q) (bothShift M f p q)
+  shift : (f p q : ℕ) → As (both_shift N f p q) (both_shift M f p q)
   shift f p q = record { same = shift_same f p q }
 
-  close : (p q : ℕ) → As (bothClose N p q) (bothClose M p q)
+  close : (p q : ℕ) → As (both_close N p q) (both_close M p q)
   close p q = record { same = close-same p q }
 
-  pub choices-same : (f p q : ℕ) → choices N f p q ≡ map (movedStep b d) (choices M f p q)
+  pub choices-same : (f p q : ℕ) → choices N f p q ≡ map (moved_step b d) (choices M f p q)
   unfolding choices
   choices-same zero p q =
-      (join (join (join (join (join (left_open 0 p q) (right-open 0 p q)) (shift 0 p q)) (close p q))
+      (join (join (join (join (join (left_open 0 p q) (right_open 0 p q)) (shift 0 p q)) (close p q))
       (under (terminal-same q) (left-close 1 p q))) (under (terminal-same p) (right-close 1 p q))).same
   choices-same (suc zero) p q =
-      (join (join (join (join (left_open 1 p q) (left-close 1 p q)) (right-open 1 p q)) (right-close 1 p q))
+      (join (join (join (join (left_open 1 p q) (left-close 1 p q)) (right_open 1 p q)) (right-close 1 p q))
       (under (terminal-same p) (shift 1 p q))).same
   choices-same (suc (suc f)) p q = refl
 
-  key-same : (i : ℕ) (s : Step) → key N i (movedStep b d s) ≡ key M i s
-  unfolding movedStep
+  key-same : (i : ℕ) (s : Step) → key N i (moved_step b d s) ≡ key M i s
+  unfolding moved_step
   key-same i s = ap (λ (n : ℕ). choose (eqb (index n s.layer s.left s.right) i) 0 (suc (index n s.layer s.left s.right))) A.states
 
-  insert-same : (i : ℕ) (s : Step) (ss : List Step) → insert N i (movedStep b d s) (map (movedStep b d) ss) ≡ map (movedStep b d) (insert M i s ss)
+  insert-same : (i : ℕ) (s : Step) (ss : List Step) → insert N i (moved_step b d s) (map (moved_step b d) ss) ≡ map (moved_step b d) (insert M i s ss)
   unfolding insert
   insert-same i s [] = refl
   insert-same i s (t ∷ ts) =
-      ap₂ (λ (u v : ℕ). choose (leb u v) (movedStep b d s ∷ movedStep b d t ∷ map (movedStep b d) ts) (movedStep b d t ∷ insert N i (movedStep b d s) (map (movedStep b d) ts)))
+      ap₂ (λ (u v : ℕ). choose (leb u v) (moved_step b d s ∷ moved_step b d t ∷ map (moved_step b d) ts) (moved_step b d t ∷ insert N i (moved_step b d s) (map (moved_step b d) ts)))
       (key-same i s) (key-same i t)
-      ∙ ap (λ (l : List Step). choose (leb (key M i s) (key M i t)) (movedStep b d s ∷ movedStep b d t ∷ map (movedStep b d) ts) (movedStep b d t ∷ l)) (insert-same i s ts)
+      ∙ ap (λ (l : List Step). choose (leb (key M i s) (key M i t)) (moved_step b d s ∷ moved_step b d t ∷ map (moved_step b d) ts) (moved_step b d t ∷ l)) (insert-same i s ts)
       ∙ go (leb (key M i s) (key M i t)) (s ∷ t ∷ ts) (t ∷ insert M i s ts)
     where
-      go : (c : Bool) (us vs : List Step) → choose c (map (movedStep b d) us) (map (movedStep b d) vs) ≡ map (movedStep b d) (choose c us vs)
+      go : (c : Bool) (us vs : List Step) → choose c (map (moved_step b d) us) (map (moved_step b d) vs) ≡ map (moved_step b d) (choose c us vs)
       go true us vs = refl
       go false us vs = refl
 
-  ordered_same : (i : ℕ) (ss : List Step) → ordered N i (map (movedStep b d) ss) ≡ map (movedStep b d) (ordered M i ss)
+  ordered_same : (i : ℕ) (ss : List Step) → ordered N i (map (moved_step b d) ss) ≡ map (moved_step b d) (ordered M i ss)
   unfolding ordered
   ordered_same i [] = refl
-  ordered_same i (s ∷ ss) = ap (λ (l : List Step). insert N i (movedStep b d s) l) (ordered_same i ss) ∙ insert-same i s (ordered M i ss)
+  ordered_same i (s ∷ ss) = ap (λ (l : List Step). insert N i (moved_step b d s) l) (ordered_same i ss) ∙ insert-same i s (ordered M i ss)
 
   -- the step records are the same but for the codes of shifts
-  pub records-same : (f p q : ℕ) → records N f p q ≡ map (movedStep b d) (records M f p q)
+  pub records-same : (f p q : ℕ) → records N f p q ≡ map (moved_step b d) (records M f p q)
   unfolding records
   records-same f p q =
       ap (λ (n : ℕ). when (ltb p n && ltb q n) (ordered N (index n f p q) (choices N f p q))) A.states
@@ -183,15 +183,15 @@ module _ (b d : ℕ) (M N : Moves) (A : Alike b d M N) (some : 0 < b) where
       (ordered N (index M.states f p q) (choices N f p q)) (ordered M (index M.states f p q) (choices M f p q)) refl
       (ap (λ (l : List Step). ordered N (index M.states f p q) l) (choices-same f p q) ∙ ordered_same (index M.states f p q) (choices M f p q))
 
-  next-same : (s : Step) → nextIndex N (movedStep b d s) ≡ nextIndex M s
-  unfolding movedStep
+  next-same : (s : Step) → next_index N (moved_step b d s) ≡ next_index M s
+  unfolding moved_step
   next-same s = ap (λ (n : ℕ). index n s.layer s.left s.right) A.states
 
   -- the successors of an index are the same indices, in the same order
   pub successors-same : (i : ℕ) → successors N i ≡ successors M i
   unfolding successors
   successors-same i =
-      ap (λ (n : ℕ). map (nextIndex N) (records N (layerOf n i) (left_of n i) (rightOf n i))) A.states
-      ∙ ap (map (nextIndex N)) (records-same (layerOf M.states i) (left_of M.states i) (rightOf M.states i))
-      ∙ map-map (nextIndex N) (movedStep b d) (records M (layerOf M.states i) (left_of M.states i) (rightOf M.states i))
-      ∙ map_same _ _ next-same (records M (layerOf M.states i) (left_of M.states i) (rightOf M.states i))
+      ap (λ (n : ℕ). map (next_index N) (records N (layer_of n i) (left_of n i) (right_of n i))) A.states
+      ∙ ap (map (next_index N)) (records-same (layer_of M.states i) (left_of M.states i) (right_of M.states i))
+      ∙ map-map (next_index N) (moved_step b d) (records M (layer_of M.states i) (left_of M.states i) (right_of M.states i))
+      ∙ map_same _ _ next-same (records M (layer_of M.states i) (left_of M.states i) (right_of M.states i))

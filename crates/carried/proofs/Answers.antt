@@ -7,17 +7,17 @@ use mathlib.Core.Option.{Option, none, some}
 use lib.Dec.{eqb, leb}
 use lib.ListN.{length, get_or, length-append, length-map}
 use Rattle.grammar.specs.Basics.{choose, when, each}
-use Rattle.grammar.specs.Refusal.{Answer, done, refuseUnless, certificateLength, spareBit, startMissing, endPresent, successorMissing, witnessWrong}
+use Rattle.grammar.specs.Refusal.{Answer, done, refuse_unless, certificate_length, spare_bit, start_missing, end_present, successor_missing, witness_wrong}
 use Rattle.automaton.specs.Moves.{Moves}
-use Rattle.automaton.specs.AllMoves.{numbers, Moved, moved, leaving, allMoves, moveCount}
+use Rattle.automaton.specs.AllMoves.{numbers, Moved, moved, leaving, all_moves, move_count}
 use Rattle.automaton.specs.Strings.{opening, closing, symbol}
-use Rattle.triples.specs.Index.{index, tripleCount}
-use Rattle.triples.specs.Smallest.{isElement, pushAll, explore, successors, smallest}
-use Rattle.triples.specs.Certificate.{byte_count, lowest, isSet, areSet, checkBytes}
-use Rattle.triples.specs.Witness.{checkOn, checkRow}
-use Rattle.triples.specs.Shortest.{firstRow, or_else, inFront, row_of, fewest, rowOrNone, shortest}
-use Rattle.triples.specs.Looked.{total, lookedAt}
-use Rattle.search.specs.Promise.{isPotential}
+use Rattle.triples.specs.Index.{index, triple_count}
+use Rattle.triples.specs.Smallest.{is_element, push_all, explore, successors, smallest}
+use Rattle.triples.specs.Certificate.{byte_count, lowest, is_set, are_set, check_bytes}
+use Rattle.triples.specs.Witness.{check_on, check_row}
+use Rattle.triples.specs.Shortest.{first_row, or_else, in_front, row_of, fewest, row_or_none, shortest}
+use Rattle.triples.specs.Looked.{total, looked_at}
+use Rattle.search.specs.Promise.{is_potential}
 use Rattle.carried.proofs.Codes.{moved-some}
 use Rattle.carried.proofs.Alike.{Alike}
 
@@ -27,8 +27,8 @@ unfolding explore
 explore-same f g h zero place queue = refl
 explore-same f g h (suc m) place queue =
     ap (λ (l : List ℕ). choose (leb (length queue) place) queue l)
-    (ap (λ (l : List ℕ). explore f m (suc place) (pushAll queue l)) (h (get_or queue place 0))
-    ∙ explore-same f g h m (suc place) (pushAll queue (g (get_or queue place 0))))
+    (ap (λ (l : List ℕ). explore f m (suc place) (push_all queue l)) (h (get_or queue place 0))
+    ∙ explore-same f g h m (suc place) (push_all queue (g (get_or queue place 0))))
 
 lowest-same : (f g : ℕ → Bool) → ((i : ℕ) → f i ≡ g i) → (m i : ℕ) → lowest f m i ≡ lowest g m i
 unfolding lowest
@@ -40,16 +40,16 @@ unfolding total
 total-same f g h [] = refl
 total-same f g h (i ∷ is) = ap₂ (λ (x y : ℕ). x + y) (h i) (total-same f g h is)
 
-first-same : (f g : ℕ → Option (List ℕ)) → ((i : ℕ) → f i ≡ g i) → (l : List ℕ) → firstRow f l ≡ firstRow g l
-unfolding firstRow
+first-same : (f g : ℕ → Option (List ℕ)) → ((i : ℕ) → f i ≡ g i) → (l : List ℕ) → first_row f l ≡ first_row g l
+unfolding first_row
 first-same f g h [] = refl
-first-same f g h (j ∷ js) = ap₂ (λ (x y : Option (List ℕ)). or_else (inFront j x) y) (h j) (first-same f g h js)
+first-same f g h (j ∷ js) = ap₂ (λ (x y : Option (List ℕ)). or_else (in_front j x) y) (h j) (first-same f g h js)
 
 row-of-same : (f g : ℕ → List ℕ) → ((i : ℕ) → f i ≡ g i) → (goal m i : ℕ) → row_of f goal m i ≡ row_of g goal m i
 unfolding row_of
 row-of-same f g h goal zero i = refl
 row-of-same f g h goal (suc m) i =
-    ap (firstRow (row_of f goal m)) (h i) ∙ first-same (row_of f goal m) (row_of g goal m) (λ j. row-of-same f g h goal m j) (g i)
+    ap (first_row (row_of f goal m)) (h i) ∙ first-same (row_of f goal m) (row_of g goal m) (λ j. row-of-same f g h goal m j) (g i)
 
 fewest-same : (f g : ℕ → List ℕ) → ((i : ℕ) → f i ≡ g i) → (goal more m i : ℕ) → fewest f goal more m i ≡ fewest g goal more m i
 unfolding fewest
@@ -61,14 +61,14 @@ fewest-same f g h goal (suc more) m i =
 module _ (M N : Moves) (same : N.states ≡ M.states) (next : (i : ℕ) → successors N i ≡ successors M i) where
   pub set_same : smallest N ≡ smallest M
   unfolding smallest
-  set_same = ap (λ (Q : ℕ). explore (successors N) (tripleCount Q) 0 (0 ∷ [])) same
-      ∙ explore-same (successors N) (successors M) next (tripleCount M.states) 0 (0 ∷ [])
+  set_same = ap (λ (Q : ℕ). explore (successors N) (triple_count Q) 0 (0 ∷ [])) same
+      ∙ explore-same (successors N) (successors M) next (triple_count M.states) 0 (0 ∷ [])
 
-  pub verdict-same : isPotential N ≡ isPotential M
-  verdict-same = ap₂ (λ (Q : ℕ) (l : List ℕ). isElement (index Q 1 1 1) l) same set_same
+  pub verdict-same : is_potential N ≡ is_potential M
+  verdict-same = ap₂ (λ (Q : ℕ) (l : List ℕ). is_element (index Q 1 1 1) l) same set_same
 
-  pub looked-same : lookedAt N ≡ lookedAt M
-  unfolding lookedAt
+  pub looked-same : looked_at N ≡ looked_at M
+  unfolding looked_at
   looked-same =
       ap (total (λ i. length (successors N i))) set_same
       ∙ total-same (λ i. length (successors N i)) (λ i. length (successors M i)) (λ i. ap length (next i)) (smallest M)
@@ -76,51 +76,51 @@ module _ (M N : Moves) (same : N.states ≡ M.states) (next : (i : ℕ) → succ
   pub shortest-same : shortest N ≡ shortest M
   unfolding shortest
   shortest-same =
-      ap (λ (Q : ℕ). rowOrNone (inFront 0 (fewest (successors N) (index Q 1 1 1) (tripleCount Q) 0 0))) same
-      ∙ ap (λ (o : Option (List ℕ)). rowOrNone (inFront 0 o))
-      (fewest-same (successors N) (successors M) next (index M.states 1 1 1) (tripleCount M.states) 0 0)
+      ap (λ (Q : ℕ). row_or_none (in_front 0 (fewest (successors N) (index Q 1 1 1) (triple_count Q) 0 0))) same
+      ∙ ap (λ (o : Option (List ℕ)). row_or_none (in_front 0 o))
+      (fewest-same (successors N) (successors M) next (index M.states 1 1 1) (triple_count M.states) 0 0)
 
-  pub bytes_same : (bytes : List ℕ) → checkBytes N bytes ≡ checkBytes M bytes
-  unfolding checkBytes
+  pub bytes_same : (bytes : List ℕ) → check_bytes N bytes ≡ check_bytes M bytes
+  unfolding check_bytes
   bytes_same bytes =
       ap (λ (Q : ℕ).
-      let spare = lowest (isSet bytes) (8 * byte_count Q - tripleCount Q) (tripleCount Q) in
-      let lacking = lowest (λ i. isSet bytes i && not (areSet bytes (successors N i))) (tripleCount Q) 0 in
-      refuseUnless certificateLength 0 (eqb (length bytes) (byte_count Q))
-      (refuseUnless spareBit spare (eqb spare (8 * byte_count Q))
-      (refuseUnless startMissing 0 (isSet bytes 0)
-      (refuseUnless endPresent (index Q 1 1 1) (not (isSet bytes (index Q 1 1 1)))
-      (refuseUnless successorMissing lacking (eqb lacking (tripleCount Q))
+      let spare = lowest (is_set bytes) (8 * byte_count Q - triple_count Q) (triple_count Q) in
+      let lacking = lowest (λ i. is_set bytes i && not (are_set bytes (successors N i))) (triple_count Q) 0 in
+      refuse_unless certificate_length 0 (eqb (length bytes) (byte_count Q))
+      (refuse_unless spare_bit spare (eqb spare (8 * byte_count Q))
+      (refuse_unless start_missing 0 (is_set bytes 0)
+      (refuse_unless end_present (index Q 1 1 1) (not (is_set bytes (index Q 1 1 1)))
+      (refuse_unless successor_missing lacking (eqb lacking (triple_count Q))
       (done tt)))))) same
       ∙ ap (λ (lacking : ℕ).
       let Q = M.states in
-      let spare = lowest (isSet bytes) (8 * byte_count Q - tripleCount Q) (tripleCount Q) in
-      refuseUnless certificateLength 0 (eqb (length bytes) (byte_count Q))
-      (refuseUnless spareBit spare (eqb spare (8 * byte_count Q))
-      (refuseUnless startMissing 0 (isSet bytes 0)
-      (refuseUnless endPresent (index Q 1 1 1) (not (isSet bytes (index Q 1 1 1)))
-      (refuseUnless successorMissing lacking (eqb lacking (tripleCount Q))
+      let spare = lowest (is_set bytes) (8 * byte_count Q - triple_count Q) (triple_count Q) in
+      refuse_unless certificate_length 0 (eqb (length bytes) (byte_count Q))
+      (refuse_unless spare_bit spare (eqb spare (8 * byte_count Q))
+      (refuse_unless start_missing 0 (is_set bytes 0)
+      (refuse_unless end_present (index Q 1 1 1) (not (is_set bytes (index Q 1 1 1)))
+      (refuse_unless successor_missing lacking (eqb lacking (triple_count Q))
       (done tt))))))
-      (lowest-same _ _ (λ i. ap (λ (l : List ℕ). isSet bytes i && not (areSet bytes l)) (next i)) (tripleCount M.states) 0)
+      (lowest-same _ _ (λ i. ap (λ (l : List ℕ). is_set bytes i && not (are_set bytes l)) (next i)) (triple_count M.states) 0)
 
-  on_same : (i place : ℕ) (row : List ℕ) → checkOn N i place row ≡ checkOn M i place row
-  unfolding checkOn
-  on_same i place [] = ap (λ (Q : ℕ). refuseUnless witnessWrong place (eqb i (index Q 1 1 1)) (done tt)) same
+  on_same : (i place : ℕ) (row : List ℕ) → check_on N i place row ≡ check_on M i place row
+  unfolding check_on
+  on_same i place [] = ap (λ (Q : ℕ). refuse_unless witness_wrong place (eqb i (index Q 1 1 1)) (done tt)) same
   on_same i place (j ∷ is) =
-      ap₂ (λ (l : List ℕ) (a : Answer Unit). refuseUnless witnessWrong place (isElement j l) a) (next i) (on_same j (suc place) is)
+      ap₂ (λ (l : List ℕ) (a : Answer Unit). refuse_unless witness_wrong place (is_element j l) a) (next i) (on_same j (suc place) is)
 
-  pub row_same : (row : List ℕ) → checkRow N row ≡ checkRow M row
-  unfolding checkRow
+  pub row_same : (row : List ℕ) → check_row N row ≡ check_row M row
+  unfolding check_row
   row_same [] = refl
-  row_same (i ∷ is) = ap₂ (λ (Q : ℕ) (a : Answer Unit). refuseUnless witnessWrong 0 (eqb i (index Q 0 0 0)) a) same (on_same i 1 is)
+  row_same (i ∷ is) = ap₂ (λ (Q : ℕ) (a : Answer Unit). refuse_unless witness_wrong 0 (eqb i (index Q 0 0 0)) a) same (on_same i 1 is)
 
 -- moves that are alike but for the codes ahead are as many
 module _ (b d : ℕ) (M N : Moves) (A : Alike b d M N) (some : 0 < b) where
-  count-each : (f g : ℕ → List Moved) → ((p : ℕ) → length (f p) ≡ length (g p)) → (l : List ℕ) → length (each l f) ≡ length (each l g)
+  count_each : (f g : ℕ → List Moved) → ((p : ℕ) → length (f p) ≡ length (g p)) → (l : List ℕ) → length (each l f) ≡ length (each l g)
   unfolding each
-  count-each f g h [] = refl
-  count-each f g h (p ∷ l) =
-      length-append (f p) (each l f) ∙ ap₂ (λ (x y : ℕ). x + y) (h p) (count-each f g h l) ∙ sym (length-append (g p) (each l g))
+  count_each f g h [] = refl
+  count_each f g h (p ∷ l) =
+      length-append (f p) (each l f) ∙ ap₂ (λ (x y : ℕ). x + y) (h p) (count_each f g h l) ∙ sym (length-append (g p) (each l g))
 
   -- the number of moves that leave a state, by its lists
   leaves : (K : Moves) (p : ℕ) → length (leaving K p)
@@ -153,7 +153,7 @@ module _ (b d : ℕ) (M N : Moves) (A : Alike b d M N) (some : 0 < b) where
       (ap (λ (c : Bool). choose c 1 0) (ap (leb 1) (A.ahead p) ∙ moved-some b d (M.ahead p) some))
       ∙ sym (leaves M p)
 
-  pub count_same : moveCount N ≡ moveCount M
-  unfolding allMoves
+  pub count_same : move_count N ≡ move_count M
+  unfolding all_moves
   count_same =
-      ap (λ (Q : ℕ). length (each (numbers Q) (leaving N))) A.states ∙ count-each (leaving N) (leaving M) leave_same (numbers M.states)
+      ap (λ (Q : ℕ). length (each (numbers Q) (leaving N))) A.states ∙ count_each (leaving N) (leaving M) leave_same (numbers M.states)

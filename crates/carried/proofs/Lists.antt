@@ -6,7 +6,7 @@ use mathlib.Core.List.{List, [], ◌∷◌, ◌++◌, map, map-append}
 use mathlib.Core.Logic.{inl, inr}
 use lib.ListN.{length}
 use Rattle.grammar.specs.Basics.{choose, when, each, Mem, here, there, Distinct, none, more}
-use Rattle.grammar.proofs.Plain.{mem-cases}
+use Rattle.grammar.proofs.Plain.{mem_cases}
 
 pub map_same : {A B : Type 0} (f g : A → B) → ((a : A) → f a ≡ g a) → (l : List A) → map f l ≡ map g l
 map_same f g h [] = refl
@@ -34,15 +34,15 @@ each_from k [] f = refl
 each_from k (a ∷ l) f = ap (λ u. f (k a) ++ u) (each_from k l f)
 
 -- elements of a mapped list
-pub mem-map : {A B : Type 0} (f : A → B) (b : B) (l : List A) → Mem b (map f l) → (a : A) × Mem a l × (f a ≡ b)
-mem-map f b [] m = elim m [ ]
-mem-map f b (a ∷ l) m =
-    elim (mem-cases m) [
+pub mem_map : {A B : Type 0} (f : A → B) (b : B) (l : List A) → Mem b (map f l) → (a : A) × Mem a l × (f a ≡ b)
+mem_map f b [] m = elim m [ ]
+mem_map f b (a ∷ l) m =
+    elim (mem_cases m) [
       | inl e ↦ (a, here, e)
-      | inr k ↦ let r = mem-map f b l k in (r.0, there r.1, r.2)
+      | inr k ↦ let r = mem_map f b l k in (r.0, there r.1, r.2)
     ]
 
-pub distinct-map : {A B : Type 0} (f : A → B) → ((a c : A) → f a ≡ f c → a ≡ c) → (l : List A) → Distinct l → Distinct (map f l)
-distinct-map f back [] none = none
-distinct-map f back (a ∷ l) (more n k) =
-    more (λ m. let r = mem-map f (f a) l m in n (subst (λ c. Mem c l) (back r.0 a r.2) r.1)) (distinct-map f back l k)
+pub distinct_map : {A B : Type 0} (f : A → B) → ((a c : A) → f a ≡ f c → a ≡ c) → (l : List A) → Distinct l → Distinct (map f l)
+distinct_map f back [] none = none
+distinct_map f back (a ∷ l) (more n k) =
+    more (λ m. let r = mem_map f (f a) l m in n (subst (λ c. Mem c l) (back r.0 a r.2) r.1)) (distinct_map f back l k)

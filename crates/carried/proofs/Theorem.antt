@@ -10,25 +10,25 @@ use Rattle.grammar.specs.Limits.{Limits}
 use Rattle.grammar.specs.Grammar.{Terminal, Nonterminal, Rule, Grammar, WellFormed}
 use Rattle.grammar.specs.Table.{encode}
 use Rattle.grammar.specs.Refusal.{done}
-use Rattle.grammar.specs.TableCheck.{checkTable}
-use Rattle.grammar.proofs.Rules.{rule-path}
+use Rattle.grammar.specs.TableCheck.{check_table}
+use Rattle.grammar.proofs.Rules.{rule_path}
 use Rattle.grammar.proofs.WellFormed.{Taken}
-use Rattle.grammar.proofs.Sentence.{passed-stored, takes_all, takes-only}
+use Rattle.grammar.proofs.Sentence.{passed-stored, takes_all, takes_only}
 use Rattle.automaton.specs.Items.{states}
 use Rattle.automaton.specs.Moves.{Moves}
 use Rattle.automaton.specs.PositionMoves.{moves_of}
 use Rattle.triples.specs.Smallest.{successors}
-use Rattle.carried.specs.Carried.{moved, movedRule, distance, carriedTable, carriedGrammar, Wider, Same}
+use Rattle.carried.specs.Carried.{moved, moved_rule, distance, carried_table, carried_grammar, Wider, Same}
 use Rattle.carried.proofs.Codes.{moved-low, moved-high, moved_back}
-use Rattle.carried.proofs.Lists.{mem-map, distinct-map}
-use Rattle.carried.proofs.Live.{sentence-same, live_same}
+use Rattle.carried.proofs.Lists.{mem_map, distinct_map}
+use Rattle.carried.proofs.Live.{sentence_same, live_same}
 use Rattle.carried.proofs.Alike.{Alike, successors-same}
-use Rattle.carried.proofs.Moves.{states-moved, moves-alike}
+use Rattle.carried.proofs.Moves.{states-moved, moves_alike}
 use Rattle.carried.proofs.Answers.{set_same, verdict-same, looked-same, shortest-same, bytes_same, row_same, count_same}
 
 module _ (L M : Limits) (W : Wider L M) where
   abbrev b : ℕ
-  b = L.nonterminalBase
+  b = L.nonterminal_base
 
   abbrev d : ℕ
   d = distance L M
@@ -51,10 +51,10 @@ module _ (L M : Limits) (W : Wider L M) where
       rest [] = []
       rest (z ∷ zs) = zs
 
-  rule-back : (r s : Rule) → movedRule b d r ≡ movedRule b d s → r ≡ s
-  rule-back r s e = rule-path (moved_back b d r.left s.left (ap (λ (q : Rule). q.left) e)) (codes-back r.right s.right (ap (λ (q : Rule). q.right) e))
+  rule-back : (r s : Rule) → moved_rule b d r ≡ moved_rule b d s → r ≡ s
+  rule-back r s e = rule_path (moved_back b d r.left s.left (ap (λ (q : Rule). q.left) e)) (codes-back r.right s.right (ap (λ (q : Rule). q.right) e))
 
-  encode-moved : (rs : List Rule) → ((r : Rule) → Mem r rs → length r.right < b) → map (moved b d) (encode rs) ≡ encode (map (movedRule b d) rs)
+  encode-moved : (rs : List Rule) → ((r : Rule) → Mem r rs → length r.right < b) → map (moved b d) (encode rs) ≡ encode (map (moved_rule b d) rs)
   unfolding encode
   encode-moved [] h = refl
   encode-moved (r ∷ rs) h =
@@ -62,20 +62,20 @@ module _ (L M : Limits) (W : Wider L M) where
       (ap₂ (λ (k : ℕ) (l : List ℕ). k ∷ l) (moved-low b d (length r.right) (h r here) ∙ sym (length-map r.right (moved b d)))
       (map-append (moved b d) r.right (encode rs) ∙ ap (λ (l : List ℕ). map (moved b d) r.right ++ l) (encode-moved rs (λ s m. h s (there m)))))
 
-  well-moved : (G : Grammar) → WellFormed L G → WellFormed M (carriedGrammar L M G)
-  well-moved G w = record {
+  well_moved : (G : Grammar) → WellFormed L G → WellFormed M (carried_grammar L M G)
+  well_moved G w = record {
     terminals = omega (arith, w.terminals, W.terminals);
     nonterminals = (w.nonterminals.0, omega (arith, w.nonterminals.1, W.nonterminals));
-    lefts = λ r m. let s = mem-map (movedRule b d) r G.rules m in
+    lefts = λ r m. let s = mem_map (moved_rule b d) r G.rules m in
         subst (λ (q : Rule). Nonterminal M G.nonterminals q.left) s.2 (nonterminal-moved G.nonterminals s.0.left (w.lefts s.0 s.1));
-    lengths = λ r m. let s = mem-map (movedRule b d) r G.rules m in
-        subst (λ (q : Rule). length q.right ≤ M.maxLength) s.2
+    lengths = λ r m. let s = mem_map (moved_rule b d) r G.rules m in
+        subst (λ (q : Rule). length q.right ≤ M.max_length) s.2
         (omega (arith, w.lengths s.0 s.1, W.lengths, length-map s.0.right (moved b d)));
-    codes = λ r m x i. let s = mem-map (movedRule b d) r G.rules m in
-        let y = mem-map (moved b d) x s.0.right (subst (λ (q : Rule). Mem x q.right) (sym s.2) i) in
+    codes = λ r m x i. let s = mem_map (moved_rule b d) r G.rules m in
+        let y = mem_map (moved b d) x s.0.right (subst (λ (q : Rule). Mem x q.right) (sym s.2) i) in
         subst (λ (c : ℕ). Terminal G.terminals c ⊎ Nonterminal M G.nonterminals c) y.2 (code y.0 (w.codes s.0 s.1 y.0 y.1));
-    count = omega (arith, w.count, W.rules, length-map G.rules (movedRule b d));
-    distinct = distinct-map (movedRule b d) rule-back G.rules w.distinct;
+    count = omega (arith, w.count, W.rules, length-map G.rules (moved_rule b d));
+    distinct = distinct_map (moved_rule b d) rule-back G.rules w.distinct;
     size = omega (arith, w.size, W.states, states-moved b d G.rules);
   }
     where
@@ -85,7 +85,7 @@ module _ (L M : Limits) (W : Wider L M) where
       code y (inr n) = inr (nonterminal-moved G.nonterminals y n)
 
   -- the whole of it
-  pub carried : (t n : ℕ) (table : List ℕ) (G : Grammar) → checkTable L t n table ≡ done G → Same L M t n table G
+  pub carried : (t n : ℕ) (table : List ℕ) (G : Grammar) → check_table L t n table ≡ done G → Same L M t n table G
   carried t n table G e = record {
     passes = passes;
     states = same;
@@ -100,7 +100,7 @@ module _ (L M : Limits) (W : Wider L M) where
   }
     where
       taken : Taken L t n table G
-      taken = takes-only L W.four t n table G e
+      taken = takes_only L W.four t n table G e
 
       some : 0 < b
       some = omega (arith, W.apart)
@@ -109,22 +109,22 @@ module _ (L M : Limits) (W : Wider L M) where
       old = moves_of L G
 
       new : Moves
-      new = moves_of M (carriedGrammar L M G)
+      new = moves_of M (carried_grammar L M G)
 
-      alike : Alike b d (moves_of L G) (moves_of M (carriedGrammar L M G))
-      alike = moves-alike L M W G (omega (arith, taken.wellFormed.terminals, W.apart))
+      alike : Alike b d (moves_of L G) (moves_of M (carried_grammar L M G))
+      alike = moves_alike L M W G (omega (arith, taken.well_formed.terminals, W.apart))
 
-      same : states (carriedGrammar L M G) ≡ states G
+      same : states (carried_grammar L M G) ≡ states G
       same = states-moved b d G.rules
 
-      next : (i : ℕ) → successors (moves_of M (carriedGrammar L M G)) i ≡ successors (moves_of L G) i
-      next = successors-same b d (moves_of L G) (moves_of M (carriedGrammar L M G)) alike some
+      next : (i : ℕ) → successors (moves_of M (carried_grammar L M G)) i ≡ successors (moves_of L G) i
+      next = successors-same b d (moves_of L G) (moves_of M (carried_grammar L M G)) alike some
 
-      passes : checkTable M t n (carriedTable L M table) ≡ done (carriedGrammar L M G)
+      passes : check_table M t n (carried_table L M table) ≡ done (carried_grammar L M G)
       passes =
-          subst (λ (xs : List ℕ). checkTable M t n xs ≡ done (carriedGrammar L M G))
-          (sym (ap (map (moved b d)) taken.table ∙ encode-moved G.rules (λ r m. omega (arith, taken.wellFormed.lengths r m, W.short))))
-          (subst (λ (u : ℕ). checkTable M u n (encode (map (movedRule b d) G.rules)) ≡ done (carriedGrammar L M G)) taken.terminals
-          (subst (λ (u : ℕ). checkTable M G.terminals u (encode (map (movedRule b d) G.rules)) ≡ done (carriedGrammar L M G)) taken.nonterminals
-          (takes_all M (carriedGrammar L M G) (well-moved G taken.wellFormed)
-          (sentence-same L M W G ∙ (passed-stored L t n table G e).1))))
+          subst (λ (xs : List ℕ). check_table M t n xs ≡ done (carried_grammar L M G))
+          (sym (ap (map (moved b d)) taken.table ∙ encode-moved G.rules (λ r m. omega (arith, taken.well_formed.lengths r m, W.short))))
+          (subst (λ (u : ℕ). check_table M u n (encode (map (moved_rule b d) G.rules)) ≡ done (carried_grammar L M G)) taken.terminals
+          (subst (λ (u : ℕ). check_table M G.terminals u (encode (map (moved_rule b d) G.rules)) ≡ done (carried_grammar L M G)) taken.nonterminals
+          (takes_all M (carried_grammar L M G) (well_moved G taken.well_formed)
+          (sentence_same L M W G ∙ (passed-stored L t n table G e).1))))

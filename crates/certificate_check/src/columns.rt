@@ -2,11 +2,11 @@
 // common. Every answer goes one way: true says that what was asked for is held, false says nothing.
 ghost use Rattle.std.specs.Prelude.{◌≡◌, true, ℕ, ◌+◌, ◌*◌, ◌≤◌, ◌<◌, length, get_or};
 ghost use Rattle.grammar.specs.Limits.{limits};
-ghost use Rattle.triples.specs.Index.{index, tripleCount};
-ghost use Rattle.triples.specs.Certificate.{isSet};
-ghost use Rattle.bits.specs.Windows.{wideBits};
+ghost use Rattle.triples.specs.Index.{index, triple_count};
+ghost use Rattle.triples.specs.Certificate.{is_set};
+ghost use Rattle.bits.specs.Windows.{wide_bits};
 ghost use Rattle.plans.specs.Plan.{rows, side_of};
-ghost use Rattle.plans.specs.Contracts.{mostSquare, Verified};
+ghost use Rattle.plans.specs.Clauses.{most_square, Verified};
 ghost use Rattle.certificate_check.specs.Columns.{Placed, RowHeld, PairsHeld, Noted, Met, ColumnsMet, LeftHeld, ClosedAt, ClosedFrom};
 
 use grammar::MAX_STATES;
@@ -26,7 +26,7 @@ fn row_held<'a>(
     kind: u16,
     row: usize,
 ) -> bool
-    requires q_le_max_states { (q ≤ limits.maxStates) × (row < 2 * q) × (tripleCount q ≤ 8 * length bytes.now) }
+    requires q_le_max_states { (q ≤ limits.max_states) × (row < 2 * q) × (triple_count q ≤ 8 * length bytes.now) }
     requires placed { Placed first.now targets.now q kind }
     ensures { result ≡ true → RowHeld first.now targets.now q bytes.now kind row }
 {
@@ -55,7 +55,7 @@ fn meet<'a>(
     span: usize,
     base: usize,
 ) -> u64
-    requires in_bounds { (8 ≤ length bytes.now) × (q ≤ limits.maxStates) × (from + span ≤ limits.maxStates) × (base ≤ 2 * mostSquare) }
+    requires in_bounds { (8 ≤ length bytes.now) × (q ≤ limits.max_states) × (from + span ≤ limits.max_states) × (base ≤ 2 * most_square) }
     requires by_index { (k : ℕ) → k < span → base + get_or targets.now (from + k) 0 * q < 8 * length bytes.now }
     ensures { Met bytes.now targets.now q from span base result }
 {
@@ -79,7 +79,7 @@ fn columns_met(
     k: usize,
     span: usize,
 ) -> usize
-    requires { (from + span ≤ limits.maxStates) × (k ≤ span) }
+    requires { (from + span ≤ limits.max_states) × (k ≤ span) }
     ensures { (result ≤ span) × ColumnsMet targets.now near begin from k result }
 {
     let mut h = k;
@@ -109,7 +109,7 @@ fn pairs_held<'a>(
     left: u16,
     right: u16,
 ) -> bool
-    requires q_le_max_states { (q ≤ limits.maxStates) × (tripleCount q ≤ 8 * length bytes.now) }
+    requires q_le_max_states { (q ≤ limits.max_states) × (triple_count q ≤ 8 * length bytes.now) }
     requires placed { Placed first.now targets.now q left }
     requires placed_2 { Placed first.now targets.now q right }
     ensures { result ≡ true → PairsHeld first.now targets.now q bytes.now left right }
@@ -157,9 +157,9 @@ fn shift_held<'a>(
     b: usize,
     shift: usize,
 ) -> bool
-    requires q_le_max_states { (q ≤ limits.maxStates) × (f ≤ 1) × (a < q) × (b < q) }
+    requires q_le_max_states { (q ≤ limits.max_states) × (f ≤ 1) × (a < q) × (b < q) }
     requires b_bound { 0 < shift → index q f (get_or after.now a 0) (get_or after.now b 0) < 8 * length bytes.now }
-    ensures { result ≡ true → 0 < shift → isSet bytes.now (index q f (get_or after.now a 0) (get_or after.now b 0)) ≡ true }
+    ensures { result ≡ true → 0 < shift → is_set bytes.now (index q f (get_or after.now a 0) (get_or after.now b 0)) ≡ true }
 {
     if shift == 0 {
         return true;
@@ -181,7 +181,7 @@ fn right_held<'a>(
     row: usize,
     seen: &mut [u16; CLASSES],
 ) -> bool
-    requires q_le_max_states { (q ≤ limits.maxStates) × (row < 2 * q) × (tripleCount q ≤ 8 * length bytes.now) }
+    requires q_le_max_states { (q ≤ limits.max_states) × (row < 2 * q) × (triple_count q ≤ 8 * length bytes.now) }
     requires placed { Placed first.now targets.now q kind }
     requires noted { Noted first.now targets.now q bytes.now seen.old }
     ensures row_held { result ≡ true → 0 < right → RowHeld first.now targets.now q bytes.now kind row }
@@ -212,7 +212,7 @@ fn parts_held<'a>(
     right: u16,
     seen: &mut [u16; CLASSES],
 ) -> bool
-    requires q_le_max_states { (q ≤ limits.maxStates) × (tripleCount q ≤ 8 * length bytes.now) }
+    requires q_le_max_states { (q ≤ limits.max_states) × (triple_count q ≤ 8 * length bytes.now) }
     requires placed { Placed first.now targets.now q left }
     requires placed_2 { Placed first.now targets.now q right }
     requires noted { Noted first.now targets.now q bytes.now seen.old }
@@ -254,7 +254,7 @@ fn column_held<'a>(
     seen: &mut [u16; CLASSES],
 ) -> bool
     requires verified { Verified (rows ahead.now number.now member.now first.now after.now) targets.now t m q }
-    requires f_bound { (f ≤ 1) × (a < q) × (b < q) × (tripleCount q ≤ 8 * length bytes.now) }
+    requires f_bound { (f ≤ 1) × (a < q) × (b < q) × (triple_count q ≤ 8 * length bytes.now) }
     requires x_value { x ≡ side_of member.now first.now a }
     requires left_held { near ≡ true → LeftHeld (rows ahead.now number.now member.now first.now after.now) targets.now m q bytes.now f a b }
     requires noted { Noted first.now targets.now q bytes.now seen.old }
@@ -298,7 +298,7 @@ pub fn columns_closed<'a>(
     seen: &mut [u16; CLASSES],
 ) -> bool
     requires verified { Verified (rows ahead.now number.now member.now first.now after.now) targets.now t m q }
-    requires f_bound { (f ≤ 1) × (a < q) × (b < q) × (b + n ≤ q) × (n ≤ wideBits) × (tripleCount q ≤ 8 * length bytes.now) }
+    requires f_bound { (f ≤ 1) × (a < q) × (b < q) × (b + n ≤ q) × (n ≤ wide_bits) × (triple_count q ≤ 8 * length bytes.now) }
     requires noted { Noted first.now targets.now q bytes.now seen.old }
     ensures closed_from { result ≡ true → ClosedFrom (rows ahead.now number.now member.now first.now after.now) targets.now t m q bytes.now (index q f a b) n }
     ensures noted_2 { Noted first.now targets.now q bytes.now seen.new }

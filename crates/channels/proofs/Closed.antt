@@ -7,45 +7,45 @@ use mathlib.Core.List.{List}
 use native.Mathlib.Omega.{arith}
 use Rattle.grammar.specs.Basics.{each}
 use Rattle.grammar.specs.Limits.{limits}
-use Rattle.grammar.specs.Grammar.{rule, stateCount}
+use Rattle.grammar.specs.Grammar.{rule, state_count}
 use Rattle.grammar.specs.Table.{encode}
-use Rattle.grammar.specs.Refusal.{done, refuseUnless, and_then}
-use Rattle.grammar.specs.TableCheck.{sameCodes, isAmong, declaredFront, readRule, nextRule, checkFrom, storedTable, checkTable}
+use Rattle.grammar.specs.Refusal.{done, refuse_unless, and_then}
+use Rattle.grammar.specs.TableCheck.{same_codes, is_among, declared_front, read_rule, next_rule, check_from, stored_table, check_table}
 use Rattle.grammar.specs.Tree.{Tree, SameTree, HasTree}
-use Rattle.grammar.specs.Live.{has, hasAll, concluded, waiting, rounds, nonterminalsOf, productive, usable, reachable, hasSentence, isLive}
+use Rattle.grammar.specs.Live.{has, has_all, concluded, waiting, rounds, nonterminals_of, productive, usable, reachable, has_sentence, is_live}
 use Rattle.grammar.proofs.Answers.{no_bool}
-use Rattle.grammar.proofs.Plain.{same_codes}
-use Rattle.grammar.proofs.Trees.{same-is}
-use Rattle.automaton.specs.PositionMoves.{shown, aheads, rulesOf, completed, past, aheadRow, openings, closings}
+use Rattle.grammar.proofs.Plain.{same_codes_lem}
+use Rattle.grammar.proofs.Trees.{same_is}
+use Rattle.automaton.specs.PositionMoves.{shown, aheads, rules_of, completed, past, ahead_row, openings, closings}
 use Rattle.automaton.specs.Callers.{callers}
-use Rattle.automaton.specs.CallerMoves.{movesWith}
-use Rattle.triples.specs.Records.{leftAlone, rightAlone, bothShift, bothClose, choices, insert, ordered, records}
-use Rattle.triples.specs.Smallest.{isElement, successors}
-use Rattle.triples.specs.Certificate.{AcceptableCertificate, checkBytes, lowest, areSet}
+use Rattle.automaton.specs.CallerMoves.{moves_with}
+use Rattle.triples.specs.Records.{left_alone, right_alone, both_shift, both_close, choices, insert, ordered, records}
+use Rattle.triples.specs.Smallest.{is_element, successors}
+use Rattle.triples.specs.Certificate.{AcceptableCertificate, check_bytes, lowest, are_set}
 use Rattle.triples.specs.Verdict.{CertificateAnswer}
 use Rattle.triples.specs.declared.CheckVerdict.TheVariants.{Accepted}
-use Rattle.triple_laws.proofs.Laws.{certificates-of}
+use Rattle.triple_laws.proofs.Laws.{certificates_of}
 use Rattle.trees.specs.Trees as trees
 use Rattle.ambiguity.specs.Entries.{Stores, StoresAt}
 use Rattle.ambiguity.proofs.Entries.{stores, regular, lists}
-use Rattle.ambiguity.proofs.FrontPage.{front-page}
+use Rattle.ambiguity.proofs.FrontPage.{front_page}
 use Rattle.channels.specs.Commands.{commands, rules, table, certificate}
 
 -- the table passes
-pub passes : checkTable limits commands.terminals commands.nonterminals table ≡ done commands
-unfolding checkTable storedTable hasSentence has productive rounds concluded waiting hasAll nonterminalsOf checkFrom nextRule readRule
-    declaredFront isAmong sameCodes stateCount refuseUnless and_then encode
+pub passes : check_table limits commands.terminals commands.nonterminals table ≡ done commands
+unfolding check_table stored_table has_sentence has productive rounds concluded waiting has_all nonterminals_of check_from next_rule read_rule
+    declared_front is_among same_codes state_count refuse_unless and_then encode
 passes = refl
 
-pub count : stateCount rules ≡ 27
-unfolding stateCount
+pub count : state_count rules ≡ 27
+unfolding state_count
 count = refl
 
 -- the certificate is closed: one test over the whole table
-pub closed : checkBytes (movesWith limits commands 0) certificate ≡ done tt
-unfolding checkBytes lowest areSet successors records ordered insert choices bothClose bothShift rightAlone leftAlone closings openings aheadRow
-    shown past completed rulesOf aheads each isElement rule has hasAll concluded waiting rounds nonterminalsOf productive usable reachable
-    hasSentence isLive stateCount refuseUnless certificate
+pub closed : check_bytes (moves_with limits commands 0) certificate ≡ done tt
+unfolding check_bytes lowest are_set successors records ordered insert choices both_close both_shift right_alone left_alone closings openings ahead_row
+    shown past completed rules_of aheads each is_element rule has has_all concluded waiting rounds nonterminals_of productive usable reachable
+    has_sentence is_live state_count refuse_unless certificate
 closed = refl
 
 -- so the table is that of the command set, whose states fit
@@ -53,33 +53,33 @@ pub stored : Stores commands.terminals commands.nonterminals table commands
 stored = stores commands.terminals commands.nonterminals table commands passes
 
 pub stored_at : StoresAt commands.terminals commands.nonterminals table 0 commands
-unfolding stateCount
+unfolding state_count
 stored_at = record { stores = stored; few-callers = omega arith; few-states = omega arith }
 
 -- and the certificate holds every successor of what it holds
 pub acceptable : AcceptableCertificate (callers limits commands 0) certificate
 acceptable =
-    let W = stored.isTable.wellFormed in
+    let W = stored.is_table.well_formed in
     let s = stored.sentence in
-    (certificates-of (callers limits commands 0) (movesWith limits commands 0) (regular commands W s 0) (lists commands W s 0) certificate).0 closed
+    (certificates_of (callers limits commands 0) (moves_with limits commands 0) (regular commands W s 0) (lists commands W s 0) certificate).0 closed
 
 -- so the certificate check accepts it
 pub accepted : CertificateAnswer commands.terminals commands.nonterminals table 0 certificate Accepted
 accepted =
-    sym (((front-page.certificates commands.terminals commands.nonterminals table 0 certificate _ refl).accepted commands stored_at).1 acceptable)
+    sym (((front_page.certificates commands.terminals commands.nonterminals table 0 certificate _ refl).accepted commands stored_at).1 acceptable)
 
 -- and every sentence has one tree: trees with the same rules are the same, and no two have unequal ones
 pub one-tree : (w : List ℕ) (a b : Tree) → HasTree limits commands w a → HasTree limits commands w b → SameTree a b
-one-tree w a b h k = go (sameCodes (trees.rulesOf a) (trees.rulesOf b)) refl
+one-tree w a b h k = go (same_codes (trees.rules_of a) (trees.rules_of b)) refl
   where
-    go : (e : Bool) → sameCodes (trees.rulesOf a) (trees.rulesOf b) ≡ e → SameTree a b
-    go true e = (front-page.listed commands stored.isTable.wellFormed).same w w a b h k ((same_codes (trees.rulesOf a) (trees.rulesOf b)).0 e)
+    go : (e : Bool) → same_codes (trees.rules_of a) (trees.rules_of b) ≡ e → SameTree a b
+    go true e = (front_page.listed commands stored.is_table.well_formed).same w w a b h k ((same_codes_lem (trees.rules_of a) (trees.rules_of b)).0 e)
     go false e =
-        absurd ((front-page.certificates commands.terminals commands.nonterminals table 0 certificate Accepted accepted).one-tree commands stored_at refl w
+        absurd ((front_page.certificates commands.terminals commands.nonterminals table 0 certificate Accepted accepted).one-tree commands stored_at refl w
         (record {
           first = a;
           second = b;
           first-has = h;
           second-has = k;
-          unequal = λ s. no_bool (sym ((same_codes (trees.rulesOf a) (trees.rulesOf b)).1 (ap trees.rulesOf (same-is s))) ∙ e);
+          unequal = λ s. no_bool (sym ((same_codes_lem (trees.rules_of a) (trees.rules_of b)).1 (ap trees.rules_of (same_is s))) ∙ e);
         }))

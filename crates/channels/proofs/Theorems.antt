@@ -4,11 +4,11 @@ use Rattle.channels.specs.Commands.{certificate}
 use Rattle.channels.specs.Theorems.{CommandTheorems, PlanPage}
 use Rattle.channels.proofs.Closed.{count, stored, acceptable, accepted, one-tree}
 use Rattle.channels.proofs.Smallest.{searched, told-before}
-use Rattle.channels.proofs.Plans.{plan-theorems}
+use Rattle.channels.proofs.Plans.{plan_theorems}
 
-command-theorems : CommandTheorems
+command_theorems : CommandTheorems
 unfolding certificate
-command-theorems = record {
+command_theorems = record {
   stores = stored;
   states = count;
   bytes = refl;
@@ -19,5 +19,5 @@ command-theorems = record {
   one-tree = one-tree;
 }
 
-pub plan-page : PlanPage
-plan-page = record { commands = command-theorems; plans = plan-theorems }
+pub plan_page : PlanPage
+plan_page = record { commands = command_theorems; plans = plan_theorems }

@@ -32,27 +32,27 @@ sep = 8
 
 -- the three nonterminals: a plan, the start; a command; a list of channels
 abbrev pub P : ℕ
-P = limits.nonterminalBase
+P = limits.nonterminal_base
 
 abbrev pub K : ℕ
-K = limits.nonterminalBase + 1
+K = limits.nonterminal_base + 1
 
 abbrev pub L : ℕ
-L = limits.nonterminalBase + 2
+L = limits.nonterminal_base + 2
 
-abbrev pub ruleOf : ℕ → List ℕ → Rule
-ruleOf left right = record { left = left; right = right }
+abbrev pub rule_of : ℕ → List ℕ → Rule
+rule_of left right = record { left = left; right = right }
 
 -- P is empty, or P K; K is take L vol, give L vol, or repeat num P close; L is ch, or L sep ch
 abbrev pub rules : List Rule
 rules =
-    ruleOf P []
-    ∷ ruleOf P (P ∷ K ∷ [])
-    ∷ ruleOf K (take ∷ L ∷ vol ∷ [])
-    ∷ ruleOf K (give ∷ L ∷ vol ∷ [])
-    ∷ ruleOf K (repeat ∷ num ∷ P ∷ close ∷ [])
-    ∷ ruleOf L (ch ∷ [])
-    ∷ ruleOf L (L ∷ sep ∷ ch ∷ [])
+    rule_of P []
+    ∷ rule_of P (P ∷ K ∷ [])
+    ∷ rule_of K (take ∷ L ∷ vol ∷ [])
+    ∷ rule_of K (give ∷ L ∷ vol ∷ [])
+    ∷ rule_of K (repeat ∷ num ∷ P ∷ close ∷ [])
+    ∷ rule_of L (ch ∷ [])
+    ∷ rule_of L (L ∷ sep ∷ ch ∷ [])
     ∷ []
 
 abbrev pub commands : Grammar

@@ -5,7 +5,7 @@ mod certificate;
 ghost use Rattle.std.specs.Prelude.{◌≡◌};
 ghost use Rattle.trees.specs.Promise.{FindsTrees};
 ghost use Rattle.channels.specs.Commands.{commands, table};
-ghost use Rattle.channels.specs.Promise.{ReadsPlan, planRoom};
+ghost use Rattle.channels.specs.Promise.{ReadsPlan, plan_room};
 
 use ambiguity::{TreesFound, find_trees};
 pub use certificate::certificate_byte;
@@ -62,7 +62,7 @@ pub fn read_plan<'a>(row: &'a [u16], work: &'a mut [u32], list: &'a mut [u16]) -
 
 // How long the work row must be: 65 × 65 × 27 entries.
 pub fn plan_room() -> usize
-    ensures { result ≡ planRoom }
+    ensures { result ≡ plan_room }
 {
     PLACES * PLACES * STATES
 }

@@ -9,8 +9,8 @@ use lib.Seq.{get_or-set_same, get_or-set_other}
 use Rattle.chart.specs.Rows.{Linked, Mentioning, Flagged}
 
 module _ {Q : ℕ} {ahead next head : List ℕ} (L : Linked Q ahead next head) where
-  pub mention-start : (c : ℕ) (flags : List ℕ) (top : ℕ) → top ≡ get_or head c 0 → Mentioning ahead Q c top top flags flags
-  mention-start c flags top e = record {
+  pub mention_start : (c : ℕ) (flags : List ℕ) (top : ℕ) → top ≡ get_or head c 0 → Mentioning ahead Q c top top flags flags
+  mention_start c flags top e = record {
     room = omega (arith, L.heads c);
     below = omega arith;
     same = λ h. ap (λ z. get_or ahead z 0) e ∙ L.head-same c (omega arith);
@@ -20,9 +20,9 @@ module _ {Q : ℕ} {ahead next head : List ℕ} (L : Linked Q ahead next head) w
     size = refl;
   }
 
-  pub mention-turn : {c : ℕ} {flags flags' : List ℕ} {top p : ℕ} (n : ℕ) → Mentioning ahead Q c top p flags flags' → Q ≤ length flags → 1 ≤ p → n ≡ get_or next p 0
+  pub mention_turn : {c : ℕ} {flags flags' : List ℕ} {top p : ℕ} (n : ℕ) → Mentioning ahead Q c top p flags flags' → Q ≤ length flags → 1 ≤ p → n ≡ get_or next p 0
       → Mentioning ahead Q c top n flags (set flags' (p + 1) 1)
-  mention-turn {flags' = flags'} {p = p} n M q h e =
+  mention_turn {flags' = flags'} {p = p} n M q h e =
       let inside : p < Q = omega (arith, M.room) in
       let less = L.nexts p h inside in
       let fits : p + 1 < length flags' = omega (arith, M.room, M.size) in
@@ -45,8 +45,8 @@ module _ {Q : ℕ} {ahead next head : List ℕ} (L : Linked Q ahead next head) w
         size = length-set flags' (p + 1) 1 ∙ M.size;
       }
 
-  pub mention-end : {c : ℕ} {flags flags' : List ℕ} {top p : ℕ} → Mentioning ahead Q c top p flags flags' → p < 1 → Flagged ahead Q c top flags flags'
-  mention-end M h = record {
+  pub mention_end : {c : ℕ} {flags flags' : List ℕ} {top p : ℕ} → Mentioning ahead Q c top p flags flags' → p < 1 → Flagged ahead Q c top flags flags'
+  mention_end M h = record {
     all = λ s l q. elim (ℕ_discrete s 0) [
       | yes f ↦ absurd (omega (arith, L.front, q, ap (λ z. get_or ahead z 0) f))
       | no f ↦ M.all s (omega arith) l q

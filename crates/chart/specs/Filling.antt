@@ -5,7 +5,7 @@ use Rattle.grammar.specs.Limits.{limits}
 use Rattle.grammar.specs.Grammar.{Grammar, IsRule, rule, start, WellFormed, Terminal}
 use Rattle.tree_laws.specs.Chart.{Places, Chart, SoundTo, Sums, Settled}
 use Rattle.tree_laws.specs.Filling.{Past, Column, Looking}
-use Rattle.counts.specs.Counts.{itemCell, wholeCell}
+use Rattle.counts.specs.Counts.{item_cell, whole_cell}
 use Rattle.counts.specs.View.{nonzeros, view_of}
 use Rattle.chart.specs.Rows.{home_of}
 
@@ -16,7 +16,7 @@ code_of (x ∷ α) = x
 
 -- the rows show the places of a grammar with Q states
 pub record Sheet (G : Grammar) (P : Places limits G) (Q : ℕ) (ahead lead home : List ℕ) : Type 0 where
-  pub wellFormed : WellFormed limits G
+  pub well_formed : WellFormed limits G
   pub code : (p : ℕ) → p < Q → get_or ahead p 0 ≡ code_of (P.rest p)
   pub range : (p x : ℕ) (α : List ℕ) → P.rest p ≡ x ∷ α → (2 ≤ p) × (suc p < Q)
   pub symbol : (p x : ℕ) (α : List ℕ) → P.rest p ≡ x ∷ α → (1 ≤ x) × (x < start limits → Terminal G.terminals x)
@@ -27,9 +27,9 @@ pub record Sheet (G : Grammar) (P : Places limits G) (Q : ℕ) (ahead lead home 
   pub leads : (p : ℕ) → p < Q → 1 ≤ get_or lead p 0 → (r : ℕ) × (IsRule G r × (P.first r ≡ p) × ((rule limits G r).left ≡ get_or lead p 0))
   -- nonterminals with rules have homes of their own, at ends past state 3; other codes have none
   pub homed : (r : ℕ) → IsRule G r → 4 ≤ home_of home (rule limits G r).left
-  pub home-four : (b : ℕ) → 1 ≤ home_of home b → 4 ≤ home_of home b
-  pub home-end : (b : ℕ) → P.rest (home_of home b) ≡ []
-  pub home-once : (a b : ℕ) → 1 ≤ home_of home b → home_of home a ≡ home_of home b → a ≡ b
+  pub home_four : (b : ℕ) → 1 ≤ home_of home b → 4 ≤ home_of home b
+  pub home_end : (b : ℕ) → P.rest (home_of home b) ≡ []
+  pub home_once : (a b : ℕ) → 1 ≤ home_of home b → home_of home a ≡ home_of home b → a ≡ b
   pub homeless : (b : ℕ) → ((r : ℕ) → IsRule G r → (rule limits G r).left ≡ b → ⊥) → home_of home b ≡ 0
   -- state 2 is before S, state 3 past it
   pub root : P.rest 2 ≡ start limits ∷ []
@@ -37,39 +37,39 @@ pub record Sheet (G : Grammar) (P : Places limits G) (Q : ℕ) (ahead lead home 
 
 module _ (G : Grammar) (P : Places limits G) (Q : ℕ) (home w : List ℕ) where
   -- the chart that a work row holds
-  abbrev pub chartOf : List ℕ → Chart
-  chartOf row = view_of Q (length w + 1) (λ p. eqb (code_of (P.rest p)) 0) (home_of home) row
+  abbrev pub chart_of : List ℕ → Chart
+  chart_of row = view_of Q (length w + 1) (λ p. eqb (code_of (P.rest p)) 0) (home_of home) row
 
   -- its counts are at most 2 and none is too large, the sums are the rules', the plane of ends has 1 on its diagonal, that of state 0 only 0
   pub record Counted (row : List ℕ) : Type 0 where
     pub small : (k : ℕ) → get_or row k 0 ≤ 2
-    pub ones : (i j : ℕ) → i < length w + 1 → j < length w + 1 → get_or row (itemCell (length w + 1) 3 i j) 0 ≡ choose (eqb i j) 1 0
-    pub none : (i j : ℕ) → i < length w + 1 → j < length w + 1 → get_or row (wholeCell (length w + 1) 0 i j) 0 ≡ 0
+    pub ones : (i j : ℕ) → i < length w + 1 → j < length w + 1 → get_or row (item_cell (length w + 1) 3 i j) 0 ≡ choose (eqb i j) 1 0
+    pub none : (i j : ℕ) → i < length w + 1 → j < length w + 1 → get_or row (whole_cell (length w + 1) 0 i j) 0 ≡ 0
     pub depth : ℕ
     pub deep : depth ≤ nonzeros row
-    pub sound : SoundTo limits G w P depth (chartOf row)
-    pub sums : Sums limits G w P (chartOf row)
+    pub sound : SoundTo limits G w P depth (chart_of row)
+    pub sums : Sums limits G w P (chart_of row)
 
   -- the span from i to j is at work
   pub record Working (row active flags : List ℕ) (q i j : ℕ) : Type 0 where
     pub counted : Counted row
-    pub looking : Looking limits G w P Q (chartOf row) (λ p. get_or active p 0) (λ p. get_or flags p 0) q i j
+    pub looking : Looking limits G w P Q (chart_of row) (λ p. get_or active p 0) (λ p. get_or flags p 0) q i j
 
   -- the spans that end before j are done, and those that end there and begin at i or later
   pub record Filled (row active : List ℕ) (i j : ℕ) : Type 0 where
     pub counted : Counted row
-    pub past : Past limits G w P Q (chartOf row) i j
-    pub column : Column limits G w P Q (chartOf row) (λ p. get_or active p 0) j
+    pub past : Past limits G w P Q (chart_of row) i j
+    pub column : Column limits G w P Q (chart_of row) (λ p. get_or active p 0) j
 
   -- nothing is counted yet but ends and empty right sides
   pub record Begun (row : List ℕ) : Type 0 where
     pub counted : Counted row
-    pub empty : (p x k l : ℕ) (α : List ℕ) → P.rest p ≡ x ∷ α → (chartOf row).item p k l ≡ 0
+    pub empty : (p x k l : ℕ) (α : List ℕ) → P.rest p ≡ x ∷ α → (chart_of row).item p k l ≡ 0
 
   -- all counts are settled
   pub record Complete (row : List ℕ) : Type 0 where
     pub counted : Counted row
-    pub settled : (p x k l : ℕ) (α : List ℕ) → P.rest p ≡ x ∷ α → k ≤ l → l ≤ length w → Settled limits G w (chartOf row) x p k l
+    pub settled : (p x k l : ℕ) (α : List ℕ) → P.rest p ≡ x ∷ α → k ≤ l → l ≤ length w → Settled limits G w (chart_of row) x p k l
 
 -- whatever grammar the rows show: a look keeps what is known of the span at work
 abbrev pub Looks : (Q : ℕ) (ahead lead home w row row' active active' flags flags' : List ℕ) (q r i j : ℕ) → Type 0

@@ -8,33 +8,33 @@ use Rattle.grammar.specs.Limits.{limits}
 use Rattle.grammar.specs.Grammar.{start}
 use Rattle.trees.specs.Trees.{places}
 use Rattle.tree_laws.specs.Chart.{cap}
-use Rattle.counts.specs.Counts.{itemCell, splitsAt}
+use Rattle.counts.specs.Counts.{item_cell, splits_at}
 
 -- the plane of a state's counts: all ends share that of state 3
-unfoldable pub planeOf : List ℕ → ℕ → ℕ
-planeOf ahead p = choose (eqb (get_or ahead p 0) 0) 3 p
+unfoldable pub plane_of : List ℕ → ℕ → ℕ
+plane_of ahead p = choose (eqb (get_or ahead p 0) 0) 3 p
 
 -- the home of a code: 0, whose plane has only 0, for a code without rules
 unfoldable pub home_of : List ℕ → ℕ → ℕ
 home_of home b = choose (leb (start limits) b) (get_or home (b - start limits) 0) 0
 
 -- what the work row makes of the count of the state before q, from i to j
-unfoldable pub madeAt : List ℕ → List ℕ → List ℕ → List ℕ → ℕ → ℕ → ℕ → ℕ
-madeAt row ahead home w q i j =
+unfoldable pub made_at : List ℕ → List ℕ → List ℕ → List ℕ → ℕ → ℕ → ℕ → ℕ
+made_at row ahead home w q i j =
     choose (leb (start limits) (get_or ahead (q - 1) 0))
-    (splitsAt row (length w + 1) (home_of home (get_or ahead (q - 1) 0)) (planeOf ahead q) i j (suc (j - i)))
-    (choose (ltb i j && eqb (get_or w i 0) (get_or ahead (q - 1) 0)) (get_or row (itemCell (length w + 1) (planeOf ahead q) (i + 1) j) 0) 0)
+    (splits_at row (length w + 1) (home_of home (get_or ahead (q - 1) 0)) (plane_of ahead q) i j (suc (j - i)))
+    (choose (ltb i j && eqb (get_or w i 0) (get_or ahead (q - 1) 0)) (get_or row (item_cell (length w + 1) (plane_of ahead q) (i + 1) j) 0) 0)
 
 -- the codes ahead and the homes are in range
 pub record Ready (Q : ℕ) (ahead home : List ℕ) : Type 0 where
-  pub few : Q ≤ limits.maxStates
+  pub few : Q ≤ limits.max_states
   pub four : 4 ≤ Q
-  pub codes : (p : ℕ) → p < Q → get_or ahead p 0 < start limits + limits.maxNonterminals
+  pub codes : (p : ℕ) → p < Q → get_or ahead p 0 < start limits + limits.max_nonterminals
   pub homes : (c : ℕ) → get_or home c 0 < Q
 
 -- the states before a nonterminal are linked, the highest first
 pub record Linked (Q : ℕ) (ahead next head : List ℕ) : Type 0 where
-  pub few : Q ≤ limits.maxStates
+  pub few : Q ≤ limits.max_states
   pub front : get_or ahead 0 0 ≡ 0
   pub heads : (c : ℕ) → get_or head c 0 + 1 < Q
   pub nexts : (p : ℕ) → 1 ≤ p → p < Q → get_or next p 0 < p
@@ -48,7 +48,7 @@ pub record Wired (Q : ℕ) (ahead lead next head home : List ℕ) : Type 0 where
   pub ready : Ready Q ahead home
   pub linked : Linked Q ahead next head
   pub lead_low : (p : ℕ) → p < Q → 1 ≤ get_or lead p 0 → start limits ≤ get_or lead p 0
-  pub lead_high : (p : ℕ) → p < Q → get_or lead p 0 < start limits + limits.maxNonterminals
+  pub lead_high : (p : ℕ) → p < Q → get_or lead p 0 < start limits + limits.max_nonterminals
 
 -- a work row of m × m entries for each of Q states, and a span of it
 pub record Span (row : List ℕ) (Q m i j : ℕ) : Type 0 where

@@ -6,8 +6,8 @@ ghost use Rattle.grammar.specs.Limits.{limits};
 ghost use Rattle.grammar.specs.Grammar.{start};
 ghost use Rattle.trees.specs.Trees.{places};
 ghost use Rattle.tree_laws.specs.Chart.{cap};
-ghost use Rattle.counts.specs.Counts.{itemCell, wholeCell};
-ghost use Rattle.chart.specs.Rows.{planeOf, home_of, madeAt, Ready, Linked, Wired, Span, Settles, block, Flagged, Covered, slack};
+ghost use Rattle.counts.specs.Counts.{item_cell, whole_cell};
+ghost use Rattle.chart.specs.Rows.{plane_of, home_of, made_at, Ready, Linked, Wired, Span, Settles, block, Flagged, Covered, slack};
 ghost use Rattle.chart.specs.Filling.{Looks};
 
 use counts::{plus, ways};
@@ -28,8 +28,8 @@ pub fn wide(x: u16) -> usize
 
 // The plane of a state's counts.
 pub fn plane(ahead: &[u16; MAX_STATES], p: usize) -> usize
-    requires { p < limits.maxStates }
-    ensures { result ≡ planeOf ahead.now p }
+    requires { p < limits.max_states }
+    ensures { result ≡ plane_of ahead.now p }
 {
     if ahead[p] == 0 {
         return ENDS;
@@ -40,7 +40,7 @@ pub fn plane(ahead: &[u16; MAX_STATES], p: usize) -> usize
 // The home of a nonterminal.
 pub fn home_of(home: &[u16; MAX_NONTERMINALS], b: u16) -> usize
     requires limits_bound { start limits ≤ b }
-    requires b_bound { b < start limits + limits.maxNonterminals }
+    requires b_bound { b < start limits + limits.max_nonterminals }
     ensures { result ≡ home_of home.now b }
 {
     let c = wide(b - NONTERMINAL_BASE);
@@ -49,8 +49,8 @@ pub fn home_of(home: &[u16; MAX_NONTERMINALS], b: u16) -> usize
 
 // The entry of the work row for a state's count from i to j; with i and j exchanged that for a nonterminal's, by its home.
 pub fn cell(m: usize, p: usize, i: usize, j: usize) -> usize
-    requires { (m ≤ places) × (p < limits.maxStates) × (i < m) × (j < m) }
-    ensures { result ≡ itemCell m p i j }
+    requires { (m ≤ places) × (p < limits.max_states) × (i < m) × (j < m) }
+    ensures { result ≡ item_cell m p i j }
 {
     (p * m + j) * m + i
 }
@@ -66,8 +66,8 @@ fn made_of_terminal<'a>(
     j: usize,
 ) -> u32
     requires span { Span work.now states (length row.now + 1) i j }
-    requires states_le_max_states { (states ≤ limits.maxStates) × (z < states) }
-    ensures { result ≡ cap (choose (ltb i j && eqb (get_or row.now i 0) x) (get_or work.now (itemCell (length row.now + 1) z (i + 1) j) 0) 0) }
+    requires states_le_max_states { (states ≤ limits.max_states) × (z < states) }
+    ensures { result ≡ cap (choose (ltb i j && eqb (get_or row.now i 0) x) (get_or work.now (item_cell (length row.now + 1) z (i + 1) j) 0) 0) }
 {
     if j <= i {
         return 0;
@@ -93,7 +93,7 @@ fn made<'a>(
     requires ready { Ready states ahead.now home.now }
     requires span { Span work.now states (length row.now + 1) i j }
     requires le_q { (1 ≤ q) × (q < states) }
-    ensures { result ≡ cap (madeAt work.now ahead.now home.now row.now q i j) }
+    ensures { result ≡ cap (made_at work.now ahead.now home.now row.now q i j) }
 {
     let x = ahead[q - 1];
     let z = plane(ahead, q);
@@ -118,7 +118,7 @@ fn settle<'a>(
     requires ready { Ready states ahead.now home.now }
     requires span { Span work.old states (length row.now + 1) i j }
     requires le_q { (1 ≤ q) × (q < states) }
-    ensures { Settles (madeAt work.old ahead.now home.now row.now q i j) (itemCell (length row.now + 1) (q - 1) i j) result
+    ensures { Settles (made_at work.old ahead.now home.now row.now q i j) (item_cell (length row.now + 1) (q - 1) i j) result
         work.old work.new }
 {
     let at = cell(row.len() + 1, q - 1, i, j);
@@ -137,8 +137,8 @@ fn settle<'a>(
 // Raises the count of a nonterminal, by its home.
 fn raise(work: &mut [u32], m: usize, states: usize, h: usize, i: usize, j: usize, rise: u32)
     requires span { Span work.old states m i j }
-    requires states_le_max_states { (states ≤ limits.maxStates) × (h < states) }
-    ensures { work.new ≡ set work.old (wholeCell m h i j) (cap (get_or work.old (wholeCell m h i j) 0 + rise)) }
+    requires states_le_max_states { (states ≤ limits.max_states) × (h < states) }
+    ensures { work.new ≡ set work.old (whole_cell m h i j) (cap (get_or work.old (whole_cell m h i j) 0 + rise)) }
 {
     let at = cell(m, h, j, i);
     work[at] = plus(work[at], rise);
@@ -156,7 +156,7 @@ fn mention<'a>(
     blocks: &'a mut [u8],
 ) -> usize
     requires linked { Linked states ahead.now next.now head.now }
-    requires c_lt_max_nonterminals { c < limits.maxNonterminals }
+    requires c_lt_max_nonterminals { c < limits.max_nonterminals }
     requires q_le_states { q ≤ states }
     requires states_in_bounds { (states ≤ length flags.old) × (states ≤ block * length blocks.old) }
     ensures flagged { Flagged ahead.now states c (get_or head.now c 0) flags.old flags.new }
@@ -199,7 +199,7 @@ pub fn look<'a>(
     requires states_in_bounds { (states ≤ length active.old) × (states ≤ length flags.old) × (states ≤ block * length blocks.old) }
     ensures looks { Looks states ahead.now lead.now home.now row.now work.old work.new
         active.old active.new flags.old flags.new q result i j }
-    ensures upper_bound { (result ≤ states) × (slack work.new * (limits.maxStates + 1) + result ≤ slack work.old * (limits.maxStates + 1) + q) }
+    ensures upper_bound { (result ≤ states) × (slack work.new * (limits.max_states + 1) + result ≤ slack work.old * (limits.max_states + 1) + q) }
     ensures covered { Covered states flags.old blocks.old → Covered states flags.new blocks.new }
 {
     let p = q - 1;

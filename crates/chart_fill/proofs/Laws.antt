@@ -10,9 +10,9 @@ use lib.Seq.{get_or-set_same, get_or-set_other}
 use Rattle.grammar.specs.Limits.{limits}
 use Rattle.grammar.specs.Grammar.{Grammar}
 use Rattle.tree_laws.specs.Chart.{Places}
-use Rattle.tree_laws.proofs.Looks.{look-begins, look-ends, column-begins}
+use Rattle.tree_laws.proofs.Looks.{look-begins, look-ends, column_begins}
 use Rattle.chart.specs.Rows.{block, Covered, Clear}
-use Rattle.chart.specs.Filling.{Sheet, chartOf, Working, Filled, Begun, Complete}
+use Rattle.chart.specs.Filling.{Sheet, chart_of, Working, Filled, Begun, Complete}
 use Rattle.chart.proofs.Reading.{either, end-code}
 
 -- where the ends are marked, no end is without a mark
@@ -22,24 +22,24 @@ ends-marked {G} {P} {Q} {ahead} {lead} {home} S w marks M p e h z = omega (arith
 
 module _ {G : Grammar} {P : Places limits G} {Q : ℕ} {ahead lead home : List ℕ} (S : Sheet G P Q ahead lead home) {w : List ℕ} where
   -- a span begins with the flags that are the marks
-  pub span-start : {row active : List ℕ} {i j : ℕ} → i ≤ j → Filled G P Q home w row active (suc i) j → Working G P Q home w row active active Q i j
-  span-start {row} {active} {i} {j} h F = record {
+  pub span_start : {row active : List ℕ} {i j : ℕ} → i ≤ j → Filled G P Q home w row active (suc i) j → Working G P Q home w row active active Q i j
+  span_start {row} {active} {i} {j} h F = record {
     counted = F.counted;
-    looking = look-begins limits G w P Q (chartOf G P Q home w row) (λ p. get_or active p 0) i j (λ p x α e. (S.range p x α e).1) (either G P Q ahead lead home w S) h F.past F.column;
+    looking = look-begins limits G w P Q (chart_of G P Q home w row) (λ p. get_or active p 0) i j (λ p x α e. (S.range p x α e).1) (either G P Q ahead lead home w S) h F.past F.column;
   }
 
   -- flags that are not set are passed
-  pub span-down : {row active flags : List ℕ} {q i j : ℕ} (r : ℕ) → Clear Q flags r → Working G P Q home w row active flags q i j → Working G P Q home w row active flags r i j
-  span-down r c W = record {
+  pub span_down : {row active flags : List ℕ} {q i j : ℕ} (r : ℕ) → Clear Q flags r → Working G P Q home w row active flags q i j → Working G P Q home w row active flags r i j
+  span_down r c W = record {
     counted = W.counted;
     looking = record { past = W.looking.past; column = W.looking.column; quiet = W.looking.quiet; high = c };
   }
 
   -- it ends where no flag is left
-  pub span-end : {row active flags : List ℕ} {q i j : ℕ} → q ≤ 3 → Working G P Q home w row active flags q i j → Filled G P Q home w row active i j
-  span-end {row} {active} {flags} {q} {i} {j} h W = record {
+  pub span_end : {row active flags : List ℕ} {q i j : ℕ} → q ≤ 3 → Working G P Q home w row active flags q i j → Filled G P Q home w row active i j
+  span_end {row} {active} {flags} {q} {i} {j} h W = record {
     counted = W.counted;
-    past = look-ends limits G w P Q (chartOf G P Q home w row) (λ p. get_or active p 0) (λ p. get_or flags p 0) q i j S.range h W.looking;
+    past = look-ends limits G w P Q (chart_of G P Q home w row) (λ p. get_or active p 0) (λ p. get_or flags p 0) q i j S.range h W.looking;
     column = W.looking.column;
   }
 
@@ -56,7 +56,7 @@ module _ {G : Grammar} {P : Places limits G} {Q : ℕ} {ahead lead home : List �
 
     pub fill_more : {row active : List ℕ} {j : ℕ} → Filled G P Q home w row active 0 j → Filled G P Q home w row marks (suc (suc j)) (suc j)
     fill_more {row} {j = j} F =
-        let y = column-begins limits G w P Q (chartOf G P Q home w row) (λ p. get_or marks p 0) j (ends-marked S w marks M) F.past in
+        let y = column_begins limits G w P Q (chart_of G P Q home w row) (λ p. get_or marks p 0) j (ends-marked S w marks M) F.past in
         record { counted = F.counted; past = y.0; column = y.1 }
 
   pub fill_end : {row active : List ℕ} {j : ℕ} → length w < j → Filled G P Q home w row active (suc j) j → Complete G P Q home w row
@@ -74,12 +74,12 @@ mark-more ahead marks p v h e m s g z = elim (ℕ_discrete s p) [
 ]
 
 -- one flag more that is not set
-pub clear-more : (flags : List ℕ) (p q : ℕ) → get_or flags (p - 1) 0 ≡ 0 → ((h : ℕ) → p ≤ h → h < q → get_or flags h 0 ≡ 0) → (h : ℕ) → p - 1 ≤ h → h < q → get_or flags h 0 ≡ 0
-clear-more flags p q e c h a b = elim (ℕ_discrete h (p - 1)) [ yes f ↦ ap (λ z. get_or flags z 0) f ∙ e | no f ↦ c h (omega arith) b ]
+pub clear_more : (flags : List ℕ) (p q : ℕ) → get_or flags (p - 1) 0 ≡ 0 → ((h : ℕ) → p ≤ h → h < q → get_or flags h 0 ≡ 0) → (h : ℕ) → p - 1 ≤ h → h < q → get_or flags h 0 ≡ 0
+clear_more flags p q e c h a b = elim (ℕ_discrete h (p - 1)) [ yes f ↦ ap (λ z. get_or flags z 0) f ∙ e | no f ↦ c h (omega arith) b ]
 
 -- none is set up to q, and none from q on
-pub clear-from : {Q : ℕ} (flags : List ℕ) (r q : ℕ) → ((h : ℕ) → r ≤ h → h < q → get_or flags h 0 ≡ 0) → Clear Q flags q → Clear Q flags r
-clear-from flags r q c d h a b = elim (ℕ_discrete (q - h) 0) [ yes f ↦ d h (omega arith) b | no f ↦ c h a (omega arith) ]
+pub clear_from : {Q : ℕ} (flags : List ℕ) (r q : ℕ) → ((h : ℕ) → r ≤ h → h < q → get_or flags h 0 ≡ 0) → Clear Q flags q → Clear Q flags r
+clear_from flags r q c d h a b = elim (ℕ_discrete (q - h) 0) [ yes f ↦ d h (omega arith) b | no f ↦ c h a (omega arith) ]
 
 module _ {Q : ℕ} {flags blocks : List ℕ} (b : ℕ) (C : Covered Q flags blocks) where
   -- a block whose byte is 0 is passed over
@@ -99,5 +99,5 @@ module _ {Q : ℕ} {flags blocks : List ℕ} (b : ℕ) (C : Covered Q flags bloc
   }
 
 -- at first every byte is 1
-pub all-covered : (Q n : ℕ) (flags : List ℕ) → Q ≤ block * n → Covered Q flags (replicate n 1)
-all-covered Q n flags l = record { unset = λ h g z. absurd (omega (arith, z, get_or-replicate {A = ℕ} n (h / block) 1 0 (omega arith))) }
+pub all_covered : (Q n : ℕ) (flags : List ℕ) → Q ≤ block * n → Covered Q flags (replicate n 1)
+all_covered Q n flags l = record { unset = λ h g z. absurd (omega (arith, z, get_or-replicate {A = ℕ} n (h / block) 1 0 (omega arith))) }

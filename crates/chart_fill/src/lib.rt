@@ -13,7 +13,7 @@ pub const BLOCKS: usize = MAX_STATES / BLOCK;
 
 // The place from which on, up to q, no flag is set: just past one that is, or low.
 fn below(flags: &[u8; MAX_STATES], low: usize, q: usize) -> usize
-    requires { (low ≤ q) × (q ≤ limits.maxStates) }
+    requires { (low ≤ q) × (q ≤ limits.max_states) }
     ensures { (low ≤ result) × (result ≤ q) × ((h : ℕ) → result ≤ h → h < q → get_or flags.now h 0 ≡ 0) }
 {
     let mut p = q;
@@ -29,7 +29,7 @@ fn below(flags: &[u8; MAX_STATES], low: usize, q: usize) -> usize
 // Where no flag is set from q on: the place just past the next one that is, or at most 3. Blocks whose byte is 0 are passed over, and
 // the byte of a block is cleared where no flag of it is left.
 fn find<'a>(flags: &'a [u8; MAX_STATES], states: usize, q: usize, blocks: &'a mut [u8]) -> usize
-    requires { (q ≤ states) × (states ≤ limits.maxStates) × (states ≤ block * length blocks.old) }
+    requires { (q ≤ states) × (states ≤ limits.max_states) × (states ≤ block * length blocks.old) }
     ensures upper_bound { result ≤ q }
     ensures finds { Finds states flags.now blocks.old blocks.new q result }
 {
@@ -134,7 +134,7 @@ fn mark(x: u16) -> u8
 
 // Marks at the ends.
 fn ends(ahead: &[u16; MAX_STATES]) -> [u8; MAX_STATES]
-    ensures { (p : ℕ) → p < limits.maxStates → get_or ahead.now p 0 ≡ 0 → get_or result p 0 ≡ 1 }
+    ensures { (p : ℕ) → p < limits.max_states → get_or ahead.now p 0 ≡ 0 → get_or result p 0 ≡ 1 }
 {
     let mut marks = [0u8; MAX_STATES];
     let mut p = 0;

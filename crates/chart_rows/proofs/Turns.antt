@@ -5,17 +5,17 @@ use mathlib.Core.List.{List}
 use native.Mathlib.Omega.{arith}
 use native.Mathlib.Decide.{ℕ_discrete}
 use mathlib.Core.Logic.{inl, inr}
-use Rattle.grammar.proofs.Lists.{lt-or-le}
+use Rattle.grammar.proofs.Lists.{lt_or_le}
 use lib.ListN.{length, get_or, set}
 use lib.Seq.{get_or-set_same, get_or-set_other}
 use Rattle.grammar.specs.Limits.{limits}
 use Rattle.grammar.specs.Grammar.{start}
-use Rattle.chart_rows.specs.Wiring.{Zeros, leadOf, Leads, Links, Homes}
+use Rattle.chart_rows.specs.Wiring.{Zeros, lead_of, Leads, Links, Homes}
 
-pub leads-more : (target lead : List ℕ) (n p v : ℕ) → p < length lead → v ≡ leadOf n (get_or target p 0) → Leads target n p lead
+pub leads_more : (target lead : List ℕ) (n p v : ℕ) → p < length lead → v ≡ lead_of n (get_or target p 0) → Leads target n p lead
     → Leads target n (p + 1) (set lead p v)
-leads-more target lead n p v h e L s g = elim (ℕ_discrete s p) [
-  | yes f ↦ ap (λ z. get_or (set lead p v) z 0) f ∙ get_or-set_same lead p v 0 h ∙ e ∙ ap (λ z. leadOf n (get_or target z 0)) (sym f)
+leads_more target lead n p v h e L s g = elim (ℕ_discrete s p) [
+  | yes f ↦ ap (λ z. get_or (set lead p v) z 0) f ∙ get_or-set_same lead p v 0 h ∙ e ∙ ap (λ z. lead_of n (get_or target z 0)) (sym f)
   | no f ↦ get_or-set_other lead p s v 0 f ∙ L s (omega arith)
 ]
 
@@ -30,8 +30,8 @@ links-start ahead next head x y = record {
 }
 
 -- a state before no nonterminal
-links-skip : (ahead next head : List ℕ) (p : ℕ) → get_or ahead p 0 < start limits → Links ahead p next head → Links ahead (p + 1) next head
-links-skip ahead next head p h L = record {
+links_skip : (ahead next head : List ℕ) (p : ℕ) → get_or ahead p 0 < start limits → Links ahead p next head → Links ahead (p + 1) next head
+links_skip ahead next head p h L = record {
   head-most = λ s c g e. elim (ℕ_discrete s p) [ yes f ↦ absurd (omega (arith, e, ap (λ z. get_or ahead z 0) f)) | no f ↦ L.head-most s c (omega arith) e ];
   head-same = λ c g. ((L.head-same c g).0, omega (arith, (L.head-same c g).1));
   nexts = L.nexts;
@@ -78,11 +78,11 @@ links-more ahead next head p c h g e o L = record {
     below : (s d : ℕ) → s < p + 1 → get_or ahead s 0 ≡ start limits + d → (d ≡ c → ⊥) → s < p
     below s d i q f = elim (ℕ_discrete s p) [ yes y ↦ absurd (f (omega (arith, q, e, ap (λ z. get_or ahead z 0) y))) | no y ↦ omega arith ]
 
-pub homes-start : (member home : List ℕ) (n : ℕ) → Zeros home → Homes member n 0 home
-homes-start member home n x = record { same = λ c h. absurd (omega (arith, x c)); most = λ s c h g. absurd (omega arith) }
+pub homes_start : (member home : List ℕ) (n : ℕ) → Zeros home → Homes member n 0 home
+homes_start member home n x = record { same = λ c h. absurd (omega (arith, x c)); most = λ s c h g. absurd (omega arith) }
 
-homes-skip : (member home : List ℕ) (n p : ℕ) → n ≤ get_or member p 0 → Homes member n p home → Homes member n (p + 1) home
-homes-skip member home n p h H = record {
+homes_skip : (member home : List ℕ) (n p : ℕ) → n ≤ get_or member p 0 → Homes member n p home → Homes member n (p + 1) home
+homes_skip member home n p h H = record {
   same = λ c g. let y = H.same c g in (y.0, y.1, omega (arith, y.2));
   most = λ s c o g e l. elim (ℕ_discrete s p) [ yes f ↦ absurd (omega (arith, e, ap (λ z. get_or member z 0) f)) | no f ↦ H.most s c o (omega arith) e l ];
 }
@@ -108,19 +108,19 @@ pub links-turn : (ahead next head next' head' : List ℕ) (p x : ℕ) → x ≡ 
     → p < length next → x < start limits + length head → (x < start limits → (next' ≡ next) × (head' ≡ head))
     → (start limits ≤ x → (next' ≡ set next p (get_or head (x - start limits) 0)) × (head' ≡ set head (x - start limits) p))
     → Links ahead p next head → Links ahead (p + 1) next' head'
-links-turn ahead next head next' head' p x e z h g a b L = elim (lt-or-le x (start limits)) [
-  | inl o ↦ subst₂ (Links ahead (p + 1)) (sym (a o).0) (sym (a o).1) (links-skip ahead next head p (omega arith) L)
+links-turn ahead next head next' head' p x e z h g a b L = elim (lt_or_le x (start limits)) [
+  | inl o ↦ subst₂ (Links ahead (p + 1)) (sym (a o).0) (sym (a o).1) (links_skip ahead next head p (omega arith) L)
   | inr o ↦ subst₂ (Links ahead (p + 1)) (sym (b o).0) (sym (b o).1) (links-more ahead next head p (x - start limits) h (omega arith) (omega arith) (some o) L)
 ]
   where
     some : start limits ≤ x → 1 ≤ p
     some o = elim (ℕ_discrete p 0) [ yes f ↦ absurd (omega (arith, ap (λ k. get_or ahead k 0) f)) | no f ↦ omega arith ]
 
-pub homes-turn : (member home home' : List ℕ) (n p y : ℕ) → y ≡ get_or member p 0 → n ≤ get_or member 0 0 → n ≤ length home
+pub homes_turn : (member home home' : List ℕ) (n p y : ℕ) → y ≡ get_or member p 0 → n ≤ get_or member 0 0 → n ≤ length home
     → (y < n → home' ≡ set home y p) → (n ≤ y → home' ≡ home) → Homes member n p home → Homes member n (p + 1) home'
-homes-turn member home home' n p y e z h a b H = elim (lt-or-le y n) [
+homes_turn member home home' n p y e z h a b H = elim (lt_or_le y n) [
   | inl o ↦ subst (Homes member n (p + 1)) (sym (a o)) (homes_more member home n p y e o (omega arith) (some o) H)
-  | inr o ↦ subst (Homes member n (p + 1)) (sym (b o)) (homes-skip member home n p (omega arith) H)
+  | inr o ↦ subst (Homes member n (p + 1)) (sym (b o)) (homes_skip member home n p (omega arith) H)
 ]
   where
     some : y < n → 1 ≤ p
@@ -132,7 +132,7 @@ pub record WiredTo (ahead member target : List ℕ) (n Q : ℕ) (lead₀ next₀
   pub leads : Leads target n p lead
   pub links : Links ahead p next head
   pub homes : Homes member n p home
-  pub lead-long : length lead ≡ length lead₀
+  pub lead_long : length lead ≡ length lead₀
   pub next-long : length next ≡ length next₀
   pub head-long : length head ≡ length head₀
-  pub home-long : length home ≡ length home₀
+  pub home_long : length home ≡ length home₀

@@ -2,7 +2,7 @@
 use Rattle.std.specs.Prelude.{ℕ, ◌≡◌, List, get_or}
 use Rattle.grammar.specs.Limits.{limits}
 use Rattle.grammar.specs.Grammar.{Grammar, IsRule, WellFormed}
-use Rattle.grammar.specs.Record.{recordOf}
+use Rattle.grammar.specs.Record.{record_of}
 use Rattle.grammar.specs.declared.CheckedGrammar.{CheckedGrammar}
 use Rattle.tree_laws.specs.Chart.{Places}
 use Rattle.chart.specs.Rows.{Wired}
@@ -18,4 +18,4 @@ pub record Showing (G : Grammar) (g : CheckedGrammar) (ahead number lead next he
   pub columned : Columned G g.count g.lefts g.lengths
 
 abbrev pub Prepares : CheckedGrammar → (ahead number lead next head home : List ℕ) → Type 0
-Prepares g ahead number lead next head home = (G : Grammar) → WellFormed limits G → g ≡ recordOf G → Showing G g ahead number lead next head home
+Prepares g ahead number lead next head home = (G : Grammar) → WellFormed limits G → g ≡ record_of G → Showing G g ahead number lead next head home

@@ -6,9 +6,9 @@ use Rattle.grammar.specs.Grammar.{start}
 
 -- n nonterminals and Q states are within the limits, the codes ahead too; state 0 is before no nonterminal and ends no rule
 pub record Wirable (ahead member : List ℕ) (n Q : ℕ) : Type 0 where
-  pub nonterminals : n ≤ limits.maxNonterminals
-  pub states : Q ≤ limits.maxStates
-  pub codes : (p : ℕ) → p < Q → get_or ahead p 0 < start limits + limits.maxNonterminals
+  pub nonterminals : n ≤ limits.max_nonterminals
+  pub states : Q ≤ limits.max_states
+  pub codes : (p : ℕ) → p < Q → get_or ahead p 0 < start limits + limits.max_nonterminals
   pub front : get_or ahead 0 0 < start limits
   pub no_end : n ≤ get_or member 0 0
 
@@ -20,16 +20,16 @@ Zeros row = (k : ℕ) → get_or row k 0 ≡ 0
 pub record Roomy (Q : ℕ) (lead next head home : List ℕ) : Type 0 where
   pub leads : Q ≤ length lead
   pub nexts : Q ≤ length next
-  pub heads : length head ≡ limits.maxNonterminals
-  pub homes : limits.maxNonterminals ≤ length home
+  pub heads : length head ≡ limits.max_nonterminals
+  pub homes : limits.max_nonterminals ≤ length home
 
 -- the left side of the rule that a state begins, by the class that leads to it: an opening of one of n nonterminals
-unfoldable pub leadOf : ℕ → ℕ → ℕ
-leadOf n z = choose (leb (n + 1) z && ltb z (2 * n + 1)) (z - (n + 1) + start limits) 0
+unfoldable pub lead_of : ℕ → ℕ → ℕ
+lead_of n z = choose (leb (n + 1) z && ltb z (2 * n + 1)) (z - (n + 1) + start limits) 0
 
 -- the states below p have their leads
 abbrev pub Leads : List ℕ → ℕ → ℕ → List ℕ → Type 0
-Leads target n p lead = (s : ℕ) → s < p → get_or lead s 0 ≡ leadOf n (get_or target s 0)
+Leads target n p lead = (s : ℕ) → s < p → get_or lead s 0 ≡ lead_of n (get_or target s 0)
 
 -- the states below p are linked
 pub record Links (ahead : List ℕ) (p : ℕ) (next head : List ℕ) : Type 0 where

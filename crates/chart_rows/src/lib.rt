@@ -3,7 +3,7 @@ ghost use Rattle.std.specs.Prelude.{◌≡◌, ◌+◌, ◌-◌, ◌*◌, ◌≤
 ghost use Rattle.grammar.specs.Limits.{limits};
 ghost use Rattle.grammar.specs.Grammar.{start};
 ghost use Rattle.grammar.specs.Record.{IsRecord};
-ghost use Rattle.chart_rows.specs.Wiring.{Wirable, Zeros, Roomy, leadOf, Leads, Links, Homes};
+ghost use Rattle.chart_rows.specs.Wiring.{Wirable, Zeros, Roomy, lead_of, Leads, Links, Homes};
 ghost use Rattle.chart_rows.specs.Preparing.{Prepares};
 
 use chart::wide;
@@ -12,8 +12,8 @@ use moves::writing::write_rows;
 
 // The left side of the rule that a state begins, by the class that leads to it, or 0.
 fn lead_of(n: u16, z: u16) -> u16
-    requires { n ≤ limits.maxNonterminals }
-    ensures { result ≡ leadOf n z }
+    requires { n ≤ limits.max_nonterminals }
+    ensures { result ≡ lead_of n z }
 {
     if z < n + 1 {
         return 0;
@@ -26,7 +26,7 @@ fn lead_of(n: u16, z: u16) -> u16
 
 // Links a state to the next lower one before the same nonterminal.
 fn link<'a>(next: &'a mut [u16], head: &'a mut [u16], p: usize, x: u16)
-    requires { (p < length next.old) × (p < limits.maxStates) × (x < start limits + length head.old) × (length head.old ≡ limits.maxNonterminals) }
+    requires { (p < length next.old) × (p < limits.max_states) × (x < start limits + length head.old) × (length head.old ≡ limits.max_nonterminals) }
     ensures next_unchanged { x < start limits → (next.new ≡ next.old) × (head.new ≡ head.old) }
     ensures next_after { start limits ≤ x → (next.new ≡ set next.old p (get_or head.old (x - start limits) 0)) × (head.new ≡ set head.old (x - start limits) p) }
 {
@@ -40,7 +40,7 @@ fn link<'a>(next: &'a mut [u16], head: &'a mut [u16], p: usize, x: u16)
 
 // An end of a rule of one of n nonterminals is its home.
 fn house(home: &mut [u16], p: usize, y: u16, n: u16)
-    requires { (p < limits.maxStates) × (n ≤ length home.old) }
+    requires { (p < limits.max_states) × (n ≤ length home.old) }
     ensures home_after { y < n → home.new ≡ set home.old y p }
     ensures home_unchanged { n ≤ y → home.new ≡ home.old }
 {

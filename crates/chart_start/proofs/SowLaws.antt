@@ -13,13 +13,13 @@ use Rattle.grammar.specs.Basics.{choose}
 use Rattle.grammar.specs.Limits.{limits}
 use Rattle.grammar.specs.Grammar.{Grammar, IsRule, rule}
 use Rattle.tree_laws.specs.Chart.{cap, Places, Chart, kin}
-use Rattle.tree_laws.proofs.Cap.{cap-early}
-use Rattle.counts.specs.Counts.{itemCell, wholeCell}
+use Rattle.tree_laws.proofs.Cap.{cap_early}
+use Rattle.counts.specs.Counts.{item_cell, whole_cell}
 use Rattle.chart.specs.Rows.{home_of}
 use Rattle.chart.specs.Filling.{Sheet}
 use Rattle.chart.proofs.Reading.{inner, outer, some-code, end-code}
 use Rattle.chart_start.specs.Sown.{Diagonal, Columned, bare, Sown}
-use Rattle.chart_start.proofs.DiagonalLaws.{diagonal-else}
+use Rattle.chart_start.proofs.DiagonalLaws.{diagonal_else}
 
 module _ {G : Grammar} {P : Places limits G} {Q : ℕ} {ahead lead home : List ℕ} (S : Sheet G P Q ahead lead home) (w : List ℕ) where
   abbrev m : ℕ
@@ -34,12 +34,12 @@ module _ {G : Grammar} {P : Places limits G} {Q : ℕ} {ahead lead home : List �
   sown-start row row' z d = record {
     small = d.small (λ k. omega (arith, z k));
     ones = λ i j hi hj. elim (ℕ_discrete i j) [
-      | yes e ↦ ap (λ k. get_or row' (itemCell m 3 i k) 0) (sym e) ∙ d.on i hi ∙ ap (λ k. cap (k + 1)) (z (itemCell m 3 i i)) ∙ sym (ap (λ t. choose t 1 0) (eq-eqb i j e))
-      | no e ↦ diagonal-else m 3 row row' d 3 i j hi hj (λ a b. e b) ∙ z (itemCell m 3 i j) ∙ sym (ap (λ t. choose t 1 0) (ne_eqb i j e))
+      | yes e ↦ ap (λ k. get_or row' (item_cell m 3 i k) 0) (sym e) ∙ d.on i hi ∙ ap (λ k. cap (k + 1)) (z (item_cell m 3 i i)) ∙ sym (ap (λ t. choose t 1 0) (eq-eqb i j e))
+      | no e ↦ diagonal_else m 3 row row' d 3 i j hi hj (λ a b. e b) ∙ z (item_cell m 3 i j) ∙ sym (ap (λ t. choose t 1 0) (ne_eqb i j e))
     ];
-    none = λ i j hi hj. diagonal-else m 3 row row' d 0 j i hj hi (λ a b. omega arith) ∙ z (itemCell m 0 j i);
-    empty = λ p x i j α e hi hj. diagonal-else m 3 row row' d p i j hi hj (λ a b. not_three p x α e a) ∙ z (itemCell m p i j);
-    wholes = λ b i j hi hj h. diagonal-else m 3 row row' d (home_of home b) j i hj hi (λ a c. omega (arith, a, S.home-four b h)) ∙ z (itemCell m (home_of home b) j i);
+    none = λ i j hi hj. diagonal_else m 3 row row' d 0 j i hj hi (λ a b. omega arith) ∙ z (item_cell m 0 j i);
+    empty = λ p x i j α e hi hj. diagonal_else m 3 row row' d p i j hi hj (λ a b. not_three p x α e a) ∙ z (item_cell m p i j);
+    wholes = λ b i j hi hj h. diagonal_else m 3 row row' d (home_of home b) j i hj hi (λ a c. omega (arith, a, S.home_four b h)) ∙ z (item_cell m (home_of home b) j i);
   }
     where
       not_three : (p x : ℕ) (α : List ℕ) → P.rest p ≡ x ∷ α → p ≡ 3 → ⊥
@@ -52,8 +52,8 @@ module _ {G : Grammar} {P : Places limits G} {Q : ℕ} {ahead lead home : List �
   kin-more b i j r v e = ap (λ z. kin limits G P E b i j r + choose (eqb (rule limits G (suc r)).left b) z 0) e
 
   -- a rule that is not empty adds nothing
-  pub sown-skip : (row : List ℕ) (r : ℕ) → IsRule G (suc r) → 1 ≤ length (rule limits G (suc r)).right → Sown G P Q home m row r → Sown G P Q home m row (suc r)
-  sown-skip row r q h s = record {
+  pub sown_skip : (row : List ℕ) (r : ℕ) → IsRule G (suc r) → 1 ≤ length (rule limits G (suc r)).right → Sown G P Q home m row r → Sown G P Q home m row (suc r)
+  sown_skip row r q h s = record {
     small = s.small;
     ones = s.ones;
     none = s.none;
@@ -77,11 +77,11 @@ module _ {G : Grammar} {P : Places limits G} {Q : ℕ} {ahead lead home : List �
       → Sown G P Q home m row r → Sown G P Q home m row' (suc r)
   sown-more row row' r hb q h e d s = record {
     small = d.small s.small;
-    ones = λ i j hi hj. diagonal-else m hb row row' d 3 i j hi hj (λ a c. omega (arith, a, e, S.homed (suc r) q)) ∙ s.ones i j hi hj;
-    none = λ i j hi hj. diagonal-else m hb row row' d 0 j i hj hi (λ a c. omega (arith, a, e, S.homed (suc r) q)) ∙ s.none i j hi hj;
-    empty = λ p x i j α f hi hj. diagonal-else m hb row row' d p i j hi hj (λ a c. not_home p x α f (a ∙ e)) ∙ s.empty p x i j α f hi hj;
+    ones = λ i j hi hj. diagonal_else m hb row row' d 3 i j hi hj (λ a c. omega (arith, a, e, S.homed (suc r) q)) ∙ s.ones i j hi hj;
+    none = λ i j hi hj. diagonal_else m hb row row' d 0 j i hj hi (λ a c. omega (arith, a, e, S.homed (suc r) q)) ∙ s.none i j hi hj;
+    empty = λ p x i j α f hi hj. diagonal_else m hb row row' d p i j hi hj (λ a c. not_home p x α f (a ∙ e)) ∙ s.empty p x i j α f hi hj;
     wholes = λ b i j hi hj g. elim (ℕ_discrete b left) [
-      | no n ↦ diagonal-else m hb row row' d (home_of home b) j i hj hi (λ a c. n (S.home-once b left (omega (arith, S.homed (suc r) q)) (a ∙ e)))
+      | no n ↦ diagonal_else m hb row row' d (home_of home b) j i hj hi (λ a c. n (S.home_once b left (omega (arith, S.homed (suc r) q)) (a ∙ e)))
           ∙ s.wholes b i j hi hj g ∙ ap cap (sym (kin-more b i j r _ refl ∙ ap (λ t. kin limits G P E b i j r + choose t (E.item (P.first (suc r)) i j) 0) (ne_eqb left b (λ o. n (sym o))) ∙ plain (kin limits G P E b i j r)))
       | yes n ↦ here b i j hi hj g n (elim (ℕ_discrete i j) [ yes o ↦ inl o | no o ↦ inr o ])
     ];
@@ -95,7 +95,7 @@ module _ {G : Grammar} {P : Places limits G} {Q : ℕ} {ahead lead home : List �
 
       not_home : (p x : ℕ) (α : List ℕ) → P.rest p ≡ x ∷ α → p ≡ home_of home (rule limits G (suc r)).left → ⊥
       not_home p x α f a =
-          omega (arith, end-code G P Q ahead lead home w S p (ap P.rest a ∙ S.home-end (rule limits G (suc r)).left), some-code G P Q ahead lead home w S p x α f, (S.symbol p x α f).0)
+          omega (arith, end-code G P Q ahead lead home w S p (ap P.rest a ∙ S.home_end (rule limits G (suc r)).left), some-code G P Q ahead lead home w S p x α f, (S.symbol p x α f).0)
 
       empty_right : (rule limits G (suc r)).right ≡ []
       empty_right = go (rule limits G (suc r)).right refl h
@@ -108,15 +108,15 @@ module _ {G : Grammar} {P : Places limits G} {Q : ℕ} {ahead lead home : List �
       at i j = ap (λ t. choose t (choose (eqb i j) 1 0) 0) (outer G P Q ahead lead home w S (P.first (suc r)) (P.begins (suc r) q ∙ empty_right))
 
       here : (b i j : ℕ) → i < m → j < m → 1 ≤ home_of home b → b ≡ (rule limits G (suc r)).left → (i ≡ j) ⊎ (i ≡ j → ⊥)
-          → get_or row' (wholeCell m (home_of home b) i j) 0 ≡ cap (kin limits G P E b i j (suc r))
+          → get_or row' (whole_cell m (home_of home b) i j) 0 ≡ cap (kin limits G P E b i j (suc r))
       here b i j hi hj g n (inl o) =
           let z : home_of home b ≡ hb = ap (home_of home) n ∙ sym e in
-          ap₂ (λ h j. get_or row' (wholeCell m h i j) 0) z (sym o) ∙ d.on i hi
-          ∙ ap (λ k. cap (k + 1)) (ap₂ (λ h j. get_or row (wholeCell m h i j) 0) (sym z) o ∙ s.wholes b i j hi hj g)
-          ∙ cap-early (kin limits G P E b i j r) 1
+          ap₂ (λ h j. get_or row' (whole_cell m h i j) 0) z (sym o) ∙ d.on i hi
+          ∙ ap (λ k. cap (k + 1)) (ap₂ (λ h j. get_or row (whole_cell m h i j) 0) (sym z) o ∙ s.wholes b i j hi hj g)
+          ∙ cap_early (kin limits G P E b i j r) 1
           ∙ ap cap (sym (kin-more b i j r 1 (at i j ∙ ap (λ t. choose t 1 0) (eq-eqb i j o)) ∙ ap (λ t. kin limits G P E b i j r + choose t 1 0) (eq-eqb (rule limits G (suc r)).left b (sym n))))
       here b i j hi hj g n (inr o) =
-          diagonal-else m hb row row' d (home_of home b) j i hj hi (λ a c. o (sym c)) ∙ s.wholes b i j hi hj g
+          diagonal_else m hb row row' d (home_of home b) j i hj hi (λ a c. o (sym c)) ∙ s.wholes b i j hi hj g
           ∙ ap cap (sym (kin-more b i j r 0 (at i j ∙ ap (λ t. choose t 1 0) (ne_eqb i j o)) ∙ ap (λ t. kin limits G P E b i j r + choose t 0 0) (eq-eqb (rule limits G (suc r)).left b (sym n)) ∙ plain (kin limits G P E b i j r)))
 
   -- either way
@@ -128,5 +128,5 @@ module _ {G : Grammar} {P : Places limits G} {Q : ℕ} {ahead lead home : List �
       let z : k ≡ length (rule limits G (suc r)).right = f ∙ X.size r h in
       subst (λ t. Sown G P Q home m row' t) n (elim (ℕ_discrete k 0) [
         | yes o ↦ sown-more row row' r (home_of home b) q (omega arith) (ap (home_of home) (e ∙ X.left r h)) (d o) s
-        | no o ↦ subst (λ t. Sown G P Q home m t (suc r)) (sym (y o)) (sown-skip row r q (omega arith) s)
+        | no o ↦ subst (λ t. Sown G P Q home m t (suc r)) (sym (y o)) (sown_skip row r q (omega arith) s)
       ])

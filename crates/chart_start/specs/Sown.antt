@@ -4,14 +4,14 @@ use Rattle.grammar.specs.Basics.{choose}
 use Rattle.grammar.specs.Limits.{limits}
 use Rattle.grammar.specs.Grammar.{Grammar, rule}
 use Rattle.tree_laws.specs.Chart.{cap, Places, Chart, kin}
-use Rattle.counts.specs.Counts.{itemCell, wholeCell}
+use Rattle.counts.specs.Counts.{item_cell, whole_cell}
 use Rattle.chart.specs.Rows.{home_of}
 use Rattle.chart.specs.Filling.{code_of, Sheet, Begun}
 
 -- the diagonal of a plane is raised by 1
 pub record Diagonal (m h n : ℕ) (row row' : List ℕ) : Type 0 where
-  pub on : (i : ℕ) → i < n → get_or row' (itemCell m h i i) 0 ≡ cap (get_or row (itemCell m h i i) 0 + 1)
-  pub off : (k : ℕ) → ((i : ℕ) → i < n → k ≡ itemCell m h i i → ⊥) → get_or row' k 0 ≡ get_or row k 0
+  pub on : (i : ℕ) → i < n → get_or row' (item_cell m h i i) 0 ≡ cap (get_or row (item_cell m h i i) 0 + 1)
+  pub off : (k : ℕ) → ((i : ℕ) → i < n → k ≡ item_cell m h i i → ⊥) → get_or row' k 0 ≡ get_or row k 0
   pub small : ((k : ℕ) → get_or row k 0 ≤ 2) → (k : ℕ) → get_or row' k 0 ≤ 2
   pub size : length row' ≡ length row
 
@@ -29,10 +29,10 @@ module _ (G : Grammar) (P : Places limits G) (Q : ℕ) (home : List ℕ) (m : �
   -- the first r rules are seen to
   pub record Sown (row : List ℕ) (r : ℕ) : Type 0 where
     pub small : (k : ℕ) → get_or row k 0 ≤ 2
-    pub ones : (i j : ℕ) → i < m → j < m → get_or row (itemCell m 3 i j) 0 ≡ choose (eqb i j) 1 0
-    pub none : (i j : ℕ) → i < m → j < m → get_or row (wholeCell m 0 i j) 0 ≡ 0
-    pub empty : (p x i j : ℕ) (α : List ℕ) → P.rest p ≡ x ∷ α → i < m → j < m → get_or row (itemCell m p i j) 0 ≡ 0
-    pub wholes : (b i j : ℕ) → i < m → j < m → 1 ≤ home_of home b → get_or row (wholeCell m (home_of home b) i j) 0 ≡ cap (kin limits G P (bare G P) b i j r)
+    pub ones : (i j : ℕ) → i < m → j < m → get_or row (item_cell m 3 i j) 0 ≡ choose (eqb i j) 1 0
+    pub none : (i j : ℕ) → i < m → j < m → get_or row (whole_cell m 0 i j) 0 ≡ 0
+    pub empty : (p x i j : ℕ) (α : List ℕ) → P.rest p ≡ x ∷ α → i < m → j < m → get_or row (item_cell m p i j) 0 ≡ 0
+    pub wholes : (b i j : ℕ) → i < m → j < m → 1 ≤ home_of home b → get_or row (whole_cell m (home_of home b) i j) 0 ≡ cap (kin limits G P (bare G P) b i j r)
 
 -- whatever grammar the rows show: from a row of 0 to a chart that is begun
 abbrev pub Sows : (Q : ℕ) (ahead lead home w lefts lengths : List ℕ) (count : ℕ) (row row' : List ℕ) → Type 0

@@ -12,7 +12,7 @@ use grammar::{MAX_NONTERMINALS, MAX_RULES, MAX_STATES};
 
 // Raises the diagonal of a plane by 1.
 fn diagonal(work: &mut [u32], m: usize, states: usize, h: usize)
-    requires { (states * m * m ≤ length work.old) × (m ≤ places) × (states ≤ limits.maxStates) × (h < states) }
+    requires { (states * m * m ≤ length work.old) × (m ≤ places) × (states ≤ limits.max_states) × (h < states) }
     ensures { Diagonal m h m work.old work.new }
 {
     let mut i = 0;
@@ -32,8 +32,8 @@ fn sow_rule<'a>(
     b: u16,
     k: u16,
 )
-    requires m_in_bounds { (states * m * m ≤ length work.old) × (m ≤ places) × (states ≤ limits.maxStates) × ((c : ℕ) → get_or home.now c 0 < states) × (1 ≤ states) }
-    requires limits_bound { (start limits ≤ b) × (b < start limits + limits.maxNonterminals) }
+    requires m_in_bounds { (states * m * m ≤ length work.old) × (m ≤ places) × (states ≤ limits.max_states) × ((c : ℕ) → get_or home.now c 0 < states) × (1 ≤ states) }
+    requires limits_bound { (start limits ≤ b) × (b < start limits + limits.max_nonterminals) }
     ensures diagonal { k ≡ 0 → Diagonal m (home_of home.now b) m work.old work.new }
     ensures work_unchanged { (k ≡ 0 → ⊥) → work.new ≡ work.old }
 {
@@ -58,7 +58,7 @@ pub fn sow<'a>(
 )
     requires ready { Ready states ahead.now home.now }
     requires row_in_bounds { (states * (length row.now + 1) * (length row.now + 1) ≤ length work.old) × (length row.now < places) }
-    requires count_le_max_rules { (count ≤ limits.maxRules) × ((r : ℕ) → r < count → (start limits ≤ get_or lefts.now r 0) × (get_or lefts.now r 0 < start limits + limits.maxNonterminals)) }
+    requires count_le_max_rules { (count ≤ limits.max_rules) × ((r : ℕ) → r < count → (start limits ≤ get_or lefts.now r 0) × (get_or lefts.now r 0 < start limits + limits.max_nonterminals)) }
     ensures { Sows states ahead.now lead.now home.now row.now lefts.now lengths.now count work.old work.new }
 {
     let m = row.len() + 1;

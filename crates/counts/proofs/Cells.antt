@@ -6,7 +6,7 @@ use mathlib.Core.List.{List, [], ◌∷◌}
 use native.Mathlib.Omega.{arith}
 use native.Mathlib.Nat.{mul-le-mul, le_refl, suc-mul, eq-zero-or-pos}
 use lib.ListN.{length, get_or, set}
-use Rattle.counts.specs.Counts.{itemCell, wholeCell}
+use Rattle.counts.specs.Counts.{item_cell, whole_cell}
 use Rattle.counts.specs.View.{nonzeros}
 
 no_less : (a b c d m : ℕ) → b < m → a < c → a * m + b ≡ c * m + d → ⊥
@@ -21,15 +21,15 @@ digits a b c d m h g e = elim (eq-zero-or-pos (c - a)) [
   ]
 ]
 
-pub cells-apart : (m p i j q k l : ℕ) → i < m → j < m → k < m → l < m → itemCell m p i j ≡ itemCell m q k l → (p ≡ q) × (i ≡ k) × (j ≡ l)
-cells-apart m p i j q k l hi hj hk hl e =
+pub cells_apart : (m p i j q k l : ℕ) → i < m → j < m → k < m → l < m → item_cell m p i j ≡ item_cell m q k l → (p ≡ q) × (i ≡ k) × (j ≡ l)
+cells_apart m p i j q k l hi hj hk hl e =
     let x = digits (p * m + j) i (q * m + l) k m hi hk e in
     let y = digits p j q l m hj hl x.0 in
     (y.0, x.1, y.1)
 
 -- an item's cell is no cell of another state's home
-pub homes-apart : (m p i j h k l : ℕ) → i < m → j < m → k < m → l < m → (p ≡ h → ⊥) → itemCell m p i j ≡ wholeCell m h k l → ⊥
-homes-apart m p i j h k l hi hj hk hl n e = n (cells-apart m p i j h l k hi hj hl hk e).0
+pub homes_apart : (m p i j h k l : ℕ) → i < m → j < m → k < m → l < m → (p ≡ h → ⊥) → item_cell m p i j ≡ whole_cell m h k l → ⊥
+homes_apart m p i j h k l hi hj hk hl n e = n (cells_apart m p i j h l k hi hj hl hk e).0
 
 -- a count raised from 0 adds one, and there are no more than cells
 pub nonzeros-most : (l : List ℕ) → nonzeros l ≤ length l

@@ -9,23 +9,23 @@ use lib.Seq.{drop-cons, take-suc, get_or-drop, length-take-le}
 use Rattle.grammar.specs.Limits.{limits}
 use Rattle.trees.specs.Trees.{places}
 use Rattle.tree_laws.specs.Chart.{cap}
-use Rattle.tree_laws.proofs.Cap.{cap-same, cap-many, cap-most, cap-early, cap-late}
-use Rattle.counts.specs.Counts.{dot, itemCell, wholeCell, splitsAt}
+use Rattle.tree_laws.proofs.Cap.{cap-same, cap_many, cap-most, cap_early, cap_late}
+use Rattle.counts.specs.Counts.{dot, item_cell, whole_cell, splits_at}
 
 -- products
-pub no-left : (a b : ℕ) → a ≡ 0 → 0 ≡ cap (a * b)
+pub no_left : (a b : ℕ) → a ≡ 0 → 0 ≡ cap (a * b)
 unfolding cap
-no-left a b e = rw (e, zero-mul b) refl
+no_left a b e = rw (e, zero-mul b) refl
 
-pub no-right : (a b : ℕ) → b ≡ 0 → 0 ≡ cap (a * b)
+pub no_right : (a b : ℕ) → b ≡ 0 → 0 ≡ cap (a * b)
 unfolding cap
-no-right a b e = rw (e, mul-zero a) refl
+no_right a b e = rw (e, mul-zero a) refl
 
-pub many-left : (a b : ℕ) → 2 ≤ a → 1 ≤ b → 2 ≡ cap (a * b)
-many-left a b h g = sym (cap-many (a * b) (omega (arith, mul-le-mul h g)))
+pub many_left : (a b : ℕ) → 2 ≤ a → 1 ≤ b → 2 ≡ cap (a * b)
+many_left a b h g = sym (cap_many (a * b) (omega (arith, mul-le-mul h g)))
 
-pub many-right : (a b : ℕ) → 1 ≤ a → 2 ≤ b → 2 ≡ cap (a * b)
-many-right a b h g = sym (cap-many (a * b) (omega (arith, mul-le-mul h g)))
+pub many_right : (a b : ℕ) → 1 ≤ a → 2 ≤ b → 2 ≡ cap (a * b)
+many_right a b h g = sym (cap_many (a * b) (omega (arith, mul-le-mul h g)))
 
 pub one_each : (a b : ℕ) → a ≡ 1 → b ≡ 1 → 1 ≡ cap (a * b)
 unfolding cap
@@ -46,7 +46,7 @@ pub turn : (xs ys : List ℕ) (k sum : ℕ) → k < length xs → k < length ys
 turn xs ys k sum h g =
     let x = get_or xs k 0 * get_or ys k 0 in
     let r = dot (drop (k + 1) xs) (drop (k + 1) ys) in
-    cap-early (sum + cap x) r ∙ cap-late sum x r ∙ ap cap (let e : sum + x + r ≡ sum + (x + r) = omega arith in e) ∙ ap (λ z. cap (sum + z)) (sym (dot-more xs ys k h g))
+    cap_early (sum + cap x) r ∙ cap_late sum x r ∙ ap cap (let e : sum + x + r ≡ sum + (x + r) = omega arith in e) ∙ ap (λ z. cap (sum + z)) (sym (dot-more xs ys k h g))
 
 -- the same from what the two calls gave: t the product, s the new sum
 pub again : (xs ys : List ℕ) (k sum t s W : ℕ) → k < length xs → k < length ys → t ≡ cap (get_or xs k 0 * get_or ys k 0) → s ≡ cap (sum + t)
@@ -55,7 +55,7 @@ again xs ys k sum t s W h g p q e =
     ap (λ z. cap (z + dot (drop (k + 1) xs) (drop (k + 1) ys))) (q ∙ ap (λ z. cap (sum + z)) p) ∙ turn xs ys k sum h g ∙ e
 
 pub full : (s r W : ℕ) → s ≡ 2 → cap (s + r) ≡ W → 2 ≡ W
-full s r W h e = sym (cap-many (s + r) (omega arith)) ∙ e
+full s r W h e = sym (cap_many (s + r) (omega arith)) ∙ e
 
 pub ended : (xs ys : List ℕ) (k sum W : ℕ) → length xs ≤ k → sum ≤ 1 → cap (sum + dot (drop k xs) (drop k ys)) ≡ W → sum ≡ W
 ended xs ys k sum W h g e =
@@ -66,12 +66,12 @@ pub small : (n s : ℕ) → s ≡ cap n → (s ≡ 2 → ⊥) → s ≤ 1
 small n s e h = omega (arith, cap-most n)
 
 -- one place more at the end
-dot-snoc : (xs ys : List ℕ) (x y : ℕ) → length xs ≡ length ys → dot (xs ++ (x ∷ [])) (ys ++ (y ∷ [])) ≡ dot xs ys + x * y
+dot_snoc : (xs ys : List ℕ) (x y : ℕ) → length xs ≡ length ys → dot (xs ++ (x ∷ [])) (ys ++ (y ∷ [])) ≡ dot xs ys + x * y
 unfolding dot
-dot-snoc [] [] x y e = omega arith
-dot-snoc [] (b ∷ ys) x y e = absurd (omega arith)
-dot-snoc (a ∷ xs) [] x y e = absurd (omega arith)
-dot-snoc (a ∷ xs) (b ∷ ys) x y e = let q = dot-snoc xs ys x y (omega arith) in omega (arith, q)
+dot_snoc [] [] x y e = omega arith
+dot_snoc [] (b ∷ ys) x y e = absurd (omega arith)
+dot_snoc (a ∷ xs) [] x y e = absurd (omega arith)
+dot_snoc (a ∷ xs) (b ∷ ys) x y e = let q = dot_snoc xs ys x y (omega arith) in omega (arith, q)
 
 part-more : (row : List ℕ) (x n : ℕ) → x + suc n ≤ length row → take (suc n) (drop x row) ≡ take n (drop x row) ++ (get_or row (x + n) 0 ∷ [])
 part-more row x n h = take-suc (drop x row) n 0 (omega (arith, length-drop x row)) ∙ ap (λ z. take n (drop x row) ++ (z ∷ [])) (get_or-drop x row n 0)
@@ -80,30 +80,30 @@ part_length : (row : List ℕ) (x n : ℕ) → x + n ≤ length row → length (
 part_length row x n h = length-take-le n (drop x row) (omega (arith, length-drop x row))
 
 -- the products of two parts of the work row are the splits
-pub parts-splits : (row : List ℕ) (m h p i j n : ℕ) → wholeCell m h i i + n ≤ length row → itemCell m p i j + n ≤ length row
-    → dot (take n (drop (wholeCell m h i i) row)) (take n (drop (itemCell m p i j) row)) ≡ splitsAt row m h p i j n
-unfolding dot splitsAt
+pub parts-splits : (row : List ℕ) (m h p i j n : ℕ) → whole_cell m h i i + n ≤ length row → item_cell m p i j + n ≤ length row
+    → dot (take n (drop (whole_cell m h i i) row)) (take n (drop (item_cell m p i j) row)) ≡ splits_at row m h p i j n
+unfolding dot splits_at
 parts-splits row m h p i j zero g l = refl
 parts-splits row m h p i j (suc n) g l =
-    let e : wholeCell m h i i + n ≡ wholeCell m h i (i + n) = omega arith in
-    let f : itemCell m p i j + n ≡ itemCell m p (i + n) j = omega arith in
-    ap₂ dot (part-more row (wholeCell m h i i) n g) (part-more row (itemCell m p i j) n l)
-    ∙ dot-snoc (take n (drop (wholeCell m h i i) row)) (take n (drop (itemCell m p i j) row)) _ _
-    (part_length row (wholeCell m h i i) n (omega arith) ∙ sym (part_length row (itemCell m p i j) n (omega arith)))
+    let e : whole_cell m h i i + n ≡ whole_cell m h i (i + n) = omega arith in
+    let f : item_cell m p i j + n ≡ item_cell m p (i + n) j = omega arith in
+    ap₂ dot (part-more row (whole_cell m h i i) n g) (part-more row (item_cell m p i j) n l)
+    ∙ dot_snoc (take n (drop (whole_cell m h i i) row)) (take n (drop (item_cell m p i j) row)) _ _
+    (part_length row (whole_cell m h i i) n (omega arith) ∙ sym (part_length row (item_cell m p i j) n (omega arith)))
     ∙ ap₂ (λ u v. u + v) (parts-splits row m h p i j n (omega arith) (omega arith)) (ap₂ (λ u v. get_or row u 0 * get_or row v 0) e f)
 
 -- cells do not pass what a machine number holds
-pub few-cells : (h m : ℕ) → h < limits.maxStates → m ≤ places → h * m ≤ places * limits.maxStates
-few-cells h m a b = let q : h ≤ limits.maxStates = omega arith in omega (arith, mul-le-mul q b)
+pub few-cells : (h m : ℕ) → h < limits.max_states → m ≤ places → h * m ≤ places * limits.max_states
+few-cells h m a b = let q : h ≤ limits.max_states = omega arith in omega (arith, mul-le-mul q b)
 
 -- the same with the parts' lengths as the code has them
-pub parts_all : (row : List ℕ) (m h p i j : ℕ) → i ≤ j → j < m → wholeCell m h i m ≤ length row → itemCell m p m j ≤ length row
-    → dot (take ((h * m + i) * m + j + 1 - wholeCell m h i i) (drop (wholeCell m h i i) row)) (take ((p * m + j) * m + j + 1 - itemCell m p i j) (drop (itemCell m p i j) row))
-    ≡ splitsAt row m h p i j (suc (j - i))
+pub parts_all : (row : List ℕ) (m h p i j : ℕ) → i ≤ j → j < m → whole_cell m h i m ≤ length row → item_cell m p m j ≤ length row
+    → dot (take ((h * m + i) * m + j + 1 - whole_cell m h i i) (drop (whole_cell m h i i) row)) (take ((p * m + j) * m + j + 1 - item_cell m p i j) (drop (item_cell m p i j) row))
+    ≡ splits_at row m h p i j (suc (j - i))
 parts_all row m h p i j g l a b =
-    let e : (h * m + i) * m + j + 1 - wholeCell m h i i ≡ suc (j - i) = omega arith in
-    let f : (p * m + j) * m + j + 1 - itemCell m p i j ≡ suc (j - i) = omega arith in
-    ap₂ (λ u v. dot (take u (drop (wholeCell m h i i) row)) (take v (drop (itemCell m p i j) row))) e f ∙ parts-splits row m h p i j (suc (j - i)) (omega arith) (omega arith)
+    let e : (h * m + i) * m + j + 1 - whole_cell m h i i ≡ suc (j - i) = omega arith in
+    let f : (p * m + j) * m + j + 1 - item_cell m p i j ≡ suc (j - i) = omega arith in
+    ap₂ (λ u v. dot (take u (drop (whole_cell m h i i) row)) (take v (drop (item_cell m p i j) row))) e f ∙ parts-splits row m h p i j (suc (j - i)) (omega arith) (omega arith)
 
 pub set_same : (l : List ℕ) (k : ℕ) → set l k (get_or l k 0) ≡ l
 set_same [] k = refl

@@ -1,7 +1,7 @@
 // Counts up to 2: 2 stands for several.
 ghost use Rattle.std.specs.Prelude.{suc, ◌+◌, ◌-◌, ◌*◌, ◌<◌, ◌≡◌, length};
 ghost use Rattle.tree_laws.specs.Chart.{cap};
-ghost use Rattle.counts.specs.Counts.{dot, splitsAt, SpanOf};
+ghost use Rattle.counts.specs.Counts.{dot, splits_at, SpanOf};
 
 // A product of counts.
 fn times(a: u32, b: u32) -> u32
@@ -55,7 +55,7 @@ pub fn products<'a>(xs: &'a [u32], ys: &'a [u32]) -> u32
 // In how many ways a nonterminal and what comes after it derive the terminals from i to j: every split between them counts.
 pub fn ways(row: &[u32], m: usize, home: usize, after: usize, i: usize, j: usize) -> u32
     requires { SpanOf row.now m home after i j }
-    ensures { result ≡ cap (splitsAt row.now m home after i j (suc (j - i))) }
+    ensures { result ≡ cap (splits_at row.now m home after i j (suc (j - i))) }
 {
     let whole = (home * m + i) * m;
     let rest = (after * m + j) * m;

@@ -6,13 +6,13 @@ use mathlib.Core.Bool.{Bool, true, false, ◌||◌}
 use native.Mathlib.Omega.{arith}
 use lib.ListN.{length}
 use Rattle.grammar.specs.Basics.{choose}
-use Rattle.text.specs.Names.{sameName, any, hasDouble, place}
+use Rattle.text.specs.Names.{same_name, any, has_double, place}
 use Rattle.text.proofs.Names.{same-sym}
-use Rattle.doubles.specs.Blocks.{meet, standTwice}
+use Rattle.doubles.specs.Blocks.{meet, stand_twice}
 
-pub double-none : hasDouble [] ≡ false
-unfolding hasDouble
-double-none = refl
+pub double_none : has_double [] ≡ false
+unfolding has_double
+double_none = refl
 
 -- ---- one name after the other
 
@@ -20,13 +20,13 @@ pub meet-none : (ys : List (List ℕ)) → meet [] ys ≡ false
 unfolding meet any
 meet-none ys = refl
 
-pub meet-hit : (x : List ℕ) (xs ys : List (List ℕ)) → any (sameName x) ys ≡ true → meet (x ∷ xs) ys ≡ true
+pub meet-hit : (x : List ℕ) (xs ys : List (List ℕ)) → any (same_name x) ys ≡ true → meet (x ∷ xs) ys ≡ true
 unfolding meet any
 meet-hit x xs ys e = rw e
 
-pub meet-miss : (x : List ℕ) (xs ys : List (List ℕ)) → any (sameName x) ys ≡ false → meet (x ∷ xs) ys ≡ meet xs ys
+pub meet_miss : (x : List ℕ) (xs ys : List (List ℕ)) → any (same_name x) ys ≡ false → meet (x ∷ xs) ys ≡ meet xs ys
 unfolding meet any
-meet-miss x xs ys e = rw e
+meet_miss x xs ys e = rw e
 
 -- a place among the elements, or past them
 pub place-some : {A : Type 0} (p : A → Bool) (xs : List A) → place p xs < length xs → any p xs ≡ true
@@ -64,62 +64,62 @@ unfolding any
 any_append p [] ys = refl
 any_append p (x ∷ xs) ys = rw (any_append p xs ys) (or_assoc (p x) (any p xs) (any p ys))
 
-meet-more : (y : List ℕ) (xs ys : List (List ℕ)) → meet xs (y ∷ ys) ≡ any (sameName y) xs || meet xs ys
+meet-more : (y : List ℕ) (xs ys : List (List ℕ)) → meet xs (y ∷ ys) ≡ any (same_name y) xs || meet xs ys
 unfolding meet any
 meet-more y [] ys = refl
-meet-more y (x ∷ xs) ys = rw (meet-more y xs ys, same-sym x y) (or_swap (sameName y x) (any (sameName x) ys) (any (sameName y) xs) (meet xs ys))
+meet-more y (x ∷ xs) ys = rw (meet-more y xs ys, same-sym x y) (or_swap (same_name y x) (any (same_name x) ys) (any (same_name y) xs) (meet xs ys))
 
 meet-sym : (xs ys : List (List ℕ)) → meet xs ys ≡ meet ys xs
 unfolding meet any
 meet-sym [] ys = nothing ys
   where
-    nothing : (ys : List (List ℕ)) → false ≡ any (λ y. any (sameName y) []) ys
+    nothing : (ys : List (List ℕ)) → false ≡ any (λ y. any (same_name y) []) ys
     nothing [] = refl
     nothing (y ∷ ys) = nothing ys
-meet-sym (x ∷ xs) ys = sym (meet-more x ys xs ∙ ap (λ (m : Bool). any (sameName x) ys || m) (sym (meet-sym xs ys)))
+meet-sym (x ∷ xs) ys = sym (meet-more x ys xs ∙ ap (λ (m : Bool). any (same_name x) ys || m) (sym (meet-sym xs ys)))
 
-meet-append : (xs ys zs : List (List ℕ)) → meet zs (xs ++ ys) ≡ meet zs xs || meet zs ys
+meet_append : (xs ys zs : List (List ℕ)) → meet zs (xs ++ ys) ≡ meet zs xs || meet zs ys
 unfolding meet
-meet-append xs ys zs =
-    meet-sym zs (xs ++ ys) ∙ any_append (λ x. any (sameName x) zs) xs ys
+meet_append xs ys zs =
+    meet-sym zs (xs ++ ys) ∙ any_append (λ x. any (same_name x) zs) xs ys
     ∙ ap₂ (λ (a b : Bool). a || b) (meet-sym xs zs) (meet-sym ys zs)
 
 -- a name stands twice in two lists end to end: in the first, in both, or in the second
-double-append : (xs ys : List (List ℕ)) → hasDouble (xs ++ ys) ≡ hasDouble xs || (meet ys xs || hasDouble ys)
-unfolding hasDouble
-double-append [] ys = rw (meet-sym ys [], meet-none ys)
-double-append (x ∷ xs) ys =
-    rw (any_append (sameName x) xs ys, double-append xs ys, meet-more x ys xs)
-    (or-four (any (sameName x) xs) (any (sameName x) ys) (hasDouble xs) (meet ys xs) (hasDouble ys))
+double_append : (xs ys : List (List ℕ)) → has_double (xs ++ ys) ≡ has_double xs || (meet ys xs || has_double ys)
+unfolding has_double
+double_append [] ys = rw (meet-sym ys [], meet-none ys)
+double_append (x ∷ xs) ys =
+    rw (any_append (same_name x) xs ys, double_append xs ys, meet-more x ys xs)
+    (or_four (any (same_name x) xs) (any (same_name x) ys) (has_double xs) (meet ys xs) (has_double ys))
   where
-    or-four : (a b c d e : Bool) → (a || b) || (c || (d || e)) ≡ (a || c) || ((b || d) || e)
-    or-four true b c d e = refl
-    or-four false true true d e = refl
-    or-four false true false d e = refl
-    or-four false false true d e = refl
-    or-four false false false d e = refl
+    or_four : (a b c d e : Bool) → (a || b) || (c || (d || e)) ≡ (a || c) || ((b || d) || e)
+    or_four true b c d e = refl
+    or_four false true true d e = refl
+    or_four false true false d e = refl
+    or_four false false true d e = refl
+    or_four false false false d e = refl
 
 -- a block's names stand twice in it, among later names, or among earlier ones
 module _ (earlier later block : List (List ℕ)) where
-  pub stand-in : hasDouble block ≡ true → standTwice earlier later block ≡ true
-  unfolding standTwice
-  stand-in e = rw e
+  pub stand_in : has_double block ≡ true → stand_twice earlier later block ≡ true
+  unfolding stand_twice
+  stand_in e = rw e
 
-  pub stand-later : hasDouble block ≡ false → meet later block ≡ true → standTwice earlier later block ≡ true
-  unfolding standTwice
-  stand-later e h = rw (e, h)
+  pub stand_later : has_double block ≡ false → meet later block ≡ true → stand_twice earlier later block ≡ true
+  unfolding stand_twice
+  stand_later e h = rw (e, h)
 
-  pub stand-earlier : hasDouble block ≡ false → meet later block ≡ false → standTwice earlier later block ≡ meet earlier block
-  unfolding standTwice
-  stand-earlier e h = rw (e, h)
+  pub stand_earlier : has_double block ≡ false → meet later block ≡ false → stand_twice earlier later block ≡ meet earlier block
+  unfolding stand_twice
+  stand_earlier e h = rw (e, h)
 
 -- a block's names stand twice, or they do not count
-pub stand-append : (earlier block later : List (List ℕ))
-    → hasDouble (earlier ++ (block ++ later)) ≡ standTwice earlier later block || hasDouble (earlier ++ later)
-unfolding standTwice
-stand-append earlier block later =
-    rw (double-append earlier (block ++ later), double-append earlier later, double-append block later, meet-sym (block ++ later) earlier, meet-append block later earlier, meet-sym later earlier)
-    (go (hasDouble earlier) (meet earlier block) (meet earlier later) (hasDouble block) (meet later block) (hasDouble later))
+pub stand_append : (earlier block later : List (List ℕ))
+    → has_double (earlier ++ (block ++ later)) ≡ stand_twice earlier later block || has_double (earlier ++ later)
+unfolding stand_twice
+stand_append earlier block later =
+    rw (double_append earlier (block ++ later), double_append earlier later, double_append block later, meet-sym (block ++ later) earlier, meet_append block later earlier, meet-sym later earlier)
+    (go (has_double earlier) (meet earlier block) (meet earlier later) (has_double block) (meet later block) (has_double later))
   where
     go : (de eb el db lb dl : Bool) → de || ((eb || el) || (db || (lb || dl))) ≡ (db || (lb || eb)) || (de || (el || dl))
     go true eb el true lb dl = refl

@@ -2,11 +2,11 @@
 // of the line and those of the earlier line are looked up. A block has as many names as the lent rows hold, so lines of any length do.
 ghost use Rattle.std.specs.Prelude.{◌≡◌, ◌++◌, false, ℕ, ◌*◌, ◌≤◌, ◌<◌, length, take, get_or};
 ghost use Rattle.grammar.specs.Limits.{limits};
-ghost use Rattle.text.specs.Names.{hasDouble};
+ghost use Rattle.text.specs.Names.{has_double};
 ghost use Rattle.text.specs.Read.{names_of};
 ghost use Rattle.text.specs.Spelled.{spelled};
-ghost use Rattle.lexicon.specs.Tree.{mostNames, Spans, Lexicon};
-ghost use Rattle.doubles.specs.Blocks.{meet, namesFrom, standTwice, Block, BlockTold, BlockRows};
+ghost use Rattle.lexicon.specs.Tree.{most_names, Spans, Lexicon};
+ghost use Rattle.doubles.specs.Blocks.{meet, names_from, stand_twice, Block, BlockTold, BlockRows};
 
 use names::COMMA;
 
@@ -26,7 +26,7 @@ pub enum Tried {
 
 // Keeps the starts and lengths of the names of v from place a on, as many as the rows hold.
 fn keep(v: &[u8], a: usize, starts: &mut [u32], lengths: &mut [u32]) -> Kept
-    requires { (length v.now ≤ limits.maxText) × (a ≤ length v.now) × (0 < length starts.old) × (length starts.old ≡ length lengths.old) }
+    requires { (length v.now ≤ limits.max_text) × (a ≤ length v.now) × (0 < length starts.old) × (length starts.old ≡ length lengths.old) }
     ensures room { result.count ≤ length starts.old }
     ensures onward { a < result.next }
     ensures kept { Block v.now a (take result.count starts.new) (take result.count lengths.new) result.next }
@@ -50,7 +50,7 @@ fn keep(v: &[u8], a: usize, starts: &mut [u32], lengths: &mut [u32]) -> Kept
 // Is a name of u, from place a on, in the lexicon of v's names?
 fn shared(u: &[u8], a: usize, v: &[u8], starts: &[u32], lengths: &[u32], links: &[u16]) -> bool
     requires { Lexicon v.now starts.now lengths.now links.now }
-    ensures { result ≡ meet (namesFrom u.now a) (spelled v.now starts.now lengths.now) }
+    ensures { result ≡ meet (names_from u.now a) (spelled v.now starts.now lengths.now) }
 {
     let n = u.len();
     let mut next = a;
@@ -73,9 +73,9 @@ fn stand_twice(
     lengths: &[u32],
     links: &mut [u16],
 ) -> bool
-    requires spans { (Spans v.now starts.now lengths.now) × (length starts.now ≤ mostNames) × (2 * length starts.now ≤ length links.old) }
+    requires spans { (Spans v.now starts.now lengths.now) × (length starts.now ≤ most_names) × (2 * length starts.now ≤ length links.old) }
     requires by_index { (i : ℕ) → get_or links.old i 0 ≡ 0 }
-    ensures { result ≡ standTwice (names_of earlier.now) (namesFrom v.now next) (spelled v.now starts.now lengths.now) }
+    ensures { result ≡ stand_twice (names_of earlier.now) (names_from v.now next) (spelled v.now starts.now lengths.now) }
 {
     if lexicon::plant(v, starts, lengths, links) < starts.len() {
         return true;
@@ -109,7 +109,7 @@ fn try_block(
     lengths: &mut [u32],
     links: &mut [u16],
 ) -> Tried
-    requires { (length v.now ≤ limits.maxText) × (a ≤ length v.now) × BlockRows starts.old lengths.old links.old }
+    requires { (length v.now ≤ limits.max_text) × (a ≤ length v.now) × BlockRows starts.old lengths.old links.old }
     ensures { BlockTold (names_of earlier.now) v.now a result }
 {
     clear(links);
@@ -130,8 +130,8 @@ pub fn has_double(
     lengths: &mut [u32],
     links: &mut [u16],
 ) -> bool
-    requires { (length v.now ≤ limits.maxText) × (hasDouble (names_of earlier.now) ≡ false) × BlockRows starts.old lengths.old links.old }
-    ensures { result ≡ hasDouble (names_of earlier.now ++ names_of v.now) }
+    requires { (length v.now ≤ limits.max_text) × (has_double (names_of earlier.now) ≡ false) × BlockRows starts.old lengths.old links.old }
+    ensures { result ≡ has_double (names_of earlier.now ++ names_of v.now) }
 {
     let n = v.len();
     if n == 0 {

@@ -10,68 +10,68 @@ use lib.Seq.{paste, take-append_seam, drop-append_seam, length-take-le, take-tak
 use borrow.Author.Tests.{ltb-true, le-ltb, lt-ltb}
 use Rattle.grammar.specs.Limits.{limits}
 use Rattle.grammar.specs.Grammar.{Rule}
-use Rattle.grammar.specs.Table.{encode, decode, ruleAt}
-use Rattle.grammar.specs.Refusal.{done, refused, refuseUnless, and_then, tooManyRules}
-use Rattle.grammar.specs.TableCheck.{nextRule}
-use Rattle.grammar.proofs.Answers.{unless-done, then-goes, then-stops}
+use Rattle.grammar.specs.Table.{encode, decode, rule_at}
+use Rattle.grammar.specs.Refusal.{done, refused, refuse_unless, and_then, too_many_rules}
+use Rattle.grammar.specs.TableCheck.{next_rule}
+use Rattle.grammar.proofs.Answers.{unless_done, then-goes, then_stops}
 use Rattle.grammar.proofs.Rules.{decode-encode}
 use Rattle.grammar.proofs.Lists.{drop-next}
 use Rattle.grammar.proofs.Steps.{next-done, read_done}
 use Rattle.table_check.proofs.RecordLaws.{encode-more}
-use Rattle.table_check.specs.Contracts.{nextOrFull}
-use Rattle.drafts.specs.Draft.{Draft, add, withRules, addRule, taken}
-use Rattle.drafts.specs.Row.{draftWith, draftIn, splice, stepped}
-use Rattle.drafts.specs.Edits.{addRead, Appendable, appended, entriesRead, longest, openRow}
-use Rattle.drafts.proofs.Unread.{unread-longest}
+use Rattle.table_check.specs.Clauses.{next_or_full}
+use Rattle.drafts.specs.Draft.{Draft, add, with_rules, add_rule, taken}
+use Rattle.drafts.specs.Row.{draft_with, draft_in, splice, stepped}
+use Rattle.drafts.specs.Edits.{add_read, Appendable, appended, entries_read, longest, open_row}
+use Rattle.drafts.proofs.Unread.{unread_longest}
 use Rattle.drafts.proofs.Copies.{below-kept}
 use Rattle.drafts.proofs.Removals.{cell-counts, shape}
 use Rattle.drafts.proofs.Opens.{open_done, step-done, step-refused}
 
-pub looked-cut : (m : ℕ) → longest < m → longest ≡ entriesRead m
-looked-cut m h = simp (lt-ltb longest m h)
+pub looked_cut : (m : ℕ) → longest < m → longest ≡ entries_read m
+looked_cut m h = simp (lt-ltb longest m h)
 
-pub looked-all : (m : ℕ) → m ≤ longest → m ≡ entriesRead m
+pub looked-all : (m : ℕ) → m ≤ longest → m ≡ entries_read m
 looked-all m h = simp (le-ltb longest m h)
 
-pub append-cell : (row now entries : List ℕ) (end k : ℕ) → Appendable row end entries k → now ≡ paste row (2 + end) entries (2 + k) → get_or now 2 0 ≡ get_or row 2 0
-append-cell row now entries end k a e =
+pub append_cell : (row now entries : List ℕ) (end k : ℕ) → Appendable row end entries k → now ≡ paste row (2 + end) entries (2 + k) → get_or now 2 0 ≡ get_or row 2 0
+append_cell row now entries end k a e =
     let p = a.past in
     let r = a.room in
     ap (λ (l : List ℕ). get_or l 2 0) e ∙ below-kept row entries (2 + end) (2 + k) 2 (omega (arith, p)) (omega (arith, r))
 
-pub append-row : (row now entries : List ℕ) (end k : ℕ) → Appendable row end entries k → now ≡ paste row (2 + end) entries (2 + k)
+pub append_row : (row now entries : List ℕ) (end k : ℕ) → Appendable row end entries k → now ≡ paste row (2 + end) entries (2 + k)
     → set now 2 (get_or now 2 0 + 1) ≡ appended row end entries k
-append-row row now entries end k a e =
-    ap (λ (c : ℕ). set now 2 (c + 1)) (append-cell row now entries end k a e) ∙ ap (λ (l : List ℕ). set l 2 (get_or row 2 0 + 1)) e
+append_row row now entries end k a e =
+    ap (λ (c : ℕ). set now 2 (c + 1)) (append_cell row now entries end k a e) ∙ ap (λ (l : List ℕ). set l 2 (get_or row 2 0 + 1)) e
 
 -- the rule that is read is the one that is added
-table-reads : (d : Draft) (entries : List ℕ) → let table = encode d.rules ++ entries in let at = length (encode d.rules) in
-    addRule limits d entries ≡ and_then (nextOrFull d.terminals d.nonterminals table (length d.rules) at) (λ k. done (withRules d (d.rules ++ (ruleAt table at k ∷ []))))
-unfolding addRule refuseUnless and_then
-table-reads d entries =
+table_reads : (d : Draft) (entries : List ℕ) → let table = encode d.rules ++ entries in let at = length (encode d.rules) in
+    add_rule limits d entries ≡ and_then (next_or_full d.terminals d.nonterminals table (length d.rules) at) (λ k. done (with_rules d (d.rules ++ (rule_at table at k ∷ []))))
+unfolding add_rule refuse_unless and_then
+table_reads d entries =
     let table = encode d.rules ++ entries in
     let at = length (encode d.rules) in
     let q : decode (take at table) ≡ d.rules = ap decode (take-append_seam (encode d.rules) entries) ∙ decode-encode d.rules in
-    go (ltb (length d.rules) limits.maxRules) table at (decode (take at table)) q
+    go (ltb (length d.rules) limits.max_rules) table at (decode (take at table)) q
   where
     go : (b : Bool) (table : List ℕ) (at : ℕ) (rs : List Rule) → rs ≡ d.rules
-        → refuseUnless tooManyRules at b (and_then (nextRule limits d.terminals d.nonterminals table d.rules at) (λ k. done (withRules d (d.rules ++ (ruleAt table at k ∷ [])))))
-        ≡ and_then (refuseUnless tooManyRules at b (nextRule limits d.terminals d.nonterminals table rs at)) (λ k. done (withRules d (d.rules ++ (ruleAt table at k ∷ []))))
-    go true table at rs q = ap (λ (l : List Rule). and_then (nextRule limits d.terminals d.nonterminals table l at) (λ k. done (withRules d (d.rules ++ (ruleAt table at k ∷ []))))) (sym q)
+        → refuse_unless too_many_rules at b (and_then (next_rule limits d.terminals d.nonterminals table d.rules at) (λ k. done (with_rules d (d.rules ++ (rule_at table at k ∷ [])))))
+        ≡ and_then (refuse_unless too_many_rules at b (next_rule limits d.terminals d.nonterminals table rs at)) (λ k. done (with_rules d (d.rules ++ (rule_at table at k ∷ []))))
+    go true table at rs q = ap (λ (l : List Rule). and_then (next_rule limits d.terminals d.nonterminals table l at) (λ k. done (with_rules d (d.rules ++ (rule_at table at k ∷ []))))) (sym q)
     go false table at rs q = refl
 
 -- of the first entries alone
 add_reads : (d : Draft) (entries : List ℕ) → let table = encode d.rules ++ take longest entries in let at = length (encode d.rules) in
-    addRule limits d entries ≡ and_then (nextOrFull d.terminals d.nonterminals table (length d.rules) at) (λ k. done (withRules d (d.rules ++ (ruleAt table at k ∷ []))))
-add_reads d entries = sym (unread-longest limits d entries) ∙ table-reads d (take longest entries)
+    add_rule limits d entries ≡ and_then (next_or_full d.terminals d.nonterminals table (length d.rules) at) (λ k. done (with_rules d (d.rules ++ (rule_at table at k ∷ []))))
+add_reads d entries = sym (unread_longest limits d entries) ∙ table_reads d (take longest entries)
 
 -- a fault is the step's
-pub add-fault : (row : List ℕ) (end : ℕ) (entries : List ℕ) (c p : ℕ) → openRow row ≡ done end → addRead row entries ≡ refused c p → stepped row (add entries) ≡ refused c p
-unfolding addRead taken
-add-fault row end entries c p e q =
+pub add_fault : (row : List ℕ) (end : ℕ) (entries : List ℕ) (c p : ℕ) → open_row row ≡ done end → add_read row entries ≡ refused c p → stepped row (add entries) ≡ refused c p
+unfolding add_read taken
+add_fault row end entries c p e q =
     let o = open_done row end e in
-    let d = draftWith row o.block.rules in
-    step-refused row (add entries) d c p o.held (add_reads d entries ∙ then-stops _ _ c p (sym (then-goes (draftIn row) _ d o.held) ∙ q))
+    let d = draft_with row o.block.rules in
+    step-refused row (add entries) d c p o.held (add_reads d entries ∙ then_stops _ _ c p (sym (then-goes (draft_in row) _ d o.held) ∙ q))
 
 -- ---- the row with the rule
 
@@ -95,26 +95,26 @@ pub record Added (row : List ℕ) (end : ℕ) (entries : List ℕ) (k : ℕ) : T
   pub fits : Appendable row end entries k
   pub leads : stepped row (add entries) ≡ done (appended row end entries k)
 
-pub add_done : (row : List ℕ) (end : ℕ) (entries : List ℕ) (k : ℕ) → openRow row ≡ done end → addRead row entries ≡ done k → Added row end entries k
-unfolding addRead taken
+pub add_done : (row : List ℕ) (end : ℕ) (entries : List ℕ) (k : ℕ) → open_row row ≡ done end → add_read row entries ≡ done k → Added row end entries k
+unfolding add_read taken
 add_done row end entries k e q =
     let o = open_done row end e in
     let rs = o.block.rules in
-    let d = draftWith row rs in
+    let d = draft_with row rs in
     let t = d.terminals in
     let n = d.nonterminals in
     let E = encode rs in
     let table = E ++ take longest entries in
     let at = length E in
-    let r = ruleAt table at k in
-    let s : nextOrFull t n table (length rs) at ≡ done k = sym (then-goes (draftIn row) _ d o.held) ∙ q in
-    let u = unless-done tooManyRules at (ltb (length rs) limits.maxRules) (nextRule limits t n table (decode (take at table)) at) k s in
+    let r = rule_at table at k in
+    let s : next_or_full t n table (length rs) at ≡ done k = sym (then-goes (draft_in row) _ d o.held) ∙ q in
+    let u = unless_done too_many_rules at (ltb (length rs) limits.max_rules) (next_rule limits t n table (decode (take at table)) at) k s in
     let x = next-done limits t n table (decode (take at table)) at k u.1 in
     let w = read_done limits t n table at k x.read in
     let w1 = w.whole in
     let w2 = w.few in
     let w3 = w.count in
-    let c : length rs < limits.maxRules = ltb-true (length rs) limits.maxRules u.0 in
+    let c : length rs < limits.max_rules = ltb-true (length rs) limits.max_rules u.0 in
     let n1 = length-append E (take longest entries) in
     let n2 = take_short longest entries in
     let cell : get_or row 2 0 ≡ length rs + 1 = cell-counts row end e in
@@ -137,7 +137,7 @@ add_done row end entries k e q =
     let from : 2 + end ≡ 3 + length E = omega (arith, z) in
     record {
       fits = record { room = omega (arith, room, f, w2); whole = omega (arith, w1, n1, n2); past = omega (arith, z); count = omega (arith, cell, c) };
-      leads = step-done row (add entries) d (withRules d (rs ++ (r ∷ []))) o.held
+      leads = step-done row (add entries) d (with_rules d (rs ++ (r ∷ []))) o.held
           (add_reads d entries ∙ then-goes _ _ k s)
           ∙ ap done (sym (
           ap (λ (m : ℕ). set (paste row m entries (2 + k)) 2 (get_or row 2 0 + 1)) from

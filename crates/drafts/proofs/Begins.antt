@@ -7,41 +7,41 @@ use lib.Dec.{leb}
 use lib.ListN.{length}
 use borrow.Author.Tests.{le-leb, lt-leb}
 use Rattle.grammar.specs.Limits.{limits}
-use Rattle.grammar.specs.Grammar.{Rule, Grammar, stateCount}
+use Rattle.grammar.specs.Grammar.{Rule, Grammar, state_count}
 use Rattle.grammar.specs.Table.{encode}
-use Rattle.grammar.specs.Record.{recordOf}
-use Rattle.grammar.specs.Refusal.{done, refused, bufferTooShort}
-use Rattle.grammar.specs.TableCheck.{storedTable}
+use Rattle.grammar.specs.Record.{record_of}
+use Rattle.grammar.specs.Refusal.{done, refused, buffer_too_short}
+use Rattle.grammar.specs.TableCheck.{stored_table}
 use Rattle.grammar.specs.declared.CheckedGrammar.{CheckedGrammar}
-use Rattle.grammar.proofs.Answers.{unless_holds, unless-fails, then-goes, then-stops}
+use Rattle.grammar.proofs.Answers.{unless_holds, unless_fails, then-goes, then_stops}
 use Rattle.grammar.proofs.Columns.{sizes}
 use Rattle.grammar.proofs.WellFormed.{room, stored-only}
 use Rattle.table_check.proofs.RecordLaws.{offset-size}
-use Rattle.drafts.specs.Draft.{newDraft, marksCount}
-use Rattle.drafts.specs.Row.{draftRoom, splice, emptied, new_row, tableRoom}
+use Rattle.drafts.specs.Draft.{new_draft, marks_count}
+use Rattle.drafts.specs.Row.{draft_room, splice, emptied, new_row, table_room}
 
-pub new-refused : (t n : ℕ) (table row : List ℕ) (c p : ℕ) → storedTable limits t n table ≡ refused c p → new_row t n table row ≡ refused c p
-unfolding new_row newDraft
-new-refused t n table row c p e = then-stops (newDraft limits t n table) _ c p (then-stops (storedTable limits t n table) _ c p e)
+pub new-refused : (t n : ℕ) (table row : List ℕ) (c p : ℕ) → stored_table limits t n table ≡ refused c p → new_row t n table row ≡ refused c p
+unfolding new_row new_draft
+new-refused t n table row c p e = then_stops (new_draft limits t n table) _ c p (then_stops (stored_table limits t n table) _ c p e)
 
 -- the table has room in a block
-pub table_fits : (rs : List Rule) → length (encode rs) + 4 ≡ length rs + stateCount rs
+pub table_fits : (rs : List Rule) → length (encode rs) + 4 ≡ length rs + state_count rs
 table_fits rs = let a = offset-size rs in let b = sizes rs in omega (arith, a, b)
 
 -- what a table that passes says
 pub record Starts (t n : ℕ) (table row : List ℕ) (g : CheckedGrammar) : Type 0 where
-  pub count : g.count ≤ limits.maxRules
-  pub terminals : t ≤ limits.maxTerminals
-  pub nonterminals : n ≤ limits.maxNonterminals
-  pub size : length table ≤ tableRoom
-  pub short : length row < draftRoom → new_row t n table row ≡ refused bufferTooShort 0
-  pub begins : draftRoom ≤ length row → new_row t n table row ≡ done (emptied marksCount (splice row 0 (t ∷ n ∷ (g.count + 1) ∷ table)))
+  pub count : g.count ≤ limits.max_rules
+  pub terminals : t ≤ limits.max_terminals
+  pub nonterminals : n ≤ limits.max_nonterminals
+  pub size : length table ≤ table_room
+  pub short : length row < draft_room → new_row t n table row ≡ refused buffer_too_short 0
+  pub begins : draft_room ≤ length row → new_row t n table row ≡ done (emptied marks_count (splice row 0 (t ∷ n ∷ (g.count + 1) ∷ table)))
 
-pub starts : (t n : ℕ) (table row : List ℕ) (G : Grammar) (g : CheckedGrammar) → storedTable limits t n table ≡ done G → g ≡ recordOf G → Starts t n table row g
-unfolding new_row newDraft recordOf
+pub starts : (t n : ℕ) (table row : List ℕ) (G : Grammar) (g : CheckedGrammar) → stored_table limits t n table ≡ done G → g ≡ record_of G → Starts t n table row g
+unfolding new_row new_draft record_of
 starts t n table row G g e q =
     let w = stored-only limits room t n table G e in
-    let f = w.wellFormed in
+    let f = w.well_formed in
     let c : g.count ≡ length G.rules = ap (λ (g : CheckedGrammar). g.count) q in
     let k = f.count in
     let z = f.size in
@@ -49,13 +49,13 @@ starts t n table row G g e q =
     let b : length table ≡ length (encode G.rules) = ap length w.table in
     let x = f.terminals in
     let y = f.nonterminals.1 in
-    let d : newDraft limits t n table ≡ done _ = then-goes (storedTable limits t n table) _ G e in
+    let d : new_draft limits t n table ≡ done _ = then-goes (stored_table limits t n table) _ G e in
     record {
       count = omega (arith, c, k);
       terminals = omega (arith, x, w.terminals);
       nonterminals = omega (arith, y, w.nonterminals);
       size = omega (arith, b, a, k, z);
-      short = λ h. then-goes (newDraft limits t n table) _ _ d ∙ unless-fails bufferTooShort 0 (leb draftRoom (length row)) _ (lt-leb draftRoom (length row) h);
-      begins = λ h. then-goes (newDraft limits t n table) _ _ d ∙ unless_holds bufferTooShort 0 (leb draftRoom (length row)) _ (le-leb draftRoom (length row) h)
-          ∙ ap₂ (λ (m : ℕ) (l : List ℕ). done (emptied marksCount (splice row 0 (t ∷ n ∷ (m + 1) ∷ l)))) (sym c) (sym w.table);
+      short = λ h. then-goes (new_draft limits t n table) _ _ d ∙ unless_fails buffer_too_short 0 (leb draft_room (length row)) _ (lt-leb draft_room (length row) h);
+      begins = λ h. then-goes (new_draft limits t n table) _ _ d ∙ unless_holds buffer_too_short 0 (leb draft_room (length row)) _ (le-leb draft_room (length row) h)
+          ∙ ap₂ (λ (m : ℕ) (l : List ℕ). done (emptied marks_count (splice row 0 (t ∷ n ∷ (m + 1) ∷ l)))) (sym c) (sym w.table);
     }

@@ -48,8 +48,8 @@ copy_more row at from to n i a h e =
     ∙ ap (set (paste row to (drop from row) i) (to + i)) (read_kept row from to n i a h ∙ sym (get_or-drop from row i 0))
     ∙ paste-suc row to (drop from row) i 0 (omega (arith, g, h)) (omega (arith, d, s, h)) ∙ ap (paste row to (drop from row)) (sym (add-one i))
 
-pub copy-length : (row : List ℕ) (from to n i : ℕ) → Apart from to n (length row) → i ≤ n → length (paste row to (drop from row) i) ≡ length row
-copy-length row from to n i a h =
+pub copy_length : (row : List ℕ) (from to n i : ℕ) → Apart from to n (length row) → i ≤ n → length (paste row to (drop from row) i) ≡ length row
+copy_length row from to n i a h =
     let g = a.goal in
     let s = a.source in
     let d = length-drop from row in

@@ -7,10 +7,10 @@ use native.Mathlib.Omega.{arith}
 use lib.ListN.{length, take, drop, length-drop}
 use lib.Seq.{length-take-le}
 use Rattle.grammar.specs.Limits.{limits}
-use Rattle.grammar.specs.Grammar.{Rule, stateCount}
-use Rattle.grammar.specs.Table.{encode, decode, length_at, ruleAt}
+use Rattle.grammar.specs.Grammar.{Rule, state_count}
+use Rattle.grammar.specs.Table.{encode, decode, length_at, rule_at}
 use Rattle.grammar.specs.Refusal.{done}
-use Rattle.grammar.specs.TableCheck.{sameRule, isAmong, readRule}
+use Rattle.grammar.specs.TableCheck.{same_rule, is_among, read_rule}
 use Rattle.grammar.proofs.Rules.{decode-encode, Stands, stands, stands-rule}
 use Rattle.grammar.proofs.Steps.{read_done}
 use Rattle.drafts.specs.Edits.{Leading, Led}
@@ -20,15 +20,15 @@ use Rattle.drafts.proofs.Begins.{table_fits}
 pub record Behind (xs : List ℕ) (at k o : ℕ) : Type 0 where
   pub rest : List Rule
   pub ahead : drop o (take at xs) ≡ encode rest
-  pub same : isAmong (ruleAt xs at k) rest ≡ isAmong (ruleAt xs at k) (decode (take at xs))
+  pub same : is_among (rule_at xs at k) rest ≡ is_among (rule_at xs at k) (decode (take at xs))
   pub whole : at + 2 + k ≤ length xs
 
 -- at first all of them
-pub behind-start : (xs : List ℕ) (at k : ℕ) → Leading xs at k → Behind xs at k 0
-behind-start xs at k f = record {
+pub behind_start : (xs : List ℕ) (at k : ℕ) → Leading xs at k → Behind xs at k 0
+behind_start xs at k f = record {
   rest = f.rules;
   ahead = f.front;
-  same = ap (isAmong (ruleAt xs at k)) (sym (ap decode f.front ∙ decode-encode f.rules));
+  same = ap (is_among (rule_at xs at k)) (sym (ap decode f.front ∙ decode-encode f.rules));
   whole = f.whole;
 }
 
@@ -37,7 +37,7 @@ record Turn (xs : List ℕ) (at k o : ℕ) : Type 0 where
   first : Rule
   after : List Rule
   stands : Stands xs at o first after
-  same : isAmong (ruleAt xs at k) (first ∷ after) ≡ isAmong (ruleAt xs at k) (decode (take at xs))
+  same : is_among (rule_at xs at k) (first ∷ after) ≡ is_among (rule_at xs at k) (decode (take at xs))
 
 module _ (xs : List ℕ) (at k o : ℕ) (b : Behind xs at k o) where
   left_over : length (drop o (take at xs)) ≡ at - o
@@ -47,53 +47,53 @@ module _ (xs : List ℕ) (at k o : ℕ) (b : Behind xs at k o) where
   unfolding encode
   turn h = go b.rest b.ahead b.same
     where
-      go : (rest : List Rule) → drop o (take at xs) ≡ encode rest → isAmong (ruleAt xs at k) rest ≡ isAmong (ruleAt xs at k) (decode (take at xs))
+      go : (rest : List Rule) → drop o (take at xs) ≡ encode rest → is_among (rule_at xs at k) rest ≡ is_among (rule_at xs at k) (decode (take at xs))
           → Turn xs at k o
       go [] e s = let l = left_over in let z : length (drop o (take at xs)) ≡ 0 = ap length e in absurd (let q : ⊥ = omega (arith, l, z, h) in q)
       go (r ∷ rs) e s = let w = b.whole in record { first = r; after = rs; stands = stands xs at o r rs (omega (arith, w)) e; same = s }
 
   -- it is whole before the offset
-  pub behind-whole : o < at → o + 2 + length_at xs o ≤ at
-  behind-whole h = let s = (turn h).stands in let w = s.whole in let c = s.count in omega (arith, w, c)
+  pub behind_whole : o < at → o + 2 + length_at xs o ≤ at
+  behind_whole h = let s = (turn h).stands in let w = s.whole in let c = s.count in omega (arith, w, c)
 
   -- what comparing it says
-  compared : (c : Bool) (h : o < at) → sameRule (ruleAt xs o (length_at xs o)) (ruleAt xs at k) ≡ c
-      → (c || isAmong (ruleAt xs at k) (turn h).after) ≡ isAmong (ruleAt xs at k) (decode (take at xs))
-  unfolding isAmong
+  compared : (c : Bool) (h : o < at) → same_rule (rule_at xs o (length_at xs o)) (rule_at xs at k) ≡ c
+      → (c || is_among (rule_at xs at k) (turn h).after) ≡ is_among (rule_at xs at k) (decode (take at xs))
+  unfolding is_among
   compared c h e =
       let t = turn h in
-      let q : sameRule t.first (ruleAt xs at k) ≡ c = ap (λ (r : Rule). sameRule r (ruleAt xs at k)) (sym (stands-rule t.stands)) ∙ e in
-      sym (ap (λ (c : Bool). c || isAmong (ruleAt xs at k) t.after) q) ∙ t.same
+      let q : same_rule t.first (rule_at xs at k) ≡ c = ap (λ (r : Rule). same_rule r (rule_at xs at k)) (sym (stands-rule t.stands)) ∙ e in
+      sym (ap (λ (c : Bool). c || is_among (rule_at xs at k) t.after) q) ∙ t.same
 
   -- an equal one is found
-  pub behind-found : o < at → sameRule (ruleAt xs o (length_at xs o)) (ruleAt xs at k) ≡ true → true ≡ isAmong (ruleAt xs at k) (decode (take at xs))
-  behind-found h e = compared true h e
+  pub behind_found : o < at → same_rule (rule_at xs o (length_at xs o)) (rule_at xs at k) ≡ true → true ≡ is_among (rule_at xs at k) (decode (take at xs))
+  behind_found h e = compared true h e
 
   -- one that differs is left behind
-  pub behind_more : (m : ℕ) → m ≡ length_at xs o → o < at → sameRule (ruleAt xs o m) (ruleAt xs at k) ≡ false → Behind xs at k (o + 2 + m)
+  pub behind_more : (m : ℕ) → m ≡ length_at xs o → o < at → same_rule (rule_at xs o m) (rule_at xs at k) ≡ false → Behind xs at k (o + 2 + m)
   behind_more m q h e =
       let t = turn h in
       let z : o + 2 + m ≡ o + 2 + length t.first.right = ap (λ (m : ℕ). o + 2 + m) (q ∙ t.stands.count) in
       record {
         rest = t.after;
         ahead = ap (λ (o : ℕ). drop o (take at xs)) z ∙ t.stands.onward;
-        same = compared false h (ap (λ (m : ℕ). sameRule (ruleAt xs o m) (ruleAt xs at k)) (sym q) ∙ e);
+        same = compared false h (ap (λ (m : ℕ). same_rule (rule_at xs o m) (rule_at xs at k)) (sym q) ∙ e);
         whole = b.whole;
       }
 
   -- none is left
-  pub behind-end : at ≤ o → false ≡ isAmong (ruleAt xs at k) (decode (take at xs))
-  unfolding encode isAmong
-  behind-end h = go b.rest b.ahead b.same
+  pub behind_end : at ≤ o → false ≡ is_among (rule_at xs at k) (decode (take at xs))
+  unfolding encode is_among
+  behind_end h = go b.rest b.ahead b.same
     where
-      go : (rest : List Rule) → drop o (take at xs) ≡ encode rest → isAmong (ruleAt xs at k) rest ≡ isAmong (ruleAt xs at k) (decode (take at xs))
-          → false ≡ isAmong (ruleAt xs at k) (decode (take at xs))
+      go : (rest : List Rule) → drop o (take at xs) ≡ encode rest → is_among (rule_at xs at k) rest ≡ is_among (rule_at xs at k) (decode (take at xs))
+          → false ≡ is_among (rule_at xs at k) (decode (take at xs))
       go [] e s = s
       go (r ∷ rs) e s = let l = left_over in let z = ap length e in absurd (let q : ⊥ = omega (arith, l, z, h) in q)
 
 -- a rule that is read stands whole
-pub led-leading : (xs : List ℕ) (count at t n k : ℕ) → Led xs count at → readRule limits t n xs at ≡ done k → Leading xs at k
-led-leading xs count at t n k l e = record { rules = l.rules; front = l.front; whole = (read_done limits t n xs at k e).whole }
+pub led_leading : (xs : List ℕ) (count at t n k : ℕ) → Led xs count at → read_rule limits t n xs at ≡ done k → Leading xs at k
+led_leading xs count at t n k l e = record { rules = l.rules; front = l.front; whole = (read_done limits t n xs at k e).whole }
 
 -- ---- their states
 
@@ -104,10 +104,10 @@ module _ (xs : List ℕ) (count at : ℕ) (l : Led xs count at) where
   pub led-few : count ≤ at + 4
   led-few = let f = table_fits l.rules in let e = entries-led in let s = l.size in omega (arith, f, e, s)
 
-  pub led-states : at + 4 - count ≡ stateCount (decode (take at xs))
+  pub led-states : at + 4 - count ≡ state_count (decode (take at xs))
   led-states =
       let f = table_fits l.rules in
       let e = entries-led in
       let s = l.size in
-      let z : at + 4 - count ≡ stateCount l.rules = omega (arith, f, e, s) in
-      z ∙ ap stateCount (sym (ap decode l.front ∙ decode-encode l.rules))
+      let z : at + 4 - count ≡ state_count l.rules = omega (arith, f, e, s) in
+      z ∙ ap state_count (sym (ap decode l.front ∙ decode-encode l.rules))

@@ -6,7 +6,7 @@ use native.Mathlib.Omega.{arith}
 use native.Mathlib.Numerals.{add-one}
 use lib.ListN.{length, get_or, set, drop, length-set}
 use lib.Seq.{paste, paste-suc, length-paste, take-length}
-use Rattle.drafts.specs.Row.{blockSize, block_at, draftRoom, splice, put, emptied, tableRoom}
+use Rattle.drafts.specs.Row.{block_size, block_at, draft_room, splice, put, emptied, table_room}
 
 -- ---- entries put into a row
 
@@ -24,10 +24,10 @@ pub emptied-none : (row : List ℕ) → row ≡ emptied 0 row
 unfolding emptied
 emptied-none row = refl
 
-pub emptied-more : (k : ℕ) (at row : List ℕ) → at ≡ emptied k row → set at (2 + (k + 1) * blockSize) 0 ≡ emptied (k + 1) row
+pub emptied-more : (k : ℕ) (at row : List ℕ) → at ≡ emptied k row → set at (2 + (k + 1) * block_size) 0 ≡ emptied (k + 1) row
 unfolding emptied
 emptied-more k at row e =
-    ap (λ (l : List ℕ). set l (2 + (k + 1) * blockSize) 0) e ∙ ap (λ (j : ℕ). set (emptied k row) (2 + j * blockSize) 0) (add-one k) ∙ ap (λ (j : ℕ). emptied j row) (sym (add-one k))
+    ap (λ (l : List ℕ). set l (2 + (k + 1) * block_size) 0) e ∙ ap (λ (j : ℕ). set (emptied k row) (2 + j * block_size) 0) (add-one k) ∙ ap (λ (j : ℕ). emptied j row) (sym (add-one k))
 
 -- the front of a new draft
 pub begin-row : (row table : List ℕ) (t n cell : ℕ) → 3 ≤ length row
@@ -40,8 +40,8 @@ begin-row [] table t n cell h = absurd (omega (arith, h))
 begin-row (x ∷ []) table t n cell h = absurd (omega (arith, h))
 begin-row (x ∷ y ∷ []) table t n cell h = absurd (omega (arith, h))
 
-pub begin-lengths : (row now table : List ℕ) (t n cell : ℕ) → now ≡ paste row 3 table (length table) → length table ≤ tableRoom → draftRoom ≤ length row
-    → (draftRoom ≤ length (set now 0 t)) × (draftRoom ≤ length (set (set now 0 t) 1 n)) × (draftRoom ≤ length (set (set (set now 0 t) 1 n) 2 cell))
+pub begin-lengths : (row now table : List ℕ) (t n cell : ℕ) → now ≡ paste row 3 table (length table) → length table ≤ table_room → draft_room ≤ length row
+    → (draft_room ≤ length (set now 0 t)) × (draft_room ≤ length (set (set now 0 t) 1 n)) × (draft_room ≤ length (set (set (set now 0 t) 1 n) 2 cell))
     × (length (set (set (set now 0 t) 1 n) 2 cell) ≡ length row)
 begin-lengths row now table t n cell e h r =
     let z : length now ≡ length row = ap length e ∙ length-paste row 3 table (length table) (omega (arith, h, r)) (omega arith) in

@@ -11,11 +11,11 @@ use lib.ListN.{length, get_or, drop, length-drop}
 use lib.Seq.{paste}
 use borrow.Author.Tests.{le-leb, lt-leb}
 use Rattle.grammar.specs.Grammar.{Rule}
-use Rattle.grammar.specs.Refusal.{done, refused, notPresent}
-use Rattle.grammar.proofs.Answers.{both-and, and-false, unless_holds, unless-fails}
-use Rattle.drafts.specs.Draft.{mark, return, withMark, withRules, kept, restored, taken, marksCount, isMark}
-use Rattle.drafts.specs.Row.{blockSize, block_at, block_of, end_of, rulesIn, marksFrom, draftWith, image, stepped}
-use Rattle.drafts.specs.Edits.{Apart, ending, openRow}
+use Rattle.grammar.specs.Refusal.{done, refused, not_present}
+use Rattle.grammar.proofs.Answers.{both_and, and_false, unless_holds, unless_fails}
+use Rattle.drafts.specs.Draft.{mark, return, with_mark, with_rules, kept, restored, taken, marks_count, is_mark}
+use Rattle.drafts.specs.Row.{block_size, block_at, block_of, end_of, rules_in, marks_from, draft_with, image, stepped}
+use Rattle.drafts.specs.Edits.{Apart, ending, open_row}
 use Rattle.drafts.specs.declared.Ending.TheVariants.{Ends, Nothing}
 use Rattle.drafts.proofs.Walks.{held_none}
 use Rattle.drafts.proofs.Copies.{pasted}
@@ -23,94 +23,94 @@ use Rattle.drafts.proofs.Opens.{ends-told, nothing-told, in_block, open_done, st
 
 -- ---- marks
 
-pub marks-at : (m j i : ℕ) (row : List ℕ) → i < m → get_or (marksFrom m j row) i none ≡ rulesIn (block_of row (j + i))
-unfolding marksFrom
-marks-at zero j i row h = absurd (omega arith)
-marks-at (suc m) j zero row h = let z : j ≡ j + 0 = omega arith in ap (λ (k : ℕ). rulesIn (block_of row k)) z
-marks-at (suc m) j (suc i) row h =
+pub marks_at : (m j i : ℕ) (row : List ℕ) → i < m → get_or (marks_from m j row) i none ≡ rules_in (block_of row (j + i))
+unfolding marks_from
+marks_at zero j i row h = absurd (omega arith)
+marks_at (suc m) j zero row h = let z : j ≡ j + 0 = omega arith in ap (λ (k : ℕ). rules_in (block_of row k)) z
+marks_at (suc m) j (suc i) row h =
     let z : j + 1 + i ≡ j + suc i = omega arith in
-    marks-at m (j + 1) i row (omega arith) ∙ ap (λ (k : ℕ). rulesIn (block_of row k)) z
+    marks_at m (j + 1) i row (omega arith) ∙ ap (λ (k : ℕ). rules_in (block_of row k)) z
 
-pub kept_at : (row : List ℕ) (rs : List Rule) (k : ℕ) → 1 ≤ k → k ≤ marksCount → kept (draftWith row rs) k ≡ rulesIn (block_of row k)
+pub kept_at : (row : List ℕ) (rs : List Rule) (k : ℕ) → 1 ≤ k → k ≤ marks_count → kept (draft_with row rs) k ≡ rules_in (block_of row k)
 kept_at row rs k l h =
     let z : 1 + (k - 1) ≡ k = omega (arith, l) in
-    marks-at marksCount 1 (k - 1) row (omega (arith, l, h)) ∙ ap (λ (k : ℕ). rulesIn (block_of row k)) z
+    marks_at marks_count 1 (k - 1) row (omega (arith, l, h)) ∙ ap (λ (k : ℕ). rules_in (block_of row k)) z
 
 -- a mark's number
-known : (k : ℕ) → 1 ≤ k → k ≤ marksCount → isMark k ≡ true
-known k l h = both-and (leb 1 k) (leb k marksCount) (le-leb 1 k l) (le-leb k marksCount h)
+known : (k : ℕ) → 1 ≤ k → k ≤ marks_count → is_mark k ≡ true
+known k l h = both_and (leb 1 k) (leb k marks_count) (le-leb 1 k l) (le-leb k marks_count h)
 
-unknown : (k : ℕ) → (k < 1) ⊎ (marksCount < k) → isMark k ≡ false
-unknown k (inl l) = ap (λ (b : Bool). b && leb k marksCount) (lt-leb 1 k l)
-unknown k (inr l) = ap (λ (b : Bool). leb 1 k && b) (lt-leb k marksCount l) ∙ and-false (leb 1 k)
+unknown : (k : ℕ) → (k < 1) ⊎ (marks_count < k) → is_mark k ≡ false
+unknown k (inl l) = ap (λ (b : Bool). b && leb k marks_count) (lt-leb 1 k l)
+unknown k (inr l) = ap (λ (b : Bool). leb 1 k && b) (lt-leb k marks_count l) ∙ and_false (leb 1 k)
 
-pub mark-unknown : (row : List ℕ) (end k : ℕ) → openRow row ≡ done end → (k < 1) ⊎ (marksCount < k) → stepped row (mark k) ≡ refused notPresent k
+pub mark_unknown : (row : List ℕ) (end k : ℕ) → open_row row ≡ done end → (k < 1) ⊎ (marks_count < k) → stepped row (mark k) ≡ refused not_present k
 unfolding taken
-mark-unknown row end k e u =
+mark_unknown row end k e u =
     let o = open_done row end e in
-    let d = draftWith row o.block.rules in
-    step-refused row (mark k) d notPresent k o.held (unless-fails notPresent k (isMark k) (done (withMark d k)) (unknown k u))
+    let d = draft_with row o.block.rules in
+    step-refused row (mark k) d not_present k o.held (unless_fails not_present k (is_mark k) (done (with_mark d k)) (unknown k u))
 
-pub return-unknown : (row : List ℕ) (end k : ℕ) → openRow row ≡ done end → (k < 1) ⊎ (marksCount < k) → stepped row (return k) ≡ refused notPresent k
+pub return_unknown : (row : List ℕ) (end k : ℕ) → open_row row ≡ done end → (k < 1) ⊎ (marks_count < k) → stepped row (return k) ≡ refused not_present k
 unfolding taken
-return-unknown row end k e u =
+return_unknown row end k e u =
     let o = open_done row end e in
-    let d = draftWith row o.block.rules in
-    step-refused row (return k) d notPresent k o.held (unless-fails notPresent k (isMark k) (restored d k (kept d k)) (unknown k u))
+    let d = draft_with row o.block.rules in
+    step-refused row (return k) d not_present k o.held (unless_fails not_present k (is_mark k) (restored d k (kept d k)) (unknown k u))
 
 -- the front of block 0 copied to block k is the row with the mark set
-pub mark-done : (row : List ℕ) (end k : ℕ) (e : openRow row ≡ done end) → 1 ≤ k → k ≤ marksCount
+pub mark-done : (row : List ℕ) (end k : ℕ) (e : open_row row ≡ done end) → 1 ≤ k → k ≤ marks_count
     → stepped row (mark k) ≡ done (paste row (block_at k) (drop 2 row) end)
 unfolding taken
 mark-done row end k e l h =
     let o = open_done row end e in
     let b = o.block in
-    let d = draftWith row b.rules in
+    let d = draft_with row b.rules in
     let r = o.room in
     let f = b.few in
-    step-done row (mark k) d (withMark d k) o.held (unless_holds notPresent k (isMark k) (done (withMark d k)) (known k l h))
+    step-done row (mark k) d (with_mark d k) o.held (unless_holds not_present k (is_mark k) (done (with_mark d k)) (known k l h))
     ∙ ap done (sym (pasted row (drop 2 row) (image b.rules) (block_at k) end (omega (arith, length-drop 2 row, r, f)) b.front))
 
 -- an empty mark
-pub return-nothing : (row : List ℕ) (end k : ℕ) → openRow row ≡ done end → 1 ≤ k → k ≤ marksCount → ending (end_of (block_of row k)) ≡ Nothing → stepped row (return k) ≡ refused notPresent k
+pub return-nothing : (row : List ℕ) (end k : ℕ) → open_row row ≡ done end → 1 ≤ k → k ≤ marks_count → ending (end_of (block_of row k)) ≡ Nothing → stepped row (return k) ≡ refused not_present k
 unfolding taken
 return-nothing row end k e l h q =
     let o = open_done row end e in
     let rs = o.block.rules in
-    let d = draftWith row rs in
-    step-refused row (return k) d notPresent k o.held
-    (unless_holds notPresent k (isMark k) (restored d k (kept d k)) (known k l h)
+    let d = draft_with row rs in
+    step-refused row (return k) d not_present k o.held
+    (unless_holds not_present k (is_mark k) (restored d k (kept d k)) (known k l h)
     ∙ ap (restored d k) (kept_at row rs k l h ∙ held_none (block_of row k) (nothing-told (end_of (block_of row k)) q)))
 
 -- the front of block k copied to block 0 is the row returned to
-pub return-done : (row : List ℕ) (end k last : ℕ) → openRow row ≡ done end → 1 ≤ k → k ≤ marksCount → ending (end_of (block_of row k)) ≡ Ends last
+pub return-done : (row : List ℕ) (end k last : ℕ) → open_row row ≡ done end → 1 ≤ k → k ≤ marks_count → ending (end_of (block_of row k)) ≡ Ends last
     → stepped row (return k) ≡ done (paste row 2 (drop (block_at k) row) last)
 unfolding taken
 return-done row end k last e l h q =
     let o = open_done row end e in
     let rs = o.block.rules in
-    let d = draftWith row rs in
+    let d = draft_with row rs in
     let r = o.room in
     let b = in_block row k last (omega (arith, r, h)) (ends-told (end_of (block_of row k)) last q) in
     let f = b.few in
-    step-done row (return k) d (withRules d b.rules) o.held
-    (unless_holds notPresent k (isMark k) (restored d k (kept d k)) (known k l h) ∙ ap (restored d k) (kept_at row rs k l h ∙ b.found))
+    step-done row (return k) d (with_rules d b.rules) o.held
+    (unless_holds not_present k (is_mark k) (restored d k (kept d k)) (known k l h) ∙ ap (restored d k) (kept_at row rs k l h ∙ b.found))
     ∙ ap done (sym (pasted row (drop (block_at k) row) (image b.rules) 2 last (omega (arith, length-drop (block_at k) row, r, f, h)) b.front))
 
 -- ---- what is copied lies apart from where it goes
 
-pub mark-apart : (row : List ℕ) (end k : ℕ) → openRow row ≡ done end → 1 ≤ k → k ≤ marksCount → Apart 2 (2 + k * blockSize) end (length row)
-mark-apart row end k e l h =
+pub mark_apart : (row : List ℕ) (end k : ℕ) → open_row row ≡ done end → 1 ≤ k → k ≤ marks_count → Apart 2 (2 + k * block_size) end (length row)
+mark_apart row end k e l h =
     let o = open_done row end e in
     let r = o.room in
     let f = o.block.few in
     record { source = omega (arith, r, f); goal = omega (arith, r, f, h); order = inr (omega (arith, f, l)) }
 
-pub return-apart : (row : List ℕ) (end k last : ℕ) → openRow row ≡ done end → k ≤ marksCount → ending (end_of (block_of row k)) ≡ Ends last → Apart (2 + k * blockSize) 2 last (length row)
-return-apart row end k last e h q =
+pub return_apart : (row : List ℕ) (end k last : ℕ) → open_row row ≡ done end → k ≤ marks_count → ending (end_of (block_of row k)) ≡ Ends last → Apart (2 + k * block_size) 2 last (length row)
+return_apart row end k last e h q =
     let r = (open_done row end e).room in
     let f = (in_block row k last (omega (arith, r, h)) (ends-told (end_of (block_of row k)) last q)).few in
     record { source = omega (arith, r, f, h); goal = omega (arith, r, f); order = inl (omega arith) }
 
-pub open-holds : (row : List ℕ) (end k : ℕ) → openRow row ≡ done end → k ≤ marksCount → 2 + k * blockSize + blockSize ≤ length row
-open-holds row end k e h = let r = (open_done row end e).room in omega (arith, r, h)
+pub open_holds : (row : List ℕ) (end k : ℕ) → open_row row ≡ done end → k ≤ marks_count → 2 + k * block_size + block_size ≤ length row
+open_holds row end k e h = let r = (open_done row end e).room in omega (arith, r, h)

@@ -5,13 +5,13 @@ use mathlib.Core.Path.{◌≡◌, refl}
 use mathlib.Core.List.{List, [], ◌∷◌}
 use mathlib.Core.Option.{Option, none, some}
 use Rattle.grammar.specs.Limits.{Limits, limits}
-use Rattle.grammar.specs.Grammar.{Rule, stateCount}
-use Rattle.grammar.specs.Live.{has, hasAll, concluded, waiting, rounds, nonterminalsOf, productive, hasSentence}
-use Rattle.grammar.specs.Table.{encode, decodeUpTo}
-use Rattle.grammar.specs.Refusal.{Answer, refused, refuseUnless, and_then}
-use Rattle.grammar.specs.TableCheck.{sameCodes, isAmong, declaredFront, readRule, nextRule, checkFrom, storedTable, checkTable}
-use Rattle.drafts.specs.Draft.{Draft, Edit, add, withdraw, mark, return, without, newDraft, addRule, taken, after}
-use Rattle.drafts.specs.Row.{walk, end_of, rulesIn, draftRoom, draftIn}
+use Rattle.grammar.specs.Grammar.{Rule, state_count}
+use Rattle.grammar.specs.Live.{has, has_all, concluded, waiting, rounds, nonterminals_of, productive, has_sentence}
+use Rattle.grammar.specs.Table.{encode, decode_up_to}
+use Rattle.grammar.specs.Refusal.{Answer, refused, refuse_unless, and_then}
+use Rattle.grammar.specs.TableCheck.{same_codes, is_among, declared_front, read_rule, next_rule, check_from, stored_table, check_table}
+use Rattle.drafts.specs.Draft.{Draft, Edit, add, withdraw, mark, return, without, new_draft, add_rule, taken, after}
+use Rattle.drafts.specs.Row.{walk, end_of, rules_in, draft_room, draft_in}
 
 -- the code of S, a rule of it, and a draft whose marks are empty
 abbrev pub S : ℕ
@@ -34,15 +34,15 @@ three = draft (rule (1 ∷ []) ∷ rule (2 ∷ []) ∷ rule [] ∷ []) empty
 
 -- no more than one rule
 abbrev pub few : Limits
-few = record { maxTerminals = 2000; nonterminalBase = 32768; maxNonterminals = 2000; maxLength = 12; maxRules = 1; maxStates = 1024; maxText = 262144 }
+few = record { max_terminals = 2000; nonterminal_base = 32768; max_nonterminals = 2000; max_length = 12; max_rules = 1; max_states = 1024; max_text = 262144 }
 
 -- a new draft, an edit, a history; by the test for a sentence, which no draft uses, a wrong answer computes too
 unfoldable pub new : ℕ → ℕ → List ℕ → Answer Draft
-unfolding newDraft storedTable checkFrom nextRule readRule declaredFront isAmong sameCodes stateCount refuseUnless and_then checkTable has hasAll concluded waiting rounds nonterminalsOf productive hasSentence
-new t n table = newDraft limits t n table
+unfolding new_draft stored_table check_from next_rule read_rule declared_front is_among same_codes state_count refuse_unless and_then check_table has has_all concluded waiting rounds nonterminals_of productive has_sentence
+new t n table = new_draft limits t n table
 
 unfoldable pub step : Limits → Draft → Edit → Answer Draft
-unfolding taken addRule without encode nextRule readRule declaredFront isAmong sameCodes stateCount refuseUnless and_then
+unfolding taken add_rule without encode next_rule read_rule declared_front is_among same_codes state_count refuse_unless and_then
 step L d s = taken L d s
 
 unfoldable pub history : Draft → List Edit → Draft
@@ -52,10 +52,10 @@ history d h = after limits d h
 -- ---- histories
 
 -- marked, edited, returned: the rules as they were, and the marks in being
-mark-edit-return : history one (mark 8 ∷ withdraw 1 ∷ mark 1 ∷ return 8 ∷ [])
+mark_edit_return : history one (mark 8 ∷ withdraw 1 ∷ mark 1 ∷ return 8 ∷ [])
     ≡ draft (rule (1 ∷ []) ∷ []) (some [] ∷ none ∷ none ∷ none ∷ none ∷ none ∷ none ∷ some (rule (1 ∷ []) ∷ []) ∷ [])
 unfolding history
-mark-edit-return = refl
+mark_edit_return = refl
 
 -- marking again replaces that mark alone
 mark-again : history one (mark 1 ∷ mark 2 ∷ withdraw 1 ∷ mark 1 ∷ [])
@@ -69,17 +69,17 @@ unfolding history
 mark-of-none = refl
 
 -- refused edits change nothing
-refused-edits : history one (return 3 ∷ withdraw 5 ∷ add [] ∷ mark 9 ∷ []) ≡ one
+refused_edits : history one (return 3 ∷ withdraw 5 ∷ add [] ∷ mark 9 ∷ []) ≡ one
 unfolding history
-refused-edits = refl
+refused_edits = refl
 
 -- ---- blocks of a row
 
 -- an empty mark, no rules, one rule with entries past it, and a rule that runs past the block
-blocks : (rulesIn (0 ∷ S ∷ 0 ∷ []) ≡ none) × (rulesIn (1 ∷ 7 ∷ []) ≡ some []) × (rulesIn (2 ∷ S ∷ 1 ∷ 1 ∷ 5 ∷ []) ≡ some (rule (1 ∷ []) ∷ [])) × (rulesIn (2 ∷ S ∷ 3 ∷ 1 ∷ []) ≡ none)
-unfolding end_of walk decodeUpTo
+blocks : (rules_in (0 ∷ S ∷ 0 ∷ []) ≡ none) × (rules_in (1 ∷ 7 ∷ []) ≡ some []) × (rules_in (2 ∷ S ∷ 1 ∷ 1 ∷ 5 ∷ []) ≡ some (rule (1 ∷ []) ∷ [])) × (rules_in (2 ∷ S ∷ 3 ∷ 1 ∷ []) ≡ none)
+unfolding end_of walk decode_up_to
 blocks = (refl, refl, refl, refl)
 
-short_row : (draftRoom ≡ 12827) × (draftIn [] ≡ refused 14 0)
-unfolding draftIn refuseUnless
+short_row : (draft_room ≡ 12827) × (draft_in [] ≡ refused 14 0)
+unfolding draft_in refuse_unless
 short_row = (refl, refl)

@@ -7,9 +7,9 @@ use Rattle.drafts.specs.Draft.{add}
 use Rattle.drafts.proofs.Pins.{S, rule, empty, draft, one, few, step}
 
 -- entries past its last code are not read
-add-takes : step limits one (add (S ∷ 1 ∷ 2 ∷ 99 ∷ 99 ∷ [])) ≡ done (draft (rule (1 ∷ []) ∷ rule (2 ∷ []) ∷ []) empty)
+add_takes : step limits one (add (S ∷ 1 ∷ 2 ∷ 99 ∷ 99 ∷ [])) ≡ done (draft (rule (1 ∷ []) ∷ rule (2 ∷ []) ∷ []) empty)
 unfolding step
-add-takes = refl
+add_takes = refl
 
 -- offsets count on from the end of the draft's table
 add-offsets : (step limits one (add (S ∷ 2 ∷ 1 ∷ 3 ∷ [])) ≡ refused 5 6) × (step limits one (add (S ∷ 1 ∷ 1 ∷ [])) ≡ refused 6 3) × (step limits one (add (7 ∷ 0 ∷ [])) ≡ refused 3 3)

@@ -9,24 +9,24 @@ use lib.ListN.{length, get_or, take, drop, length-drop}
 use lib.Seq.{take-length, length-take-le, length-paste, paste, ext_get_or, get_or-take, get_or-drop, drop_at, take-append-le, take-append-add}
 use Rattle.grammar.specs.Grammar.{Rule}
 use Rattle.grammar.specs.Table.{encode, decode}
-use Rattle.grammar.proofs.Lists.{lt-or-le}
+use Rattle.grammar.proofs.Lists.{lt_or_le}
 use Rattle.grammar.proofs.Rules.{decode-encode}
-use Rattle.drafts.specs.Draft.{marksCount}
-use Rattle.drafts.specs.Row.{blockSize, block_at, draftRoom, block_of, walk, end_of, rulesTo, rulesIn, splice, image, put}
-use Rattle.drafts.proofs.Walks.{walk-along, end-walks}
+use Rattle.drafts.specs.Draft.{marks_count}
+use Rattle.drafts.specs.Row.{block_size, block_at, draft_room, block_of, walk, end_of, rules_to, rules_in, splice, image, put}
+use Rattle.drafts.proofs.Walks.{walk-along, end_walks}
 use Rattle.drafts.proofs.Copies.{below-kept, past-kept}
 
 -- ---- a block that begins with an image holds the rules
 
-pub holds-image : (rs : List Rule) (tail : List ℕ) → rulesIn (image rs ++ tail) ≡ some rs
-holds-image rs tail =
+pub holds_image : (rs : List Rule) (tail : List ℕ) → rules_in (image rs ++ tail) ≡ some rs
+holds_image rs tail =
     let block = image rs ++ tail in
     let c : 1 ≤ length rs + 1 = omega arith in
     let m : length rs + 1 - 1 ≡ length rs = omega arith in
     let w : end_of block ≡ some (1 + length (encode (take (length rs) rs)))
-    = end-walks block c ∙ ap (λ (n : ℕ). walk n block 1) m ∙ walk-along (length rs) block 1 rs tail (omega arith) refl in
+    = end_walks block c ∙ ap (λ (n : ℕ). walk n block 1) m ∙ walk-along (length rs) block 1 rs tail (omega arith) refl in
     let z : 1 + length (encode rs) - 1 ≡ length (encode rs) = omega arith in
-    ap (rulesTo block) (w ∙ ap (λ (l : List Rule). some (1 + length (encode l))) (take-length rs))
+    ap (rules_to block) (w ∙ ap (λ (l : List Rule). some (1 + length (encode l))) (take-length rs))
     ∙ ap (λ (n : ℕ). some (decode (take n (encode rs ++ tail)))) z
     ∙ ap (λ (l : List ℕ). some (decode l)) (take-append-le (length (encode rs)) (encode rs) tail (omega arith) ∙ take-length (encode rs))
     ∙ ap some (decode-encode rs)
@@ -57,7 +57,7 @@ part_same l r a m h k e =
 pub take-over : (n : ℕ) (xs ys : List ℕ) → length xs ≤ n → take n (xs ++ ys) ≡ xs ++ take (n - length xs) ys
 take-over n xs ys h = let z : n ≡ length xs + (n - length xs) = omega (arith, h) in ap (λ (m : ℕ). take m (xs ++ ys)) z ∙ take-append-add xs ys (n - length xs)
 
-module _ (row : List ℕ) (j : ℕ) (rs : List Rule) (room : draftRoom ≤ length row) (known : j ≤ marksCount) (fits : length (image rs) ≤ blockSize) where
+module _ (row : List ℕ) (j : ℕ) (rs : List Rule) (room : draft_room ≤ length row) (known : j ≤ marks_count) (fits : length (image rs) ≤ block_size) where
   inside : block_at j + length (image rs) ≤ length row
   inside = omega (arith, room, known, fits)
 
@@ -69,27 +69,27 @@ module _ (row : List ℕ) (j : ℕ) (rs : List Rule) (room : draftRoom ≤ lengt
   put-cells i h = splice-other row (image rs) (block_at j) i inside (inl (omega (arith, h)))
 
   -- the block that is written holds the rules
-  pub put-block : rulesIn (block_of (put row j rs) j) ≡ some rs
-  put-block = ap rulesIn front ∙ holds-image rs (take (blockSize - length (image rs)) (drop (block_at j + length (image rs)) row))
+  pub put-block : rules_in (block_of (put row j rs) j) ≡ some rs
+  put-block = ap rules_in front ∙ holds_image rs (take (block_size - length (image rs)) (drop (block_at j + length (image rs)) row))
     where
-      front : block_of (put row j rs) j ≡ image rs ++ take (blockSize - length (image rs)) (drop (block_at j + length (image rs)) row)
+      front : block_of (put row j rs) j ≡ image rs ++ take (block_size - length (image rs)) (drop (block_at j + length (image rs)) row)
       front =
           let a : length (take (block_at j) row) ≡ block_at j = length-take-le (block_at j) row (omega (arith, inside)) in
-          ap (take blockSize) (ap (drop (block_at j)) (append_assoc (take (block_at j) row) (image rs) (drop (block_at j + length (image rs)) row))
+          ap (take block_size) (ap (drop (block_at j)) (append_assoc (take (block_at j) row) (image rs) (drop (block_at j + length (image rs)) row))
           ∙ drop_at (take (block_at j) row) (image rs ++ drop (block_at j + length (image rs)) row) (block_at j) a)
-          ∙ take-over blockSize (image rs) (drop (block_at j + length (image rs)) row) fits
+          ∙ take-over block_size (image rs) (drop (block_at j + length (image rs)) row) fits
 
   -- the others stay
-  pub put_other : (k : ℕ) → k ≤ marksCount → (k ≡ j → ⊥) → block_of (put row j rs) k ≡ block_of row k
+  pub put_other : (k : ℕ) → k ≤ marks_count → (k ≡ j → ⊥) → block_of (put row j rs) k ≡ block_of row k
   put_other k h ne =
       let p = put-length in
-      part_same (put row j rs) row (block_at k) blockSize (omega (arith, p, room, h)) (omega (arith, room, h))
+      part_same (put row j rs) row (block_at k) block_size (omega (arith, p, room, h)) (omega (arith, room, h))
       (λ i b. splice-other row (image rs) (block_at j) (block_at k + i) inside (apart i b))
     where
-      apart : (i : ℕ) → i < blockSize → (block_at k + i < block_at j) ⊎ (block_at j + length (image rs) ≤ block_at k + i)
-      apart i b = elim (lt-or-le k j) [
+      apart : (i : ℕ) → i < block_size → (block_at k + i < block_at j) ⊎ (block_at j + length (image rs) ≤ block_at k + i)
+      apart i b = elim (lt_or_le k j) [
         | inl c ↦ inl (omega (arith, c, b))
-        | inr c ↦ elim (lt-or-le j k) [
+        | inr c ↦ elim (lt_or_le j k) [
           | inl d ↦ inr (omega (arith, d, fits))
           | inr d ↦ absurd (ne (omega (arith, c, d)))
         ]

@@ -12,35 +12,35 @@ use lib.Seq.{take-take, paste, length-take-le, drop-drop, take-append_seam, drop
 use borrow.Author.Tests.{le-leb, lt-leb}
 use Rattle.grammar.specs.Grammar.{Rule}
 use Rattle.grammar.specs.Table.{encode, length_at}
-use Rattle.grammar.specs.Refusal.{done, refused, notPresent}
-use Rattle.grammar.proofs.Answers.{both-and, and-false, unless_holds, unless-fails}
+use Rattle.grammar.specs.Refusal.{done, refused, not_present}
+use Rattle.grammar.proofs.Answers.{both_and, and_false, unless_holds, unless_fails}
 use Rattle.grammar.proofs.Rules.{reads}
-use Rattle.drafts.specs.Draft.{withdraw, without, withRules, taken}
-use Rattle.drafts.specs.Row.{blockSize, block_of, walk, draftWith, splice, image, put, stepped}
-use Rattle.drafts.specs.Edits.{Apart, Reaches, Removable, removed, openRow}
+use Rattle.drafts.specs.Draft.{withdraw, without, with_rules, taken}
+use Rattle.drafts.specs.Row.{block_size, block_of, walk, draft_with, splice, image, put, stepped}
+use Rattle.drafts.specs.Edits.{Apart, Reaches, Removable, removed, open_row}
 use Rattle.drafts.proofs.Walks.{walk-along, some_inj}
 use Rattle.drafts.proofs.Copies.{below-kept}
 use Rattle.drafts.proofs.Opens.{Open, open_done, step-done, step-refused}
 
 -- ---- a rule taken out
 
-pub remove-apart : (row : List ℕ) (from end k : ℕ) → Removable row from end → k ≡ length_at row from → Apart (from + 2 + k) from (2 + end - (from + 2 + k)) (length row)
-remove-apart row from end k r e =
+pub remove_apart : (row : List ℕ) (from end k : ℕ) → Removable row from end → k ≡ length_at row from → Apart (from + 2 + k) from (2 + end - (from + 2 + k)) (length row)
+remove_apart row from end k r e =
     let w = r.whole in
     let i = r.within in
     record { source = omega (arith, w, i, e); goal = omega (arith, w, i, e); order = inl (omega arith) }
 
-pub remove-cell : (row now : List ℕ) (from end k n : ℕ) → Removable row from end → now ≡ paste row from (drop (from + 2 + k) row) n → get_or now 2 0 ≡ get_or row 2 0
-remove-cell row now from end k n r e =
+pub remove_cell : (row now : List ℕ) (from end k n : ℕ) → Removable row from end → now ≡ paste row from (drop (from + 2 + k) row) n → get_or now 2 0 ≡ get_or row 2 0
+remove_cell row now from end k n r e =
     let p = r.past in
     let w = r.whole in
     let i = r.within in
     ap (λ (l : List ℕ). get_or l 2 0) e ∙ below-kept row (drop (from + 2 + k) row) from n 2 (omega (arith, p)) (omega (arith, w, i))
 
-pub remove-row : (row now : List ℕ) (from end k : ℕ) → Removable row from end → k ≡ length_at row from
+pub remove_row : (row now : List ℕ) (from end k : ℕ) → Removable row from end → k ≡ length_at row from
     → now ≡ paste row from (drop (from + 2 + k) row) (2 + end - (from + 2 + k)) → set now 2 (get_or now 2 0 - 1) ≡ removed row from end
-remove-row row now from end k r e q =
-    ap (λ (c : ℕ). set now 2 (c - 1)) (remove-cell row now from end k (2 + end - (from + 2 + k)) r q)
+remove_row row now from end k r e q =
+    ap (λ (c : ℕ). set now 2 (c - 1)) (remove_cell row now from end k (2 + end - (from + 2 + k)) r q)
     ∙ ap (λ (l : List ℕ). set l 2 (get_or row 2 0 - 1)) q
     ∙ ap (λ (k : ℕ). set (paste row from (drop (from + 2 + k) row) (2 + end - (from + 2 + k))) 2 (get_or row 2 0 - 1)) e
 
@@ -92,7 +92,7 @@ in-front (a ∷ b ∷ row) xs end h e = ap (λ (l : List ℕ). a ∷ b ∷ l) (s
 in-front [] xs end h e = absurd (omega (arith, h))
 in-front (a ∷ []) xs end h e = absurd (omega (arith, h))
 
-module _ (row : List ℕ) (end : ℕ) (e : openRow row ≡ done end) where
+module _ (row : List ℕ) (end : ℕ) (e : open_row row ≡ done end) where
   abbrev held : Open row end
   held = open_done row end e
 
@@ -109,28 +109,28 @@ module _ (row : List ℕ) (end : ℕ) (e : openRow row ≡ done end) where
   cell-counts = ap (λ (l : List ℕ). get_or l 2 0) shape
 
   -- a number that no rule has
-  pub withdraw-unknown : (i : ℕ) → (i < 1) ⊎ (get_or row 2 0 ≤ i) → stepped row (withdraw i) ≡ refused notPresent i
+  pub withdraw_unknown : (i : ℕ) → (i < 1) ⊎ (get_or row 2 0 ≤ i) → stepped row (withdraw i) ≡ refused not_present i
   unfolding taken
-  withdraw-unknown i u =
-      let d = draftWith row rules in
-      step-refused row (withdraw i) d notPresent i held.held (unless-fails notPresent i (leb 1 i && leb i (length rules)) (done (withRules d (without (i - 1) rules))) (unknown u))
+  withdraw_unknown i u =
+      let d = draft_with row rules in
+      step-refused row (withdraw i) d not_present i held.held (unless_fails not_present i (leb 1 i && leb i (length rules)) (done (with_rules d (without (i - 1) rules))) (unknown u))
     where
       unknown : (i < 1) ⊎ (get_or row 2 0 ≤ i) → (leb 1 i && leb i (length rules)) ≡ false
       unknown (inl l) = ap (λ (b : Bool). b && leb i (length rules)) (lt-leb 1 i l)
-      unknown (inr l) = let c = cell-counts in ap (λ (b : Bool). leb 1 i && b) (lt-leb i (length rules) (omega (arith, l, c))) ∙ and-false (leb 1 i)
+      unknown (inr l) = let c = cell-counts in ap (λ (b : Bool). leb 1 i && b) (lt-leb i (length rules) (omega (arith, l, c))) ∙ and_false (leb 1 i)
 
   -- the block from its first rule on
   ahead : drop 1 (block_of row 0) ≡ encode rules ++ drop end (block_of row 0)
   ahead = ap (drop 1) (sym (take-append-drop end (block_of row 0)) ∙ ap (λ (l : List ℕ). l ++ drop end (block_of row 0)) (sym front ∙ held.block.front))
     where
       front : take end (drop 2 row) ≡ take end (block_of row 0)
-      front = sym (take-take end blockSize (drop 2 row) held.block.few)
+      front = sym (take-take end block_size (drop 2 row) held.block.few)
 
   pub reaches : (i : ℕ) → 1 ≤ i → i < get_or row 2 0 → Reaches (block_of row 0) (i - 1)
   reaches i l h =
       let c = cell-counts in
       let r = held.room in
-      let z : length (block_of row 0) ≡ blockSize = length-take-le blockSize (drop 2 row) (omega (arith, length-drop 2 row, r)) in
+      let z : length (block_of row 0) ≡ block_size = length-take-le block_size (drop 2 row) (omega (arith, length-drop 2 row, r)) in
       record { end = _; walks = walk-along (i - 1) (block_of row 0) 1 rules (drop end (block_of row 0)) (omega (arith, l, h, c)) ahead; room = omega (arith, z) }
 
   module _ (i p : ℕ) (l : 1 ≤ i) (h : i < get_or row 2 0) (w : walk (i - 1) (block_of row 0) 1 ≡ some p) where
@@ -181,11 +181,11 @@ module _ (row : List ℕ) (end : ℕ) (e : openRow row ≡ done end) where
     pub withdraw-done : stepped row (withdraw i) ≡ done (removed row (2 + p) end)
     unfolding taken
     withdraw-done =
-        let d = draftWith row rules in
+        let d = draft_with row rules in
         let c = cell-counts in
-        step-done row (withdraw i) d (withRules d (without (i - 1) rules)) held.held
-        (unless_holds notPresent i (leb 1 i && leb i (length rules)) (done (withRules d (without (i - 1) rules)))
-        (both-and (leb 1 i) (leb i (length rules)) (le-leb 1 i l) (le-leb i (length rules) (omega (arith, h, c)))))
+        step-done row (withdraw i) d (with_rules d (without (i - 1) rules)) held.held
+        (unless_holds not_present i (leb 1 i && leb i (length rules)) (done (with_rules d (without (i - 1) rules)))
+        (both_and (leb 1 i) (leb i (length rules)) (le-leb 1 i l) (le-leb i (length rules) (omega (arith, h, c)))))
         ∙ ap done (sym same)
       where
         same : removed row (2 + p) end ≡ put row 0 (without (i - 1) rules)

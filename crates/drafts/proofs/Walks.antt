@@ -12,11 +12,11 @@ use lib.Seq.{length-take-le, drop-drop, take-add, drop-append_seam}
 use borrow.Author.Tests.{le-leb, lt-leb, leb-true, lt-ltb, le-ltb}
 use Rattle.grammar.specs.Basics.{choose}
 use Rattle.grammar.specs.Grammar.{Rule}
-use Rattle.grammar.specs.Table.{encode, decode, length_at, ruleAt}
-use Rattle.grammar.proofs.Answers.{and_both, and-false}
-use Rattle.grammar.proofs.Lists.{lt-or-le, drop-next}
+use Rattle.grammar.specs.Table.{encode, decode, length_at, rule_at}
+use Rattle.grammar.proofs.Answers.{and_both, and_false}
+use Rattle.grammar.proofs.Lists.{lt_or_le, drop-next}
 use Rattle.grammar.proofs.Rules.{decode-encode, reads}
-use Rattle.drafts.specs.Row.{is_whole, walk, end_of, rulesTo, rulesIn, image}
+use Rattle.drafts.specs.Row.{is_whole, walk, end_of, rules_to, rules_in, image}
 
 -- ---- turn by turn
 
@@ -36,9 +36,9 @@ walk-short m i at block h k l =
     let j : length block < at + 2 = omega (arith, k, l) in
     rw (less m i h) (simp (lt-leb (at + 2) (length block) j))
 
-pub walk-cut : (m i at : ℕ) (block : List ℕ) → i < m → at + 2 ≤ length block → length block - (at + 2) < length_at block at → walk (m - i) block at ≡ none
+pub walk_cut : (m i at : ℕ) (block : List ℕ) → i < m → at + 2 ≤ length block → length block - (at + 2) < length_at block at → walk (m - i) block at ≡ none
 unfolding walk
-walk-cut m i at block h k l =
+walk_cut m i at block h k l =
     let j : length block < at + 2 + length_at block at = omega (arith, k, l) in
     rw (less m i h) (simp (le-leb (at + 2) (length block) k, lt-leb (at + 2 + length_at block at) (length block) j))
 
@@ -46,17 +46,17 @@ pub walk_end : (m i at : ℕ) (block : List ℕ) → i ≡ m → walk (m - i) bl
 unfolding walk
 walk_end m i at block e = let z : m - i ≡ 0 = omega (arith, e) in rw z refl
 
-pub end-walks : (block : List ℕ) → 1 ≤ get_or block 0 0 → end_of block ≡ walk (get_or block 0 0 - 1) block 1
+pub end_walks : (block : List ℕ) → 1 ≤ get_or block 0 0 → end_of block ≡ walk (get_or block 0 0 - 1) block 1
 unfolding end_of
-end-walks block h = simp (lt-ltb 0 (get_or block 0 0) h)
+end_walks block h = simp (lt-ltb 0 (get_or block 0 0) h)
 
 pub end_none : (block : List ℕ) → get_or block 0 0 < 1 → end_of block ≡ none
 unfolding end_of
 end_none block h = let z : get_or block 0 0 ≤ 0 = omega (arith, h) in simp (le-ltb 0 (get_or block 0 0) z)
 
-pub no-entry : (block : List ℕ) → length block < 1 → get_or block 0 0 < 1
-no-entry [] h = omega arith
-no-entry (x ∷ xs) h = absurd (omega (arith, h))
+pub no_entry : (block : List ℕ) → length block < 1 → get_or block 0 0 < 1
+no_entry [] h = omega arith
+no_entry (x ∷ xs) h = absurd (omega (arith, h))
 
 -- ---- what the walk says
 
@@ -100,7 +100,7 @@ walked (suc m) block at end h e = go (is_whole block at) refl (λ l q. walked m 
         let p3 : at + 1 + 1 ≡ at + 2 = omega arith in
         let p4 : drop at block ≡ get_or block at 0 ∷ k ∷ drop (at + 2) block = p1 ∙ ap (λ (l : List ℕ). get_or block at 0 ∷ l) (p2 ∙ ap (λ (j : ℕ). k ∷ drop j block) p3) in
         record {
-          rules = ruleAt block at k ∷ r.rules;
+          rules = rule_at block at k ∷ r.rules;
           count = ap suc r.count;
           table =
               ap₂ (λ (n : ℕ) (l : List ℕ). take n l) cut p4
@@ -116,21 +116,21 @@ walked (suc m) block at end h e = go (is_whole block at) refl (λ l q. walked m 
 -- a block that holds rules: they stand in front, after their number
 pub record Held (block : List ℕ) (end : ℕ) : Type 0 where
   pub rules : List Rule
-  pub found : rulesIn block ≡ some rules
+  pub found : rules_in block ≡ some rules
   pub front : take end block ≡ image rules
   pub size : end ≡ 1 + length (encode rules)
   pub within : end ≤ length block
 
 pub held-block : (block : List ℕ) (end : ℕ) → end_of block ≡ some end → Held block end
-held-block block end e = elim (lt-or-le (get_or block 0 0) 1) [
+held-block block end e = elim (lt_or_le (get_or block 0 0) 1) [
   | inl b ↦ no_end (sym (end_none block b) ∙ e)
   | inr b ↦ go b
 ]
   where
     go : 1 ≤ get_or block 0 0 → Held block end
     go b =
-        let l : 1 ≤ length block = elim (lt-or-le (length block) 1) [ inl s ↦ absurd (omega (arith, no-entry block s, b)) | inr s ↦ s ] in
-        let w = walked (get_or block 0 0 - 1) block 1 end l (sym (end-walks block b) ∙ e) in
+        let l : 1 ≤ length block = elim (lt_or_le (length block) 1) [ inl s ↦ absurd (omega (arith, no_entry block s, b)) | inr s ↦ s ] in
+        let w = walked (get_or block 0 0 - 1) block 1 end l (sym (end_walks block b) ∙ e) in
         let o = w.order in
         let n = w.count in
         let z : length (take (end - 1) (drop 1 block)) ≡ end - 1 = length-take-le (end - 1) (drop 1 block) (omega (arith, length-drop 1 block, w.within)) in
@@ -140,21 +140,21 @@ held-block block end e = elim (lt-or-le (get_or block 0 0) 1) [
         let q : end ≡ suc (end - 1) = omega (arith, o) in
         record {
           rules = w.rules;
-          found = ap (rulesTo block) e ∙ ap some (ap decode w.table ∙ decode-encode w.rules);
+          found = ap (rules_to block) e ∙ ap some (ap decode w.table ∙ decode-encode w.rules);
           front = ap₂ (λ (n : ℕ) (l : List ℕ). take n l) q p ∙ ap₂ (λ (x : ℕ) (l : List ℕ). x ∷ l) c w.table;
           size = omega (arith, o, y, z);
           within = w.within;
         }
 
-pub held_none : (block : List ℕ) → end_of block ≡ none → rulesIn block ≡ none
-held_none block e = ap (rulesTo block) e
+pub held_none : (block : List ℕ) → end_of block ≡ none → rules_in block ≡ none
+held_none block e = ap (rules_to block) e
 
 -- ---- the code's walk
 
 pub walk_start : (block : List ℕ) (cell : ℕ) → cell ≡ get_or block 0 0 → 1 ≤ cell → walk (cell - 1 - 0) block 1 ≡ end_of block
 walk_start block cell e h =
     let z : cell - 1 - 0 ≡ get_or block 0 0 - 1 = omega (arith, e) in
-    ap (λ (m : ℕ). walk m block 1) z ∙ sym (end-walks block (omega (arith, e, h)))
+    ap (λ (m : ℕ). walk m block 1) z ∙ sym (end_walks block (omega (arith, e, h)))
 
 pub walk-on : (m i at k : ℕ) (block : List ℕ) → i < m → k ≡ length_at block at → at + 2 + k ≤ length block → walk (m - i) block at ≡ end_of block
     → walk (m - (i + 1)) block (at + 2 + k) ≡ end_of block
@@ -164,16 +164,16 @@ walk-on m i at k block h e l q =
 -- ---- so many rules are whole
 
 -- a rule that is not whole ends the walk, wherever it is cut
-cut-first : (m at : ℕ) (block : List ℕ) → length block < at + 2 + length_at block at → walk (suc m) block at ≡ none
+cut_first : (m at : ℕ) (block : List ℕ) → length block < at + 2 + length_at block at → walk (suc m) block at ≡ none
 unfolding walk
-cut-first m at block h =
+cut_first m at block h =
     ap (λ (b : Bool). choose (leb (at + 2) (length block) && b) (walk m block (at + 2 + length_at block at)) none) (lt-leb (at + 2 + length_at block at) (length block) h)
-    ∙ ap (λ (b : Bool). choose b (walk m block (at + 2 + length_at block at)) none) (and-false (leb (at + 2) (length block)))
+    ∙ ap (λ (b : Bool). choose b (walk m block (at + 2 + length_at block at)) none) (and_false (leb (at + 2) (length block)))
 
 pub walk-whole : (m i at e : ℕ) (block : List ℕ) → i < m → walk (m - i) block at ≡ some e → at + 2 + length_at block at ≤ length block
-walk-whole m i at e block h q = elim (lt-or-le (length block) (at + 2 + length_at block at)) [
+walk-whole m i at e block h q = elim (lt_or_le (length block) (at + 2 + length_at block at)) [
   | inr b ↦ b
-  | inl b ↦ no_end (sym (ap (λ (n : ℕ). walk n block at) (less m i h) ∙ cut-first (m - (i + 1)) at block b) ∙ q)
+  | inl b ↦ no_end (sym (ap (λ (n : ℕ). walk n block at) (less m i h) ∙ cut_first (m - (i + 1)) at block b) ∙ q)
 ]
 
 pub walk-next : (m i at k : ℕ) (block : List ℕ) (o : Option ℕ) → i < m → k ≡ length_at block at → at + 2 + k ≤ length block → walk (m - i) block at ≡ o

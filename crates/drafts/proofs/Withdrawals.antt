@@ -9,11 +9,11 @@ use lib.ListN.{length, get_or}
 use borrow.Author.Tests.{leb-true}
 use Rattle.grammar.specs.Basics.{Mem, here, there, Distinct, none, more}
 use Rattle.grammar.specs.Limits.{Limits}
-use Rattle.grammar.specs.Grammar.{Rule, stateCount}
-use Rattle.grammar.specs.Refusal.{done, notPresent}
-use Rattle.grammar.proofs.Answers.{and_both, unless-done, done_inj}
-use Rattle.grammar.proofs.Plain.{mem-cases}
-use Rattle.drafts.specs.Draft.{Draft, withdraw, withRules, without, isPresent, taken}
+use Rattle.grammar.specs.Grammar.{Rule, state_count}
+use Rattle.grammar.specs.Refusal.{done, not_present}
+use Rattle.grammar.proofs.Answers.{and_both, unless_done, done_inj}
+use Rattle.grammar.proofs.Plain.{mem_cases}
+use Rattle.drafts.specs.Draft.{Draft, withdraw, with_rules, without, is_present, taken}
 
 -- ---- the rules without one
 
@@ -43,8 +43,8 @@ without-few i [] = omega arith
 without-few zero (s ∷ rs) = omega arith
 without-few (suc i) (s ∷ rs) = let z = without-few i rs in omega (arith, z)
 
-pub without-states : (i : ℕ) (rs : List Rule) → stateCount (without i rs) ≤ stateCount rs
-unfolding without stateCount
+pub without-states : (i : ℕ) (rs : List Rule) → state_count (without i rs) ≤ state_count rs
+unfolding without state_count
 without-states i [] = omega arith
 without-states zero (s ∷ rs) = omega arith
 without-states (suc i) (s ∷ rs) = let z = without-states i rs in omega (arith, z)
@@ -53,17 +53,17 @@ pub without_in : (i : ℕ) (rs : List Rule) (r : Rule) → Mem r (without i rs) 
 unfolding without
 without_in i [] r m = m
 without_in zero (s ∷ rs) r m = there m
-without_in (suc i) (s ∷ rs) r m = go (mem-cases m) (λ m. without_in i rs r m)
+without_in (suc i) (s ∷ rs) r m = go (mem_cases m) (λ m. without_in i rs r m)
   where
     go : (s ≡ r) ⊎ Mem r (without i rs) → (Mem r (without i rs) → Mem r rs) → Mem r (s ∷ rs)
     go (inl e) again = subst (λ (s : Rule). Mem r (s ∷ rs)) (sym e) here
     go (inr m) again = there (again m)
 
-pub without-distinct : (i : ℕ) (rs : List Rule) → Distinct rs → Distinct (without i rs)
+pub without_distinct : (i : ℕ) (rs : List Rule) → Distinct rs → Distinct (without i rs)
 unfolding without
-without-distinct i [] none = none
-without-distinct zero (s ∷ rs) (more new d) = d
-without-distinct (suc i) (s ∷ rs) (more new d) = more (λ m. new (without_in i rs s m)) (without-distinct i rs d)
+without_distinct i [] none = none
+without_distinct zero (s ∷ rs) (more new d) = d
+without_distinct (suc i) (s ∷ rs) (more new d) = more (λ m. new (without_in i rs s m)) (without_distinct i rs d)
 
 -- ---- the step
 
@@ -77,8 +77,8 @@ pub record Withdrawn (i : ℕ) (d e : Draft) : Type 0 where
 pub withdrawn : (L : Limits) (d e : Draft) (i : ℕ) → taken L d (withdraw i) ≡ done e → Withdrawn i d e
 unfolding taken
 withdrawn L d e i q =
-    let u = unless-done notPresent i (isPresent d i) (done (withRules d (without (i - 1) d.rules))) e q in
-    let g : withRules d (without (i - 1) d.rules) ≡ e = done_inj u.1 in
+    let u = unless_done not_present i (is_present d i) (done (with_rules d (without (i - 1) d.rules))) e q in
+    let g : with_rules d (without (i - 1) d.rules) ≡ e = done_inj u.1 in
     let r : e.rules ≡ without (i - 1) d.rules = sym (ap (λ (d : Draft). d.rules) g) in
     let b = and_both (leb 1 i) (leb i (length d.rules)) u.0 in
     let l : 1 ≤ i = leb-true 1 i b.0 in

@@ -6,11 +6,11 @@ use Rattle.grammar.specs.Basics.{choose}
 use Rattle.grammar.specs.Limits.{limits}
 use Rattle.grammar.specs.Grammar.{Rule}
 use Rattle.grammar.specs.Table.{encode, length_at}
-use Rattle.grammar.specs.Refusal.{Answer, done, refused, refuseUnless, and_then, bufferTooShort, notPresent}
-use Rattle.table_check.specs.Contracts.{nextOrFull}
+use Rattle.grammar.specs.Refusal.{Answer, done, refused, refuse_unless, and_then, buffer_too_short, not_present}
+use Rattle.table_check.specs.Clauses.{next_or_full}
 use Rattle.drafts.specs.Draft.{Edit}
-use Rattle.drafts.specs.Row.{stepped, tableRoom, draftRoom, block_of, walk, end_of, draftIn}
-use Rattle.drafts.specs.Promise.{rowAfter}
+use Rattle.drafts.specs.Row.{stepped, table_room, draft_room, block_of, walk, end_of, draft_in}
+use Rattle.drafts.specs.Promise.{row_after}
 use Rattle.drafts.specs.declared.Ending.{Ending}
 use Rattle.drafts.specs.declared.Ending.TheVariants.{Ends, Nothing}
 use Rattle.drafts.specs.declared.FoundDraft.{FoundDraft}
@@ -28,12 +28,12 @@ ending none = Nothing
 ending (some end) = Ends end
 
 -- where the draft's rules end in its block, or why the row holds none
-abbrev pub endOr : Option ℕ → Answer ℕ
-endOr none = refused notPresent 0
-endOr (some end) = done end
+abbrev pub end_or : Option ℕ → Answer ℕ
+end_or none = refused not_present 0
+end_or (some end) = done end
 
-unfoldable pub openRow : List ℕ → Answer ℕ
-openRow row = refuseUnless bufferTooShort 0 (leb draftRoom (length row)) (endOr (end_of (block_of row 0)))
+unfoldable pub open_row : List ℕ → Answer ℕ
+open_row row = refuse_unless buffer_too_short 0 (leb draft_room (length row)) (end_or (end_of (block_of row 0)))
 
 abbrev pub opening : Answer ℕ → FoundDraft
 opening (done end) = Opened end
@@ -59,20 +59,20 @@ removed row from end =
 
 -- no rule has more entries; a table and a rule past it
 abbrev pub longest : ℕ
-longest = 2 + limits.maxLength
+longest = 2 + limits.max_length
 
-abbrev pub tryRoom : ℕ
-tryRoom = tableRoom + longest
+abbrev pub try_room : ℕ
+try_room = table_room + longest
 
 -- the entries that are looked at
-abbrev pub entriesRead : ℕ → ℕ
-entriesRead m = choose (ltb longest m) longest m
+abbrev pub entries_read : ℕ → ℕ
+entries_read m = choose (ltb longest m) longest m
 
 -- the faults of the rule that follows the draft's table, of which no more entries are looked at than a rule has; its length
-unfoldable pub addRead : List ℕ → List ℕ → Answer ℕ
-addRead row entries =
-    and_then (draftIn row) (λ d.
-    nextOrFull d.terminals d.nonterminals (encode d.rules ++ take longest entries) (length d.rules) (length (encode d.rules)))
+unfoldable pub add_read : List ℕ → List ℕ → Answer ℕ
+add_read row entries =
+    and_then (draft_in row) (λ d.
+    next_or_full d.terminals d.nonterminals (encode d.rules ++ take longest entries) (length d.rules) (length (encode d.rules)))
 
 -- up to the offset the table is whole rules; a rule of length k stands there
 pub record Leading (table : List ℕ) (at k : ℕ) : Type 0 where
@@ -92,7 +92,7 @@ pub record Appendable (row : List ℕ) (end : ℕ) (entries : List ℕ) (k : ℕ
   pub room : 2 + end + (2 + k) ≤ length row
   pub whole : 2 + k ≤ length entries
   pub past : 1 ≤ end
-  pub count : get_or row 2 0 ≤ limits.maxRules
+  pub count : get_or row 2 0 ≤ limits.max_rules
 
 -- the row with the rule past the last one
 abbrev pub appended : List ℕ → ℕ → List ℕ → ℕ → List ℕ
@@ -101,4 +101,4 @@ appended row end entries k = set (paste row (2 + end) entries (2 + k)) 2 (get_or
 -- the row that a history of edits leaves, each called on the row before it
 unfoldable pub calls : List ℕ → List Edit → List ℕ
 calls row [] = row
-calls row (s ∷ history) = calls (rowAfter row (stepped row s)) history
+calls row (s ∷ history) = calls (row_after row (stepped row s)) history

@@ -11,14 +11,14 @@ abbrev pub answered : Answer (List ℕ) → DraftAnswer
 answered (done row) = Done
 answered (refused cause at) = Refused cause at
 
-abbrev pub rowAfter : List ℕ → Answer (List ℕ) → List ℕ
-rowAfter before (done row) = row
-rowAfter before (refused cause at) = before
+abbrev pub row_after : List ℕ → Answer (List ℕ) → List ℕ
+row_after before (done row) = row
+row_after before (refused cause at) = before
 
 -- an entry answers so and leaves this row
 pub record Leaves (o : Answer (List ℕ)) (before : List ℕ) (r : DraftAnswer) (row : List ℕ) : Type 0 where
   pub answer : r ≡ answered o
-  pub leaves : row ≡ rowAfter before o
+  pub leaves : row ≡ row_after before o
 
 -- an edit: what it makes of the draft that the row holds
 abbrev pub EditsDraft : List ℕ → Edit → DraftAnswer → List ℕ → Type 0

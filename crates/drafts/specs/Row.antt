@@ -8,30 +8,30 @@ use Rattle.grammar.specs.Basics.{choose}
 use Rattle.grammar.specs.Limits.{limits}
 use Rattle.grammar.specs.Grammar.{Rule}
 use Rattle.grammar.specs.Table.{encode, decode, length_at}
-use Rattle.grammar.specs.Refusal.{Answer, done, refused, refuseUnless, and_then, bufferTooShort, notPresent}
-use Rattle.drafts.specs.Draft.{Draft, Edit, add, withdraw, mark, return, marksCount, newDraft, taken}
+use Rattle.grammar.specs.Refusal.{Answer, done, refused, refuse_unless, and_then, buffer_too_short, not_present}
+use Rattle.drafts.specs.Draft.{Draft, Edit, add, withdraw, mark, return, marks_count, new_draft, taken}
 
 -- a table has as many entries as its rules and states together, less 4: so this is enough
-abbrev pub tableRoom : ℕ
-tableRoom = limits.maxRules + limits.maxStates
+abbrev pub table_room : ℕ
+table_room = limits.max_rules + limits.max_states
 
-abbrev pub blockSize : ℕ
-blockSize = 1 + tableRoom
+abbrev pub block_size : ℕ
+block_size = 1 + table_room
 
 -- where block j begins
 abbrev pub block_at : ℕ → ℕ
-block_at j = 2 + j * blockSize
+block_at j = 2 + j * block_size
 
 -- where the draft's own table begins
 abbrev pub table_at : ℕ
 table_at = block_at 0 + 1
 
 -- how long a row must be
-abbrev pub draftRoom : ℕ
-draftRoom = 2 + (1 + marksCount) * blockSize
+abbrev pub draft_room : ℕ
+draft_room = 2 + (1 + marks_count) * block_size
 
 abbrev pub block_of : List ℕ → ℕ → List ℕ
-block_of row j = take blockSize (drop (block_at j) row)
+block_of row j = take block_size (drop (block_at j) row)
 
 -- the rule at a place lies whole in the block
 abbrev pub is_whole : List ℕ → ℕ → Bool
@@ -47,28 +47,28 @@ unfoldable pub end_of : List ℕ → Option ℕ
 end_of block = choose (ltb 0 (get_or block 0 0)) (walk (get_or block 0 0 - 1) block 1) none
 
 -- the rules of a block, if it holds rules
-abbrev pub rulesTo : List ℕ → Option ℕ → Option (List Rule)
-rulesTo block none = none
-rulesTo block (some end) = some (decode (take (end - 1) (drop 1 block)))
+abbrev pub rules_to : List ℕ → Option ℕ → Option (List Rule)
+rules_to block none = none
+rules_to block (some end) = some (decode (take (end - 1) (drop 1 block)))
 
-abbrev pub rulesIn : List ℕ → Option (List Rule)
-rulesIn block = rulesTo block (end_of block)
+abbrev pub rules_in : List ℕ → Option (List Rule)
+rules_in block = rules_to block (end_of block)
 
 -- the rules of m blocks from block j on
-unfoldable pub marksFrom : ℕ → ℕ → List ℕ → List (Option (List Rule))
-marksFrom zero j row = []
-marksFrom (suc m) j row = rulesIn (block_of row j) ∷ marksFrom m (j + 1) row
+unfoldable pub marks_from : ℕ → ℕ → List ℕ → List (Option (List Rule))
+marks_from zero j row = []
+marks_from (suc m) j row = rules_in (block_of row j) ∷ marks_from m (j + 1) row
 
-abbrev pub draftWith : List ℕ → List Rule → Draft
-draftWith row rules = record { terminals = get_or row 0 0; nonterminals = get_or row 1 0; rules = rules; marks = marksFrom marksCount 1 row }
+abbrev pub draft_with : List ℕ → List Rule → Draft
+draft_with row rules = record { terminals = get_or row 0 0; nonterminals = get_or row 1 0; rules = rules; marks = marks_from marks_count 1 row }
 
-abbrev pub draftOr : List ℕ → Option (List Rule) → Answer Draft
-draftOr row none = refused notPresent 0
-draftOr row (some rules) = done (draftWith row rules)
+abbrev pub draft_or : List ℕ → Option (List Rule) → Answer Draft
+draft_or row none = refused not_present 0
+draft_or row (some rules) = done (draft_with row rules)
 
 -- the draft that a row holds: 14 at 0 for a row that is too short, 23 at 0 for one whose block 0 holds no rules
-unfoldable pub draftIn : List ℕ → Answer Draft
-draftIn row = refuseUnless bufferTooShort 0 (leb draftRoom (length row)) (draftOr row (rulesIn (block_of row 0)))
+unfoldable pub draft_in : List ℕ → Answer Draft
+draft_in row = refuse_unless buffer_too_short 0 (leb draft_room (length row)) (draft_or row (rules_in (block_of row 0)))
 
 -- some entries written into a row from a place on
 abbrev pub splice : List ℕ → ℕ → List ℕ → List ℕ
@@ -90,7 +90,7 @@ target (return k) = 0
 
 -- the row after an edit, or the refusal
 unfoldable pub stepped : List ℕ → Edit → Answer (List ℕ)
-stepped row s = and_then (draftIn row) (λ d. and_then (taken limits d s) (λ e. done (put row (target s) e.rules)))
+stepped row s = and_then (draft_in row) (λ d. and_then (taken limits d s) (λ e. done (put row (target s) e.rules)))
 
 -- the row with the marks 1 to m emptied
 unfoldable pub emptied : ℕ → List ℕ → List ℕ
@@ -98,10 +98,10 @@ emptied zero row = row
 emptied (suc m) row = set (emptied m row) (block_at (suc m)) 0
 
 abbrev pub begun : List ℕ → Draft → List ℕ
-begun row d = emptied marksCount (splice row 0 (d.terminals ∷ d.nonterminals ∷ image d.rules))
+begun row d = emptied marks_count (splice row 0 (d.terminals ∷ d.nonterminals ∷ image d.rules))
 
 -- the row of a new draft, or the refusal: 1 to 8, then 14 at 0
 unfoldable pub new_row : ℕ → ℕ → List ℕ → List ℕ → Answer (List ℕ)
 new_row t n table row =
-    and_then (newDraft limits t n table) (λ d.
-    refuseUnless bufferTooShort 0 (leb draftRoom (length row)) (done (begun row d)))
+    and_then (new_draft limits t n table) (λ d.
+    refuse_unless buffer_too_short 0 (leb draft_room (length row)) (done (begun row d)))

@@ -1,10 +1,10 @@
 // A rule tried against the draft, and written past its last one.
 ghost use Rattle.std.specs.Prelude.{◌≡◌, take};
 ghost use Rattle.grammar.specs.Refusal.{done};
-ghost use Rattle.grammar.specs.Table.{decode, ruleAt};
-ghost use Rattle.grammar.specs.TableCheck.{isAmong};
-ghost use Rattle.table_check.specs.Contracts.{ruleRead, nextOrFull};
-ghost use Rattle.drafts.specs.Edits.{openRow, Leading, Led, Appendable, appended, addRead, entriesRead};
+ghost use Rattle.grammar.specs.Table.{decode, rule_at};
+ghost use Rattle.grammar.specs.TableCheck.{is_among};
+ghost use Rattle.table_check.specs.Clauses.{rule_read, next_or_full};
+ghost use Rattle.drafts.specs.Edits.{open_row, Leading, Led, Appendable, appended, add_read, entries_read};
 
 use super::blocks::wide;
 use super::edits::put_entries;
@@ -18,7 +18,7 @@ const LONGEST: usize = 2 + MAX_LENGTH;
 const TRY_ROOM: usize = MAX_RULES + MAX_STATES + LONGEST;
 
 fn at_most(m: usize) -> usize
-    ensures { result ≡ entriesRead m }
+    ensures { result ≡ entries_read m }
 {
     if LONGEST < m {
         return LONGEST;
@@ -29,7 +29,7 @@ fn at_most(m: usize) -> usize
 // Does one of the rules up to an offset equal the one of length k there?
 fn stands_before(table: &[u16], at: usize, k: usize) -> bool
     requires { Leading table.now at k }
-    ensures { result ≡ isAmong (ruleAt table.now at k) (decode (take at table.now)) }
+    ensures { result ≡ is_among (rule_at table.now at k) (decode (take at table.now)) }
 {
     let mut o = 0;
     while o < at {
@@ -46,7 +46,7 @@ fn stands_before(table: &[u16], at: usize, k: usize) -> bool
 // state more than codes.
 fn next_rule(table: &[u16], t: u16, n: u16, count: usize, at: usize) -> RuleRead
     requires { Led table.now count at }
-    ensures { result ≡ ruleRead (nextOrFull t n table.now count at) }
+    ensures { result ≡ rule_read (next_or_full t n table.now count at) }
 {
     if MAX_RULES <= count {
         return RuleRead::Fault(TOO_MANY_RULES, at);
@@ -67,8 +67,8 @@ fn next_rule(table: &[u16], t: u16, n: u16, count: usize, at: usize) -> RuleRead
 
 // The faults of the rule that the entries begin with, past the draft's last one; its length.
 pub fn try_rule(draft: &[u16], entries: &[u16], end: usize) -> RuleRead
-    requires { openRow draft.now ≡ done end }
-    ensures { result ≡ ruleRead (addRead draft.now entries.now) }
+    requires { open_row draft.now ≡ done end }
+    ensures { result ≡ rule_read (add_read draft.now entries.now) }
 {
     let mut table = [0u16; TRY_ROOM];
     let at = end - 1;

@@ -1,7 +1,7 @@
 // The blocks of a row: where the rules of one end, and entries copied within the row.
 ghost use Rattle.std.specs.Prelude.{◌≡◌, ◌+◌, ◌≤◌, length, drop};
 ghost use Rattle.std.proofs.Math.Seq.{paste};
-ghost use Rattle.drafts.specs.Row.{block_at, blockSize, block_of, end_of};
+ghost use Rattle.drafts.specs.Row.{block_at, block_size, block_of, end_of};
 ghost use Rattle.drafts.specs.Edits.{Apart, ending};
 
 use super::Ending;
@@ -48,7 +48,7 @@ fn block_end(block: &[u16]) -> Ending
 }
 
 pub fn held(row: &[u16], j: usize) -> Ending
-    requires { block_at j + blockSize ≤ length row.now }
+    requires { block_at j + block_size ≤ length row.now }
     ensures { result ≡ ending (end_of (block_of row.now j)) }
 {
     let from = 2 + j * BLOCK;

@@ -2,8 +2,8 @@
 ghost use Rattle.std.specs.Prelude.{◌≡◌, ◌∷◌, ◌+◌, ◌≤◌, length};
 ghost use Rattle.std.proofs.Math.Option.{some};
 ghost use Rattle.std.proofs.Math.Seq.{paste};
-ghost use Rattle.drafts.specs.Row.{tableRoom, draftRoom, block_of, walk, splice, emptied};
-ghost use Rattle.drafts.specs.Draft.{marksCount};
+ghost use Rattle.drafts.specs.Row.{table_room, draft_room, block_of, walk, splice, emptied};
+ghost use Rattle.drafts.specs.Draft.{marks_count};
 ghost use Rattle.drafts.specs.Edits.{Reaches, Removable, removed};
 
 use super::MARKS;
@@ -25,7 +25,7 @@ fn place_in(block: &[u16], m: usize) -> usize
 }
 
 pub fn rule_place(row: &[u16], m: usize) -> usize
-    requires { (draftRoom ≤ length row.now) × Reaches (block_of row.now 0) m }
+    requires { (draft_room ≤ length row.now) × Reaches (block_of row.now 0) m }
     ensures { walk m (block_of row.now 0) 1 ≡ some result }
 {
     let to = 2 + BLOCK;
@@ -55,8 +55,8 @@ pub fn put_entries(row: &mut [u16], at: usize, entries: &[u16], m: usize)
 }
 
 fn empty_marks(row: &mut [u16])
-    requires { draftRoom ≤ length row.old }
-    ensures { row.new ≡ emptied marksCount row.old }
+    requires { draft_room ≤ length row.old }
+    ensures { row.new ≡ emptied marks_count row.old }
 {
     let mut k = 0;
     while k < MARKS {
@@ -66,8 +66,8 @@ fn empty_marks(row: &mut [u16])
 }
 
 pub fn begin(row: &mut [u16], t: u16, n: u16, cell: u16, table: &[u16])
-    requires { (draftRoom ≤ length row.old) × (length table.now ≤ tableRoom) }
-    ensures { row.new ≡ emptied marksCount (splice row.old 0 (t ∷ n ∷ cell ∷ table.now)) }
+    requires { (draft_room ≤ length row.old) × (length table.now ≤ table_room) }
+    ensures { row.new ≡ emptied marks_count (splice row.old 0 (t ∷ n ∷ cell ∷ table.now)) }
 {
     let m = table.len();
     put_entries(row, 3, table, m);

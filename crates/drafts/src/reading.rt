@@ -1,7 +1,7 @@
 // What a row holds: where the draft's rules end, its table and its numbers, and how long a row must be.
 ghost use Rattle.std.specs.Prelude.{◌≡◌};
-ghost use Rattle.drafts.specs.Row.{draftRoom};
-ghost use Rattle.drafts.specs.Edits.{openRow, opening};
+ghost use Rattle.drafts.specs.Row.{draft_room};
+ghost use Rattle.drafts.specs.Edits.{open_row, opening};
 ghost use Rattle.drafts.specs.Reading.{ShowsTable, CountsDraft, PlacesTable};
 
 use super::blocks::{DRAFT_ROOM, held, wide};
@@ -10,13 +10,13 @@ use grammar::{BUFFER_TOO_SHORT, NOT_PRESENT};
 
 // No row of a draft may be shorter.
 pub fn draft_room() -> usize
-    ensures { result ≡ draftRoom }
+    ensures { result ≡ draft_room }
 {
     DRAFT_ROOM
 }
 
 pub fn open_draft(draft: &[u16]) -> FoundDraft
-    ensures { result ≡ opening (openRow draft.now) }
+    ensures { result ≡ opening (open_row draft.now) }
 {
     if draft.len() < DRAFT_ROOM {
         return FoundDraft::Shut(BUFFER_TOO_SHORT, 0);

@@ -9,16 +9,16 @@ use lib.Dec.{eqb, leb}
 use lib.ListN.{length, length-append, length-map}
 use borrow.Author.Tests.{eqb-true}
 use Rattle.grammar.specs.Basics.{choose, when, each, Mem, here, there}
-use Rattle.automaton.specs.Moves.{Moves, terminalAhead}
+use Rattle.automaton.specs.Moves.{Moves, terminal_ahead}
 use Rattle.automaton.specs.Strings.{opening, closing, symbol}
-use Rattle.automaton.specs.AllMoves.{numbers, moved, leaving, allMoves, moveCount}
+use Rattle.automaton.specs.AllMoves.{numbers, moved, leaving, all_moves, move_count}
 use Rattle.triples.specs.Index.{index}
-use Rattle.triples.specs.Records.{step, leftAlone, rightAlone, bothShift, bothClose, choices, key, insert, ordered, records, nextIndex}
+use Rattle.triples.specs.Records.{step, left_alone, right_alone, both_shift, both_close, choices, key, insert, ordered, records, next_index}
 use Rattle.triples.specs.Smallest.{successors}
 use Rattle.triples.specs.declared.Move.{Move}
 use Rattle.triples.specs.declared.Move.TheVariants.{Opening, Closing, Symbol, Still}
 use Rattle.triples.specs.declared.Step.{Step}
-use Rattle.triple_laws.proofs.Records.{records-are, successors-are}
+use Rattle.triple_laws.proofs.Records.{records_are, successors_are}
 use Rattle.figures.specs.Sum.{sum}
 use Rattle.figures.proofs.Sums.{total-numbers, each-length}
 
@@ -40,11 +40,11 @@ none_in [] h = refl
 none_in (a ∷ l) h = absurd (h a here)
 
 -- the lists that f gives are n long each, or at most n
-each-times : {A B : Type 0} (l : List A) (f : A → List B) (n : ℕ) → ((a : A) → Mem a l → length (f a) ≡ n) → length (each l f) ≡ length l * n
+each_times : {A B : Type 0} (l : List A) (f : A → List B) (n : ℕ) → ((a : A) → Mem a l → length (f a) ≡ n) → length (each l f) ≡ length l * n
 unfolding each
-each-times [] f n h = omega arith
-each-times (a ∷ l) f n h =
-    omega (arith, length-append (f a) (each l f), h a here, each-times l f n (λ b m. h b (there m)), suc-mul (length l) n)
+each_times [] f n h = omega arith
+each_times (a ∷ l) f n h =
+    omega (arith, length-append (f a) (each l f), h a here, each_times l f n (λ b m. h b (there m)), suc-mul (length l) n)
 
 each-most : {A B : Type 0} (l : List A) (f : A → List B) (n : ℕ) → ((a : A) → length (f a) ≤ n) → length (each l f) ≤ length l * n
 unfolding each
@@ -54,11 +54,11 @@ each-most (a ∷ l) f n h = omega (arith, length-append (f a) (each l f), h a, e
 -- pairs: each of them gives one, or none, or at most one
 module _ {A B C : Type 0} (l : List A) (k : List B) (f : A → B → List C) where
   pub pairs-one : ((a : A) (b : B) → Mem a l → Mem b k → length (f a b) ≡ 1) → length (each l (λ a. each k (f a))) ≡ length l * length k
-  pairs-one h = each-times l (λ a. each k (f a)) (length k) (λ a m. omega (arith, each-times k (f a) 1 (λ b n. h a b m n)))
+  pairs-one h = each_times l (λ a. each k (f a)) (length k) (λ a m. omega (arith, each_times k (f a) 1 (λ b n. h a b m n)))
 
   pub pairs-none : ((a : A) (b : B) → Mem a l → Mem b k → length (f a b) ≡ 0) → length (each l (λ a. each k (f a))) ≡ 0
   pairs-none h =
-      omega (arith, each-times l (λ a. each k (f a)) 0 (λ a m. omega (arith, each-times k (f a) 0 (λ b n. h a b m n))))
+      omega (arith, each_times l (λ a. each k (f a)) 0 (λ a m. omega (arith, each_times k (f a) 0 (λ b n. h a b m n))))
 
   pairs-most : ((a : A) (b : B) → length (f a b) ≤ 1) → length (each l (λ a. each k (f a))) ≤ length l * length k
   pairs-most h = each-most l (λ a. each k (f a)) (length k) (λ a. omega (arith, each-most k (f a) 1 (h a)))
@@ -79,7 +79,7 @@ module _ (M : Moves) where
   shifting p = one (leb 1 (M.ahead p))
 
   abbrev pub reading : ℕ → ℕ
-  reading p = one (terminalAhead M p)
+  reading p = one (terminal_ahead M p)
 
   abbrev pub out : ℕ → ℕ
   out p = length (leaving M p)
@@ -97,21 +97,21 @@ module _ (M : Moves) where
       )
 
   -- M is the sum over the states
-  pub move-count : moveCount M ≡ sum out M.states
-  unfolding allMoves
-  move-count = each-length (numbers M.states) (leaving M) ∙ total-numbers out M.states
+  pub move_count_lem : move_count M ≡ sum out M.states
+  unfolding all_moves
+  move_count_lem = each-length (numbers M.states) (leaving M) ∙ total-numbers out M.states
 
-  left-length : (f q : ℕ) (kind : ℕ → Move) (l : List (ℕ × ℕ)) → length (leftAlone f q kind l) ≡ length l
-  unfolding leftAlone
+  left-length : (f q : ℕ) (kind : ℕ → Move) (l : List (ℕ × ℕ)) → length (left_alone f q kind l) ≡ length l
+  unfolding left_alone
   left-length f q kind l = length-map l (λ m. step f m.1 q (kind m.0) Still)
 
-  right-length : (f p : ℕ) (kind : ℕ → Move) (l : List (ℕ × ℕ)) → length (rightAlone f p kind l) ≡ length l
-  unfolding rightAlone
+  right-length : (f p : ℕ) (kind : ℕ → Move) (l : List (ℕ × ℕ)) → length (right_alone f p kind l) ≡ length l
+  unfolding right_alone
   right-length f p kind l = length-map l (λ m. step f p m.1 Still (kind m.0))
 
-  shift-length : (f p q : ℕ) → length (bothShift M f p q) ≤ shifting p * shifting q
-  unfolding bothShift
-  shift-length f p q = go (leb 1 (M.ahead p)) (eqb (M.ahead p) (M.ahead q)) refl refl
+  shift_length : (f p q : ℕ) → length (both_shift M f p q) ≤ shifting p * shifting q
+  unfolding both_shift
+  shift_length f p q = go (leb 1 (M.ahead p)) (eqb (M.ahead p) (M.ahead q)) refl refl
     where
       go : (b c : Bool) → leb 1 (M.ahead p) ≡ b → eqb (M.ahead p) (M.ahead q) ≡ c
           → length (when (b && c) (step f (M.after p) (M.after q) (Symbol (M.ahead p)) (Symbol (M.ahead p)) ∷ [])) ≤ one b * shifting q
@@ -121,25 +121,25 @@ module _ (M : Moves) where
       go true false e h = omega arith
       go false c e h = omega arith
 
-  close-length : (p q : ℕ) → length (bothClose M p q) ≤ closes p * closes q
-  unfolding bothClose
+  close-length : (p q : ℕ) → length (both_close M p q) ≤ closes p * closes q
+  unfolding both_close
   close-length p q =
       pairs-most (M.closings p) (M.closings q) (λ m n. when (not (eqb m.0 n.0)) (step 1 m.1 n.1 (Closing m.0) (Closing n.0) ∷ []))
       (λ m n. one-small (not (eqb m.0 n.0)) (step 1 m.1 n.1 (Closing m.0) (Closing n.0)))
 
   -- the choices of a triple in layer 0, counted
-  pub zero-count : (p q : ℕ) → length (choices M 0 p q)
-      ≡ opens p + opens q + length (bothShift M 0 p q) + length (bothClose M p q) + reading q * closes p + reading p * closes q
+  pub zero_count : (p q : ℕ) → length (choices M 0 p q)
+      ≡ opens p + opens q + length (both_shift M 0 p q) + length (both_close M p q) + reading q * closes p + reading p * closes q
   unfolding choices
-  zero-count p q =
-      let a = leftAlone 0 q (λ i. Opening i) (M.openings p) in
-      let b = rightAlone 0 p (λ i. Opening i) (M.openings q) in
-      let c = bothShift M 0 p q in
-      let d = bothClose M p q in
-      let e = when (terminalAhead M q) (leftAlone 1 q (λ i. Closing i) (M.closings p)) in
-      let f = when (terminalAhead M p) (rightAlone 1 p (λ i. Closing i) (M.closings q)) in
-      let ze : length e ≡ reading q * closes p = when-length (terminalAhead M q) _ ∙ ap (λ (z : ℕ). reading q * z) (left-length 1 q (λ i. Closing i) (M.closings p)) in
-      let zf : length f ≡ reading p * closes q = when-length (terminalAhead M p) _ ∙ ap (λ (z : ℕ). reading p * z) (right-length 1 p (λ i. Closing i) (M.closings q)) in
+  zero_count p q =
+      let a = left_alone 0 q (λ i. Opening i) (M.openings p) in
+      let b = right_alone 0 p (λ i. Opening i) (M.openings q) in
+      let c = both_shift M 0 p q in
+      let d = both_close M p q in
+      let e = when (terminal_ahead M q) (left_alone 1 q (λ i. Closing i) (M.closings p)) in
+      let f = when (terminal_ahead M p) (right_alone 1 p (λ i. Closing i) (M.closings q)) in
+      let ze : length e ≡ reading q * closes p = when-length (terminal_ahead M q) _ ∙ ap (λ (z : ℕ). reading q * z) (left-length 1 q (λ i. Closing i) (M.closings p)) in
+      let zf : length f ≡ reading p * closes q = when-length (terminal_ahead M p) _ ∙ ap (λ (z : ℕ). reading p * z) (right-length 1 p (λ i. Closing i) (M.closings q)) in
       omega (
         arith,
         length-append (a ++ b ++ c ++ d ++ e) f,
@@ -154,14 +154,14 @@ module _ (M : Moves) where
       )
 
   -- and in layer 1
-  pub one-count : (p q : ℕ) → length (choices M 1 p q) ≡ opens p + closes p + opens q + closes q + reading p * length (bothShift M 1 p q)
+  pub one_count : (p q : ℕ) → length (choices M 1 p q) ≡ opens p + closes p + opens q + closes q + reading p * length (both_shift M 1 p q)
   unfolding choices
-  one-count p q =
-      let a = leftAlone 1 q (λ i. Opening i) (M.openings p) in
-      let b = leftAlone 1 q (λ i. Closing i) (M.closings p) in
-      let c = rightAlone 1 p (λ i. Opening i) (M.openings q) in
-      let d = rightAlone 1 p (λ i. Closing i) (M.closings q) in
-      let e = when (terminalAhead M p) (bothShift M 1 p q) in
+  one_count p q =
+      let a = left_alone 1 q (λ i. Opening i) (M.openings p) in
+      let b = left_alone 1 q (λ i. Closing i) (M.closings p) in
+      let c = right_alone 1 p (λ i. Opening i) (M.openings q) in
+      let d = right_alone 1 p (λ i. Closing i) (M.closings q) in
+      let e = when (terminal_ahead M p) (both_shift M 1 p q) in
       omega (
         arith,
         length-append (a ++ b ++ c ++ d) e,
@@ -172,15 +172,15 @@ module _ (M : Moves) where
         left-length 1 q (λ i. Closing i) (M.closings p),
         right-length 1 p (λ i. Opening i) (M.openings q),
         right-length 1 p (λ i. Closing i) (M.closings q),
-        when-length (terminalAhead M p) (bothShift M 1 p q),
+        when-length (terminal_ahead M p) (both_shift M 1 p q),
       )
 
   -- how many they are at most
   pub zero-length : (p q : ℕ) → length (choices M 0 p q) ≤ opens p + opens q + shifting p * shifting q + closes p * closes q + reading q * closes p + reading p * closes q
-  zero-length p q = omega (arith, zero-count p q, shift-length 0 p q, close-length p q)
+  zero-length p q = omega (arith, zero_count p q, shift_length 0 p q, close-length p q)
 
   pub one-length : (p q : ℕ) → length (choices M 1 p q) ≤ opens p + closes p + opens q + closes q + shifting p * shifting q
-  one-length p q = omega (arith, one-count p q, shift-length 1 p q, under (terminalAhead M p) (length (bothShift M 1 p q)))
+  one-length p q = omega (arith, one_count p q, shift_length 1 p q, under (terminal_ahead M p) (length (both_shift M 1 p q)))
     where
       under : (b : Bool) (k : ℕ) → one b * k ≤ k
       under true k = omega arith
@@ -212,5 +212,5 @@ module _ (M : Moves) where
   -- the successors of an index are as many as the choices of its triple
   pub successors-length : (f p q : ℕ) → p < M.states → q < M.states → length (successors M (index M.states f p q)) ≡ length (choices M f p q)
   successors-length f p q hp hq =
-      ap length (successors-are M f p q hp hq) ∙ length-map (records M f p q) (nextIndex M)
-      ∙ ap length (records-are M f p q hp hq) ∙ ordered-length (index M.states f p q) (choices M f p q)
+      ap length (successors_are M f p q hp hq) ∙ length-map (records M f p q) (next_index M)
+      ∙ ap length (records_are M f p q hp hq) ∙ ordered-length (index M.states f p q) (choices M f p q)

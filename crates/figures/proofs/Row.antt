@@ -9,7 +9,7 @@ use Rattle.grammar.specs.Basics.{Mem}
 use Rattle.triples.specs.Shortest.{ComesBefore}
 use Rattle.figures.specs.Queue.{InOrder}
 use Rattle.figures.proofs.Shortest.{Leads, Fewest}
-use Rattle.figures.proofs.Found.{Less, Walk, here, next, Way, way-unique, Best, walk-least, turned, less-before}
+use Rattle.figures.proofs.Found.{Less, Walk, here, next, Way, way_unique, Best, walk_least, turned, less_before}
 
 -- a row turned round onto another
 abbrev pub onto : List ℕ → List ℕ → List ℕ
@@ -17,11 +17,11 @@ onto [] u = u
 onto (x ∷ v) u = onto v (x ∷ u)
 
 turned-onto : (v u : List ℕ) → turned (onto v u) ≡ turned u ++ v
-turned-onto [] u = sym (append-none (turned u))
+turned-onto [] u = sym (append_none (turned u))
   where
-    append-none : (l : List ℕ) → l ++ [] ≡ l
-    append-none [] = refl
-    append-none (x ∷ l) = ap (λ (k : List ℕ). x ∷ k) (append-none l)
+    append_none : (l : List ℕ) → l ++ [] ≡ l
+    append_none [] = refl
+    append_none (x ∷ l) = ap (λ (k : List ℕ). x ∷ k) (append_none l)
 turned-onto (x ∷ v) u = turned-onto v (x ∷ u) ∙ append_assoc (turned u) (x ∷ []) v
 
 module _ (successors : ℕ → List ℕ) (goal N : ℕ) (inside : (i j : ℕ) → i < N → Mem j (successors i) → j < N) (Next : ℕ → ℕ → Type 0)
@@ -36,7 +36,7 @@ module _ (successors : ℕ → List ℕ) (goal N : ℕ) (inside : (i j : ℕ) �
       → Fewest successors goal 0 rest
   row-fewest queue parents count o apart some place l e rest way leads = record {
     leads = leads;
-    least = λ v h. compare v (walk-least queue parents Next count o (walked v 0 some h (0 ∷ []) here));
+    least = λ v h. compare v (walk_least queue parents Next count o (walked v 0 some h (0 ∷ []) here));
   }
     where
       front : (u v : List ℕ) → ComesBefore (0 ∷ u) (0 ∷ v) → ComesBefore u v
@@ -54,9 +54,9 @@ module _ (successors : ℕ → List ℕ) (goal N : ℕ) (inside : (i j : ℕ) �
       compare : (v : List ℕ) → Best queue parents Next count o goal (onto v (0 ∷ [])) → (rest ≡ v) ⊎ ComesBefore rest v
       compare v b =
           let same : b.place ≡ place = apart b.place place b.inside l (b.entry ∙ sym e) in
-          let w : b.way ≡ onto rest (0 ∷ []) = way-unique queue parents (subst (λ (k : ℕ). Way queue parents k b.way) same b.is-way) way in
+          let w : b.way ≡ onto rest (0 ∷ []) = way_unique queue parents (subst (λ (k : ℕ). Way queue parents k b.way) same b.is_way) way in
           elim b.least [
             | inl h ↦ inr (front rest v (subst (λ (x : List ℕ). ComesBefore x (0 ∷ v)) (turned-onto rest (0 ∷ [])) (subst (ComesBefore (turned (onto rest (0 ∷ [])))) (turned-onto v (0 ∷ []))
-                (less-before (onto rest (0 ∷ [])) (onto v (0 ∷ [])) (subst (λ (x : List ℕ). Less x (onto v (0 ∷ []))) w h)))))
+                (less_before (onto rest (0 ∷ [])) (onto v (0 ∷ [])) (subst (λ (x : List ℕ). Less x (onto v (0 ∷ []))) w h)))))
             | inr h ↦ inl (tail rest v (sym (turned-onto rest (0 ∷ [])) ∙ ap turned (sym w ∙ h) ∙ turned-onto v (0 ∷ [])))
           ]

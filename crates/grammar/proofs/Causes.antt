@@ -8,9 +8,9 @@ use lib.ListN.{length}
 use Rattle.grammar.specs.Basics.{choose}
 use Rattle.grammar.specs.Limits.{Limits}
 use Rattle.grammar.specs.Grammar.{Rule}
-use Rattle.grammar.specs.Table.{ruleAt}
-use Rattle.grammar.specs.Refusal.{Answer, done, refused, refuseUnless, and_then, outOfRange, truncated, leftUndeclared, ruleTooLong, codeUndeclared, ruleRepeated, tooManyRules, tooManyStates}
-use Rattle.grammar.specs.TableCheck.{readRule, nextRule, checkFrom, storedTable}
+use Rattle.grammar.specs.Table.{rule_at}
+use Rattle.grammar.specs.Refusal.{Answer, done, refused, refuse_unless, and_then, out_of_range, truncated, left_undeclared, rule_too_long, code_undeclared, rule_repeated, too_many_rules, too_many_states}
+use Rattle.grammar.specs.TableCheck.{read_rule, next_rule, check_from, stored_table}
 
 -- a result, or a refusal with one of these causes
 pub data CausedBy (among : ℕ → Bool) {A : Type 0} : Answer A → Type 0 where
@@ -18,8 +18,8 @@ pub data CausedBy (among : ℕ → Bool) {A : Type 0} : Answer A → Type 0 wher
   cause : {c p : ℕ} → among c ≡ true → CausedBy among (refused c p)
 
 module _ {among : ℕ → Bool} where
-  pub unless : {A : Type 0} (c p : ℕ) (b : Bool) (o : Answer A) → among c ≡ true → CausedBy among o → CausedBy among (refuseUnless c p b o)
-  unfolding refuseUnless
+  pub unless : {A : Type 0} (c p : ℕ) (b : Bool) (o : Answer A) → among c ≡ true → CausedBy among o → CausedBy among (refuse_unless c p b o)
+  unfolding refuse_unless
   unless c p true o h k = k
   unless c p false o h k = cause h
 
@@ -37,33 +37,33 @@ abbrev pub up_to : ℕ → ℕ → Bool
 up_to last c = leb 1 c && leb c last
 
 -- other causes among which these are
-pub caused-more : {A : Type 0} {few more : ℕ → Bool} → ((c : ℕ) → few c ≡ true → more c ≡ true) → (o : Answer A) → CausedBy few o → CausedBy more o
-caused-more f (done a) result = result
-caused-more f (refused c p) (cause h) = cause (f c h)
+pub caused_more : {A : Type 0} {few more : ℕ → Bool} → ((c : ℕ) → few c ≡ true → more c ≡ true) → (o : Answer A) → CausedBy few o → CausedBy more o
+caused_more f (done a) result = result
+caused_more f (refused c p) (cause h) = cause (f c h)
 
 module _ (L : Limits) (t n : ℕ) (table : List ℕ) where
-  read-causes : (at : ℕ) → CausedBy (up_to 8) (readRule L t n table at)
-  unfolding readRule
-  read-causes at =
+  read_causes : (at : ℕ) → CausedBy (up_to 8) (read_rule L t n table at)
+  unfolding read_rule
+  read_causes at =
       unless truncated _ _ _ refl
-      (unless leftUndeclared _ _ _ refl
-      (unless ruleTooLong _ _ _ refl
+      (unless left_undeclared _ _ _ refl
+      (unless rule_too_long _ _ _ refl
       (unless truncated _ _ _ refl
-      (unless codeUndeclared _ _ _ refl result))))
+      (unless code_undeclared _ _ _ refl result))))
 
-  pub next-causes : (earlier : List Rule) (at : ℕ) → CausedBy (up_to 8) (nextRule L t n table earlier at)
-  unfolding nextRule
-  next-causes earlier at = next _ _ (read-causes at) (λ k. unless ruleRepeated _ _ _ refl (unless tooManyStates _ _ _ refl result))
+  pub next_causes : (earlier : List Rule) (at : ℕ) → CausedBy (up_to 8) (next_rule L t n table earlier at)
+  unfolding next_rule
+  next_causes earlier at = next _ _ (read_causes at) (λ k. unless rule_repeated _ _ _ refl (unless too_many_states _ _ _ refl result))
 
-  check-causes : (m : ℕ) (earlier : List Rule) (at : ℕ) → CausedBy (up_to 8) (checkFrom L m t n table earlier at)
-  unfolding checkFrom
-  check-causes zero earlier at = unless tooManyRules _ _ _ refl result
-  check-causes (suc m) earlier at =
+  check_causes : (m : ℕ) (earlier : List Rule) (at : ℕ) → CausedBy (up_to 8) (check_from L m t n table earlier at)
+  unfolding check_from
+  check_causes zero earlier at = unless too_many_rules _ _ _ refl result
+  check_causes (suc m) earlier at =
       either (leb (length table) at) (done earlier)
-      (and_then (nextRule L t n table earlier at) (λ k. checkFrom L m t n table (earlier ++ (ruleAt table at k ∷ [])) (at + 2 + k)))
+      (and_then (next_rule L t n table earlier at) (λ k. check_from L m t n table (earlier ++ (rule_at table at k ∷ [])) (at + 2 + k)))
       result
-      (next _ _ (next-causes earlier at) (λ k. check-causes m (earlier ++ (ruleAt table at k ∷ [])) (at + 2 + k)))
+      (next _ _ (next_causes earlier at) (λ k. check_causes m (earlier ++ (rule_at table at k ∷ [])) (at + 2 + k)))
 
-  pub stored-causes : CausedBy (up_to 8) (storedTable L t n table)
-  unfolding storedTable
-  stored-causes = unless outOfRange _ _ _ refl (next _ _ (check-causes L.maxRules [] 0) (λ rules. result))
+  pub stored_causes : CausedBy (up_to 8) (stored_table L t n table)
+  unfolding stored_table
+  stored_causes = unless out_of_range _ _ _ refl (next _ _ (check_causes L.max_rules [] 0) (λ rules. result))

@@ -6,12 +6,12 @@ use mathlib.Core.Bool.{Bool, true, false}
 use mathlib.Core.List.{List, [], ◌∷◌}
 use native.Mathlib.Omega.{arith}
 use Rattle.grammar.specs.Basics.{each}
-use Rattle.grammar.specs.Limits.{byteLimits}
+use Rattle.grammar.specs.Limits.{byte_limits}
 use Rattle.grammar.specs.Grammar.{Rule, Grammar, rule}
 use Rattle.grammar.specs.Tree.{Tree, node, Trees, none, child, DerivationTree, applies, end, terminal, nonterminal}
 use Rattle.grammar.specs.Tree.{before, after, row, HasTree}
 use Rattle.grammar.specs.Live.{Uses, at-root, further, UsesBelow, in-first, in-others, Live, live-start, live-rule}
-use Rattle.grammar.specs.Live.{has, hasAll, concluded, waiting, rounds, nonterminalsOf, productive, usable, reachable, hasSentence, isLive}
+use Rattle.grammar.specs.Live.{has, has_all, concluded, waiting, rounds, nonterminals_of, productive, usable, reachable, has_sentence, is_live}
 use Rattle.grammar.proofs.TreePins.{by-rule}
 
 abbrev of : ℕ → List ℕ → Rule
@@ -43,8 +43,8 @@ unused = record { terminals = 1; nonterminals = 3; rules = of 129 (1 ∷ []) ∷
 
 -- to unfold this is to unfold all that it uses
 lived : Grammar → ℕ → Bool
-unfolding rule each has hasAll concluded waiting rounds nonterminalsOf productive usable reachable hasSentence isLive
-lived G i = isLive byteLimits G i
+unfolding rule each has has_all concluded waiting rounds nonterminals_of productive usable reachable has_sentence is_live
+lived G i = is_live byte_limits G i
 
 -- rule 0 is live if there is a sentence
 sentences : (lived bare 0 ≡ false) × (lived circle 0 ≡ false) × (lived course 0 ≡ true) × (lived barren 0 ≡ true)
@@ -67,27 +67,27 @@ unfolding lived
 live-rules = (refl, refl, refl, refl, refl, refl, refl, refl, refl, refl, refl)
 
 -- without rules there is no tree, so rule 0 is not live
-no-tree : {b : ℕ} {t : Tree} → DerivationTree byteLimits bare b t → ⊥
-no-tree (applies r c) = omega (arith, r.0)
+no_tree : {b : ℕ} {t : Tree} → DerivationTree byte_limits bare b t → ⊥
+no_tree (applies r c) = omega (arith, r.0)
 
-bare-dead : ¬ Live byteLimits bare 0
-bare-dead (live-start h) = no-tree h.derives
-bare-dead (live-rule h u) = no-tree h.derives
+bare_dead : ¬ Live byte_limits bare 0
+bare_dead (live-start h) = no_tree h.derives
+bare_dead (live-rule h u) = no_tree h.derives
 
 -- a a of A → a; S → A A; B → S: its tree uses S → A A at the root and A → a below, in the first child and in the other
 abbrev twice : Tree
 twice = node 2 (child (node 1 none) (child (node 1 none) none))
 
-sentence : HasTree byteLimits unused (1 ∷ 1 ∷ []) twice
+sentence : HasTree byte_limits unused (1 ∷ 1 ∷ []) twice
 unfolding rule row before after
 sentence =
-    let a : DerivationTree byteLimits unused 129 (node 1 none) = by-rule unused 1 (omega arith) (terminal (omega arith) end) in
+    let a : DerivationTree byte_limits unused 129 (node 1 none) = by-rule unused 1 (omega arith) (terminal (omega arith) end) in
     record {
       derives = by-rule unused 2 (omega arith) (nonterminal (omega arith, omega arith) a (nonterminal (omega arith, omega arith) a end));
       sentence = refl;
     }
 
-uses : Live byteLimits unused 0 × Live byteLimits unused 1 × Live byteLimits unused 1 × Live byteLimits unused 2
+uses : Live byte_limits unused 0 × Live byte_limits unused 1 × Live byte_limits unused 1 × Live byte_limits unused 2
 uses = (
   live-start sentence,
   live-rule sentence (further (in-first at-root)),

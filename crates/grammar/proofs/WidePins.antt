@@ -7,10 +7,10 @@ use mathlib.Core.List.{List, [], ◌∷◌, ◌++◌}
 use Prim.Native.Nat.{ℕ, zero, suc, ◌+◌}
 use lib.ListN.{replicate}
 use Rattle.grammar.specs.Limits.{limits}
-use Rattle.grammar.specs.Grammar.{Rule, Grammar, stateCount}
+use Rattle.grammar.specs.Grammar.{Rule, Grammar, state_count}
 use Rattle.grammar.specs.Table.{encode}
-use Rattle.grammar.specs.Refusal.{Answer, done, refused, refuseUnless, and_then}
-use Rattle.grammar.specs.TableCheck.{sameCodes, isAmong, declaredFront, readRule, nextRule, checkFrom, storedTable}
+use Rattle.grammar.specs.Refusal.{Answer, done, refused, refuse_unless, and_then}
+use Rattle.grammar.specs.TableCheck.{same_codes, is_among, declared_front, read_rule, next_rule, check_from, stored_table}
 
 abbrev rule : ℕ → List ℕ → Rule
 rule x w = record { left = x; right = w }
@@ -25,58 +25,58 @@ grammar t n rs = record { terminals = t; nonterminals = n; rules = rs }
 
 -- to unfold this is to unfold all that it uses
 check : ℕ → ℕ → List ℕ → Answer Grammar
-unfolding storedTable checkFrom nextRule readRule declaredFront isAmong sameCodes stateCount refuseUnless and_then encode rules
-check t n table = storedTable limits t n table
+unfolding stored_table check_from next_rule read_rule declared_front is_among same_codes state_count refuse_unless and_then encode rules
+check t n table = stored_table limits t n table
 
 -- the longest text, which no test here uses
-longest : limits.maxText ≡ 262144
+longest : limits.max_text ≡ 262144
 longest = refl
 
 -- 1: t 2,000 and n 2,000 pass with their first and last codes; t 2,001, n 0, n 2,001
-cause-1 : (check 2000 2000 (34767 ∷ 4 ∷ 1 ∷ 2000 ∷ 32768 ∷ 34767 ∷ [])
+cause_1 : (check 2000 2000 (34767 ∷ 4 ∷ 1 ∷ 2000 ∷ 32768 ∷ 34767 ∷ [])
     ≡ done (grammar 2000 2000 (rule 34767 (1 ∷ 2000 ∷ 32768 ∷ 34767 ∷ []) ∷ [])))
     × (check 2001 1 [] ≡ refused 1 0)
     × (check 0 0 [] ≡ refused 1 0)
     × (check 0 2001 [] ≡ refused 1 0)
 unfolding check
-cause-1 = (refl, refl, refl, refl)
+cause_1 = (refl, refl, refl, refl)
 
 -- 2: one entry, which is two bytes
-cause-2 : check 1 1 (32768 ∷ []) ≡ refused 2 0
+cause_2 : check 1 1 (32768 ∷ []) ≡ refused 2 0
 unfolding check
-cause-2 = refl
+cause_2 = refl
 
 -- 3: the codes 2,000, 2,001, 32,767 and 34,768 on the left, at the rule, with the largest t and n
-cause-3 : (check 2000 2000 (2000 ∷ 0 ∷ []) ≡ refused 3 0)
+cause_3 : (check 2000 2000 (2000 ∷ 0 ∷ []) ≡ refused 3 0)
     × (check 2000 2000 (2001 ∷ 0 ∷ []) ≡ refused 3 0)
     × (check 2000 2000 (32767 ∷ 0 ∷ []) ≡ refused 3 0)
     × (check 2000 2000 (34767 ∷ 0 ∷ 34768 ∷ 0 ∷ []) ≡ refused 3 2)
 unfolding check
-cause-3 = (refl, refl, refl, refl)
+cause_3 = (refl, refl, refl, refl)
 
 -- 4: k 12 passes; k 13, and a length whose low byte is 12
-cause-4 : (check 1 1 (32768 ∷ 12 ∷ replicate 12 1) ≡ done (grammar 1 1 (rule 32768 (replicate 12 1) ∷ [])))
+cause_4 : (check 1 1 (32768 ∷ 12 ∷ replicate 12 1) ≡ done (grammar 1 1 (rule 32768 (replicate 12 1) ∷ [])))
     × (check 1 1 (32768 ∷ 13 ∷ replicate 13 1) ≡ refused 4 0)
     × (check 1 1 (32768 ∷ 268 ∷ replicate 12 1) ≡ refused 4 0)
 unfolding check
-cause-4 = (refl, refl, refl)
+cause_4 = (refl, refl, refl)
 
 -- 5: the codes 2,001, 32,767 and 34,768 on the right, at the code, with the largest t and n
-cause-5 : (check 2000 2000 (32768 ∷ 2 ∷ 2000 ∷ 2001 ∷ []) ≡ refused 5 3)
+cause_5 : (check 2000 2000 (32768 ∷ 2 ∷ 2000 ∷ 2001 ∷ []) ≡ refused 5 3)
     × (check 2000 2000 (32768 ∷ 2 ∷ 2000 ∷ 32767 ∷ []) ≡ refused 5 3)
     × (check 2000 2000 (32768 ∷ 2 ∷ 34767 ∷ 34768 ∷ []) ≡ refused 5 3)
 unfolding check
-cause-5 = (refl, refl, refl)
+cause_5 = (refl, refl, refl)
 
 -- 7: 400 rules pass; a 401st, at its offset
-cause-7 : (check 0 2000 (encode (rules 400 32768 [])) ≡ done (grammar 0 2000 (rules 400 32768 [])))
+cause_7 : (check 0 2000 (encode (rules 400 32768 [])) ≡ done (grammar 0 2000 (rules 400 32768 [])))
     × (check 0 2000 (encode (rules 401 32768 [])) ≡ refused 7 800)
 unfolding check
-cause-7 = (refl, refl)
+cause_7 = (refl, refl)
 
 -- 8: Q 1,024 passes; 1,025, at its rule
-cause-8 : (check 1 2000 (encode (rules 78 32768 (replicate 12 1)) ++ (32846 ∷ 5 ∷ replicate 5 1))
+cause_8 : (check 1 2000 (encode (rules 78 32768 (replicate 12 1)) ++ (32846 ∷ 5 ∷ replicate 5 1))
     ≡ done (grammar 1 2000 (rules 78 32768 (replicate 12 1) ++ (rule 32846 (replicate 5 1) ∷ []))))
     × (check 1 2000 (encode (rules 78 32768 (replicate 12 1)) ++ (32846 ∷ 6 ∷ replicate 6 1)) ≡ refused 8 1092)
 unfolding check
-cause-8 = (refl, refl)
+cause_8 = (refl, refl)

@@ -1,7 +1,7 @@
 -- Grammars with a sentence, rules that some sentence uses, and the tests of both.
 -- Source: document 02, request [4] ("a grammar in which S has no finite tree") and [3] ("a rule is live if some sentence has a tree
 -- that uses it; rule 0 is live if there is a sentence"); the tests go by productive nonterminals and then by what S reaches through
--- productive rules, which is known of context-free grammars since Bar-Hillel, Perles and Shamir. They are meant for well-formed
+-- productive rules, which is known of context-free grammars since Bar-Hillel, Perles and Shamir. They are meant for well_formed
 -- grammars. Assumes nothing.
 use Rattle.std.specs.Prelude.{ℕ, zero, suc, Bool, true, false, not, ◌&&◌, ◌||◌, List, [], ◌∷◌, ◌++◌, map, leb, eqb, length}
 use Rattle.grammar.specs.Basics.{when, each}
@@ -39,19 +39,19 @@ has [] x = false
 has (y ∷ l) x = eqb y x || has l x
 
 -- all of these are found
-unfoldable pub hasAll : List ℕ → List ℕ → Bool
-hasAll found [] = true
-hasAll found (x ∷ l) = has found x && hasAll found l
+unfoldable pub has_all : List ℕ → List ℕ → Bool
+has_all found [] = true
+has_all found (x ∷ l) = has found x && has_all found l
 
 -- what the clauses conclude whose premises are all found
 unfoldable pub concluded : List ℕ → List Clause → List ℕ
 concluded found [] = []
-concluded found (c ∷ cs) = when (hasAll found c.premises) (c.conclusion ∷ []) ++ concluded found cs
+concluded found (c ∷ cs) = when (has_all found c.premises) (c.conclusion ∷ []) ++ concluded found cs
 
 -- the clauses that lack one
 unfoldable pub waiting : List ℕ → List Clause → List Clause
 waiting found [] = []
-waiting found (c ∷ cs) = when (not (hasAll found c.premises)) (c ∷ []) ++ waiting found cs
+waiting found (c ∷ cs) = when (not (has_all found c.premises)) (c ∷ []) ++ waiting found cs
 
 -- so many rounds: each finds what the clauses conclude whose premises are found, and goes on with those that wait
 unfoldable pub rounds : ℕ → List ℕ → List Clause → List ℕ
@@ -64,42 +64,42 @@ closure cs = rounds (length cs) [] cs
 
 module _ (L : Limits) where
   -- the nonterminals of a right side
-  unfoldable pub nonterminalsOf : List ℕ → List ℕ
-  nonterminalsOf [] = []
-  nonterminalsOf (x ∷ α) = when (leb (start L) x) (x ∷ []) ++ nonterminalsOf α
+  unfoldable pub nonterminals_of : List ℕ → List ℕ
+  nonterminals_of [] = []
+  nonterminals_of (x ∷ α) = when (leb (start L) x) (x ∷ []) ++ nonterminals_of α
 
   -- a rule's left side derives terminals if all nonterminals of its right side do
-  abbrev pub derivesIf : Rule → Clause
-  derivesIf r = record { premises = nonterminalsOf r.right; conclusion = r.left }
+  abbrev pub derives_if : Rule → Clause
+  derives_if r = record { premises = nonterminals_of r.right; conclusion = r.left }
 
   -- the nonterminals that derive terminals
   unfoldable pub productive : List Rule → List ℕ
-  productive rules = closure (map derivesIf rules)
+  productive rules = closure (map derives_if rules)
 
   -- all nonterminals of its right side do
-  abbrev pub isProductive : List ℕ → Rule → Bool
-  isProductive found r = hasAll found (nonterminalsOf r.right)
+  abbrev pub is_productive : List ℕ → Rule → Bool
+  is_productive found r = has_all found (nonterminals_of r.right)
 
   -- what such a rule reaches, if its left side is reached
-  abbrev pub reachesFrom : Rule → List Clause
-  reachesFrom r = map (λ x. record { premises = r.left ∷ []; conclusion = x }) (nonterminalsOf r.right)
+  abbrev pub reaches_from : Rule → List Clause
+  reaches_from r = map (λ x. record { premises = r.left ∷ []; conclusion = x }) (nonterminals_of r.right)
 
   unfoldable pub usable : List ℕ → List Rule → List Rule
   usable found [] = []
-  usable found (r ∷ rs) = when (isProductive found r) (r ∷ []) ++ usable found rs
+  usable found (r ∷ rs) = when (is_productive found r) (r ∷ []) ++ usable found rs
 
   -- the nonterminals that S reaches through productive rules
   unfoldable pub reachable : List Rule → List ℕ
-  reachable rules = closure (record { premises = []; conclusion = start L } ∷ each (usable (productive rules) rules) reachesFrom)
+  reachable rules = closure (record { premises = []; conclusion = start L } ∷ each (usable (productive rules) rules) reaches_from)
 
 module _ (L : Limits) (G : Grammar) where
   -- the test of a sentence
-  unfoldable pub hasSentence : Bool
-  hasSentence = has (productive L G.rules) (start L)
+  unfoldable pub has_sentence : Bool
+  has_sentence = has (productive L G.rules) (start L)
 
   -- the test of a live rule
-  unfoldable pub isLive : ℕ → Bool
-  isLive zero = hasSentence
-  isLive (suc i) =
+  unfoldable pub is_live : ℕ → Bool
+  is_live zero = has_sentence
+  is_live (suc i) =
       let r = rule L G (suc i) in
-      has (reachable L G.rules) r.left && isProductive L (productive L G.rules) r
+      has (reachable L G.rules) r.left && is_productive L (productive L G.rules) r

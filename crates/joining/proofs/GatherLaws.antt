@@ -12,11 +12,11 @@ use borrow.Author.Tests.{lt-ltb, le-ltb}
 use lib.ListN.{length, take, drop, get_or, set, length-set, length-append, length-drop, take-append-drop}
 use lib.Seq.{take-take, take-suc-set, get_or-set_same, get_or-set_other, length-take-le, take_at, drop_at, take-suc, take_all, get_or-take}
 use Rattle.grammar.specs.Basics.{choose}
-use Rattle.grammar.proofs.Lists.{lt-or-le}
-use Rattle.text.specs.Names.{any, sameName, place}
+use Rattle.grammar.proofs.Lists.{lt_or_le}
+use Rattle.text.specs.Names.{any, same_name, place}
 use Rattle.text.specs.Spelled.{spelled}
-use Rattle.text.proofs.Spans.{length-spelled, spelled_at, spelled-append}
-use Rattle.text_write.specs.Contracts.{Wrote}
+use Rattle.text.proofs.Spans.{length-spelled, spelled_at, spelled_append}
+use Rattle.text_write.specs.Clauses.{Wrote}
 use Rattle.modules.specs.Joined.{added}
 use Rattle.joining.specs.Numbers.{numbered}
 use Rattle.joining.specs.Gathering.{longest, fresh, NameRoom, Gathered, Puts, Listed, OneReady}
@@ -54,8 +54,8 @@ module _ (x : List ℕ) (at next : ℕ) (bytes bytes' : List ℕ) (room : at + l
       ∙ take_at x (drop (at + length x) bytes) (length x) refl
 
 -- a row with one entry more
-snoc-row : (row : List ℕ) (k v : ℕ) → k < length row → take (k + 1) (set row k v) ≡ take k row ++ (v ∷ [])
-snoc-row row k v h = rw add-one (take-suc-set row k v h)
+snoc_row : (row : List ℕ) (k v : ℕ) → k < length row → take (k + 1) (set row k v) ≡ take k row ++ (v ∷ [])
+snoc_row row k v h = rw add-one (take-suc-set row k v h)
 
 pub puts_one : (x : List ℕ) (k next : ℕ) (bytes places spans bytes' : List ℕ) → length x ≤ longest → k < length places → k < length spans
     → k * longest + length x ≤ length bytes → Wrote (k * longest) x bytes next bytes'
@@ -65,10 +65,10 @@ puts_one x k next bytes places spans bytes' short p q room w = record {
   after = λ names g. record {
     count = omega (arith, g.count, length-append names (x ∷ []));
     places-most = omega (arith, length-set places k (k * longest));
-    spans-most = omega (arith, length-set spans k (length x));
+    spans_most = omega (arith, length-set spans k (length x));
     inside = λ i h. within g i h;
-    spells = ap₂ (λ (a : List ℕ) (b : List ℕ). spelled bytes' a b) (snoc-row places k (k * longest) p) (snoc-row spans k (length x) q)
-        ∙ spelled-append bytes' (take k places) (k * longest ∷ []) (take k spans) (length x ∷ []) paired
+    spells = ap₂ (λ (a : List ℕ) (b : List ℕ). spelled bytes' a b) (snoc_row places k (k * longest) p) (snoc_row spans k (length x) q)
+        ∙ spelled_append bytes' (take k places) (k * longest ∷ []) (take k spans) (length x ∷ []) paired
         ∙ ap₂ (λ (a : List (List ℕ)) (b : List (List ℕ)). a ++ b)
         (sym (spelled_kept bytes bytes' (k * longest) (take k places) (take k spans) (front-stays x (k * longest) next bytes bytes' room w) paired
         (λ i h. let z : i < k = omega (arith, length-take-le k places (omega arith)) in rw (get_or-take k places i 0 z, get_or-take k spans i 0 z) (g.inside i z)))
@@ -82,7 +82,7 @@ puts_one x k next bytes places spans bytes' short p q room w = record {
 
     within : {names : List (List ℕ)} → Gathered names k bytes places spans → (i : ℕ) → i < k + 1
         → get_or (set places k (k * longest)) i 0 + get_or (set spans k (length x)) i 0 ≤ (k + 1) * longest
-    within g i h = elim (lt-or-le i k) [
+    within g i h = elim (lt_or_le i k) [
       | inl l ↦
           let other : i ≡ k → ⊥ = λ e. (let z : ⊥ = omega arith in z) in
           rw (get_or-set_other places k i (k * longest) 0 other, get_or-set_other spans k i (length x) 0 other) (omega (arith, g.inside i l))
@@ -99,7 +99,7 @@ pub room-kept : {bytes places spans bytes₀ places₀ spans₀ : List ℕ} → 
 room-kept e f g r = record {
   bytes-room = omega (arith, e, r.bytes-room);
   places-room = omega (arith, f, r.places-room);
-  spans-room = omega (arith, g, r.spans-room);
+  spans_room = omega (arith, g, r.spans_room);
 }
 
 -- none yet
@@ -108,7 +108,7 @@ unfolding spelled
 gathered_none bytes places spans = record {
   count = refl;
   places-most = omega arith;
-  spans-most = omega arith;
+  spans_most = omega arith;
   inside = λ i h. absurd (omega arith);
   spells = refl;
 }
@@ -121,9 +121,9 @@ puts_none more k bytes places spans e = record {
 }
 
 module _ {k : ℕ} {bytes places spans bytes₁ places₁ spans₁ bytes₂ places₂ spans₂ : List ℕ} where
-  pub puts-more : (xs ys : List (List ℕ)) (j : ℕ) → j ≡ k + length xs → Puts xs k bytes places spans bytes₁ places₁ spans₁
+  pub puts_more : (xs ys : List (List ℕ)) (j : ℕ) → j ≡ k + length xs → Puts xs k bytes places spans bytes₁ places₁ spans₁
       → Puts ys j bytes₁ places₁ spans₁ bytes₂ places₂ spans₂ → Puts (xs ++ ys) k bytes places spans bytes₂ places₂ spans₂
-  puts-more xs ys j e f g = record {
+  puts_more xs ys j e f g = record {
     after = λ names h.
         subst₂ (λ (ns : List (List ℕ)) (i : ℕ). Gathered ns i bytes₂ places₂ spans₂) (append_assoc names xs ys)
         (let z : j + length ys ≡ k + length (xs ++ ys) = omega (arith, e, length-append xs ys) in z)
@@ -131,17 +131,17 @@ module _ {k : ℕ} {bytes places spans bytes₁ places₁ spans₁ bytes₂ plac
   }
 
   -- the next of some names
-  pub puts-next : (xs : List (List ℕ)) (i : ℕ) → i < length xs → Puts (take i xs) k bytes places spans bytes₁ places₁ spans₁
+  pub puts_next : (xs : List (List ℕ)) (i : ℕ) → i < length xs → Puts (take i xs) k bytes places spans bytes₁ places₁ spans₁
       → Puts (get_or xs i [] ∷ []) (k + i) bytes₁ places₁ spans₁ bytes₂ places₂ spans₂ → Puts (take (i + 1) xs) k bytes places spans bytes₂ places₂ spans₂
-  puts-next xs i h f g =
+  puts_next xs i h f g =
       subst (λ (more : List (List ℕ)). Puts more k bytes places spans bytes₂ places₂ spans₂) (sym (rw add-one (take-suc xs i [] h)))
-      (puts-more (take i xs) (get_or xs i [] ∷ []) (k + i) (omega (arith, length-take-le i xs (omega arith))) f g)
+      (puts_more (take i xs) (get_or xs i [] ∷ []) (k + i) (omega (arith, length-take-le i xs (omega arith))) f g)
 
 -- ---- the names of a text
 
 module _ (text starts lengths : List ℕ) (l : Listed text starts lengths) where
-  pub listed-count : length (spelled text starts lengths) ≡ length starts
-  listed-count = length-spelled text starts lengths l.rows.paired
+  pub listed_count : length (spelled text starts lengths) ≡ length starts
+  listed_count = length-spelled text starts lengths l.rows.paired
 
   -- a name is as long as its entry says
   pub listed-size : (i : ℕ) → i < length starts → length (get_or (spelled text starts lengths) i []) ≡ get_or lengths i 0
@@ -161,7 +161,7 @@ module _ {text starts lengths : List ℕ} {i : ℕ} {bytes places spans : List �
       let e = listed-size text starts lengths o.listed i o.inside in
       subst (λ (size : ℕ). Puts (x ∷ []) k bytes places spans bytes' (set places k (k * longest)) (set spans k size)) e
       (puts_one x k next bytes places spans bytes' (omega (arith, e, o.listed.short i o.inside)) (omega (arith, o.room.places-room, o.few))
-      (omega (arith, o.room.spans-room, o.few)) one-room w)
+      (omega (arith, o.room.spans_room, o.few)) one-room w)
 
 -- ---- fresh names
 
@@ -173,13 +173,13 @@ pub fresh-high : (least number : ℕ) (x : List ℕ) → least ≤ number → fr
 unfolding fresh
 fresh-high least number x h = rw (le-ltb number least h)
 
-fresh-append : (least : ℕ) (numbers more : List ℕ) (names others : List (List ℕ)) → length numbers ≡ length names
+fresh_append : (least : ℕ) (numbers more : List ℕ) (names others : List (List ℕ)) → length numbers ≡ length names
     → fresh least (numbers ++ more) (names ++ others) ≡ fresh least numbers names ++ fresh least more others
 unfolding fresh
-fresh-append least [] more [] others e = refl
-fresh-append least [] more (x ∷ names) others e = absurd (omega arith)
-fresh-append least (i ∷ numbers) more [] others e = absurd (omega arith)
-fresh-append least (i ∷ numbers) more (x ∷ names) others e = go (ltb i least) (fresh-append least numbers more names others (omega arith))
+fresh_append least [] more [] others e = refl
+fresh_append least [] more (x ∷ names) others e = absurd (omega arith)
+fresh_append least (i ∷ numbers) more [] others e = absurd (omega arith)
+fresh_append least (i ∷ numbers) more (x ∷ names) others e = go (ltb i least) (fresh_append least numbers more names others (omega arith))
   where
     go : (c : Bool) → fresh least (numbers ++ more) (names ++ others) ≡ fresh least numbers names ++ fresh least more others
         → choose c (fresh least (numbers ++ more) (names ++ others)) (x ∷ fresh least (numbers ++ more) (names ++ others))
@@ -194,7 +194,7 @@ module _ (least : ℕ) (numbers : List ℕ) (names : List (List ℕ)) (paired : 
   pub fresh-next : (i : ℕ) → i < length names → upto (i + 1) ≡ upto i ++ fresh least (get_or numbers i 0 ∷ []) (get_or names i [] ∷ [])
   fresh-next i h =
       ap₂ (λ (ms : List ℕ) (ns : List (List ℕ)). fresh least ms ns) (rw add-one (take-suc numbers i 0 (omega arith))) (rw add-one (take-suc names i [] h))
-      ∙ fresh-append least (take i numbers) (get_or numbers i 0 ∷ []) (take i names) (get_or names i [] ∷ [])
+      ∙ fresh_append least (take i numbers) (get_or numbers i 0 ∷ []) (take i names) (get_or names i [] ∷ [])
       (length-take-le i numbers (omega arith) ∙ sym (length-take-le i names (omega arith)))
 
   -- one that is fresh is one more of them
@@ -205,7 +205,7 @@ module _ (least : ℕ) (numbers : List ℕ) (names : List (List ℕ)) (paired : 
     length-append (upto i) (fresh least (get_or numbers i 0 ∷ []) (get_or names i [] ∷ [])),
     ap length (fresh-high least (get_or numbers i 0) (get_or names i []) l),
     ap length (ap₂ (λ (ms : List ℕ) (ns : List (List ℕ)). fresh least ms ns) (sym (take-append-drop (i + 1) numbers)) (sym (take-append-drop (i + 1) names))
-        ∙ fresh-append least (take (i + 1) numbers) (drop (i + 1) numbers) (take (i + 1) names) (drop (i + 1) names)
+        ∙ fresh_append least (take (i + 1) numbers) (drop (i + 1) numbers) (take (i + 1) names) (drop (i + 1) names)
         (length-take-le (i + 1) numbers (omega arith) ∙ sym (length-take-le (i + 1) names (omega arith)))),
     length-append (upto (i + 1)) (fresh least (drop (i + 1) numbers) (drop (i + 1) names)),
   )
@@ -222,11 +222,11 @@ pub fresh_added : (names xs : List (List ℕ)) (n next : ℕ) → n ≡ length n
 unfolding fresh numbered added
 fresh_added names [] n next e h = refl
 fresh_added names (x ∷ xs) n next e h =
-    go (any (sameName x) names) refl (fresh_added names xs n next e h) (fresh_added names xs n (next + 1) e (omega arith))
+    go (any (same_name x) names) refl (fresh_added names xs n next e h) (fresh_added names xs n (next + 1) e (omega arith))
   where
-    go : (c : Bool) → any (sameName x) names ≡ c → fresh n (numbered names next xs) xs ≡ added names xs
+    go : (c : Bool) → any (same_name x) names ≡ c → fresh n (numbered names next xs) xs ≡ added names xs
         → fresh n (numbered names (next + 1) xs) xs ≡ added names xs
-        → fresh n (choose c (place (sameName x) names ∷ numbered names next xs) (next ∷ numbered names (next + 1) xs)) (x ∷ xs)
+        → fresh n (choose c (place (same_name x) names ∷ numbered names next xs) (next ∷ numbered names (next + 1) xs)) (x ∷ xs)
         ≡ choose c (added names xs) (x ∷ added names xs)
-    go true q f g = rw (lt-ltb (place (sameName x) names) n (omega (arith, e, place-some (sameName x) names q))) f
+    go true q f g = rw (lt-ltb (place (same_name x) names) n (omega (arith, e, place-some (same_name x) names q))) f
     go false q f g = rw (le-ltb next n h) (ap (λ (ns : List (List ℕ)). x ∷ ns) g)

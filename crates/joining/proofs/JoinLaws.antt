@@ -6,60 +6,60 @@ use native.Mathlib.Omega.{arith}
 use lib.ListN.{length, take, drop, length-append}
 use lib.Seq.{length-take-le}
 use Rattle.grammar.specs.Limits.{limits}
-use Rattle.grammar.specs.Grammar.{Rule, Grammar, stateCount}
+use Rattle.grammar.specs.Grammar.{Rule, Grammar, state_count}
 use Rattle.grammar.specs.Table.{encode}
 use Rattle.grammar.specs.Refusal.{Answer, done, refused, and_then}
-use Rattle.grammar.specs.TableCheck.{checkTable}
-use Rattle.grammar.proofs.Answers.{no_answer, done_inj, then-done, then-goes, then-stops}
-use Rattle.text.specs.Read.{Source, symbolNames, grammarOf, readText}
-use Rattle.text.specs.Rules.{admit, lastTests, checkText, checkModule}
-use Rattle.text.specs.Promise.{nameStarts, nameLengths}
+use Rattle.grammar.specs.TableCheck.{check_table}
+use Rattle.grammar.proofs.Answers.{no_answer, done_inj, then-done, then-goes, then_stops}
+use Rattle.text.specs.Read.{Source, symbol_names, grammar_of, read_text}
+use Rattle.text.specs.Rules.{admit, last_tests, check_text, check_module}
+use Rattle.text.specs.Promise.{name_starts, name_lengths}
 use Rattle.text.specs.Spelled.{spelled}
 use Rattle.text.specs.declared.TextRead.{TextRead}
 use Rattle.text.specs.declared.TextRead.TheVariants.{Read, Refused}
 use Rattle.text.proofs.WellNamed.{WellNamedSource}
-use Rattle.text.proofs.Promises.{ReadAs, read_as, refuses-as}
+use Rattle.text.proofs.Promises.{ReadAs, read_as, refuses_as}
 use Rattle.text.proofs.Admit.{text-checked}
 use Rattle.text.proofs.Enough.{entries-states}
 use Rattle.text.proofs.RoundTrip.{apart}
-use Rattle.text_read.specs.Texts.{tableRead, Rows, ChecksText, ChecksModule}
+use Rattle.text_read.specs.Texts.{table_read, Rows, ChecksText, ChecksModule}
 use Rattle.text_read.proofs.Whole.{admit-few}
 use Rattle.text_read.proofs.Written as written
-use Rattle.modules.specs.Joined.{addedRules, joinedTerminals, joinedNonterminals, joined, joinTexts}
+use Rattle.modules.specs.Joined.{added_rules, joined_terminals, joined_nonterminals, joined, join_texts}
 use Rattle.joining.specs.Numbers.{numbered}
-use Rattle.joining.specs.Naming.{BothNamed, NamesCounted, CountsTold, RulesReady, RulesPut, recodedRule}
+use Rattle.joining.specs.Naming.{BothNamed, NamesCounted, CountsTold, RulesReady, RulesPut, recoded_rule}
 use Rattle.joining.specs.Joins.{JoinRows, JoinedHeld, BothRead}
 use Rattle.joining.specs.declared.Counts.{Counts}
 use Rattle.joining.specs.declared.Counts.TheVariants.{Names, Fault}
-use Rattle.modules.proofs.ReadJoined.{module-read, module-well, joined-texts}
-use Rattle.modules.proofs.Sizes.{twice-wide, robot-states, module-states}
-use Rattle.joining.proofs.Refusals.{names-pass, counts-are}
-use Rattle.joining.proofs.Both.{terminals-spelled, nonterminals-spelled, both-named, row-front, rules-recoding, rules-are, joinedCheck, join-named}
+use Rattle.modules.proofs.ReadJoined.{module_read_lem, module_well, joined_texts}
+use Rattle.modules.proofs.Sizes.{twice-wide, robot-states, module_states}
+use Rattle.joining.proofs.Refusals.{names_pass, counts_are}
+use Rattle.joining.proofs.Both.{terminals-spelled, nonterminals-spelled, both-named, row-front, rules_recoding, rules_are, joined_check, join-named}
 
-four : 4 ≤ limits.maxStates
+four : 4 ≤ limits.max_states
 four = omega arith
 
 -- ---- texts that pass have few rules
 
-robot-rules : (text : List ℕ) (s : Source) → checkText limits text ≡ done s → length s.rules ≤ limits.maxRules
-unfolding checkText lastTests
+robot-rules : (text : List ℕ) (s : Source) → check_text limits text ≡ done s → length s.rules ≤ limits.max_rules
+unfolding check_text last_tests
 robot-rules text s e =
     let a = then-done _ _ s e in
     let b = then-done _ _ s a.2 in
     let c = then-done _ _ b.0 b.1 in
-    subst (λ (s : Source). length s.rules ≤ limits.maxRules) (done_inj b.2) (admit-few limits limits.maxRules _ 0 a.0.rules c.0 c.1)
+    subst (λ (s : Source). length s.rules ≤ limits.max_rules) (done_inj b.2) (admit-few limits limits.max_rules _ 0 a.0.rules c.0 c.1)
 
-module-rules : (text : List ℕ) (s : Source) → checkModule limits text ≡ done s → length s.rules ≤ limits.maxRules
-unfolding checkModule
+module-rules : (text : List ℕ) (s : Source) → check_module limits text ≡ done s → length s.rules ≤ limits.max_rules
+unfolding check_module
 module-rules text s e =
     let a = then-done _ _ s e in
     let b = then-done _ _ s a.2 in
-    subst (λ (s : Source). length s.rules ≤ limits.maxRules) (done_inj b.2) (admit-few limits limits.maxRules _ 0 a.0.rules b.0 b.1)
+    subst (λ (s : Source). length s.rules ≤ limits.max_rules) (done_inj b.2) (admit-few limits limits.max_rules _ 0 a.0.rules b.0 b.1)
 
 -- ---- what the last tests tell
 
-pub table-refused : (t n end : ℕ) (o : Answer Grammar) (x : TextRead) (c i : ℕ) → x ≡ tableRead t n end o → x ≡ Refused c i → o ≡ refused c i
-table-refused t n end (done G) x c i e f = absurd (let z : Read t n end (stateCount G.rules) ≡ Refused c i = sym e ∙ f in let y : ◌≡◌ {A = ℕ} 0 1 = cc z in omega arith)
+pub table-refused : (t n end : ℕ) (o : Answer Grammar) (x : TextRead) (c i : ℕ) → x ≡ table_read t n end o → x ≡ Refused c i → o ≡ refused c i
+table-refused t n end (done G) x c i e f = absurd (let z : Read t n end (state_count G.rules) ≡ Refused c i = sym e ∙ f in let y : ◌≡◌ {A = ℕ} 0 1 = cc z in omega arith)
 table-refused t n end (refused d j) x c i e f =
     let z : Refused d j ≡ Refused c i = sym e ∙ f in
     let p : d ≡ c = cc z in
@@ -70,33 +70,33 @@ pub record TablePassed (o : Answer Grammar) (end p q : ℕ) : Type 0 where
   pub grammar : Grammar
   pub is : o ≡ done grammar
   pub entries : p ≡ end
-  pub states : q ≡ stateCount grammar.rules
+  pub states : q ≡ state_count grammar.rules
 
-table-passed : (t n end : ℕ) (o : Answer Grammar) (x : TextRead) (a b p q : ℕ) → x ≡ tableRead t n end o → x ≡ Read a b p q → TablePassed o end p q
+table-passed : (t n end : ℕ) (o : Answer Grammar) (x : TextRead) (a b p q : ℕ) → x ≡ table_read t n end o → x ≡ Read a b p q → TablePassed o end p q
 table-passed t n end (done G) x a b p q e f =
-    let z : Read t n end (stateCount G.rules) ≡ Read a b p q = sym e ∙ f in
+    let z : Read t n end (state_count G.rules) ≡ Read a b p q = sym e ∙ f in
     let i : p ≡ end = cc z in
-    let j : q ≡ stateCount G.rules = cc z in
+    let j : q ≡ state_count G.rules = cc z in
     record { grammar = G; is = refl; entries = i; states = j }
 table-passed t n end (refused c i) x a b p q e f = absurd (let z : Refused c i ≡ Read a b p q = sym e ∙ f in let y : ◌≡◌ {A = ℕ} 0 1 = cc z in omega arith)
 
 -- the table of texts that are joined passes
-joined-passes : (robot addon : List ℕ) (r m : Source) → joinTexts limits robot addon ≡ done (joined limits r m)
-    → joinedCheck r m ≡ done (grammarOf (joined limits r m))
+joined_passes : (robot addon : List ℕ) (r m : Source) → join_texts limits robot addon ≡ done (joined limits r m)
+    → joined_check r m ≡ done (grammar_of (joined limits r m))
 unfolding joined
-joined-passes robot addon r m e =
-    let y = joined-texts limits apart robot addon (joined limits r m) e in
+joined_passes robot addon r m e =
+    let y = joined_texts limits apart robot addon (joined limits r m) e in
     (text-checked limits apart _ (joined limits r m) y.4).table
 
 -- ---- both texts
 
 module _ {robot addon : List ℕ} {t n e u v d : ℕ} {row starts lengths table firsts sizes terminals nonterminals : List ℕ}
     (h : BothRead robot addon t n e u v d row starts lengths table firsts sizes terminals nonterminals) where
-  abbrev pub rk : ReadAs (checkText limits robot) t n e h.q
-  rk = written.known (checkText limits robot) row starts lengths (Read t n e h.q) h.robot-read t n e h.q refl
+  abbrev pub rk : ReadAs (check_text limits robot) t n e h.q
+  rk = written.known (check_text limits robot) row starts lengths (Read t n e h.q) h.robot-read t n e h.q refl
 
-  abbrev pub mk : ReadAs (checkModule limits addon) u v d h.z
-  mk = written.known (checkModule limits addon) table firsts sizes (Read u v d h.z) h.addon-read u v d h.z refl
+  abbrev pub mk : ReadAs (check_module limits addon) u v d h.z
+  mk = written.known (check_module limits addon) table firsts sizes (Read u v d h.z) h.addon-read u v d h.z refl
 
   abbrev pub rs : Source
   rs = rk.source
@@ -104,35 +104,35 @@ module _ {robot addon : List ℕ} {t n e u v d : ℕ} {row starts lengths table 
   abbrev pub ms : Source
   ms = mk.source
 
-  robot-read : readText limits robot ≡ done rs
+  robot-read : read_text limits robot ≡ done rs
   robot-read = (text-checked limits apart robot rs rk.whole).read
 
-  addon-read : readText limits addon ≡ done ms
-  addon-read = module-read limits apart addon ms mk.whole
+  addon-read : read_text limits addon ≡ done ms
+  addon-read = module_read_lem limits apart addon ms mk.whole
 
   wr : WellNamedSource limits rs
   wr = (text-checked limits apart robot rs rk.whole).well
 
   wm : WellNamedSource limits ms
-  wm = module-well limits apart addon ms mk.whole
+  wm = module_well limits apart addon ms mk.whole
 
   -- the rows hold what is kept
-  pub robot-names-fit : (t + n ≤ length starts) × (t + n ≤ length lengths)
-  robot-names-fit = (
-    written.starts-kept (checkText limits robot) row starts lengths (Read t n e h.q) h.robot-read t n e h.q refl,
-    written.lengths-kept (checkText limits robot) row starts lengths (Read t n e h.q) h.robot-read t n e h.q refl,
+  pub robot-names_fit : (t + n ≤ length starts) × (t + n ≤ length lengths)
+  robot-names_fit = (
+    written.starts-kept (check_text limits robot) row starts lengths (Read t n e h.q) h.robot-read t n e h.q refl,
+    written.lengths-kept (check_text limits robot) row starts lengths (Read t n e h.q) h.robot-read t n e h.q refl,
   )
 
-  pub addon-names-fit : (u + v ≤ length firsts) × (u + v ≤ length sizes)
-  addon-names-fit = (
-    written.starts-kept (checkModule limits addon) table firsts sizes (Read u v d h.z) h.addon-read u v d h.z refl,
-    written.lengths-kept (checkModule limits addon) table firsts sizes (Read u v d h.z) h.addon-read u v d h.z refl,
+  pub addon-names_fit : (u + v ≤ length firsts) × (u + v ≤ length sizes)
+  addon-names_fit = (
+    written.starts-kept (check_module limits addon) table firsts sizes (Read u v d h.z) h.addon-read u v d h.z refl,
+    written.lengths-kept (check_module limits addon) table firsts sizes (Read u v d h.z) h.addon-read u v d h.z refl,
   )
 
-  pub addon-table-fits : d ≤ length table
-  addon-table-fits = written.entries-kept (checkModule limits addon) table firsts sizes (Read u v d h.z) h.addon-read u v d h.z refl
+  pub addon-table_fits : d ≤ length table
+  addon-table_fits = written.entries-kept (check_module limits addon) table firsts sizes (Read u v d h.z) h.addon-read u v d h.z refl
 
-  pub names-few : (t ≤ limits.maxTerminals) × (n ≤ limits.maxNonterminals) × (u ≤ limits.maxTerminals) × (v ≤ limits.maxNonterminals)
+  pub names-few : (t ≤ limits.max_terminals) × (n ≤ limits.max_nonterminals) × (u ≤ limits.max_terminals) × (v ≤ limits.max_nonterminals)
   names-few = (
     omega (arith, rk.terminals, wr.terminals-most),
     omega (arith, rk.nonterminals, wr.nonterminals-most),
@@ -156,22 +156,22 @@ module _ {robot addon : List ℕ} {t n e u v d : ℕ} {row starts lengths table 
   abbrev pub ds : List ℕ
   ds = take (u + v) sizes
 
-  xs-are : xs ≡ nameStarts rs
-  xs-are = written.starts-front (checkText limits robot) row starts lengths (Read t n e h.q) h.robot-read t n e h.q refl
+  xs_are : xs ≡ name_starts rs
+  xs_are = written.starts-front (check_text limits robot) row starts lengths (Read t n e h.q) h.robot-read t n e h.q refl
 
-  cs-are : cs ≡ nameLengths (symbolNames rs)
-  cs-are = written.lengths-front (checkText limits robot) row starts lengths (Read t n e h.q) h.robot-read t n e h.q refl
+  cs_are : cs ≡ name_lengths (symbol_names rs)
+  cs_are = written.lengths-front (check_text limits robot) row starts lengths (Read t n e h.q) h.robot-read t n e h.q refl
 
-  ys-are : ys ≡ nameStarts ms
-  ys-are = written.starts-front (checkModule limits addon) table firsts sizes (Read u v d h.z) h.addon-read u v d h.z refl
+  ys_are : ys ≡ name_starts ms
+  ys_are = written.starts-front (check_module limits addon) table firsts sizes (Read u v d h.z) h.addon-read u v d h.z refl
 
-  ds-are : ds ≡ nameLengths (symbolNames ms)
-  ds-are = written.lengths-front (checkModule limits addon) table firsts sizes (Read u v d h.z) h.addon-read u v d h.z refl
+  ds_are : ds ≡ name_lengths (symbol_names ms)
+  ds_are = written.lengths-front (check_module limits addon) table firsts sizes (Read u v d h.z) h.addon-read u v d h.z refl
 
   pub named : BothNamed robot xs cs t addon ys ds u terminals nonterminals
   named =
       both-named robot addon rs ms robot-read addon-read wr wm t n u v rk.terminals rk.nonterminals mk.terminals mk.nonterminals
-      xs cs ys ds xs-are cs-are ys-are ds-are terminals nonterminals h.rows.terminals-room h.rows.nonterminals-room
+      xs cs ys ds xs_are cs_are ys_are ds_are terminals nonterminals h.rows.terminals-room h.rows.nonterminals-room
 
   module _ (terminals' nonterminals' : List ℕ) where
     -- what is told of the names
@@ -184,13 +184,13 @@ module _ {robot addon : List ℕ} {t n e u v d : ℕ} {row starts lengths table 
 
     told-known : (r : Counts) → Told r → Known r
     told-known r w =
-        let a = terminals-spelled robot rs robot-read t n rk.terminals rk.nonterminals xs cs xs-are cs-are in
-        let b = nonterminals-spelled robot rs robot-read t n rk.terminals rk.nonterminals xs cs xs-are cs-are in
-        let c = terminals-spelled addon ms addon-read u v mk.terminals mk.nonterminals ys ds ys-are ds-are in
-        let d = nonterminals-spelled addon ms addon-read u v mk.terminals mk.nonterminals ys ds ys-are ds-are in
-        counts-are _ _ _ _ rs.terminals rs.nonterminals ms.terminals ms.nonterminals terminals nonterminals terminals' nonterminals' r a b c d w
+        let a = terminals-spelled robot rs robot-read t n rk.terminals rk.nonterminals xs cs xs_are cs_are in
+        let b = nonterminals-spelled robot rs robot-read t n rk.terminals rk.nonterminals xs cs xs_are cs_are in
+        let c = terminals-spelled addon ms addon-read u v mk.terminals mk.nonterminals ys ds ys_are ds_are in
+        let d = nonterminals-spelled addon ms addon-read u v mk.terminals mk.nonterminals ys ds ys_are ds_are in
+        counts_are _ _ _ _ rs.terminals rs.nonterminals ms.terminals ms.nonterminals terminals nonterminals terminals' nonterminals' r a b c d w
 
-    pub names-refused : (r : Counts) {c i : ℕ} → r ≡ Fault c i → Told r → joinTexts limits robot addon ≡ refused c i
+    pub names-refused : (r : Counts) {c i : ℕ} → r ≡ Fault c i → Told r → join_texts limits robot addon ≡ refused c i
     names-refused r {c} {i} g w =
         let k : Known (Fault c i) = subst Known g (told-known r w) in
         join-named robot addon rs ms rk.whole mk.whole ∙ k _
@@ -205,37 +205,37 @@ module _ {robot addon : List ℕ} {t n e u v d : ℕ} {row starts lengths table 
       abbrev N : List ℕ
       N = numbered rs.nonterminals (length rs.nonterminals) ms.nonterminals
 
-      terminals-are : take u terminals' ≡ T
-      terminals-are = row-front rs.terminals ms.terminals terminals terminals' u mk.terminals counted.terminals-row
+      terminals_are : take u terminals' ≡ T
+      terminals_are = row-front rs.terminals ms.terminals terminals terminals' u mk.terminals counted.terminals-row
 
-      nonterminals-are : take v nonterminals' ≡ N
-      nonterminals-are = row-front rs.nonterminals ms.nonterminals nonterminals nonterminals' v mk.nonterminals counted.nonterminals-row
+      nonterminals_are : take v nonterminals' ≡ N
+      nonterminals_are = row-front rs.nonterminals ms.nonterminals nonterminals nonterminals' v mk.nonterminals counted.nonterminals-row
 
-      few : length (joinedTerminals rs ms) ≤ limits.maxTerminals
-      few = omega (arith, counted.terminals-are, counted.terminals-most)
+      few : length (joined_terminals rs ms) ≤ limits.max_terminals
+      few = omega (arith, counted.terminals_are, counted.terminals-most)
 
-      most : length (joinedNonterminals rs ms) ≤ limits.maxNonterminals
-      most = omega (arith, counted.nonterminals-are, counted.nonterminals-most)
+      most : length (joined_nonterminals rs ms) ≤ limits.max_nonterminals
+      most = omega (arith, counted.nonterminals_are, counted.nonterminals-most)
 
       robot-front : take e row ≡ encode rs.rules
-      robot-front = written.entries-front (checkText limits robot) row starts lengths (Read t n e h.q) h.robot-read t n e h.q refl
+      robot-front = written.entries-front (check_text limits robot) row starts lengths (Read t n e h.q) h.robot-read t n e h.q refl
 
       addon-front : take d table ≡ encode ms.rules
-      addon-front = written.entries-front (checkModule limits addon) table firsts sizes (Read u v d h.z) h.addon-read u v d h.z refl
+      addon-front = written.entries-front (check_module limits addon) table firsts sizes (Read u v d h.z) h.addon-read u v d h.z refl
 
-      pub rules-ready : RulesReady (take d table) (take u terminals') (take v nonterminals') row e
-      rules-ready =
-          subst (λ (T : List ℕ). RulesReady (take d table) T (take v nonterminals') row e) (sym terminals-are)
-          (subst (λ (N : List ℕ). RulesReady (take d table) T N row e) (sym nonterminals-are) (record {
+      pub rules_ready : RulesReady (take d table) (take u terminals') (take v nonterminals') row e
+      rules_ready =
+          subst (λ (T : List ℕ). RulesReady (take d table) T (take v nonterminals') row e) (sym terminals_are)
+          (subst (λ (N : List ℕ). RulesReady (take d table) T N row e) (sym nonterminals_are) (record {
             rules = ms.rules;
             table_is = addon-front;
-            recoding = rules-recoding rs ms wm counted.second-clear few most;
+            recoding = rules_recoding rs ms wm counted.second_clear few most;
             robot = rs.rules;
             front = robot-front;
             room = omega (
               arith,
               h.rows.both,
-              length-take-le d table addon-table-fits,
+              length-take-le d table addon-table_fits,
               rk.entries,
               mk.entries,
               entries-states rs.rules,
@@ -243,7 +243,7 @@ module _ {robot addon : List ℕ} {t n e u v d : ℕ} {row starts lengths table 
               robot-rules robot rs rk.whole,
               module-rules addon ms mk.whole,
               robot-states limits apart four twice-wide robot rs rk.whole,
-              module-states limits apart four twice-wide addon ms mk.whole,
+              module_states limits apart four twice-wide addon ms mk.whole,
             );
           }))
 
@@ -251,83 +251,83 @@ module _ {robot addon : List ℕ} {t n e u v d : ℕ} {row starts lengths table 
         joined-front : take end row' ≡ encode (joined limits rs ms).rules
         joined-front =
             put.put ms.rules rs.rules addon-front robot-front
-            ∙ ap₂ (λ (T N : List ℕ). encode (rs.rules ++ addedRules rs.rules (map (recodedRule limits T N) ms.rules))) terminals-are nonterminals-are
-            ∙ rules-are rs ms wm counted.second-clear few most
+            ∙ ap₂ (λ (T N : List ℕ). encode (rs.rules ++ added_rules rs.rules (map (recoded_rule limits T N) ms.rules))) terminals_are nonterminals_are
+            ∙ rules_are rs ms wm counted.second_clear few most
 
-        check-is : checkTable limits a b (take end row') ≡ joinedCheck rs ms
-        check-is = λ i. checkTable limits (counted.terminals-are i) (counted.nonterminals-are i) (joined-front i)
+        check_is : check_table limits a b (take end row') ≡ joined_check rs ms
+        check_is = λ i. check_table limits (counted.terminals_are i) (counted.nonterminals_are i) (joined-front i)
 
         -- the answer is the table check's
-        answer-is : joinTexts limits robot addon ≡ and_then (checkTable limits a b (take end row')) (λ G. done (joined limits rs ms))
-        answer-is =
+        answer_is : join_texts limits robot addon ≡ and_then (check_table limits a b (take end row')) (λ G. done (joined limits rs ms))
+        answer_is =
             join-named robot addon rs ms rk.whole mk.whole
-            ∙ names-pass rs.terminals rs.nonterminals ms.terminals ms.nonterminals _ counted.first-clear counted.second-clear few most
-            ∙ ap (λ o. and_then o (λ G. done (joined limits rs ms))) (sym check-is)
+            ∙ names_pass rs.terminals rs.nonterminals ms.terminals ms.nonterminals _ counted.first_clear counted.second_clear few most
+            ∙ ap (λ o. and_then o (λ G. done (joined limits rs ms))) (sym check_is)
 
-        pub last-refused : {x : TextRead} {c i : ℕ} → x ≡ tableRead a b end (checkTable limits a b (take end row')) → x ≡ Refused c i
-            → joinTexts limits robot addon ≡ refused c i
-        last-refused {x} {c} {i} f g = answer-is ∙ then-stops _ _ c i (table-refused a b end _ x c i f g)
+        pub last-refused : {x : TextRead} {c i : ℕ} → x ≡ table_read a b end (check_table limits a b (take end row')) → x ≡ Refused c i
+            → join_texts limits robot addon ≡ refused c i
+        last-refused {x} {c} {i} f g = answer_is ∙ then_stops _ _ c i (table-refused a b end _ x c i f g)
 
-        pub last-joined : {x : TextRead} {p q j k : ℕ} → x ≡ tableRead a b end (checkTable limits a b (take end row')) → x ≡ Read p q j k
+        pub last-joined : {x : TextRead} {p q j k : ℕ} → x ≡ table_read a b end (check_table limits a b (take end row')) → x ≡ Read p q j k
             → JoinedHeld robot addon row' starts lengths firsts sizes terminals' nonterminals'
             (record { t = t; n = n; u = u; v = v; terminals = a; nonterminals = b }) j k
         last-joined {x} {p} {q} {j} {k} f g =
             let J = joined limits rs ms in
             let o = table-passed a b end _ x p q j k f g in
-            let passes : joinTexts limits robot addon ≡ done J = answer-is ∙ then-goes _ _ o.grammar o.is in
-            let same : o.grammar ≡ grammarOf J = done_inj (sym o.is ∙ check-is ∙ joined-table passes) in
+            let passes : join_texts limits robot addon ≡ done J = answer_is ∙ then-goes _ _ o.grammar o.is in
+            let same : o.grammar ≡ grammar_of J = done_inj (sym o.is ∙ check_is ∙ joined-table passes) in
             let size : end ≡ length (encode J.rules) = sym (length-take-le end row' put.inside) ∙ ap length joined-front in
             record {
               r = rs;
               m = ms;
-              robot-passes = rk.whole;
-              addon-passes = mk.whole;
+              robot_passes = rk.whole;
+              addon_passes = mk.whole;
               passes = passes;
-              t-is = sym rk.terminals;
-              n-is = sym rk.nonterminals;
-              u-is = sym mk.terminals;
-              v-is = sym mk.nonterminals;
-              terminals-are = counted.terminals-are ∙ joined-counts.0;
-              nonterminals-are = counted.nonterminals-are ∙ joined-counts.1;
+              t_is = sym rk.terminals;
+              n_is = sym rk.nonterminals;
+              u_is = sym mk.terminals;
+              v_is = sym mk.nonterminals;
+              terminals_are = counted.terminals_are ∙ joined-counts.0;
+              nonterminals_are = counted.nonterminals_are ∙ joined-counts.1;
               entries = o.entries ∙ size;
-              states = o.states ∙ ap (λ (G : Grammar). stateCount G.rules) same;
+              states = o.states ∙ ap (λ (G : Grammar). state_count G.rules) same;
               table-front = ap (λ (k : ℕ). take k row') o.entries ∙ joined-front;
               starts-front = h.robot-read.names.starts-front rs rk.whole;
               lengths-front = h.robot-read.names.lengths-front rs rk.whole;
-              firsts-front = h.addon-read.names.starts-front ms mk.whole;
-              sizes-front = h.addon-read.names.lengths-front ms mk.whole;
-              terminals-front = ap (λ (k : ℕ). take k terminals') mk.terminals ∙ terminals-are;
-              nonterminals-front = ap (λ (k : ℕ). take k nonterminals') mk.nonterminals ∙ nonterminals-are;
+              firsts_front = h.addon-read.names.starts-front ms mk.whole;
+              sizes_front = h.addon-read.names.lengths-front ms mk.whole;
+              terminals-front = ap (λ (k : ℕ). take k terminals') mk.terminals ∙ terminals_are;
+              nonterminals-front = ap (λ (k : ℕ). take k nonterminals') mk.nonterminals ∙ nonterminals_are;
             }
           where
-            joined-counts : (length (joinedTerminals rs ms) ≡ length (joined limits rs ms).terminals)
-                × (length (joinedNonterminals rs ms) ≡ length (joined limits rs ms).nonterminals)
+            joined-counts : (length (joined_terminals rs ms) ≡ length (joined limits rs ms).terminals)
+                × (length (joined_nonterminals rs ms) ≡ length (joined limits rs ms).nonterminals)
             joined-counts = unfold joined in (refl, refl)
 
-            joined-table : joinTexts limits robot addon ≡ done (joined limits rs ms) → joinedCheck rs ms ≡ done (grammarOf (joined limits rs ms))
-            joined-table e = joined-passes robot addon rs ms e
+            joined-table : join_texts limits robot addon ≡ done (joined limits rs ms) → joined_check rs ms ≡ done (grammar_of (joined limits rs ms))
+            joined-table e = joined_passes robot addon rs ms e
 
 -- ---- refusals of either text, and texts that are both read
 
-robot-stops : (robot addon : List ℕ) (c i : ℕ) → checkText limits robot ≡ refused c i → joinTexts limits robot addon ≡ refused c i
-unfolding joinTexts
-robot-stops robot addon c i e = then-stops _ _ c i e
+robot_stops : (robot addon : List ℕ) (c i : ℕ) → check_text limits robot ≡ refused c i → join_texts limits robot addon ≡ refused c i
+unfolding join_texts
+robot_stops robot addon c i e = then_stops _ _ c i e
 
-addon-stops : (robot addon : List ℕ) (r : Source) (c i : ℕ) → checkText limits robot ≡ done r → checkModule limits addon ≡ refused c i
-    → joinTexts limits robot addon ≡ refused c i
-unfolding joinTexts
-addon-stops robot addon r c i e f = then-goes (checkText limits robot) _ r e ∙ then-stops _ _ c i f
+addon_stops : (robot addon : List ℕ) (r : Source) (c i : ℕ) → check_text limits robot ≡ done r → check_module limits addon ≡ refused c i
+    → join_texts limits robot addon ≡ refused c i
+unfolding join_texts
+addon_stops robot addon r c i e f = then-goes (check_text limits robot) _ r e ∙ then_stops _ _ c i f
 
 pub robot-refused : (robot addon : List ℕ) {row starts lengths : List ℕ} {x : TextRead} {c i : ℕ} → ChecksText robot x row starts lengths → x ≡ Refused c i
-    → joinTexts limits robot addon ≡ refused c i
+    → join_texts limits robot addon ≡ refused c i
 robot-refused robot addon {row} {starts} {lengths} {x} {c} {i} h e =
-    robot-stops robot addon c i (refuses-as (checkText limits robot) c i (sym e ∙ h.answer))
+    robot_stops robot addon c i (refuses_as (check_text limits robot) c i (sym e ∙ h.answer))
 
 pub addon-refused : (robot addon : List ℕ) {row starts lengths table firsts sizes : List ℕ} {x y : TextRead} {t n e q c i : ℕ} → ChecksText robot x row starts lengths
-    → x ≡ Read t n e q → ChecksModule addon y table firsts sizes → y ≡ Refused c i → joinTexts limits robot addon ≡ refused c i
+    → x ≡ Read t n e q → ChecksModule addon y table firsts sizes → y ≡ Refused c i → join_texts limits robot addon ≡ refused c i
 addon-refused robot addon {row} {starts} {lengths} {table} {firsts} {sizes} {x} {y} {t} {n} {e} {q} {c} {i} h g k w =
-    let a = read_as (checkText limits robot) t n e q (sym g ∙ h.answer) in
-    addon-stops robot addon a.source c i a.whole (refuses-as (checkModule limits addon) c i (sym w ∙ k.answer))
+    let a = read_as (check_text limits robot) t n e q (sym g ∙ h.answer) in
+    addon_stops robot addon a.source c i a.whole (refuses_as (check_module limits addon) c i (sym w ∙ k.answer))
 
 rows_same : {bytes : ℕ} {row starts lengths row' starts' lengths' : List ℕ} → Rows bytes row starts lengths
     → length row' ≡ length row → length starts' ≡ length starts → length lengths' ≡ length lengths → Rows bytes row' starts' lengths'

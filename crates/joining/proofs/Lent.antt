@@ -9,14 +9,14 @@ use lib.ListN.{length, take}
 use Rattle.grammar.specs.Basics.{over}
 use Rattle.grammar.specs.Limits.{limits}
 use Rattle.grammar.specs.Table.{encode}
-use Rattle.grammar.specs.Refusal.{Answer, done, refused, refuseUnless, bufferTooShort}
-use Rattle.grammar.proofs.Answers.{unless_holds, unless-fails, then-goes, then-stops}
+use Rattle.grammar.specs.Refusal.{Answer, done, refused, refuse_unless, buffer_too_short}
+use Rattle.grammar.proofs.Answers.{unless_holds, unless_fails, then-goes, then_stops}
 use Rattle.text.specs.Read.{Source}
-use Rattle.text.specs.Promise.{textRead, afterwards}
+use Rattle.text.specs.Promise.{text_read, afterwards}
 use Rattle.text.specs.declared.TextRead.{TextRead}
 use Rattle.text.specs.declared.TextRead.TheVariants.{Read, Refused}
 use Rattle.text_read.proofs.Written.{front_fits}
-use Rattle.modules.specs.Joined.{joined, joinTexts, joinedTableInto}
+use Rattle.modules.specs.Joined.{joined, join_texts, joined_table_into}
 use Rattle.modules.specs.Promise.{JoinsTexts}
 use Rattle.joining.specs.Joins.{JoinedHeld, JoinTold}
 use Rattle.joining.specs.declared.ListSizes.{ListSizes}
@@ -26,7 +26,7 @@ use Rattle.joining.specs.declared.Join.TheVariants.{Joined as JoinJoined, Refuse
 module _ (robot addon row starts lengths firsts sizes terminals nonterminals : List ℕ) where
   -- what the answer tells
   pub told-refused : (r : Join) (c i : ℕ) → r ≡ JoinRefused c i → JoinTold robot addon row starts lengths firsts sizes terminals nonterminals r
-      → joinTexts limits robot addon ≡ refused c i
+      → join_texts limits robot addon ≡ refused c i
   told-refused r c i e h = subst (λ (r : Join). JoinTold robot addon row starts lengths firsts sizes terminals nonterminals r) e h
 
   pub told-joined : (r : Join) (z : ListSizes) (e q : ℕ) → r ≡ JoinJoined z e q → JoinTold robot addon row starts lengths firsts sizes terminals nonterminals r
@@ -39,39 +39,39 @@ pub held_fits : {robot addon row starts lengths firsts sizes terminals nontermin
 held_fits {row = row} {e = e} h = front_fits e row _ h.table-front (sym h.entries)
 
 module _ (robot addon table : List ℕ) where
-  into-refused : (c i : ℕ) → joinedTableInto limits (length table) robot addon ≡ refused c i → JoinsTexts robot addon table (Refused c i) table
-  into-refused c i e = record {
-    answer = sym (ap textRead e);
+  into_refused : (c i : ℕ) → joined_table_into limits (length table) robot addon ≡ refused c i → JoinsTexts robot addon table (Refused c i) table
+  into_refused c i e = record {
+    answer = sym (ap text_read e);
     table-after = sym (ap (λ o. afterwards o (λ s. encode s.rules) table) e);
   }
 
   -- a refusal before 14
-  pub join-refused : (c i : ℕ) → joinTexts limits robot addon ≡ refused c i → JoinsTexts robot addon table (Refused c i) table
-  unfolding joinedTableInto
-  join-refused c i e = into-refused c i (then-stops _ _ c i e)
+  pub join-refused : (c i : ℕ) → join_texts limits robot addon ≡ refused c i → JoinsTexts robot addon table (Refused c i) table
+  unfolding joined_table_into
+  join-refused c i e = into_refused c i (then_stops _ _ c i e)
 
   module _ (row starts lengths firsts sizes terminals nonterminals : List ℕ) (z : ListSizes) (e q : ℕ)
       (h : JoinedHeld robot addon row starts lengths firsts sizes terminals nonterminals z e q) where
     abbrev s : Source
     s = joined limits h.r h.m
 
-    into-is : joinedTableInto limits (length table) robot addon ≡ refuseUnless bufferTooShort 0 (leb (length (encode s.rules)) (length table)) (done s)
-    unfolding joinedTableInto
-    into-is = then-goes _ _ s h.passes
+    into_is : joined_table_into limits (length table) robot addon ≡ refuse_unless buffer_too_short 0 (leb (length (encode s.rules)) (length table)) (done s)
+    unfolding joined_table_into
+    into_is = then-goes _ _ s h.passes
 
     -- 14
-    pub join-short : length table < e → JoinsTexts robot addon table (Refused bufferTooShort 0) table
+    pub join-short : length table < e → JoinsTexts robot addon table (Refused buffer_too_short 0) table
     join-short l =
-        into-refused bufferTooShort 0
-        (into-is ∙ unless-fails bufferTooShort 0 _ _ (lt-leb (length (encode s.rules)) (length table) (omega (arith, h.entries))))
+        into_refused buffer_too_short 0
+        (into_is ∙ unless_fails buffer_too_short 0 _ _ (lt-leb (length (encode s.rules)) (length table) (omega (arith, h.entries))))
 
     -- room
     pub join_written : e ≤ length table → (table' : List ℕ) → table' ≡ over (take e row) table
         → JoinsTexts robot addon table (Read z.terminals z.nonterminals e q) table'
     join_written l table' w =
-        let o : joinedTableInto limits (length table) robot addon ≡ done s
-        = into-is ∙ unless_holds bufferTooShort 0 _ _ (le-leb (length (encode s.rules)) (length table) (omega (arith, h.entries))) in
+        let o : joined_table_into limits (length table) robot addon ≡ done s
+        = into_is ∙ unless_holds buffer_too_short 0 _ _ (le-leb (length (encode s.rules)) (length table) (omega (arith, h.entries))) in
         record {
-          answer = (λ i. Read (h.terminals-are i) (h.nonterminals-are i) (h.entries i) (h.states i)) ∙ sym (ap textRead o);
+          answer = (λ i. Read (h.terminals_are i) (h.nonterminals_are i) (h.entries i) (h.states i)) ∙ sym (ap text_read o);
           table-after = w ∙ ap (λ (xs : List ℕ). over xs table) h.table-front ∙ sym (ap (λ o. afterwards o (λ s. encode s.rules) table) o);
         }

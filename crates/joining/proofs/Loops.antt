@@ -11,25 +11,25 @@ use lib.ListN.{length, take, drop, get_or, set, length-map, drop_of_length-le}
 use lib.Seq.{drop-cons, take-suc, append_snoc, set_at, length-take-le, paste, paste-suc}
 use lib.Seq.{take-length}
 use Rattle.grammar.specs.Basics.{choose, over}
-use Rattle.text.specs.Names.{any, sameName, place}
+use Rattle.text.specs.Names.{any, same_name, place}
 use Rattle.modules.specs.Joined.{meet, added}
 use Rattle.joining.specs.Numbers.{numbered}
-use Rattle.joining.proofs.Numbers.{any_place, numbered-snoc, added-snoc}
+use Rattle.joining.proofs.Numbers.{any_place, numbered_snoc, added_snoc}
 
 module _ (xs ys : List (List ℕ)) (i : ℕ) where
-  meet-at : i < length xs → meet (drop i xs) ys ≡ any (λ x. any (sameName x) ys) (get_or xs i [] ∷ drop (i + 1) xs)
+  meet-at : i < length xs → meet (drop i xs) ys ≡ any (λ x. any (same_name x) ys) (get_or xs i [] ∷ drop (i + 1) xs)
   unfolding meet
   meet-at h = rw (add-one, drop-cons xs i []) refl
 
   -- the name at the cursor is there
-  pub meet-here : i < length xs → place (sameName (get_or xs i [])) ys < length ys → meet (drop i xs) ys ≡ true
+  pub meet-here : i < length xs → place (same_name (get_or xs i [])) ys < length ys → meet (drop i xs) ys ≡ true
   unfolding any
-  meet-here h k = meet-at h ∙ rw (any_place (sameName (get_or xs i [])) ys ∙ lt-ltb (place (sameName (get_or xs i [])) ys) (length ys) k) refl
+  meet-here h k = meet-at h ∙ rw (any_place (same_name (get_or xs i [])) ys ∙ lt-ltb (place (same_name (get_or xs i [])) ys) (length ys) k) refl
 
   -- it is not, so the others count
-  pub meet-later : i < length xs → length ys ≤ place (sameName (get_or xs i [])) ys → meet (drop i xs) ys ≡ meet (drop (i + 1) xs) ys
+  pub meet-later : i < length xs → length ys ≤ place (same_name (get_or xs i [])) ys → meet (drop i xs) ys ≡ meet (drop (i + 1) xs) ys
   unfolding any meet
-  meet-later h k = meet-at h ∙ rw (any_place (sameName (get_or xs i [])) ys ∙ le-ltb (place (sameName (get_or xs i [])) ys) (length ys) k) refl
+  meet-later h k = meet-at h ∙ rw (any_place (same_name (get_or xs i [])) ys ∙ le-ltb (place (same_name (get_or xs i [])) ys) (length ys) k) refl
 
   -- there is none left
   pub meet-end : length xs ≤ i → meet (drop i xs) ys ≡ false
@@ -39,24 +39,24 @@ module _ (xs ys : List (List ℕ)) (i : ℕ) where
 pub length-numbered : (names : List (List ℕ)) (b : ℕ) (xs : List (List ℕ)) → length (numbered names b xs) ≡ length xs
 unfolding numbered
 length-numbered names b [] = refl
-length-numbered names b (x ∷ xs) = go (any (sameName x) names) (length-numbered names b xs) (length-numbered names (b + 1) xs)
+length-numbered names b (x ∷ xs) = go (any (same_name x) names) (length-numbered names b xs) (length-numbered names (b + 1) xs)
   where
     go : (c : Bool) → length (numbered names b xs) ≡ length xs → length (numbered names (b + 1) xs) ≡ length xs
-        → length (choose c (place (sameName x) names ∷ numbered names b xs) (b ∷ numbered names (b + 1) xs)) ≡ suc (length xs)
+        → length (choose c (place (same_name x) names ∷ numbered names b xs) (b ∷ numbered names (b + 1) xs)) ≡ suc (length xs)
     go true e f = ap (λ (n : ℕ). suc n) e
     go false e f = ap (λ (n : ℕ). suc n) f
 
 module _ (names xs : List (List ℕ)) (i : ℕ) (h : i < length xs) where
   -- the place of the name at the cursor
   abbrev at : ℕ
-  at = place (sameName (get_or xs i [])) names
+  at = place (same_name (get_or xs i [])) names
 
   -- how many are added with it
   pub added_more : length (added names (take (i + 1) xs)) ≡ choose (ltb at (length names)) (length (added names (take i xs))) (length (added names (take i xs)) + 1)
   added_more =
       ap (λ (ys : List (List ℕ)). length (added names ys)) (rw add-one (take-suc xs i [] h))
-      ∙ added-snoc names (take i xs) (get_or xs i [])
-      ∙ ap (λ (c : Bool). choose c (length (added names (take i xs))) (length (added names (take i xs)) + 1)) (any_place (sameName (get_or xs i [])) names)
+      ∙ added_snoc names (take i xs) (get_or xs i [])
+      ∙ ap (λ (c : Bool). choose c (length (added names (take i xs))) (length (added names (take i xs)) + 1)) (any_place (same_name (get_or xs i [])) names)
 
   pub next_more : (n next : ℕ) → n ≡ length names → next ≡ n + length (added names (take i xs))
       → choose (ltb at n) next (next + 1) ≡ n + length (added names (take (i + 1) xs))
@@ -73,19 +73,19 @@ module _ (names xs : List (List ℕ)) (i : ℕ) (h : i < length xs) where
   number_more old n next l q e =
       let m : length (numbered names n (take i xs)) ≡ i = length-numbered names n (take i xs) ∙ length-take-le i xs (omega arith) in
       let v = choose (ltb at n) at next in
-      let same : v ≡ choose (any (sameName (get_or xs i [])) names) at (n + length (added names (take i xs)))
-      = ap (λ (k : ℕ). choose (ltb at n) at k) e ∙ ap (λ (c : Bool). choose c at (n + length (added names (take i xs)))) (ap (λ (k : ℕ). ltb at k) q ∙ sym (any_place (sameName (get_or xs i [])) names)) in
+      let same : v ≡ choose (any (same_name (get_or xs i [])) names) at (n + length (added names (take i xs)))
+      = ap (λ (k : ℕ). choose (ltb at n) at k) e ∙ ap (λ (c : Bool). choose c at (n + length (added names (take i xs)))) (ap (λ (k : ℕ). ltb at k) q ∙ sym (any_place (same_name (get_or xs i [])) names)) in
       ap (λ (w : List ℕ). set (numbered names n (take i xs) ++ w) i v) (drop-cons old i 0 (omega arith))
       ∙ set_at (numbered names n (take i xs)) (get_or old i 0) (drop (suc i) old) v i m
       ∙ sym (append_snoc (numbered names n (take i xs)) v (drop (suc i) old))
       ∙ rw add-one (ap (λ (w : List ℕ). w ++ drop (suc i) old)
-      (ap (λ (k : ℕ). numbered names n (take i xs) ++ (k ∷ [])) same ∙ sym (numbered-snoc names (take i xs) n (get_or xs i []))
+      (ap (λ (k : ℕ). numbered names n (take i xs) ++ (k ∷ [])) same ∙ sym (numbered_snoc names (take i xs) n (get_or xs i []))
       ∙ ap (numbered names n) (sym (take-suc xs i [] h))))
 
 -- all of them
-pub number-all : (names xs : List (List ℕ)) (old : List ℕ) (n i : ℕ) → i ≡ length xs → numbered names n (take i xs) ++ drop i old ≡ over (numbered names n xs) old
+pub number_all : (names xs : List (List ℕ)) (old : List ℕ) (n i : ℕ) → i ≡ length xs → numbered names n (take i xs) ++ drop i old ≡ over (numbered names n xs) old
 unfolding over
-number-all names xs old n i e =
+number_all names xs old n i e =
     ap (λ (i : ℕ). numbered names n (take i xs) ++ drop i old) e
     ∙ ap (λ (ys : List (List ℕ)). numbered names n ys ++ drop (length xs) old) (take-length xs)
     ∙ ap (λ (k : ℕ). numbered names n xs ++ drop k old) (sym (length-numbered names n xs))

@@ -8,7 +8,7 @@ use lib.ListN.{length, take, drop, get_or, set, length-map}
 use lib.Seq.{paste, paste-zero, paste-suc, take-paste, drop-paste, length-paste, take-add, drop-drop, take_all}
 use lib.Seq.{take-take, drop_at, take-append-le, length-take-le}
 use Rattle.grammar.specs.Grammar.{Rule}
-use Rattle.grammar.specs.Table.{encode, ruleAt}
+use Rattle.grammar.specs.Table.{encode, rule_at}
 use Rattle.grammar.proofs.Rules.{stands, stands-rule}
 
 -- these are a rule's entries
@@ -42,8 +42,8 @@ paste-on row at s m n h l =
     (append_assoc (take at row) (take m s) (take n (drop m s)) ∙ ap (λ (x : List ℕ). take at row ++ x) (sym (take-add m n s)))
 
 -- two entries set
-two-set : (row : List ℕ) (at x y : ℕ) (w : List ℕ) → at + 2 ≤ length row → set (set row at x) (at + 1) y ≡ paste row at (x ∷ y ∷ w) 2
-two-set row at x y w h =
+two_set : (row : List ℕ) (at x y : ℕ) (w : List ℕ) → at + 2 ≤ length row → set (set row at x) (at + 1) y ≡ paste row at (x ∷ y ∷ w) 2
+two_set row at x y w h =
     let s : List ℕ = x ∷ y ∷ w in
     ap (λ (l : List ℕ). set l (at + 1) y)
     (ap₂ (λ (l : List ℕ) (k : ℕ). set l k x) (paste-zero row at s) (sym (add-zero at)) ∙ paste-suc row at s 0 0 (omega arith) (omega arith))
@@ -60,7 +60,7 @@ rule-put f row entries at x r e h q row' p =
     let k = length r.right in
     let s : List ℕ = f r.left ∷ k ∷ map f r.right in
     let two : set (set row at x) (at + 1) (get_or entries 1 0) ≡ paste row at s 2
-    = ap₂ (λ (a b : ℕ). set (set row at a) (at + 1) b) q e.count ∙ two-set row at (f r.left) k (map f r.right) (omega (arith, e.size)) in
+    = ap₂ (λ (a b : ℕ). set (set row at a) (at + 1) b) q e.count ∙ two_set row at (f r.left) k (map f r.right) (omega (arith, e.size)) in
     let full : s ≡ f r.left ∷ length (map f r.right) ∷ (map f r.right ++ [])
     = ap₂ (λ (n : ℕ) (l : List ℕ). f r.left ∷ n ∷ l) (sym (length-map r.right f)) (sym (append-nil (map f r.right))) in
     p ∙ ap₂ (λ (old codes : List ℕ). paste old (at + 2) (map f codes) (length codes)) two e.body
@@ -72,7 +72,7 @@ pub record Put (row : List ℕ) (to : ℕ) (r : Rule) (row' : List ℕ) : Type 0
   pub size : length row' ≡ length row
   pub front : (m : ℕ) → m ≤ to → take m row' ≡ take m row
   pub whole : take (to + 2 + length r.right) row' ≡ take to row ++ encode (r ∷ [])
-  pub rule : ruleAt row' to (length r.right) ≡ r
+  pub rule : rule_at row' to (length r.right) ≡ r
 
 pub put_one : (row row' : List ℕ) (to n : ℕ) (r : Rule) → to + n ≤ length row → n ≡ 2 + length r.right
     → row' ≡ paste row to (encode (r ∷ [])) n → Put row to r row'
@@ -92,5 +92,5 @@ put_one row row' to n r h q e =
       front = λ m j.
           sym (take-take m (to + n) row' (omega arith)) ∙ ap (take m) whole ∙ take-append-le m (take to row) s (omega (arith, f, j)) ∙ take-take m to row j;
       whole = ap (λ (j : ℕ). take j row') w ∙ whole;
-      rule = ap (ruleAt row' to) (sym g.count) ∙ stands-rule g;
+      rule = ap (rule_at row' to) (sym g.count) ∙ stands-rule g;
     }

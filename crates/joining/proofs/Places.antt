@@ -12,10 +12,10 @@ use Rattle.grammar.specs.Basics.{choose}
 use Rattle.grammar.specs.Limits.{limits}
 use Rattle.grammar.proofs.Lists.{drop-next}
 use Rattle.text.specs.Names.{place}
-use Rattle.text.specs.Read.{Source, symbolNames}
-use Rattle.text.specs.Promise.{nameStarts, nameLengths}
+use Rattle.text.specs.Read.{Source, symbol_names}
+use Rattle.text.specs.Promise.{name_starts, name_lengths}
 use Rattle.text.proofs.Spans.{length-name-starts, length-lengths}
-use Rattle.modules.specs.Joined.{meet, added, joinedTerminals, joinedNonterminals, joined}
+use Rattle.modules.specs.Joined.{meet, added, joined_terminals, joined_nonterminals, joined}
 use Rattle.joining.specs.Numbers.{numbered}
 use Rattle.joining.specs.Joins.{JoinTold, PlaceReady}
 use Rattle.joining.specs.declared.ListSizes.{ListSizes}
@@ -24,8 +24,8 @@ use Rattle.joining.specs.declared.Join.TheVariants.{Joined, Refused}
 use Rattle.modules.specs.declared.Place.TheVariants.{Robot, Module, Neither}
 use Rattle.joining.proofs.Loops.{length-numbered}
 use Rattle.joining.proofs.ShownLaws.{added-counted}
-use Rattle.joining.proofs.Declarers.{OfRobot, OfModule, own-terminal, own-nonterminal, added-terminal, added-nonterminal}
-use Rattle.joining.proofs.ShownNames.{Told, clear, robot-told, module-told, neither-told, shown-refused}
+use Rattle.joining.proofs.Declarers.{OfRobot, OfModule, own_terminal, own_nonterminal, added-terminal, added-nonterminal}
+use Rattle.joining.proofs.ShownNames.{Told, clear, robot-told, module_told, neither_told, shown-refused}
 
 -- ---- the first entry that is i
 
@@ -90,64 +90,64 @@ module _ {robot addon : List ℕ} {z : ListSizes} {starts lengths firsts widths 
   abbrev m : Source
   m = ready.held.m
 
-  apart : limits.maxTerminals < limits.nonterminalBase
+  apart : limits.max_terminals < limits.nonterminal_base
   apart = omega arith
 
   abbrev names : List (List ℕ)
-  names = joinedTerminals r m ++ joinedNonterminals r m
+  names = joined_terminals r m ++ joined_nonterminals r m
 
   -- how many there are
   record Sizes : Type 0 where
-    t-is : z.t ≡ length r.terminals
-    n-is : z.n ≡ length r.nonterminals
-    u-is : z.u ≡ length m.terminals
-    v-is : z.v ≡ length m.nonterminals
-    terminals-are : z.terminals ≡ length (joinedTerminals r m)
-    nonterminals-are : z.nonterminals ≡ length (joinedNonterminals r m)
-    names-are : length names ≡ z.terminals + z.nonterminals
-    robot-names : length (symbolNames r) ≡ z.t + z.n
-    module-names : length (symbolNames m) ≡ z.u + z.v
+    t_is : z.t ≡ length r.terminals
+    n_is : z.n ≡ length r.nonterminals
+    u_is : z.u ≡ length m.terminals
+    v_is : z.v ≡ length m.nonterminals
+    terminals_are : z.terminals ≡ length (joined_terminals r m)
+    nonterminals_are : z.nonterminals ≡ length (joined_nonterminals r m)
+    names_are : length names ≡ z.terminals + z.nonterminals
+    robot-names : length (symbol_names r) ≡ z.t + z.n
+    module-names : length (symbol_names m) ≡ z.u + z.v
 
   sizes : Sizes
   unfolding joined
   sizes =
       let h = ready.held in
       record {
-        t-is = h.t-is;
-        n-is = h.n-is;
-        u-is = h.u-is;
-        v-is = h.v-is;
-        terminals-are = h.terminals-are;
-        nonterminals-are = h.nonterminals-are;
-        names-are = omega (arith, length-append (joinedTerminals r m) (joinedNonterminals r m), h.terminals-are, h.nonterminals-are);
-        robot-names = omega (arith, length-append r.terminals r.nonterminals, h.t-is, h.n-is);
-        module-names = omega (arith, length-append m.terminals m.nonterminals, h.u-is, h.v-is);
+        t_is = h.t_is;
+        n_is = h.n_is;
+        u_is = h.u_is;
+        v_is = h.v_is;
+        terminals_are = h.terminals_are;
+        nonterminals_are = h.nonterminals_are;
+        names_are = omega (arith, length-append (joined_terminals r m) (joined_nonterminals r m), h.terminals_are, h.nonterminals_are);
+        robot-names = omega (arith, length-append r.terminals r.nonterminals, h.t_is, h.n_is);
+        module-names = omega (arith, length-append m.terminals m.nonterminals, h.u_is, h.v_is);
       }
 
   -- the rows have all names
   pub robot-room : (z.t + z.n ≤ length starts) × (z.t + z.n ≤ length lengths)
   robot-room =
       let h = ready.held in (
-        omega (arith, sizes.robot-names, front-room _ starts (nameStarts r) h.starts-front (length-name-starts r)),
-        omega (arith, sizes.robot-names, front-room _ lengths (nameLengths (symbolNames r)) h.lengths-front (length-lengths (symbolNames r))),
+        omega (arith, sizes.robot-names, front-room _ starts (name_starts r) h.starts-front (length-name-starts r)),
+        omega (arith, sizes.robot-names, front-room _ lengths (name_lengths (symbol_names r)) h.lengths-front (length-lengths (symbol_names r))),
       )
 
-  pub module-room : (z.u + z.v ≤ length firsts) × (z.u + z.v ≤ length widths)
-  module-room =
+  pub module_room : (z.u + z.v ≤ length firsts) × (z.u + z.v ≤ length widths)
+  module_room =
       let h = ready.held in (
-        omega (arith, sizes.module-names, front-room _ firsts (nameStarts m) h.firsts-front (length-name-starts m)),
-        omega (arith, sizes.module-names, front-room _ widths (nameLengths (symbolNames m)) h.sizes-front (length-lengths (symbolNames m))),
+        omega (arith, sizes.module-names, front-room _ firsts (name_starts m) h.firsts_front (length-name-starts m)),
+        omega (arith, sizes.module-names, front-room _ widths (name_lengths (symbol_names m)) h.sizes_front (length-lengths (symbol_names m))),
       )
 
   pub terminals-room : z.u ≤ length terminals
   terminals-room =
       let h = ready.held in
-      omega (arith, h.u-is, front-room _ terminals _ h.terminals-front (length-numbered r.terminals (length r.terminals) m.terminals))
+      omega (arith, h.u_is, front-room _ terminals _ h.terminals-front (length-numbered r.terminals (length r.terminals) m.terminals))
 
   pub nonterminals-room : z.v ≤ length nonterminals
   nonterminals-room =
       let h = ready.held in
-      omega (arith, h.v-is, front-room _ nonterminals _ h.nonterminals-front (length-numbered r.nonterminals (length r.nonterminals) m.nonterminals))
+      omega (arith, h.v_is, front-room _ nonterminals _ h.nonterminals-front (length-numbered r.nonterminals (length r.nonterminals) m.nonterminals))
 
   -- ---- the module's number of a symbol that it adds
 
@@ -160,89 +160,89 @@ module _ {robot addon : List ℕ} {z : ListSizes} {starts lengths firsts widths 
   terminal-found : (i : ℕ) → z.t ≤ i → i < z.terminals
       → (terminal i < z.u) × (get_or (numbered r.terminals (length r.terminals) m.terminals) (terminal i) 0 ≡ i)
   terminal-found i h l =
-      found terminals z.u r.terminals m.terminals i ready.held.u-is ready.held.terminals-front (omega (arith, h, sizes.t-is))
-      (omega (arith, l, sizes.terminals-are))
+      found terminals z.u r.terminals m.terminals i ready.held.u_is ready.held.terminals-front (omega (arith, h, sizes.t_is))
+      (omega (arith, l, sizes.terminals_are))
 
   nonterminal-found : (k : ℕ) → z.n ≤ k → k < z.nonterminals
       → (nonterminal k < z.v) × (get_or (numbered r.nonterminals (length r.nonterminals) m.nonterminals) (nonterminal k) 0 ≡ k)
   nonterminal-found k h l =
-      found nonterminals z.v r.nonterminals m.nonterminals k ready.held.v-is ready.held.nonterminals-front
-      (omega (arith, h, sizes.n-is))
-      (omega (arith, l, sizes.nonterminals-are))
+      found nonterminals z.v r.nonterminals m.nonterminals k ready.held.v_is ready.held.nonterminals-front
+      (omega (arith, h, sizes.n_is))
+      (omega (arith, l, sizes.nonterminals_are))
 
-  pub terminal-in : (i : ℕ) → z.t ≤ i → i < z.terminals → terminal i < z.u
-  terminal-in i h l = (terminal-found i h l).0
+  pub terminal_in : (i : ℕ) → z.t ≤ i → i < z.terminals → terminal i < z.u
+  terminal_in i h l = (terminal-found i h l).0
 
-  pub nonterminal-in : (k : ℕ) → z.n ≤ k → k < z.nonterminals → nonterminal k < z.v
-  nonterminal-in k h l = (nonterminal-found k h l).0
+  pub nonterminal_in : (k : ℕ) → z.n ≤ k → k < z.nonterminals → nonterminal k < z.v
+  nonterminal_in k h l = (nonterminal-found k h l).0
 
   -- ---- the places that the rows tell
 
   clear_of : (meet m.terminals r.nonterminals ≡ false) × (meet m.nonterminals r.terminals ≡ false)
-  clear_of = clear limits apart robot addon r m ready.held.robot-passes ready.held.addon-passes ready.held.passes
+  clear_of = clear limits apart robot addon r m ready.held.robot_passes ready.held.addon_passes ready.held.passes
 
   robot-row : (i j : ℕ) → i < length names → OfRobot r names i j → Told limits robot addon i (Robot (get_or starts j 0) (get_or lengths j 0))
   robot-row i j h o =
       let d = ready.held in
       subst (Told limits robot addon i)
-      (ap₂ (λ (a l : ℕ). Robot a l) (sym (front-entry _ starts (nameStarts r) j d.starts-front o.declared))
-      (sym (front-entry _ lengths (nameLengths (symbolNames r)) j d.lengths-front o.declared)))
-      (robot-told limits apart robot addon r m d.robot-passes d.addon-passes d.passes i j h o)
+      (ap₂ (λ (a l : ℕ). Robot a l) (sym (front-entry _ starts (name_starts r) j d.starts-front o.declared))
+      (sym (front-entry _ lengths (name_lengths (symbol_names r)) j d.lengths-front o.declared)))
+      (robot-told limits apart robot addon r m d.robot_passes d.addon_passes d.passes i j h o)
 
   module-row : (i j : ℕ) → i < length names → OfModule r m names i j → Told limits robot addon i (Module (get_or firsts j 0) (get_or widths j 0))
   module-row i j h o =
       let d = ready.held in
       subst (Told limits robot addon i)
-      (ap₂ (λ (a l : ℕ). Module a l) (sym (front-entry _ firsts (nameStarts m) j d.firsts-front o.declared))
-      (sym (front-entry _ widths (nameLengths (symbolNames m)) j d.sizes-front o.declared)))
-      (module-told limits apart robot addon r m d.robot-passes d.addon-passes d.passes i j h o)
+      (ap₂ (λ (a l : ℕ). Module a l) (sym (front-entry _ firsts (name_starts m) j d.firsts_front o.declared))
+      (sym (front-entry _ widths (name_lengths (symbol_names m)) j d.sizes_front o.declared)))
+      (module_told limits apart robot addon r m d.robot_passes d.addon_passes d.passes i j h o)
 
-  pub own-terminal-told : (i : ℕ) → i < z.t → Told limits robot addon i (Robot (get_or starts i 0) (get_or lengths i 0))
-  own-terminal-told i h =
+  pub own_terminal-told : (i : ℕ) → i < z.t → Told limits robot addon i (Robot (get_or starts i 0) (get_or lengths i 0))
+  own_terminal-told i h =
       robot-row i i
-      (omega (arith, sizes.t-is, length-append (joinedTerminals r m) (joinedNonterminals r m), length-append r.terminals (added r.terminals m.terminals)))
-      (own-terminal r m clear_of.0 clear_of.1 i (omega (arith, sizes.t-is)))
+      (omega (arith, sizes.t_is, length-append (joined_terminals r m) (joined_nonterminals r m), length-append r.terminals (added r.terminals m.terminals)))
+      (own_terminal r m clear_of.0 clear_of.1 i (omega (arith, sizes.t_is)))
 
   pub added-terminal-told : (i : ℕ) → z.t ≤ i → i < z.terminals
       → Told limits robot addon i (Module (get_or firsts (terminal i) 0) (get_or widths (terminal i) 0))
   added-terminal-told i h l =
       let f = terminal-found i h l in
-      module-row i (terminal i) (omega (arith, sizes.names-are))
-      (added-terminal r m clear_of.0 clear_of.1 i (terminal i) (omega (arith, h, sizes.t-is)) (omega (arith, l, sizes.terminals-are))
-      (omega (arith, f.0, sizes.u-is)) f.1)
+      module-row i (terminal i) (omega (arith, sizes.names_are))
+      (added-terminal r m clear_of.0 clear_of.1 i (terminal i) (omega (arith, h, sizes.t_is)) (omega (arith, l, sizes.terminals_are))
+      (omega (arith, f.0, sizes.u_is)) f.1)
 
-  pub own-nonterminal-told : (i : ℕ) → z.terminals ≤ i → i - z.terminals < z.n
+  pub own_nonterminal-told : (i : ℕ) → z.terminals ≤ i → i - z.terminals < z.n
       → Told limits robot addon i (Robot (get_or starts (z.t + (i - z.terminals)) 0) (get_or lengths (z.t + (i - z.terminals)) 0))
-  own-nonterminal-told i h l =
-      let j : length r.terminals + (i - length (joinedTerminals r m)) ≡ z.t + (i - z.terminals) = omega (arith, sizes.t-is, sizes.terminals-are) in
+  own_nonterminal-told i h l =
+      let j : length r.terminals + (i - length (joined_terminals r m)) ≡ z.t + (i - z.terminals) = omega (arith, sizes.t_is, sizes.terminals_are) in
       subst (λ (j : ℕ). Told limits robot addon i (Robot (get_or starts j 0) (get_or lengths j 0))) j
       (robot-row i _
-      (omega (arith, h, l, sizes.names-are, sizes.n-is, sizes.nonterminals-are, length-append r.nonterminals (added r.nonterminals m.nonterminals)))
-      (own-nonterminal r m clear_of.0 clear_of.1 i (omega (arith, h, sizes.terminals-are)) (omega (arith, l, sizes.n-is, sizes.terminals-are))))
+      (omega (arith, h, l, sizes.names_are, sizes.n_is, sizes.nonterminals_are, length-append r.nonterminals (added r.nonterminals m.nonterminals)))
+      (own_nonterminal r m clear_of.0 clear_of.1 i (omega (arith, h, sizes.terminals_are)) (omega (arith, l, sizes.n_is, sizes.terminals_are))))
 
   pub added-nonterminal-told : (i : ℕ) → z.terminals ≤ i → z.n ≤ i - z.terminals → i - z.terminals < z.nonterminals
       → let j = z.u + nonterminal (i - z.terminals) in Told limits robot addon i (Module (get_or firsts j 0) (get_or widths j 0))
   added-nonterminal-told i h k l =
       let f = nonterminal-found (i - z.terminals) k l in
       let n = nonterminal (i - z.terminals) in
-      let q : i - z.terminals ≡ i - length (joinedTerminals r m) = omega (arith, sizes.terminals-are) in
-      let j : length m.terminals + n ≡ z.u + n = omega (arith, sizes.u-is) in
+      let q : i - z.terminals ≡ i - length (joined_terminals r m) = omega (arith, sizes.terminals_are) in
+      let j : length m.terminals + n ≡ z.u + n = omega (arith, sizes.u_is) in
       subst (λ (j : ℕ). Told limits robot addon i (Module (get_or firsts j 0) (get_or widths j 0))) j
-      (module-row i _ (omega (arith, h, l, sizes.names-are))
-      (added-nonterminal r m clear_of.0 clear_of.1 i n (omega (arith, h, sizes.terminals-are))
-      (omega (arith, k, sizes.n-is, sizes.terminals-are)) (omega (arith, f.0, sizes.v-is)) (f.1 ∙ q)))
+      (module-row i _ (omega (arith, h, l, sizes.names_are))
+      (added-nonterminal r m clear_of.0 clear_of.1 i n (omega (arith, h, sizes.terminals_are))
+      (omega (arith, k, sizes.n_is, sizes.terminals_are)) (omega (arith, f.0, sizes.v_is)) (f.1 ∙ q)))
 
   pub past-told : (i : ℕ) → z.terminals ≤ i → z.nonterminals ≤ i - z.terminals → Told limits robot addon i Neither
   past-told i h l =
-      neither-told limits apart robot addon r m ready.held.robot-passes ready.held.addon-passes ready.held.passes i
-      (omega (arith, h, l, sizes.names-are))
+      neither_told limits apart robot addon r m ready.held.robot_passes ready.held.addon_passes ready.held.passes i
+      (omega (arith, h, l, sizes.names_are))
 
 -- ---- the answer of the join
 
 module _ (robot addon row starts lengths firsts widths terminals nonterminals : List ℕ) (o : Join)
     (told : JoinTold robot addon row starts lengths firsts widths terminals nonterminals o) where
-  pub place-ready : (z : ListSizes) (e q : ℕ) → o ≡ Joined z e q → PlaceReady robot addon z starts lengths firsts widths terminals nonterminals
-  place-ready z e q h = record { row = row; e = e; q = q; held = subst (JoinTold robot addon row starts lengths firsts widths terminals nonterminals) h told }
+  pub place_ready : (z : ListSizes) (e q : ℕ) → o ≡ Joined z e q → PlaceReady robot addon z starts lengths firsts widths terminals nonterminals
+  place_ready z e q h = record { row = row; e = e; q = q; held = subst (JoinTold robot addon row starts lengths firsts widths terminals nonterminals) h told }
 
   pub place-refused : (cause at i : ℕ) → o ≡ Refused cause at → Told limits robot addon i Neither
   place-refused cause at i h =

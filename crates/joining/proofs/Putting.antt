@@ -9,26 +9,26 @@ use lib.Seq.{take-length, take_at}
 use Rattle.grammar.specs.Basics.{choose, Mem, here, there}
 use Rattle.grammar.specs.Limits.{limits}
 use Rattle.grammar.specs.Grammar.{Rule}
-use Rattle.grammar.specs.Table.{encode, decode, ruleAt}
-use Rattle.grammar.specs.TableCheck.{isAmong}
+use Rattle.grammar.specs.Table.{encode, decode, rule_at}
+use Rattle.grammar.specs.TableCheck.{is_among}
 use Rattle.grammar.proofs.Rules.{decode-encode, stands}
-use Rattle.modules.specs.Joined.{addedRules}
-use Rattle.joining.specs.Naming.{recoded, recodedRule, RuleRecoding, RulesReady, RulesPut}
+use Rattle.modules.specs.Joined.{added_rules}
+use Rattle.joining.specs.Naming.{recoded, recoded_rule, RuleRecoding, RulesReady, RulesPut}
 use Rattle.joining.specs.RuleRows.{RuleReady, RulePut, RulesBefore}
-use Rattle.joining.proofs.RuleLaws.{added-rules-snoc}
+use Rattle.joining.proofs.RuleLaws.{added-rules_snoc}
 use Rattle.joining.proofs.OneRule.{one-rule, Put, put_one}
 
 -- the rules of two lists end to end
-encode-append : (xs ys : List Rule) → encode (xs ++ ys) ≡ encode xs ++ encode ys
+encode_append : (xs ys : List Rule) → encode (xs ++ ys) ≡ encode xs ++ encode ys
 unfolding encode
-encode-append [] ys = refl
-encode-append (x ∷ xs) ys = rw (encode-append xs ys, append_assoc)
+encode_append [] ys = refl
+encode_append (x ∷ xs) ys = rw (encode_append xs ys, append_assoc)
 
 -- the module's first rule from a place of its table on
 record Next (table : List ℕ) (at : ℕ) (rest : List Rule) : Type 0 where
   first : Rule
   after : List Rule
-  rest-is : rest ≡ first ∷ after
+  rest_is : rest ≡ first ∷ after
   count : get_or table (at + 1) 0 ≡ length first.right
   whole : at + 2 + length first.right ≤ length table
   entries : take (2 + length first.right) (drop at table) ≡ encode (first ∷ [])
@@ -43,10 +43,10 @@ next-of table at (r ∷ rs) h e =
     record {
       first = r;
       after = rs;
-      rest-is = refl;
+      rest_is = refl;
       count = g.count;
       whole = g.whole;
-      entries = ap (take (2 + k)) (e ∙ encode-append (r ∷ []) rs) ∙ take_at (encode (r ∷ [])) (encode rs) (2 + k) (one-rule (encode (r ∷ [])) r refl).size;
+      entries = ap (take (2 + k)) (e ∙ encode_append (r ∷ []) rs) ∙ take_at (encode (r ∷ [])) (encode rs) (2 + k) (one-rule (encode (r ∷ [])) r refl).size;
       onward = sym (ap (drop (at + 2 + k)) (take-length table)) ∙ g.onward;
     }
 
@@ -60,7 +60,7 @@ pub record Putting (table terminals nonterminals row₀ : List ℕ) (end : ℕ) 
   pub recoding : (r : Rule) → Mem r rest → RuleRecoding terminals nonterminals r
   pub first : take end row₀ ≡ encode robot
   pub front : take end row ≡ encode robot
-  pub put : take to row ≡ encode (robot ++ addedRules robot (map (recodedRule limits terminals nonterminals) past))
+  pub put : take to row ≡ encode (robot ++ added_rules robot (map (recoded_rule limits terminals nonterminals) past))
   pub low : end ≤ to
   pub room : to + length table ≤ length row + at
   pub inside : to ≤ length row
@@ -69,7 +69,7 @@ pub record Putting (table terminals nonterminals row₀ : List ℕ) (end : ℕ) 
 -- at first none is put
 pub put-start : {table terminals nonterminals row : List ℕ} {end : ℕ} → RulesReady table terminals nonterminals row end
     → Putting table terminals nonterminals row end row end 0
-unfolding addedRules
+unfolding added_rules
 put-start {table} {terminals} {nonterminals} {row} {end} g = record {
   past = [];
   rest = g.rules;
@@ -100,73 +100,73 @@ module _ {table terminals nonterminals row₀ : List ℕ} {end : ℕ} {row : Lis
     abbrev part : List ℕ
     part = take (at + 2 + k - at) (drop at table)
 
-    part-is : part ≡ encode (next.first ∷ [])
-    part-is =
+    part_is : part ≡ encode (next.first ∷ [])
+    part_is =
         let z : at + 2 + k - at ≡ 2 + length next.first.right = omega (arith, q, next.count) in
         ap (λ (j : ℕ). take j (drop at table)) z ∙ next.entries
 
     part-size : length part ≡ 2 + k
-    part-size = ap length part-is ∙ (omega (arith, (one-rule (encode (next.first ∷ [])) next.first refl).size, q, next.count))
+    part-size = ap length part_is ∙ (omega (arith, (one-rule (encode (next.first ∷ [])) next.first refl).size, q, next.count))
 
     -- they can be put into the row
-    pub put-ready : RuleReady terminals nonterminals part row to
-    put-ready = record {
+    pub put_ready : RuleReady terminals nonterminals part row to
+    put_ready = record {
       rule = next.first;
-      entries-are = part-is;
-      recoding = p.recoding next.first (subst (Mem next.first) (sym next.rest-is) here);
+      entries_are = part_is;
+      recoding = p.recoding next.first (subst (Mem next.first) (sym next.rest_is) here);
       room = omega (arith, part-size, p.room, put_whole, q);
     }
 
     -- the rule as it is put
     abbrev now-rule : Rule
-    now-rule = recodedRule limits terminals nonterminals next.first
+    now-rule = recoded_rule limits terminals nonterminals next.first
 
-    now-size : length now-rule.right ≡ k
-    now-size = omega (arith, length-map next.first.right (recoded limits terminals nonterminals), next.count, q)
+    now_size : length now-rule.right ≡ k
+    now_size = omega (arith, length-map next.first.right (recoded limits terminals nonterminals), next.count, q)
 
     module _ (row' : List ℕ) (done : RulePut terminals nonterminals part row to row') where
-      put-now : Put row to now-rule row'
-      put-now = put_one row row' to (length part) now-rule put-ready.room (omega (arith, part-size, now-size)) (done next.first part-is)
+      put_now : Put row to now-rule row'
+      put_now = put_one row row' to (length part) now-rule put_ready.room (omega (arith, part-size, now_size)) (done next.first part_is)
 
       -- it can be looked for among the robot's
       pub put-before : RulesBefore row' end to k
       put-before = record {
         rules = p.robot;
-        front = put-now.front end p.low ∙ p.front;
-        inside = omega (arith, put-now.size, p.low, p.inside);
-        whole = omega (arith, put-now.size, put-ready.room, part-size);
+        front = put_now.front end p.low ∙ p.front;
+        inside = omega (arith, put_now.size, p.low, p.inside);
+        whole = omega (arith, put_now.size, put_ready.room, part-size);
       }
 
       -- what is found there is what the contract asks
-      among : isAmong (ruleAt row' to k) (decode (take end row')) ≡ isAmong now-rule p.robot
+      among : is_among (rule_at row' to k) (decode (take end row')) ≡ is_among now-rule p.robot
       among =
-          ap₂ isAmong (ap (ruleAt row' to) (sym now-size) ∙ put-now.rule) (ap decode (put-now.front end p.low ∙ p.front) ∙ decode-encode p.robot)
+          ap₂ is_among (ap (rule_at row' to) (sym now_size) ∙ put_now.rule) (ap decode (put_now.front end p.low ∙ p.front) ∙ decode-encode p.robot)
 
       abbrev before : List Rule
-      before = addedRules p.robot (map (recodedRule limits terminals nonterminals) p.past)
+      before = added_rules p.robot (map (recoded_rule limits terminals nonterminals) p.past)
 
-      added-now : addedRules p.robot (map (recodedRule limits terminals nonterminals) (p.past ++ (next.first ∷ [])))
-          ≡ before ++ choose (isAmong now-rule p.robot) [] (now-rule ∷ [])
-      added-now =
-          ap (addedRules p.robot) (map-append (recodedRule limits terminals nonterminals) p.past (next.first ∷ []))
-          ∙ added-rules-snoc p.robot (map (recodedRule limits terminals nonterminals) p.past) now-rule
+      added_now : added_rules p.robot (map (recoded_rule limits terminals nonterminals) (p.past ++ (next.first ∷ [])))
+          ≡ before ++ choose (is_among now-rule p.robot) [] (now-rule ∷ [])
+      added_now =
+          ap (added_rules p.robot) (map-append (recoded_rule limits terminals nonterminals) p.past (next.first ∷ []))
+          ∙ added-rules_snoc p.robot (map (recoded_rule limits terminals nonterminals) p.past) now-rule
 
       -- the row up to where the next rule goes
       taken : (c : Bool) → take (choose c to (to + 2 + k)) row' ≡ encode (p.robot ++ (before ++ choose c [] (now-rule ∷ [])))
-      taken true = put-now.front to (omega arith) ∙ p.put ∙ ap (λ (rs : List Rule). encode (p.robot ++ rs)) (sym (append-nil before))
+      taken true = put_now.front to (omega arith) ∙ p.put ∙ ap (λ (rs : List Rule). encode (p.robot ++ rs)) (sym (append-nil before))
       taken false =
-          ap (λ (j : ℕ). take (to + 2 + j) row') (sym now-size) ∙ put-now.whole ∙ ap (λ (l : List ℕ). l ++ encode (now-rule ∷ [])) p.put
-          ∙ sym (encode-append (p.robot ++ before) (now-rule ∷ [])) ∙ ap encode (append_assoc p.robot before (now-rule ∷ []))
+          ap (λ (j : ℕ). take (to + 2 + j) row') (sym now_size) ∙ put_now.whole ∙ ap (λ (l : List ℕ). l ++ encode (now-rule ∷ [])) p.put
+          ∙ sym (encode_append (p.robot ++ before) (now-rule ∷ [])) ∙ ap encode (append_assoc p.robot before (now-rule ∷ []))
 
       place-low : (c : Bool) → (to ≤ choose c to (to + 2 + k)) × (choose c to (to + 2 + k) ≤ to + 2 + k)
       place-low true = (omega arith, omega arith)
       place-low false = (omega arith, omega arith)
 
       -- one rule more
-      pub put-more : (to' : ℕ) → to' ≡ choose (isAmong (ruleAt row' to k) (decode (take end row'))) to (to + 2 + k)
+      pub put-more : (to' : ℕ) → to' ≡ choose (is_among (rule_at row' to k) (decode (take end row'))) to (to + 2 + k)
           → Putting table terminals nonterminals row₀ end row' to' (at + (2 + k))
       put-more to' e =
-          let c = isAmong now-rule p.robot in
+          let c = is_among now-rule p.robot in
           let s : to' ≡ choose c to (to + 2 + k) = e ∙ ap (λ (c : Bool). choose c to (to + 2 + k)) among in
           let l = place-low c in
           let z : at + (2 + k) ≡ at + 2 + length next.first.right = omega (arith, q, next.count) in
@@ -176,16 +176,16 @@ module _ {table terminals nonterminals row₀ : List ℕ} {end : ℕ} {row : Lis
             robot = p.robot;
             table_is =
                 p.table_is
-                ∙ ap encode (ap (λ (rs : List Rule). p.past ++ rs) next.rest-is ∙ sym (append_assoc p.past (next.first ∷ []) next.after));
+                ∙ ap encode (ap (λ (rs : List Rule). p.past ++ rs) next.rest_is ∙ sym (append_assoc p.past (next.first ∷ []) next.after));
             ahead = ap (λ (j : ℕ). drop j table) z ∙ next.onward;
-            recoding = λ r m. p.recoding r (subst (Mem r) (sym next.rest-is) (there m));
+            recoding = λ r m. p.recoding r (subst (Mem r) (sym next.rest_is) (there m));
             first = p.first;
-            front = put-now.front end p.low ∙ p.front;
-            put = ap (λ (j : ℕ). take j row') s ∙ taken c ∙ ap (λ (rs : List Rule). encode (p.robot ++ rs)) (sym added-now);
+            front = put_now.front end p.low ∙ p.front;
+            put = ap (λ (j : ℕ). take j row') s ∙ taken c ∙ ap (λ (rs : List Rule). encode (p.robot ++ rs)) (sym added_now);
             low = omega (arith, s, l.0, p.low);
-            room = omega (arith, s, l.1, p.room, put-now.size);
+            room = omega (arith, s, l.1, p.room, put_now.size);
             inside = omega (arith, s, l.1, put-before.whole);
-            size = put-now.size ∙ p.size;
+            size = put_now.size ∙ p.size;
           }
 
 -- there is no rule left
@@ -204,7 +204,7 @@ pub put-end : {table terminals nonterminals row₀ : List ℕ} {end : ℕ} {row 
     → length table ≤ at → RulesPut table terminals nonterminals row₀ end row to
 put-end {table} {terminals} {nonterminals} {row₀} {end} {row} {to} {at} p h = record {
   put = λ rules robot e f.
-      p.put ∙ ap₂ (λ (xs ys : List Rule). encode (xs ++ addedRules xs (map (recodedRule limits terminals nonterminals) ys)))
+      p.put ∙ ap₂ (λ (xs ys : List Rule). encode (xs ++ added_rules xs (map (recoded_rule limits terminals nonterminals) ys)))
       (encode_one p.robot robot (sym p.first ∙ f))
       (sym (append-nil p.past) ∙ ap (λ (rs : List Rule). p.past ++ rs) (sym (none_left table at p.rest h p.ahead))
       ∙ encode_one (p.past ++ p.rest) rules (sym p.table_is ∙ e));

@@ -10,11 +10,11 @@ use lib.ListN.{length, take, drop, length-drop}
 use lib.Seq.{take_all}
 use Rattle.grammar.specs.Basics.{over}
 use Rattle.grammar.specs.Limits.{limits}
-use Rattle.grammar.specs.Refusal.{Answer, refused, refuseUnless, outOfRange, kindsClash}
-use Rattle.grammar.proofs.Answers.{unless_holds, unless-fails}
+use Rattle.grammar.specs.Refusal.{Answer, refused, refuse_unless, out_of_range, kinds_clash}
+use Rattle.grammar.proofs.Answers.{unless_holds, unless_fails}
 use Rattle.modules.specs.Joined.{meet, added}
 use Rattle.joining.specs.Numbers.{numbered}
-use Rattle.joining.specs.Naming.{Kind, KindTold, BothNamed, CountsTold, refuseNames}
+use Rattle.joining.specs.Naming.{Kind, KindTold, BothNamed, CountsTold, refuse_names}
 use Rattle.joining.specs.declared.Counts.{Counts}
 use Rattle.joining.specs.declared.Matched.{Matched}
 use Rattle.joining.specs.declared.Matched.TheVariants.{Clash, Together}
@@ -22,8 +22,8 @@ use Rattle.joining.specs.declared.Matched.TheVariants.{Clash, Together}
 -- ---- what answers tell
 
 module _ (names xs others : List (List ℕ)) (numbers numbers' : List ℕ) (r : Matched) where
-  pub told-clash : r ≡ Clash → KindTold names xs others numbers numbers' r → meet others names ≡ true
-  told-clash e h = subst (λ (r : Matched). KindTold names xs others numbers numbers' r) e h
+  pub told_clash : r ≡ Clash → KindTold names xs others numbers numbers' r → meet others names ≡ true
+  told_clash e h = subst (λ (r : Matched). KindTold names xs others numbers numbers' r) e h
 
   pub told-together : (k : ℕ) → r ≡ Together k → KindTold names xs others numbers numbers' r
       → (meet others names ≡ false) × (k ≡ length (names ++ added names xs)) × (numbers' ≡ over (numbered names (length names) xs) numbers)
@@ -33,40 +33,40 @@ module _ (rt rn mt mn : List (List ℕ)) where
   -- ---- the refusals, one by one
 
   module _ {A : Type 0} (a : Answer A) where
-    pub first-clash : meet mt rn ≡ true → refuseNames rt rn mt mn a ≡ refused kindsClash 1
-    unfolding refuseNames
-    first-clash h = unless-fails kindsClash 1 (not (meet mt rn)) _ (ap not h)
+    pub first_clash : meet mt rn ≡ true → refuse_names rt rn mt mn a ≡ refused kinds_clash 1
+    unfolding refuse_names
+    first_clash h = unless_fails kinds_clash 1 (not (meet mt rn)) _ (ap not h)
 
     module _ (first : meet mt rn ≡ false) where
-      pub second-clash : meet mn rt ≡ true → refuseNames rt rn mt mn a ≡ refused kindsClash 2
-      unfolding refuseNames
-      second-clash h =
-          unless_holds kindsClash 1 (not (meet mt rn)) _ (ap not first)
-          ∙ unless-fails kindsClash 2 (not (meet mn rt)) _ (ap not h)
+      pub second_clash : meet mn rt ≡ true → refuse_names rt rn mt mn a ≡ refused kinds_clash 2
+      unfolding refuse_names
+      second_clash h =
+          unless_holds kinds_clash 1 (not (meet mt rn)) _ (ap not first)
+          ∙ unless_fails kinds_clash 2 (not (meet mn rt)) _ (ap not h)
 
       module _ (second : meet mn rt ≡ false) where
-        pub clear : refuseNames rt rn mt mn a
-            ≡ refuseUnless outOfRange 1 (leb (length (rt ++ added rt mt)) limits.maxTerminals)
-            (refuseUnless outOfRange 2 (leb (length (rn ++ added rn mn)) limits.maxNonterminals) a)
-        unfolding refuseNames
+        pub clear : refuse_names rt rn mt mn a
+            ≡ refuse_unless out_of_range 1 (leb (length (rt ++ added rt mt)) limits.max_terminals)
+            (refuse_unless out_of_range 2 (leb (length (rn ++ added rn mn)) limits.max_nonterminals) a)
+        unfolding refuse_names
         clear =
-            unless_holds kindsClash 1 (not (meet mt rn)) _ (ap not first)
-            ∙ unless_holds kindsClash 2 (not (meet mn rt)) _ (ap not second)
+            unless_holds kinds_clash 1 (not (meet mt rn)) _ (ap not first)
+            ∙ unless_holds kinds_clash 2 (not (meet mn rt)) _ (ap not second)
 
-        pub many-terminals : limits.maxTerminals < length (rt ++ added rt mt) → refuseNames rt rn mt mn a ≡ refused outOfRange 1
-        many-terminals h = clear ∙ unless-fails outOfRange 1 _ _ (lt-leb (length (rt ++ added rt mt)) limits.maxTerminals h)
+        pub many_terminals : limits.max_terminals < length (rt ++ added rt mt) → refuse_names rt rn mt mn a ≡ refused out_of_range 1
+        many_terminals h = clear ∙ unless_fails out_of_range 1 _ _ (lt-leb (length (rt ++ added rt mt)) limits.max_terminals h)
 
-        pub many-nonterminals : length (rt ++ added rt mt) ≤ limits.maxTerminals → limits.maxNonterminals < length (rn ++ added rn mn)
-            → refuseNames rt rn mt mn a ≡ refused outOfRange 2
-        many-nonterminals h k =
-            clear ∙ unless_holds outOfRange 1 _ _ (le-leb (length (rt ++ added rt mt)) limits.maxTerminals h)
-            ∙ unless-fails outOfRange 2 _ _ (lt-leb (length (rn ++ added rn mn)) limits.maxNonterminals k)
+        pub many_nonterminals : length (rt ++ added rt mt) ≤ limits.max_terminals → limits.max_nonterminals < length (rn ++ added rn mn)
+            → refuse_names rt rn mt mn a ≡ refused out_of_range 2
+        many_nonterminals h k =
+            clear ∙ unless_holds out_of_range 1 _ _ (le-leb (length (rt ++ added rt mt)) limits.max_terminals h)
+            ∙ unless_fails out_of_range 2 _ _ (lt-leb (length (rn ++ added rn mn)) limits.max_nonterminals k)
 
-        pub names-pass : length (rt ++ added rt mt) ≤ limits.maxTerminals → length (rn ++ added rn mn) ≤ limits.maxNonterminals
-            → refuseNames rt rn mt mn a ≡ a
-        names-pass h k =
-            clear ∙ unless_holds outOfRange 1 _ _ (le-leb (length (rt ++ added rt mt)) limits.maxTerminals h)
-            ∙ unless_holds outOfRange 2 _ _ (le-leb (length (rn ++ added rn mn)) limits.maxNonterminals k)
+        pub names_pass : length (rt ++ added rt mt) ≤ limits.max_terminals → length (rn ++ added rn mn) ≤ limits.max_nonterminals
+            → refuse_names rt rn mt mn a ≡ a
+        names_pass h k =
+            clear ∙ unless_holds out_of_range 1 _ _ (le-leb (length (rt ++ added rt mt)) limits.max_terminals h)
+            ∙ unless_holds out_of_range 2 _ _ (le-leb (length (rn ++ added rn mn)) limits.max_nonterminals k)
 
 -- ---- parts of the rows
 
@@ -89,10 +89,10 @@ module _ (robot starts lengths : List ℕ) (t : ℕ) (addon firsts sizes : List 
         h.second))),
   )
 
-pub counts-are : (rt rn mt mn rt' rn' mt' mn' : List (List ℕ)) (terminals nonterminals terminals' nonterminals' : List ℕ) (r : Counts)
+pub counts_are : (rt rn mt mn rt' rn' mt' mn' : List (List ℕ)) (terminals nonterminals terminals' nonterminals' : List ℕ) (r : Counts)
     → rt ≡ rt' → rn ≡ rn' → mt ≡ mt' → mn ≡ mn' → CountsTold rt rn mt mn terminals nonterminals terminals' nonterminals' r
     → CountsTold rt' rn' mt' mn' terminals nonterminals terminals' nonterminals' r
-counts-are rt rn mt mn rt' rn' mt' mn' terminals nonterminals terminals' nonterminals' r a b c d h =
+counts_are rt rn mt mn rt' rn' mt' mn' terminals nonterminals terminals' nonterminals' r a b c d h =
     subst (λ (rt : List (List ℕ)). CountsTold rt rn' mt' mn' terminals nonterminals terminals' nonterminals' r) a
     (subst (λ (rn : List (List ℕ)). CountsTold rt rn mt' mn' terminals nonterminals terminals' nonterminals' r) b
     (subst (λ (mt : List (List ℕ)). CountsTold rt rn mt mn' terminals nonterminals terminals' nonterminals' r) c

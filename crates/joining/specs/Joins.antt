@@ -1,15 +1,15 @@
 -- What is told of two texts that were read and joined, and of the rows that hold their names and numbers. Assumes nothing.
 use Rattle.std.specs.Prelude.{ℕ, ◌+◌, ◌*◌, ◌≤◌, ◌≡◌, List, length, take}
 use Rattle.grammar.specs.Limits.{limits}
-use Rattle.grammar.specs.Grammar.{stateCount}
+use Rattle.grammar.specs.Grammar.{state_count}
 use Rattle.grammar.specs.Table.{encode}
 use Rattle.grammar.specs.Refusal.{done, refused}
-use Rattle.text.specs.Read.{Source, symbolNames}
-use Rattle.text.specs.Rules.{checkText, checkModule}
-use Rattle.text.specs.Promise.{nameStarts, nameLengths}
+use Rattle.text.specs.Read.{Source, symbol_names}
+use Rattle.text.specs.Rules.{check_text, check_module}
+use Rattle.text.specs.Promise.{name_starts, name_lengths}
 use Rattle.text.specs.declared.TextRead.TheVariants.{Read}
 use Rattle.text_read.specs.Texts.{Rows, ChecksText, ChecksModule}
-use Rattle.modules.specs.Joined.{joined, joinTexts}
+use Rattle.modules.specs.Joined.{joined, join_texts}
 use Rattle.joining.specs.Numbers.{numbered}
 use Rattle.joining.specs.declared.ListSizes.{ListSizes}
 use Rattle.joining.specs.declared.Join.{Join}
@@ -19,35 +19,35 @@ use Rattle.joining.specs.declared.Join.TheVariants.{Joined, Refused}
 pub record JoinRows (robot addon row starts lengths table firsts sizes terminals nonterminals : List ℕ) : Type 0 where
   pub robot-rows : Rows (length robot) row starts lengths
   pub addon-rows : Rows (length addon) table firsts sizes
-  pub both : 2 * (limits.maxStates + limits.maxRules) ≤ length row
-  pub terminals-room : limits.maxTerminals ≤ length terminals
-  pub nonterminals-room : limits.maxNonterminals ≤ length nonterminals
+  pub both : 2 * (limits.max_states + limits.max_rules) ≤ length row
+  pub terminals-room : limits.max_terminals ≤ length terminals
+  pub nonterminals-room : limits.max_nonterminals ≤ length nonterminals
 
 -- both texts pass, and so does the joined table, which the row begins with; the other rows have the names and numbers
 pub record JoinedHeld (robot addon row starts lengths firsts sizes terminals nonterminals : List ℕ) (z : ListSizes) (e q : ℕ) : Type 0 where
   pub r : Source
   pub m : Source
-  pub robot-passes : checkText limits robot ≡ done r
-  pub addon-passes : checkModule limits addon ≡ done m
-  pub passes : joinTexts limits robot addon ≡ done (joined limits r m)
-  pub t-is : z.t ≡ length r.terminals
-  pub n-is : z.n ≡ length r.nonterminals
-  pub u-is : z.u ≡ length m.terminals
-  pub v-is : z.v ≡ length m.nonterminals
-  pub terminals-are : z.terminals ≡ length (joined limits r m).terminals
-  pub nonterminals-are : z.nonterminals ≡ length (joined limits r m).nonterminals
+  pub robot_passes : check_text limits robot ≡ done r
+  pub addon_passes : check_module limits addon ≡ done m
+  pub passes : join_texts limits robot addon ≡ done (joined limits r m)
+  pub t_is : z.t ≡ length r.terminals
+  pub n_is : z.n ≡ length r.nonterminals
+  pub u_is : z.u ≡ length m.terminals
+  pub v_is : z.v ≡ length m.nonterminals
+  pub terminals_are : z.terminals ≡ length (joined limits r m).terminals
+  pub nonterminals_are : z.nonterminals ≡ length (joined limits r m).nonterminals
   pub entries : e ≡ length (encode (joined limits r m).rules)
-  pub states : q ≡ stateCount (joined limits r m).rules
+  pub states : q ≡ state_count (joined limits r m).rules
   pub table-front : take e row ≡ encode (joined limits r m).rules
-  pub starts-front : take (length (symbolNames r)) starts ≡ nameStarts r
-  pub lengths-front : take (length (symbolNames r)) lengths ≡ nameLengths (symbolNames r)
-  pub firsts-front : take (length (symbolNames m)) firsts ≡ nameStarts m
-  pub sizes-front : take (length (symbolNames m)) sizes ≡ nameLengths (symbolNames m)
+  pub starts-front : take (length (symbol_names r)) starts ≡ name_starts r
+  pub lengths-front : take (length (symbol_names r)) lengths ≡ name_lengths (symbol_names r)
+  pub firsts_front : take (length (symbol_names m)) firsts ≡ name_starts m
+  pub sizes_front : take (length (symbol_names m)) sizes ≡ name_lengths (symbol_names m)
   pub terminals-front : take (length m.terminals) terminals ≡ numbered r.terminals (length r.terminals) m.terminals
   pub nonterminals-front : take (length m.nonterminals) nonterminals ≡ numbered r.nonterminals (length r.nonterminals) m.nonterminals
 
 abbrev pub JoinTold : List ℕ → List ℕ → List ℕ → List ℕ → List ℕ → List ℕ → List ℕ → List ℕ → List ℕ → Join → Type 0
-JoinTold robot addon row starts lengths firsts sizes terminals nonterminals (Refused cause at) = joinTexts limits robot addon ≡ refused cause at
+JoinTold robot addon row starts lengths firsts sizes terminals nonterminals (Refused cause at) = join_texts limits robot addon ≡ refused cause at
 JoinTold robot addon row starts lengths firsts sizes terminals nonterminals (Joined z e q) =
     JoinedHeld robot addon row starts lengths firsts sizes terminals nonterminals z e q
 

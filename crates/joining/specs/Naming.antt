@@ -4,13 +4,13 @@ use Rattle.grammar.specs.Basics.{choose, over, Mem}
 use Rattle.grammar.specs.Limits.{Limits, limits}
 use Rattle.grammar.specs.Grammar.{Rule, start}
 use Rattle.grammar.specs.Table.{encode}
-use Rattle.grammar.specs.Refusal.{Answer, done, refused, refuseUnless, outOfRange, kindsClash}
-use Rattle.text.specs.Names.{hasDouble}
+use Rattle.grammar.specs.Refusal.{Answer, done, refused, refuse_unless, out_of_range, kinds_clash}
+use Rattle.text.specs.Names.{has_double}
 use Rattle.text.specs.Read.{Source}
 use Rattle.text.specs.Spelled.{spelled}
 use Rattle.lexicon.specs.Tree.{Spans, Lexicon}
-use Rattle.text_read.specs.Values.{allNames}
-use Rattle.modules.specs.Joined.{meet, added, addedRules}
+use Rattle.text_read.specs.Values.{all_names}
+use Rattle.modules.specs.Joined.{meet, added, added_rules}
 use Rattle.joining.specs.Numbers.{numbered}
 use Rattle.joining.specs.declared.Matched.{Matched}
 use Rattle.joining.specs.declared.Matched.TheVariants.{Clash, Together}
@@ -22,18 +22,18 @@ use Rattle.joining.specs.declared.Counts.TheVariants.{Names, Fault}
 -- the tree of the robot's names, few enough for entries of 32 bits, names of the module, and a row with an entry for each
 pub record Numbering (robot starts lengths links addon firsts sizes numbers : List ℕ) : Type 0 where
   pub lexicon : Lexicon robot starts lengths links
-  pub addon-spans : Spans addon firsts sizes
+  pub addon_spans : Spans addon firsts sizes
   pub few : length starts + length firsts < 4294967296
   pub room : length firsts ≤ length numbers
 
 -- names of one kind of the robot, all different; names of the module of that kind, with an entry for each, and of the other kind
 pub record Kind (robot starts lengths addon firsts sizes others widths numbers : List ℕ) : Type 0 where
-  pub robot-spans : Spans robot starts lengths
-  pub once : hasDouble (spelled robot starts lengths) ≡ false
-  pub robot-few : length starts ≤ allNames
-  pub addon-spans : Spans addon firsts sizes
-  pub addon-few : length firsts ≤ allNames
-  pub other-spans : Spans addon others widths
+  pub robot_spans : Spans robot starts lengths
+  pub once : has_double (spelled robot starts lengths) ≡ false
+  pub robot-few : length starts ≤ all_names
+  pub addon_spans : Spans addon firsts sizes
+  pub addon-few : length firsts ≤ all_names
+  pub other_spans : Spans addon others widths
   pub room : length firsts ≤ length numbers
 
 -- names of the robot, of the module, and the module's of the other kind: a clash, or how many there are together, and their numbers
@@ -47,32 +47,32 @@ KindTold names xs others numbers numbers' (Together k) =
 pub record BothNamed (robot starts lengths : List ℕ) (t : ℕ) (addon firsts sizes : List ℕ) (u : ℕ) (terminals nonterminals : List ℕ) : Type 0 where
   pub robot-terminals : t ≤ length starts
   pub addon-terminals : u ≤ length firsts
-  pub robot-paired : length starts ≡ length lengths
-  pub addon-paired : length firsts ≡ length sizes
+  pub robot_paired : length starts ≡ length lengths
+  pub addon_paired : length firsts ≡ length sizes
   pub first : Kind robot (take t starts) (take t lengths) addon (take u firsts) (take u sizes) (drop u firsts) (drop u sizes) terminals
   pub second : Kind robot (drop t starts) (drop t lengths) addon (drop u firsts) (drop u sizes) (take u firsts) (take u sizes) nonterminals
 
 -- 20 at 1 and at 2, then 1 at 1 and at 2
-unfoldable pub refuseNames : {A : Type 0} → List (List ℕ) → List (List ℕ) → List (List ℕ) → List (List ℕ) → Answer A → Answer A
-refuseNames rt rn mt mn a =
-    refuseUnless kindsClash 1 (not (meet mt rn))
-    (refuseUnless kindsClash 2 (not (meet mn rt))
-    (refuseUnless outOfRange 1 (leb (length (rt ++ added rt mt)) limits.maxTerminals)
-    (refuseUnless outOfRange 2 (leb (length (rn ++ added rn mn)) limits.maxNonterminals) a)))
+unfoldable pub refuse_names : {A : Type 0} → List (List ℕ) → List (List ℕ) → List (List ℕ) → List (List ℕ) → Answer A → Answer A
+refuse_names rt rn mt mn a =
+    refuse_unless kinds_clash 1 (not (meet mt rn))
+    (refuse_unless kinds_clash 2 (not (meet mn rt))
+    (refuse_unless out_of_range 1 (leb (length (rt ++ added rt mt)) limits.max_terminals)
+    (refuse_unless out_of_range 2 (leb (length (rn ++ added rn mn)) limits.max_nonterminals) a)))
 
 -- no fault: how many names there are of each kind, and the rows begin with the numbers of the module's
 pub record NamesCounted (rt rn mt mn : List (List ℕ)) (terminals nonterminals terminals' nonterminals' : List ℕ) (a b : ℕ) : Type 0 where
-  pub first-clear : meet mt rn ≡ false
-  pub second-clear : meet mn rt ≡ false
-  pub terminals-are : a ≡ length (rt ++ added rt mt)
-  pub nonterminals-are : b ≡ length (rn ++ added rn mn)
-  pub terminals-most : a ≤ limits.maxTerminals
-  pub nonterminals-most : b ≤ limits.maxNonterminals
+  pub first_clear : meet mt rn ≡ false
+  pub second_clear : meet mn rt ≡ false
+  pub terminals_are : a ≡ length (rt ++ added rt mt)
+  pub nonterminals_are : b ≡ length (rn ++ added rn mn)
+  pub terminals-most : a ≤ limits.max_terminals
+  pub nonterminals-most : b ≤ limits.max_nonterminals
   pub terminals-row : terminals' ≡ over (numbered rt (length rt) mt) terminals
   pub nonterminals-row : nonterminals' ≡ over (numbered rn (length rn) mn) nonterminals
 
 abbrev pub CountsTold : List (List ℕ) → List (List ℕ) → List (List ℕ) → List (List ℕ) → List ℕ → List ℕ → List ℕ → List ℕ → Counts → Type 0
-CountsTold rt rn mt mn terminals nonterminals terminals' nonterminals' (Fault cause at) = (a : Answer Source) → refuseNames rt rn mt mn a ≡ refused cause at
+CountsTold rt rn mt mn terminals nonterminals terminals' nonterminals' (Fault cause at) = (a : Answer Source) → refuse_names rt rn mt mn a ≡ refused cause at
 CountsTold rt rn mt mn terminals nonterminals terminals' nonterminals' (Names a b) =
     NamesCounted rt rn mt mn terminals nonterminals terminals' nonterminals' a b
 
@@ -84,8 +84,8 @@ recoded L terminals nonterminals code =
     choose (ltb code (start L)) (get_or terminals (code - 1) 0 + 1) (start L + get_or nonterminals (code - start L) 0)
 
 -- a rule likewise
-abbrev pub recodedRule : Limits → List ℕ → List ℕ → Rule → Rule
-recodedRule L terminals nonterminals r =
+abbrev pub recoded_rule : Limits → List ℕ → List ℕ → Rule → Rule
+recoded_rule L terminals nonterminals r =
     record { left = recoded L terminals nonterminals r.left; right = map (recoded L terminals nonterminals) r.right }
 
 -- a code that has a number, and numbers within the limits
@@ -93,8 +93,8 @@ pub record Recoding (terminals nonterminals : List ℕ) (code : ℕ) : Type 0 wh
   pub low : 1 ≤ code
   pub terminal : code < start limits → code ≤ length terminals
   pub nonterminal : start limits ≤ code → code < start limits + length nonterminals
-  pub terminals-few : (i : ℕ) → get_or terminals i 0 < limits.maxTerminals
-  pub nonterminals-few : (i : ℕ) → get_or nonterminals i 0 < limits.maxNonterminals
+  pub terminals-few : (i : ℕ) → get_or terminals i 0 < limits.max_terminals
+  pub nonterminals-few : (i : ℕ) → get_or nonterminals i 0 < limits.max_nonterminals
 
 -- all of a row's codes are so
 abbrev pub AllRecoding : List ℕ → List ℕ → List ℕ → Type 0
@@ -104,7 +104,7 @@ AllRecoding terminals nonterminals codes = (i : ℕ) → i < length codes → Re
 pub record RuleRecoding (terminals nonterminals : List ℕ) (r : Rule) : Type 0 where
   pub left : Recoding terminals nonterminals r.left
   pub right : AllRecoding terminals nonterminals r.right
-  pub few : length r.right ≤ limits.maxLength
+  pub few : length r.right ≤ limits.max_length
 
 -- the module's table with its numbers, and a row that begins with the robot's table and has room for both
 pub record RulesReady (table terminals nonterminals row : List ℕ) (end : ℕ) : Type 0 where
@@ -118,5 +118,5 @@ pub record RulesReady (table terminals nonterminals row : List ℕ) (end : ℕ) 
 -- up to r the row has the robot's rules, then those of the module that are not among them
 pub record RulesPut (table terminals nonterminals row : List ℕ) (end : ℕ) (row' : List ℕ) (r : ℕ) : Type 0 where
   pub put : (rules robot : List Rule) → table ≡ encode rules → take end row ≡ encode robot
-      → take r row' ≡ encode (robot ++ addedRules robot (map (recodedRule limits terminals nonterminals) rules))
+      → take r row' ≡ encode (robot ++ added_rules robot (map (recoded_rule limits terminals nonterminals) rules))
   pub inside : r ≤ length row'

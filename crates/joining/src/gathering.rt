@@ -1,7 +1,7 @@
 // The names of both texts gathered into one row of bytes, with rows of where they start and how long they are, for the writer.
 ghost use Rattle.std.specs.Prelude.{◌≡◌, [], ◌∷◌, ◌+◌, length, get_or};
 ghost use Rattle.text.specs.Spelled.{spelled};
-ghost use Rattle.joining.specs.Gathering.{fresh, kindNames, Puts, OneReady, MaybeReady, AllReady, FreshReady, KindReady};
+ghost use Rattle.joining.specs.Gathering.{fresh, kind_names, Puts, OneReady, MaybeReady, AllReady, FreshReady, KindReady};
 ghost use Rattle.joining.specs.Gathering.{NamesReady, NamesGathered};
 
 use super::ListSizes;
@@ -120,7 +120,7 @@ fn put_kind(
 )
     requires { KindReady robot.now starts.now lengths.now addon.now firsts.now widths.now numbers.now
         bytes.old places.old spans.old k }
-    ensures { Puts (kindNames robot.now starts.now lengths.now
+    ensures { Puts (kind_names robot.now starts.now lengths.now
         addon.now firsts.now widths.now numbers.now) k
         bytes.old places.old spans.old bytes.new places.new spans.new }
 {

@@ -1,7 +1,7 @@
 // The module's names among the robot's: is one of the other kind, and which numbers they get in the joined lists.
 ghost use Rattle.std.specs.Prelude.{◌≡◌, ◌+◌, ◌≤◌, ◌<◌, [], length, get_or, take, drop, ltb};
 ghost use Rattle.grammar.specs.Basics.{choose, over};
-ghost use Rattle.text.specs.Names.{sameName, place};
+ghost use Rattle.text.specs.Names.{same_name, place};
 ghost use Rattle.text.specs.Spelled.{spelled};
 ghost use Rattle.lexicon.specs.Tree.{Spans, Lexicon};
 ghost use Rattle.modules.specs.Joined.{meet, added};
@@ -23,7 +23,7 @@ fn number_of(
     i: usize,
 ) -> usize
     requires { (Lexicon robot.now starts.now lengths.now links.now) × (Spans addon.now firsts.now sizes.now) × (i < length firsts.now) }
-    ensures { result ≡ place (sameName (get_or (spelled addon.now firsts.now sizes.now) i [])) (spelled robot.now starts.now lengths.now) }
+    ensures { result ≡ place (same_name (get_or (spelled addon.now firsts.now sizes.now) i [])) (spelled robot.now starts.now lengths.now) }
 {
     let a = firsts[i] as usize;
     let e = a + sizes[i] as usize;

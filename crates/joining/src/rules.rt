@@ -3,8 +3,8 @@ ghost use Rattle.std.specs.Prelude.{◌≡◌, map, ◌+◌, ◌≤◌, ◌<◌,
 ghost use Rattle.std.proofs.Math.Seq.{paste};
 ghost use Rattle.grammar.specs.Basics.{choose};
 ghost use Rattle.grammar.specs.Limits.{limits};
-ghost use Rattle.grammar.specs.Table.{decode, ruleAt};
-ghost use Rattle.grammar.specs.TableCheck.{isAmong};
+ghost use Rattle.grammar.specs.Table.{decode, rule_at};
+ghost use Rattle.grammar.specs.TableCheck.{is_among};
 ghost use Rattle.joining.specs.Naming.{recoded, Recoding, AllRecoding, RulesReady, RulesPut};
 ghost use Rattle.joining.specs.RuleRows.{RuleReady, RulePut, RulesBefore};
 
@@ -61,7 +61,7 @@ fn put_rule(terminals: &[u32], nonterminals: &[u32], rule: &[u16], row: &mut [u1
 // Does the rule of length k at a place stand among those of the row's first entries?
 fn stands_before(row: &[u16], end: usize, at: usize, k: usize) -> bool
     requires { RulesBefore row.now end at k }
-    ensures { result ≡ isAmong (ruleAt row.now at k) (decode (take end row.now)) }
+    ensures { result ≡ is_among (rule_at row.now at k) (decode (take end row.now)) }
 {
     let mut o = 0;
     while o < end {
@@ -78,7 +78,7 @@ fn stands_before(row: &[u16], end: usize, at: usize, k: usize) -> bool
 // behind it.
 fn next_place(row: &[u16], end: usize, at: usize, k: usize) -> usize
     requires { RulesBefore row.now end at k }
-    ensures { result ≡ choose (isAmong (ruleAt row.now at k) (decode (take end row.now))) at (at + 2 + k) }
+    ensures { result ≡ choose (is_among (rule_at row.now at k) (decode (take end row.now))) at (at + 2 + k) }
 {
     if stands_before(row, end, at, k) {
         return at;

@@ -11,47 +11,47 @@ use lib.ListN.{length, drop, get_or, set, replicate, drop_of_length-le}
 use lib.Seq.{get_or-set_same, get_or-set_other, drop-cons}
 use Rattle.grammar.specs.Basics.{choose}
 use Rattle.grammar.proofs.Answers.{no_bool}
-use Rattle.text.specs.Names.{folded, sameName}
+use Rattle.text.specs.Names.{folded, same_name}
 use Rattle.lexicon.specs.declared.Sought.{Sought}
 use Rattle.lexicon.specs.declared.Sought.TheVariants.{Same, Free}
-use Rattle.lexicon.specs.Tree.{foldedName, keyBits, keySkip, keySpan, keyFactor, keyFrom, keyOf, byteBit, turn, Below, here, down, Keeps, Grown, Hit, Gap, Told}
+use Rattle.lexicon.specs.Tree.{folded_name, key_bits, key_skip, key_span, key_factor, key_from, key_of, byte_bit, turn, Below, here, down, Keeps, Grown, Hit, Gap, Told}
 
 -- the key of a name, byte by byte
-pub key-start : (x : List ℕ) → keyFrom 0 (foldedName (drop 0 x)) ≡ keyOf (foldedName x)
-unfolding keyOf
+pub key-start : (x : List ℕ) → key_from 0 (folded_name (drop 0 x)) ≡ key_of (folded_name x)
+unfolding key_of
 key-start x = refl
 
 pub key_more : (x : List ℕ) (i k b f : ℕ) → i < length x → f ≡ folded (get_or x i 0) → b ≡ f
-    → keyFrom k (foldedName (drop i x)) ≡ keyFrom ((k % keySpan + b) * keyFactor) (foldedName (drop (i + 1) x))
-unfolding keyFrom foldedName
+    → key_from k (folded_name (drop i x)) ≡ key_from ((k % key_span + b) * key_factor) (folded_name (drop (i + 1) x))
+unfolding key_from folded_name
 key_more x i k b f h e q =
     let z : suc i ≡ i + 1 = omega arith in
-    ap (λ (l : List ℕ). keyFrom k (map folded l)) (drop-cons x i 0 h)
-    ∙ ap (λ (c : ℕ). keyFrom ((k % keySpan + c) * keyFactor) (map folded (drop (suc i) x))) (sym (q ∙ e))
-    ∙ ap (λ (j : ℕ). keyFrom ((k % keySpan + b) * keyFactor) (map folded (drop j x))) z
+    ap (λ (l : List ℕ). key_from k (map folded l)) (drop-cons x i 0 h)
+    ∙ ap (λ (c : ℕ). key_from ((k % key_span + c) * key_factor) (map folded (drop (suc i) x))) (sym (q ∙ e))
+    ∙ ap (λ (j : ℕ). key_from ((k % key_span + b) * key_factor) (map folded (drop j x))) z
 
-pub key-end : (x : List ℕ) (i k : ℕ) → length x ≤ i → keyFrom k (foldedName (drop i x)) ≡ k
-unfolding keyFrom foldedName
+pub key-end : (x : List ℕ) (i k : ℕ) → length x ≤ i → key_from k (folded_name (drop i x)) ≡ k
+unfolding key_from folded_name
 key-end x i k h = rw (drop_of_length-le x {i = i} h)
 
 -- a turn by the key, past the end of the name, and by the name
-pub turn-key : (x : List ℕ) (key d : ℕ) → key ≡ keyOf (foldedName x) → d < keyBits → key / 2 ^ (keySkip + d) % 2 ≡ turn (foldedName x) d
+pub turn-key : (x : List ℕ) (key d : ℕ) → key ≡ key_of (folded_name x) → d < key_bits → key / 2 ^ (key_skip + d) % 2 ≡ turn (folded_name x) d
 unfolding turn
-turn-key x key d e h = rw (lt-ltb d keyBits h) (ap (λ (k : ℕ). k / 2 ^ (keySkip + d) % 2) e)
+turn-key x key d e h = rw (lt-ltb d key_bits h) (ap (λ (k : ℕ). k / 2 ^ (key_skip + d) % 2) e)
 
-pub turn-past : (x : List ℕ) (d : ℕ) → keyBits ≤ d → length x ≤ (d - keyBits) / 8 → turn (foldedName x) d ≡ 0
-unfolding turn byteBit foldedName
-turn-past x d h l = rw (le-ltb d keyBits h, past x ((d - keyBits) / 8) l, zero-div)
+pub turn-past : (x : List ℕ) (d : ℕ) → key_bits ≤ d → length x ≤ (d - key_bits) / 8 → turn (folded_name x) d ≡ 0
+unfolding turn byte_bit folded_name
+turn-past x d h l = rw (le-ltb d key_bits h, past x ((d - key_bits) / 8) l, zero-div)
   where
     past : (x : List ℕ) (i : ℕ) → length x ≤ i → get_or (map folded x) i 0 ≡ 0
     past [] i h = refl
     past (b ∷ x) zero h = absurd (omega arith)
     past (b ∷ x) (suc i) h = past x i (omega arith)
 
-pub turn_byte : (x : List ℕ) (d : ℕ) → keyBits ≤ d → (d - keyBits) / 8 < length x
-    → turn (foldedName x) d ≡ folded (get_or x ((d - keyBits) / 8) 0) / 2 ^ ((d - keyBits) % 8) % 2
-unfolding turn byteBit foldedName
-turn_byte x d h l = rw (le-ltb d keyBits h, within x ((d - keyBits) / 8) l)
+pub turn_byte : (x : List ℕ) (d : ℕ) → key_bits ≤ d → (d - key_bits) / 8 < length x
+    → turn (folded_name x) d ≡ folded (get_or x ((d - key_bits) / 8) 0) / 2 ^ ((d - key_bits) % 8) % 2
+unfolding turn byte_bit folded_name
+turn_byte x d h l = rw (le-ltb d key_bits h, within x ((d - key_bits) / 8) l)
   where
     within : (x : List ℕ) (i : ℕ) → i < length x → get_or (map folded x) i 0 ≡ folded (get_or x i 0)
     within [] i h = absurd (omega arith)
@@ -59,28 +59,28 @@ turn_byte x d h l = rw (le-ltb d keyBits h, within x ((d - keyBits) / 8) l)
     within (b ∷ x) (suc i) h = within x i (omega arith)
 
 pub turn_small : (x : List ℕ) (d : ℕ) → turn x d < 2
-unfolding turn byteBit
-turn_small x d = go (ltb d keyBits)
+unfolding turn byte_bit
+turn_small x d = go (ltb d key_bits)
   where
-    go : (t : Bool) → choose t (keyOf x / 2 ^ (keySkip + d) % 2) (get_or x ((d - keyBits) / 8) 0 / 2 ^ ((d - keyBits) % 8) % 2) < 2
+    go : (t : Bool) → choose t (key_of x / 2 ^ (key_skip + d) % 2) (get_or x ((d - key_bits) / 8) 0 / 2 ^ ((d - key_bits) % 8) % 2) < 2
     go true = omega arith
     go false = omega arith
 
 -- names are the same just if the same of them counts
-pub same-folded : (x y : List ℕ) → sameName x y ≡ true → foldedName x ≡ foldedName y
-unfolding sameName foldedName
+pub same-folded : (x y : List ℕ) → same_name x y ≡ true → folded_name x ≡ folded_name y
+unfolding same_name folded_name
 same-folded [] [] h = refl
 same-folded [] (b ∷ y) h = no_bool (sym h)
 same-folded (a ∷ x) [] h = no_bool (sym h)
 same-folded (a ∷ x) (b ∷ y) h = go (eqb (folded a) (folded b)) refl (λ e. same-folded x y e) h
   where
-    go : (t : Bool) → eqb (folded a) (folded b) ≡ t → (sameName x y ≡ true → map folded x ≡ map folded y) → t && sameName x y ≡ true
+    go : (t : Bool) → eqb (folded a) (folded b) ≡ t → (same_name x y ≡ true → map folded x ≡ map folded y) → t && same_name x y ≡ true
         → folded a ∷ map folded x ≡ folded b ∷ map folded y
     go true e ih q = ap₂ (λ u w. u ∷ w) (eqb-true _ _ e) (ih q)
     go false e ih q = no_bool (sym q)
 
-pub folded-same : (x y z : List ℕ) → foldedName x ≡ foldedName y → sameName x z ≡ sameName y z
-unfolding sameName foldedName
+pub folded-same : (x y z : List ℕ) → folded_name x ≡ folded_name y → same_name x z ≡ same_name y z
+unfolding same_name folded_name
 folded-same [] [] z h = refl
 folded-same [] (b ∷ y) z h = absurd (omega (arith, let e : 0 ≡ suc (length (map folded y)) = ap length h in e))
 folded-same (a ∷ x) [] z h = absurd (omega (arith, let e : suc (length (map folded x)) ≡ 0 = ap length h in e))
@@ -93,60 +93,60 @@ folded-same (a ∷ x) (b ∷ y) (c ∷ z) h =
     tail (w ∷ l) = l
 
 -- what is met stays met where links are kept
-pub below-keeps : {C D k : List ℕ} {s d q : ℕ} → Keeps C D → Below C k s d q → Below D k s d q
-below-keeps m (here e) = here e
-below-keeps {C} {D} {k} {s} {d} {q} m (down h b) =
+pub below_keeps : {C D k : List ℕ} {s d q : ℕ} → Keeps C D → Below C k s d q → Below D k s d q
+below_keeps m (here e) = here e
+below_keeps {C} {D} {k} {s} {d} {q} m (down h b) =
     let e = m.kept (2 * q + turn k d) h in
-    down {d = d} {q = q} (omega arith) (subst (λ (w : ℕ). Below D k s (d + 1) w) (sym e) (below-keeps m b))
+    down {d = d} {q = q} (omega arith) (subst (λ (w : ℕ). Below D k s (d + 1) w) (sym e) (below_keeps m b))
 
 -- a link written where none was
-pub keeps-set : (C : List ℕ) (i a : ℕ) → get_or C i 0 ≡ 0 → Keeps C (set C i a)
-keeps-set C i a e = record { kept = λ j h. get_or-set_other C i j a 0 (λ q. let z : get_or C j 0 ≡ 0 = ap (λ (w : ℕ). get_or C w 0) q ∙ e in omega arith) }
+pub keeps_set : (C : List ℕ) (i a : ℕ) → get_or C i 0 ≡ 0 → Keeps C (set C i a)
+keeps_set C i a e = record { kept = λ j h. get_or-set_other C i j a 0 (λ q. let z : get_or C j 0 ≡ 0 = ap (λ (w : ℕ). get_or C w 0) q ∙ e in omega arith) }
 
 -- One turn of the search, from name q at depth d.
 module _ (name : ℕ → List ℕ) (C : List ℕ) (count : ℕ) (x : List ℕ) (q d : ℕ) where
   -- each of the names that is x is still ahead
   abbrev pub Still : Type 0
-  Still = (s : ℕ) → s < count → sameName x (name s) ≡ true → Below C (foldedName x) s d q
+  Still = (s : ℕ) → s < count → same_name x (name s) ≡ true → Below C (folded_name x) s d q
 
   -- what is met from here is met from the first
   abbrev pub Led : Type 0
-  Led = (D : List ℕ) → Keeps C D → (s : ℕ) → Below D (foldedName x) s d q → Below D (foldedName x) s 0 0
+  Led = (D : List ℕ) → Keeps C D → (s : ℕ) → Below D (folded_name x) s d q → Below D (folded_name x) s 0 0
 
 module _ (name : ℕ → List ℕ) (C : List ℕ) (count : ℕ) (x : List ℕ) where
   -- the first turn
-  pub seek-start : Grown name C count → Still name C count x 0 0 × Led name C count x 0 0
-  seek-start g = (
+  pub seek_start : Grown name C count → Still name C count x 0 0 × Led name C count x 0 0
+  seek_start g = (
     λ s l e. subst (λ (k : List ℕ). Below C k s 0 0) (sym (same-folded x (name s) e)) (g.held s l),
     λ D m s b. b,
   )
 
 module _ (name : ℕ → List ℕ) (C : List ℕ) (count : ℕ) (x : List ℕ) (q d : ℕ) (still : Still name C count x q d) (led : Led name C count x q d)
-    (other : sameName x (name q) ≡ false) where
+    (other : same_name x (name q) ≡ false) where
   keeps_self : Keeps C C
   keeps_self = record { kept = λ i h. refl }
 
   -- the way on, where the name itself is not it
-  onward : (s : ℕ) → sameName x (name s) ≡ true → Below C (foldedName x) s d q
-      → (0 < get_or C (2 * q + turn (foldedName x) d) 0) × Below C (foldedName x) s (d + 1) (get_or C (2 * q + turn (foldedName x) d) 0)
-  onward s e (here p) = no_bool (sym (ap (λ (w : ℕ). sameName x (name w)) p ∙ e) ∙ other)
+  onward : (s : ℕ) → same_name x (name s) ≡ true → Below C (folded_name x) s d q
+      → (0 < get_or C (2 * q + turn (folded_name x) d) 0) × Below C (folded_name x) s (d + 1) (get_or C (2 * q + turn (folded_name x) d) 0)
+  onward s e (here p) = no_bool (sym (ap (λ (w : ℕ). same_name x (name w)) p ∙ e) ∙ other)
   onward s e (down h b) = (h, b)
 
-  pub seek-on : (r : ℕ) → r ≡ get_or C (2 * q + turn (foldedName x) d) 0 → 0 < r → Still name C count x r (d + 1) × Led name C count x r (d + 1)
-  seek-on r e p = (
-    (λ s l t. subst (λ (w : ℕ). Below C (foldedName x) s (d + 1) w) (sym e) (onward s t (still s l t)).1),
-    (λ D m s b. let k = m.kept (2 * q + turn (foldedName x) d) (omega arith) in
-        led D m s (down {d = d} {q = q} (omega arith) (subst (λ (w : ℕ). Below D (foldedName x) s (d + 1) w) (e ∙ sym k) b))),
+  pub seek_on : (r : ℕ) → r ≡ get_or C (2 * q + turn (folded_name x) d) 0 → 0 < r → Still name C count x r (d + 1) × Led name C count x r (d + 1)
+  seek_on r e p = (
+    (λ s l t. subst (λ (w : ℕ). Below C (folded_name x) s (d + 1) w) (sym e) (onward s t (still s l t)).1),
+    (λ D m s b. let k = m.kept (2 * q + turn (folded_name x) d) (omega arith) in
+        led D m s (down {d = d} {q = q} (omega arith) (subst (λ (w : ℕ). Below D (folded_name x) s (d + 1) w) (e ∙ sym k) b))),
   )
 
-  pub seek-gap : (i : ℕ) → i ≡ 2 * q + turn (foldedName x) d → q < count → get_or C i 0 ≡ 0 → Gap name C count x i
-  seek-gap i e l o =
-      let e' : 2 * q + turn (foldedName x) d ≡ i = sym e in
-      let t = turn_small (foldedName x) d in
+  pub seek_gap : (i : ℕ) → i ≡ 2 * q + turn (folded_name x) d → q < count → get_or C i 0 ≡ 0 → Gap name C count x i
+  seek_gap i e l o =
+      let e' : 2 * q + turn (folded_name x) d ≡ i = sym e in
+      let t = turn_small (folded_name x) d in
       record {
         near = omega arith;
         empty = o;
-        absent = λ s k. no_true (sameName x (name s)) (λ t. let h = (onward s t (still s k t)).0 in let z : get_or C (2 * q + turn (foldedName x) d) 0 ≡ 0 = ap (λ (w : ℕ). get_or C w 0) e' ∙ o in omega arith);
+        absent = λ s k. no_true (same_name x (name s)) (λ t. let h = (onward s t (still s k t)).0 in let z : get_or C (2 * q + turn (folded_name x) d) 0 ≡ 0 = ap (λ (w : ℕ). get_or C w 0) e' ∙ o in omega arith);
         led = λ D m h. led D m (get_or D i 0) (down {d = d} {q = q} (rw e' h) (here (ap (λ (w : ℕ). get_or D w 0) e')));
       }
     where
@@ -155,14 +155,14 @@ module _ (name : ℕ → List ℕ) (C : List ℕ) (count : ℕ) (x : List ℕ) (
       no_true false n = refl
 
 -- a row of zeros has no link
-pub no-links : (n i : ℕ) → ◌≡◌ {A = ℕ} (get_or (replicate n 0) i 0) 0
-no-links zero i = refl
-no-links (suc n) zero = refl
-no-links (suc n) (suc i) = no-links n i
+pub no_links : (n i : ℕ) → ◌≡◌ {A = ℕ} (get_or (replicate n 0) i 0) 0
+no_links zero i = refl
+no_links (suc n) zero = refl
+no_links (suc n) (suc i) = no_links n i
 
 -- an empty tree has name 0
-pub grown-one : (name : ℕ → List ℕ) (C : List ℕ) → ((i : ℕ) → get_or C i 0 ≡ 0) → Grown name C 1
-grown-one name C none = record {
+pub grown_one : (name : ℕ → List ℕ) (C : List ℕ) → ((i : ℕ) → get_or C i 0 ≡ 0) → Grown name C 1
+grown_one name C none = record {
   root = omega arith;
   link = λ i p. absurd (omega (arith, none i));
   forward = λ i p. absurd (omega (arith, none i));
@@ -180,7 +180,7 @@ grow name C count i g h inside = record {
 }
   where
     keeps : Keeps C (set C i count)
-    keeps = keeps-set C i count h.empty
+    keeps = keeps_set C i count h.empty
 
     at : get_or (set C i count) i 0 ≡ count
     at = get_or-set_same C i count 0 inside
@@ -199,11 +199,11 @@ grow name C count i g h inside = record {
     forward j true q p = omega (arith, here-at j q, eqb-true j i q, h.near)
     forward j false q p = omega (arith, other j q, g.forward j (omega (arith, other j q)))
 
-    held : (s : ℕ) → s < count + 1 → (t : Bool) → eqb s count ≡ t → Below (set C i count) (foldedName (name s)) s 0 0
+    held : (s : ℕ) → s < count + 1 → (t : Bool) → eqb s count ≡ t → Below (set C i count) (folded_name (name s)) s 0 0
     held s l true q =
-        subst (λ (w : ℕ). Below (set C i count) (foldedName (name w)) w 0 0) (sym (eqb-true s count q))
-        (subst (λ (w : ℕ). Below (set C i count) (foldedName (name count)) w 0 0) at (h.led (set C i count) keeps (omega (arith, at, g.root))))
-    held s l false q = below-keeps keeps (g.held s (omega (arith, eqb-false s count q)))
+        subst (λ (w : ℕ). Below (set C i count) (folded_name (name w)) w 0 0) (sym (eqb-true s count q))
+        (subst (λ (w : ℕ). Below (set C i count) (folded_name (name count)) w 0 0) at (h.led (set C i count) keeps (omega (arith, at, g.root))))
+    held s l false q = below_keeps keeps (g.held s (omega (arith, eqb-false s count q)))
 
 -- what an answer of the search tells
 pub told_same : (name : ℕ → List ℕ) (C : List ℕ) (count : ℕ) (x : List ℕ) (r : Sought) (q : ℕ) → r ≡ Same q → Told name C count x r → Hit name C count x q

@@ -3,10 +3,10 @@
 // so that names which begin alike part early; the later ones are the name's own, so that a way has at most KEY_BITS steps more than a
 // name has bits. A link is a name's number; 0 is none, since name 0 is the root.
 ghost use Rattle.std.specs.Prelude.{◌≡◌, [], ℕ, ◌+◌, ◌*◌, ◌≤◌, ◌<◌, length, get_or};
-ghost use Rattle.text.specs.Names.{sameName, place};
-ghost use Rattle.text.specs.Print.{firstDouble};
+ghost use Rattle.text.specs.Names.{same_name, place};
+ghost use Rattle.text.specs.Print.{first_double};
 ghost use Rattle.text.specs.Spelled.{spelled};
-ghost use Rattle.lexicon.specs.Tree.{foldedName, keyOf, turn, name_of, Spans, Grown, Told, mostNames, Lexicon, Planted};
+ghost use Rattle.lexicon.specs.Tree.{folded_name, key_of, turn, name_of, Spans, Grown, Told, most_names, Lexicon, Planted};
 
 // How many turns go by the key, and the first bit of it that does.
 const KEY_BITS: usize = 24;
@@ -45,7 +45,7 @@ fn wide_byte(x: u8) -> usize
 
 // The key of a name, of which folded bytes count.
 fn key_of(x: &[u8]) -> usize
-    ensures { result ≡ keyOf (foldedName x.now) }
+    ensures { result ≡ key_of (folded_name x.now) }
 {
     let mut key = 0;
     let mut i = 0;
@@ -58,8 +58,8 @@ fn key_of(x: &[u8]) -> usize
 
 // Where a name with this key turns at depth d: by a bit of the key, later by one of its folded bytes; 0 past its end.
 fn bit(x: &[u8], key: usize, d: usize) -> usize
-    requires { key ≡ keyOf (foldedName x.now) }
-    ensures { (result ≡ turn (foldedName x.now) d) × (result < 2) }
+    requires { key ≡ key_of (folded_name x.now) }
+    ensures { (result ≡ turn (folded_name x.now) d) × (result < 2) }
 {
     if d < KEY_BITS {
         return (key >> (KEY_SKIP + d)) % 2;
@@ -82,7 +82,7 @@ fn seek(
     count: usize,
     x: &[u8],
 ) -> Sought
-    requires spans { (Spans text.now starts.now lengths.now) × (count ≤ length starts.now) × (count ≤ mostNames) × (2 * count ≤ length links.now) }
+    requires spans { (Spans text.now starts.now lengths.now) × (count ≤ length starts.now) × (count ≤ most_names) × (2 * count ≤ length links.now) }
     requires grown { Grown (name_of text.now starts.now lengths.now) links.now count }
     ensures { Told (name_of text.now starts.now lengths.now) links.now count x.now result }
 {
@@ -109,7 +109,7 @@ fn seek(
 // there are.
 pub fn grow(text: &[u8], starts: &[u32], lengths: &[u32], links: &mut [u16], from: usize) -> usize
     requires { Planted text.now starts.now lengths.now links.old from }
-    ensures value { result ≡ firstDouble [] (spelled text.now starts.now lengths.now) }
+    ensures value { result ≡ first_double [] (spelled text.now starts.now lengths.now) }
     ensures lexicon { result ≡ length starts.now → Lexicon text.now starts.now lengths.now links.new }
 {
     let n = starts.len();
@@ -134,9 +134,9 @@ pub fn grow(text: &[u8], starts: &[u32], lengths: &[u32], links: &mut [u16], fro
 
 // Puts the names into an empty tree, up to the first that is there already: its number, or how many names there are.
 pub fn plant(text: &[u8], starts: &[u32], lengths: &[u32], links: &mut [u16]) -> usize
-    requires spans { (Spans text.now starts.now lengths.now) × (length starts.now ≤ mostNames) × (2 * length starts.now ≤ length links.old) }
+    requires spans { (Spans text.now starts.now lengths.now) × (length starts.now ≤ most_names) × (2 * length starts.now ≤ length links.old) }
     requires by_index { (i : ℕ) → get_or links.old i 0 ≡ 0 }
-    ensures value { result ≡ firstDouble [] (spelled text.now starts.now lengths.now) }
+    ensures value { result ≡ first_double [] (spelled text.now starts.now lengths.now) }
     ensures lexicon { result ≡ length starts.now → Lexicon text.now starts.now lengths.now links.new }
 {
     grow(text, starts, lengths, links, 0)
@@ -145,7 +145,7 @@ pub fn plant(text: &[u8], starts: &[u32], lengths: &[u32], links: &mut [u16]) ->
 // The number of the name that is x, or how many names there are.
 pub fn find(text: &[u8], starts: &[u32], lengths: &[u32], links: &[u16], x: &[u8]) -> usize
     requires { Lexicon text.now starts.now lengths.now links.now }
-    ensures { result ≡ place (sameName x.now) (spelled text.now starts.now lengths.now) }
+    ensures { result ≡ place (same_name x.now) (spelled text.now starts.now lengths.now) }
 {
     let n = starts.len();
     if n == 0 {

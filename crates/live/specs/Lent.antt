@@ -3,18 +3,18 @@
 use Rattle.std.specs.Prelude.{ℕ, ◌≡◌, List}
 use Rattle.grammar.specs.Limits.{limits}
 use Rattle.grammar.specs.Grammar.{Grammar, WellFormed}
-use Rattle.grammar.specs.Record.{recordOf}
+use Rattle.grammar.specs.Record.{record_of}
 use Rattle.grammar.specs.declared.CheckedGrammar.{CheckedGrammar}
 
 -- the record of a grammar, with n, Q, these counts and these columns in place of its own
-abbrev pub withColumns : Grammar → ℕ → ℕ → ℕ → ℕ → List ℕ → List ℕ → List ℕ → CheckedGrammar
-withColumns G n q count used lefts lengths codes = record {
-  terminals = (recordOf G).terminals;
+abbrev pub with_columns : Grammar → ℕ → ℕ → ℕ → ℕ → List ℕ → List ℕ → List ℕ → CheckedGrammar
+with_columns G n q count used lefts lengths codes = record {
+  terminals = (record_of G).terminals;
   nonterminals = n;
   count = count;
   used = used;
   states = q;
-  offsets = (recordOf G).offsets;
+  offsets = (record_of G).offsets;
   lefts = lefts;
   lengths = lengths;
   codes = codes;
@@ -22,5 +22,5 @@ withColumns G n q count used lefts lengths codes = record {
 
 -- they are its own
 pub record ColumnsOf (G : Grammar) (n q count used : ℕ) (lefts lengths codes : List ℕ) : Type 0 where
-  pub wellFormed : WellFormed limits G
-  pub same : withColumns G n q count used lefts lengths codes ≡ recordOf G
+  pub well_formed : WellFormed limits G
+  pub same : with_columns G n q count used lefts lengths codes ≡ record_of G

@@ -6,8 +6,8 @@ mod passes;
 ghost use Rattle.std.specs.Prelude.{◌≡◌, ℕ, ◌+◌, ◌≤◌, ◌<◌, ◌&&◌, length, get_or};
 ghost use Rattle.grammar.specs.Limits.{limits};
 ghost use Rattle.grammar.specs.Grammar.{Grammar};
-ghost use Rattle.grammar.specs.Live.{hasSentence};
-ghost use Rattle.live.specs.Marks.{marked, allMarked, Small, left_at, rightAt, Columns, bit, Answers};
+ghost use Rattle.grammar.specs.Live.{has_sentence};
+ghost use Rattle.live.specs.Marks.{marked, all_marked, Small, left_at, right_at, Columns, bit, Answers};
 ghost use Rattle.live.specs.Lent.{ColumnsOf};
 
 use grammar::{MAX_NONTERMINALS, MAX_RULES, MAX_STATES};
@@ -29,9 +29,9 @@ fn wide(x: u16) -> usize
 
 // Is the left side reached, and can the rule stand in a tree?
 fn is_live(left: u16, codes: &[u16], productive: &[u8], reached: &[u8]) -> u8
-    requires left_bound { left < limits.nonterminalBase + length reached.now }
+    requires left_bound { left < limits.nonterminal_base + length reached.now }
     requires small { Small (length productive.now) codes.now }
-    ensures { result ≡ bit (marked reached.now left && allMarked productive.now codes.now) }
+    ensures { result ≡ bit (marked reached.now left && all_marked productive.now codes.now) }
 {
     if !is_marked(left, reached) {
         return 0;
@@ -53,11 +53,11 @@ fn write_live<'a>(
     live: &mut [u8],
 )
     requires columns { Columns lefts.now lengths.now codes.now count }
-    requires productive_len { length productive.now ≡ limits.maxNonterminals }
-    requires reached_len { length reached.now ≡ limits.maxNonterminals }
+    requires productive_len { length productive.now ≡ limits.max_nonterminals }
+    requires reached_len { length reached.now ≡ limits.max_nonterminals }
     requires count_in_bounds { count ≤ length live.old }
     ensures { (j : ℕ) → j < count → get_or live.new j 0
-        ≡ bit (marked reached.now (left_at lefts.now j) && allMarked productive.now (rightAt lengths.now codes.now j)) }
+        ≡ bit (marked reached.now (left_at lefts.now j) && all_marked productive.now (right_at lengths.now codes.now j)) }
 {
     let mut u = 0;
     let mut i = 0;
@@ -78,7 +78,7 @@ pub fn has_sentence<'a>(
     used: usize,
 ) -> bool
     requires { (G : Grammar) × (n : ℕ) × (q : ℕ) × ColumnsOf G n q count used lefts.now lengths.now codes.now }
-    ensures { (G : Grammar) (n q : ℕ) → ColumnsOf G n q count used lefts.now lengths.now codes.now → result ≡ hasSentence limits G }
+    ensures { (G : Grammar) (n q : ℕ) → ColumnsOf G n q count used lefts.now lengths.now codes.now → result ≡ has_sentence limits G }
 {
     let mut productive = [0u8; MAX_NONTERMINALS];
     mark_productive(lefts, lengths, codes, count, used, &mut productive);

@@ -10,7 +10,7 @@ use super::wide;
 
 // Marks a rule's left side if all nonterminals of its right side are marked; how many marks are new?
 fn derive(left: u16, codes: &[u16], marks: &mut [u8]) -> usize
-    requires left_bound { left < limits.nonterminalBase + length marks.old }
+    requires left_bound { left < limits.nonterminal_base + length marks.old }
     requires small { Small (length marks.old) codes.now }
     ensures { Passed (Derived left codes.now) (DerivedMarks left codes.now) marks.old marks.new result }
 {
@@ -22,8 +22,8 @@ fn derive(left: u16, codes: &[u16], marks: &mut [u8]) -> usize
 
 // Marks the nonterminals of a right side if the left side is marked and the rule can stand in a tree; how many marks are new?
 fn lead(left: u16, codes: &[u16], productive: &[u8], marks: &mut [u8]) -> usize
-    requires left_bound { left < limits.nonterminalBase + length marks.old }
-    requires nonterminal_base_le_left { limits.nonterminalBase ≤ left }
+    requires left_bound { left < limits.nonterminal_base + length marks.old }
+    requires nonterminal_base_le_left { limits.nonterminal_base ≤ left }
     requires small { Small (length productive.now) codes.now }
     requires small_2 { Small (length marks.old) codes.now }
     ensures { Passed (Led productive.now left codes.now) (LedMarks productive.now left codes.now)
@@ -49,7 +49,7 @@ fn derive_all<'a>(
 ) -> usize
     requires columns { Columns lefts.now lengths.now codes.now count }
     requires used_value { used ≡ before lengths.now count }
-    requires marks_len { length marks.old ≡ limits.maxNonterminals }
+    requires marks_len { length marks.old ≡ limits.max_nonterminals }
     ensures { Passed (AllDerived lefts.now lengths.now codes.now 0 count)
         (AllDerivedMarks lefts.now lengths.now codes.now 0 count) marks.old marks.new result }
 {
@@ -76,8 +76,8 @@ fn lead_all<'a>(
     marks: &mut [u8],
 ) -> usize
     requires columns { Columns lefts.now lengths.now codes.now count }
-    requires productive_len { length productive.now ≡ limits.maxNonterminals }
-    requires marks_len { length marks.old ≡ limits.maxNonterminals }
+    requires productive_len { length productive.now ≡ limits.max_nonterminals }
+    requires marks_len { length marks.old ≡ limits.max_nonterminals }
     ensures { Passed (AllLed lefts.now lengths.now codes.now productive.now 0 count)
         (AllLedMarks lefts.now lengths.now codes.now productive.now 0 count) marks.old marks.new result }
 {
@@ -105,7 +105,7 @@ pub fn mark_productive<'a>(
 )
     requires columns { Columns lefts.now lengths.now codes.now count }
     requires used_value { used ≡ before lengths.now count }
-    requires marks_len { length marks.old ≡ limits.maxNonterminals }
+    requires marks_len { length marks.old ≡ limits.max_nonterminals }
     ensures { Finished (AllDerived lefts.now lengths.now codes.now 0 count)
         (AllDerivedMarks lefts.now lengths.now codes.now 0 count) marks.old marks.new }
 {
@@ -125,8 +125,8 @@ pub fn mark_reachable<'a>(
     marks: &mut [u8],
 )
     requires columns { Columns lefts.now lengths.now codes.now count }
-    requires productive_len { length productive.now ≡ limits.maxNonterminals }
-    requires marks_len { length marks.old ≡ limits.maxNonterminals }
+    requires productive_len { length productive.now ≡ limits.max_nonterminals }
+    requires marks_len { length marks.old ≡ limits.max_nonterminals }
     ensures { Finished (AllLed lefts.now lengths.now codes.now productive.now 0 count)
         (AllLedMarks lefts.now lengths.now codes.now productive.now 0 count) marks.old marks.new }
 {

@@ -4,22 +4,22 @@ use mathlib.Core.List.{List, [], ◌∷◌, map}
 use Prim.Native.Nat.{ℕ}
 use Prim.Native.Char.{code}
 use Prim.Native.String.{String, [] as empty, ◌∷◌ as ◌then◌}
-use Rattle.grammar.specs.Limits.{Limits, byteLimits}
-use Rattle.grammar.specs.Grammar.{Rule, stateCount}
+use Rattle.grammar.specs.Limits.{Limits, byte_limits}
+use Rattle.grammar.specs.Grammar.{Rule, state_count}
 use Rattle.grammar.specs.Table.{encode}
-use Rattle.grammar.specs.Refusal.{Answer, done, refused, refuseUnless, and_then}
-use Rattle.grammar.specs.TableCheck.{sameCodes, isAmong}
-use Rattle.text.specs.Pieces.{splitOn, ledBy, join, endedBy}
-use Rattle.text.specs.Names.{isNameByte, all, any, isName, folded, sameName, hasDouble, place}
-use Rattle.text.specs.Keys.{keyTable, keyLengths, key, value_of}
-use Rattle.text.specs.Read.{Source, refuseNone, names_of, declaration, body_of, sidesOf, number_of, isKnown}
-use Rattle.text.specs.Read.{code_of, symbol_of, ruleOf, ruleLine, ruleLines, wholeLine, readLines, readText}
-use Rattle.grammar.specs.Live.{has, hasAll, concluded, waiting, rounds, nonterminalsOf, productive, hasSentence}
-use Rattle.text.specs.Rules.{admit, lastTests, checkText, checkModule}
-use Rattle.text.specs.Print.{printLine, name_of, printRule, printed}
-use Rattle.text.specs.Promise.{startsFrom, nameStarts, nameLengths}
-use Rattle.modules.specs.Joined.{meet, added, addedRules, joined, refuseClash, joinTexts, joinedTableInto, joinedTextInto}
-use Rattle.modules.specs.Shown.{declaredIn, placeOfName, placeAmong, place_in, shown}
+use Rattle.grammar.specs.Refusal.{Answer, done, refused, refuse_unless, and_then}
+use Rattle.grammar.specs.TableCheck.{same_codes, is_among}
+use Rattle.text.specs.Pieces.{split_on, led_by, join, ended_by}
+use Rattle.text.specs.Names.{is_name_byte, all, any, is_name, folded, same_name, has_double, place}
+use Rattle.text.specs.Keys.{key_table, key_lengths, key, value_of}
+use Rattle.text.specs.Read.{Source, refuse_none, names_of, declaration, body_of, sides_of, number_of, is_known}
+use Rattle.text.specs.Read.{code_of, symbol_of, rule_of, rule_line, rule_lines, whole_line, read_lines, read_text}
+use Rattle.grammar.specs.Live.{has, has_all, concluded, waiting, rounds, nonterminals_of, productive, has_sentence}
+use Rattle.text.specs.Rules.{admit, last_tests, check_text, check_module}
+use Rattle.text.specs.Print.{print_line, name_of, print_rule, printed}
+use Rattle.text.specs.Promise.{starts_from, name_starts, name_lengths}
+use Rattle.modules.specs.Joined.{meet, added, added_rules, joined, refuse_clash, join_texts, joined_table_into, joined_text_into}
+use Rattle.modules.specs.Shown.{declared_in, place_of_name, place_among, place_in, shown}
 use Rattle.modules.specs.declared.Place.{Place}
 use Rattle.modules.specs.declared.Place.TheVariants.{Robot, Module, Neither}
 
@@ -34,31 +34,31 @@ abbrev source : List String → List String → List Rule → Source
 source ts ns rules = record { terminals = map bytes ts; nonterminals = map bytes ns; rules = rules }
 
 joins : String → String → Answer Source
-unfolding bytes readText readLines wholeLine ruleLines ruleLine ruleOf code_of isKnown number_of place sidesOf body_of
-    declaration names_of refuseNone value_of key keyTable keyLengths hasDouble sameName folded isName any all isNameByte
-    splitOn refuseUnless and_then admit checkText isAmong sameCodes stateCount printed printRule printLine name_of symbol_of ledBy join endedBy
-    meet added addedRules joined checkModule refuseClash joinTexts lastTests has hasAll concluded waiting rounds nonterminalsOf productive hasSentence
-joins robot addon = joinTexts byteLimits (bytes robot) (bytes addon)
+unfolding bytes read_text read_lines whole_line rule_lines rule_line rule_of code_of is_known number_of place sides_of body_of
+    declaration names_of refuse_none value_of key key_table key_lengths has_double same_name folded is_name any all is_name_byte
+    split_on refuse_unless and_then admit check_text is_among same_codes state_count printed print_rule print_line name_of symbol_of led_by join ended_by
+    meet added added_rules joined check_module refuse_clash join_texts last_tests has has_all concluded waiting rounds nonterminals_of productive has_sentence
+joins robot addon = join_texts byte_limits (bytes robot) (bytes addon)
 
 shows : String → String → ℕ → Place
-unfolding joins declaredIn placeOfName placeAmong place_in shown nameStarts nameLengths startsFrom
-shows robot addon i = shown byteLimits (bytes robot) (bytes addon) i
+unfolding joins declared_in place_of_name place_among place_in shown name_starts name_lengths starts_from
+shows robot addon i = shown byte_limits (bytes robot) (bytes addon) i
 
 -- room for two names of each kind, two rules and 9 states
 abbrev few : Limits
-few = record { maxTerminals = 2; nonterminalBase = 128; maxNonterminals = 2; maxLength = 12; maxRules = 2; maxStates = 9; maxText = 200 }
+few = record { max_terminals = 2; nonterminal_base = 128; max_nonterminals = 2; max_length = 12; max_rules = 2; max_states = 9; max_text = 200 }
 
 joins-few : String → String → Answer Source
 unfolding joins
-joins-few robot addon = joinTexts few (bytes robot) (bytes addon)
+joins-few robot addon = join_texts few (bytes robot) (bytes addon)
 
-joins-into : ℕ → Answer Source
-unfolding joins joinedTableInto encode
-joins-into entries = joinedTableInto byteLimits entries (bytes "terminals=a\nnonterminals=S\nrule=S:\n") (bytes "terminals=\nnonterminals=S\n")
+joins_into : ℕ → Answer Source
+unfolding joins joined_table_into encode
+joins_into entries = joined_table_into byte_limits entries (bytes "terminals=a\nnonterminals=S\nrule=S:\n") (bytes "terminals=\nnonterminals=S\n")
 
-writes-into : ℕ → Answer (List ℕ)
-unfolding joins joinedTextInto
-writes-into room = joinedTextInto byteLimits room (bytes "terminals=a\nnonterminals=S\nrule=S:\n") (bytes "terminals=\nnonterminals=S\n")
+writes_into : ℕ → Answer (List ℕ)
+unfolding joins joined_text_into
+writes_into room = joined_text_into byte_limits room (bytes "terminals=a\nnonterminals=S\nrule=S:\n") (bytes "terminals=\nnonterminals=S\n")
 
 -- b and H are added; the module's start is no start here; a rule that is there is not added again
 heated : joins "terminals=a\nnonterminals=S\nrule=S: a\n" "terminals=b,a\nnonterminals=H,S\nrule=H: b S\nrule=S: a\nrule=S: H\n"
@@ -94,9 +94,9 @@ unfolding joins-few
 past-limits = (refl, refl, refl, refl, refl)
 
 -- 14 comes last: one entry, or one byte, too few
-too_short : (joins-into 1 ≡ refused 14 0) × (joins-into 2 ≡ done (source ("a" ∷ []) ("S" ∷ []) (rule 128 [] ∷ [])))
-    × (writes-into 34 ≡ refused 14 0) × (writes-into 35 ≡ done (bytes "terminals=a\nnonterminals=S\nrule=S:\n"))
-unfolding joins-into writes-into bytes
+too_short : (joins_into 1 ≡ refused 14 0) × (joins_into 2 ≡ done (source ("a" ∷ []) ("S" ∷ []) (rule 128 [] ∷ [])))
+    × (writes_into 34 ≡ refused 14 0) × (writes_into 35 ≡ done (bytes "terminals=a\nnonterminals=S\nrule=S:\n"))
+unfolding joins_into writes_into bytes
 too_short = (refl, refl, refl, refl)
 
 -- names shown, of the robot where both declare, of the module, of neither, of refused texts

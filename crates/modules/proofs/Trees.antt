@@ -7,9 +7,9 @@ use native.Mathlib.Omega.{arith}
 use lib.ListN.{length, get_or, length-append}
 use Rattle.grammar.specs.Limits.{Limits}
 use Rattle.grammar.specs.Grammar.{Terminal, Nonterminal, Rule, Grammar, IsRule, rule, start}
-use Rattle.grammar.specs.Tree.{Tree, Trees, node, none, child, AppliesRuleOf, DerivationTree, Children, applies, end, terminal, nonterminal, row, rowBelow, before, after, HasTree}
-use Rattle.text.specs.Read.{Source, grammarOf}
-use Rattle.modules.specs.Joined.{added, addedRules, joinedRule, joined}
+use Rattle.grammar.specs.Tree.{Tree, Trees, node, none, child, AppliesRuleOf, DerivationTree, Children, applies, end, terminal, nonterminal, row, row_below, before, after, HasTree}
+use Rattle.text.specs.Read.{Source, grammar_of}
+use Rattle.modules.specs.Joined.{added, added_rules, joined_rule, joined}
 
 get_d_front : {A : Type 0} (xs ys : List A) (i : ℕ) (d : A) → i < length xs → get_or (xs ++ ys) i d ≡ get_or xs i d
 get_d_front [] ys i d h = absurd (omega arith)
@@ -31,28 +31,28 @@ module _ (L : Limits) (G H : Grammar) (E : Extends G H) where
   rule-same (suc i) h =
       ap (λ rs. get_or rs i (record { left = 0; right = [] })) E.rules ∙ get_d_front G.rules E.more i (record { left = 0; right = [] }) (omega (arith, h.1))
 
-  is-rule : (i : ℕ) → IsRule G i → IsRule H i
-  is-rule i h = (h.0, omega (arith, h.1, ap length E.rules, length-append G.rules E.more))
+  is_rule : (i : ℕ) → IsRule G i → IsRule H i
+  is_rule i h = (h.0, omega (arith, h.1, ap length E.rules, length-append G.rules E.more))
 
   mutual
     pub tree-stays : {b : ℕ} {t : Tree} → DerivationTree L G b t → DerivationTree L H b t
     tree-stays (applies {b} {i} {ts} a c) =
-        applies (is-rule i a.0, ap (λ (r : Rule). r.left) (rule-same i a.0) ∙ a.1)
-        (subst (λ (r : Rule). Children L H r.right ts) (sym (rule-same i a.0)) (children-stay c))
+        applies (is_rule i a.0, ap (λ (r : Rule). r.left) (rule-same i a.0) ∙ a.1)
+        (subst (λ (r : Rule). Children L H r.right ts) (sym (rule-same i a.0)) (children_stay c))
 
-    children-stay : {α : List ℕ} {ts : Trees} → Children L G α ts → Children L H α ts
-    children-stay end = end
-    children-stay (terminal t c) = terminal (t.0, omega (arith, t.1, E.terminals)) (children-stay c)
-    children-stay (nonterminal n t c) = nonterminal (n.0, omega (arith, n.1, E.nonterminals)) (tree-stays t) (children-stay c)
+    children_stay : {α : List ℕ} {ts : Trees} → Children L G α ts → Children L H α ts
+    children_stay end = end
+    children_stay (terminal t c) = terminal (t.0, omega (arith, t.1, E.terminals)) (children_stay c)
+    children_stay (nonterminal n t c) = nonterminal (n.0, omega (arith, n.1, E.nonterminals)) (tree-stays t) (children_stay c)
 
   -- with the same row
   mutual
     unfolding row
 
     pub row_stays : {b : ℕ} {t : Tree} → DerivationTree L G b t → row L H t ≡ row L G t
-    row_stays (applies {b} {i} {ts} a c) = ap (λ (r : Rule). rowBelow L H ts r.right) (rule-same i a.0) ∙ below_stays (rule L G i).right c
+    row_stays (applies {b} {i} {ts} a c) = ap (λ (r : Rule). row_below L H ts r.right) (rule-same i a.0) ∙ below_stays (rule L G i).right c
 
-    below_stays : (α : List ℕ) {β : List ℕ} {ts : Trees} → Children L G β ts → rowBelow L H ts α ≡ rowBelow L G ts α
+    below_stays : (α : List ℕ) {β : List ℕ} {ts : Trees} → Children L G β ts → row_below L H ts α ≡ row_below L G ts α
     below_stays α end = refl
     below_stays α (terminal t c) = below_stays α c
     below_stays α (nonterminal n t c) =
@@ -62,14 +62,14 @@ module _ (L : Limits) (G H : Grammar) (E : Extends G H) where
   has-stays w t h = record { derives = tree-stays h.derives; sentence = row_stays h.derives ∙ h.sentence }
 
 -- the joined grammar extends the robot's
-pub joined-extends : (L : Limits) (robot addon : Source) → Extends (grammarOf robot) (grammarOf (joined L robot addon))
+pub joined_extends : (L : Limits) (robot addon : Source) → Extends (grammar_of robot) (grammar_of (joined L robot addon))
 unfolding joined
-joined-extends L robot addon = record {
+joined_extends L robot addon = record {
   terminals = omega (arith, length-append robot.terminals (added robot.terminals addon.terminals));
   nonterminals = omega (arith, length-append robot.nonterminals (added robot.nonterminals addon.nonterminals));
-  more = addedRules robot.rules (map (joinedRule L robot addon) addon.rules);
+  more = added_rules robot.rules (map (joined_rule L robot addon) addon.rules);
   rules = refl;
 }
 
-pub trees-stay : (L : Limits) (robot addon : Source) (w : List ℕ) (t : Tree) → HasTree L (grammarOf robot) w t → HasTree L (grammarOf (joined L robot addon)) w t
-trees-stay L robot addon = has-stays L (grammarOf robot) (grammarOf (joined L robot addon)) (joined-extends L robot addon)
+pub trees-stay : (L : Limits) (robot addon : Source) (w : List ℕ) (t : Tree) → HasTree L (grammar_of robot) w t → HasTree L (grammar_of (joined L robot addon)) w t
+trees-stay L robot addon = has-stays L (grammar_of robot) (grammar_of (joined L robot addon)) (joined_extends L robot addon)

@@ -5,28 +5,28 @@ use Rattle.std.specs.Prelude.{ℕ, ◌+◌, ◌≤◌, List, [], ltb, length, ta
 use Rattle.grammar.specs.Basics.{choose}
 use Rattle.grammar.specs.Limits.{Limits}
 use Rattle.grammar.specs.Refusal.{Answer, done, refused, and_then}
-use Rattle.text.specs.Names.{any, sameName}
-use Rattle.text.specs.Read.{Source, symbolNames, number_of}
-use Rattle.text.specs.Rules.{checkText, checkModule}
-use Rattle.text.specs.Promise.{nameStarts, nameLengths}
-use Rattle.modules.specs.Joined.{joinTexts}
+use Rattle.text.specs.Names.{any, same_name}
+use Rattle.text.specs.Read.{Source, symbol_names, number_of}
+use Rattle.text.specs.Rules.{check_text, check_module}
+use Rattle.text.specs.Promise.{name_starts, name_lengths}
+use Rattle.modules.specs.Joined.{join_texts}
 use Rattle.modules.specs.declared.Place.{Place}
 use Rattle.modules.specs.declared.Place.TheVariants.{Robot, Module, Neither}
 
 -- the place of a name in the text that says this source, if it declares the name; else the place given
-unfoldable pub declaredIn : (ℕ → ℕ → Place) → Source → List ℕ → Place → Place
-declaredIn text s x elsewhere =
-    choose (any (sameName x) (symbolNames s))
-    (text (get_or (nameStarts s) (number_of (symbolNames s) x) 0) (get_or (nameLengths (symbolNames s)) (number_of (symbolNames s) x) 0))
+unfoldable pub declared_in : (ℕ → ℕ → Place) → Source → List ℕ → Place → Place
+declared_in text s x elsewhere =
+    choose (any (same_name x) (symbol_names s))
+    (text (get_or (name_starts s) (number_of (symbol_names s) x) 0) (get_or (name_lengths (symbol_names s)) (number_of (symbol_names s) x) 0))
     elsewhere
 
 -- the robot's text where both declare it
-unfoldable pub placeOfName : Source → Source → List ℕ → Place
-placeOfName robot addon x = declaredIn Robot robot x (declaredIn Module addon x Neither)
+unfoldable pub place_of_name : Source → Source → List ℕ → Place
+place_of_name robot addon x = declared_in Robot robot x (declared_in Module addon x Neither)
 
 -- symbol number i, over the joined terminals, then the joined nonterminals; past them it is of neither
-unfoldable pub placeAmong : Source → Source → List (List ℕ) → ℕ → Place
-placeAmong robot addon names i = choose (ltb i (length names)) (placeOfName robot addon (get_or names i [])) Neither
+unfoldable pub place_among : Source → Source → List (List ℕ) → ℕ → Place
+place_among robot addon names i = choose (ltb i (length names)) (place_of_name robot addon (get_or names i [])) Neither
 
 -- nowhere for a refusal
 unfoldable pub place_in : Answer Place → Place
@@ -37,9 +37,9 @@ module _ (L : Limits) where
   -- the place of what is shown for symbol i
   unfoldable pub shown : List ℕ → List ℕ → ℕ → Place
   shown robot addon i =
-      place_in (and_then (checkText L robot) (λ r.
-      and_then (checkModule L addon) (λ m.
-      and_then (joinTexts L robot addon) (λ s. done (placeAmong r m (symbolNames s) i)))))
+      place_in (and_then (check_text L robot) (λ r.
+      and_then (check_module L addon) (λ m.
+      and_then (join_texts L robot addon) (λ s. done (place_among r m (symbol_names s) i)))))
 
 -- the part of a text of this length from this start on
 abbrev pub part_at : List ℕ → ℕ → ℕ → List ℕ

@@ -5,7 +5,7 @@ use Rattle.std.specs.Prelude.{ℕ, suc, ◌+◌, ◌*◌, ◌≤◌, ◌<◌, �
 use Rattle.grammar.specs.Basics.{Mem}
 use Rattle.grammar.specs.Limits.{limits}
 use Rattle.automaton.specs.Moves.{Moves}
-use Rattle.moves.specs.Tables.{mostKinds, Ascends, segment, Tables}
+use Rattle.moves.specs.Tables.{most_kinds, Ascends, segment, Tables}
 
 module _ (M : Moves) where
   -- rule i is opened, or closed, from p to q
@@ -22,8 +22,8 @@ module _ (M : Moves) where
   pub record Shows (t m : ℕ) (T : Tables) : Type 0 where
     -- t is the number of terminals; Q and m are within their limits
     pub terminals : t ≡ M.terminals
-    pub few : M.states ≤ limits.maxStates
-    pub kinds : m ≤ mostKinds
+    pub few : M.states ≤ limits.max_states
+    pub kinds : m ≤ most_kinds
     -- of each state the code ahead, and the state after a shift of it
     pub ahead : (p : ℕ) → p < M.states → get_or T.ahead p 0 ≡ M.ahead p
     pub after : (p : ℕ) → p < M.states → 1 ≤ M.ahead p → get_or T.after p 0 ≡ M.after p
@@ -32,12 +32,12 @@ module _ (M : Moves) where
     -- classes go up to 2m, that of the states that move nowhere
     pub class : (p : ℕ) → p < M.states → get_or T.member p 0 ≤ 2 * m
     -- classes of states before a symbol and of states that open are from m on, closing classes below
-    pub ahead-class : (p : ℕ) → p < M.states → 1 ≤ M.ahead p → m ≤ get_or T.member p 0
-    pub opens-class : (i p q : ℕ) → p < M.states → Opened i p q → m ≤ get_or T.member p 0
-    pub closes-class : (i p q : ℕ) → p < M.states → Closed i p q → get_or T.member p 0 < m
+    pub ahead_class : (p : ℕ) → p < M.states → 1 ≤ M.ahead p → m ≤ get_or T.member p 0
+    pub opens_class : (i p q : ℕ) → p < M.states → Opened i p q → m ≤ get_or T.member p 0
+    pub closes_class : (i p q : ℕ) → p < M.states → Closed i p q → get_or T.member p 0 < m
     -- the rule that is opened is that of the target, the rule that is closed that of the state
-    pub opens-number : (i p q : ℕ) → q < M.states → Opened i p q → get_or T.number q 0 ≡ i
-    pub closes-number : (i p q : ℕ) → p < M.states → Closed i p q → get_or T.number p 0 ≡ i
+    pub opens_number : (i p q : ℕ) → q < M.states → Opened i p q → get_or T.number q 0 ≡ i
+    pub closes_number : (i p q : ℕ) → p < M.states → Closed i p q → get_or T.number p 0 ≡ i
     -- the segment of a state's class lists, ascending, the states to which it moves alone
     pub targets : (p q : ℕ) → p < M.states → Mem q (segment T.first T.targets (get_or T.member p 0)) ↔ Alone p q
     pub ascends : (p : ℕ) → p < M.states → Ascends 0 M.states (segment T.first T.targets (get_or T.member p 0))

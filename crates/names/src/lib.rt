@@ -1,7 +1,7 @@
 // Pieces, names and keys of grammar text: what the reader and the writer share.
 ghost use Rattle.std.specs.Prelude.{◌≡◌, [], ◌≤◌, ◌<◌, length, get_or};
-ghost use Rattle.text.specs.Names.{within, isNameByte, isName, folded, sameName};
-ghost use Rattle.text.specs.Keys.{keyTable, keyLengths};
+ghost use Rattle.text.specs.Names.{within, is_name_byte, is_name, folded, same_name};
+ghost use Rattle.text.specs.Keys.{key_table, key_lengths};
 ghost use Rattle.names.specs.Found.{Found};
 
 // The bytes that end a line, and that stand between names, after a left name, before a symbol, after a key.
@@ -57,7 +57,7 @@ fn between(b: u8, lo: u8, hi: u8) -> bool
 
 // An ASCII letter, a digit or a hyphen.
 fn is_name_byte(b: u8) -> bool
-    ensures { result ≡ isNameByte b }
+    ensures { result ≡ is_name_byte b }
 {
     if between(b, 97, 122) {
         return true;
@@ -73,7 +73,7 @@ fn is_name_byte(b: u8) -> bool
 
 // 1 to 15 such bytes.
 pub fn is_name(s: &[u8]) -> bool
-    ensures { result ≡ isName s.now }
+    ensures { result ≡ is_name s.now }
 {
     if s.len() < 1 {
         return false;
@@ -106,7 +106,7 @@ pub fn fold(b: u8) -> u8
 
 // Are two names the same name? The last bytes are compared first, since many names have their fronts in common.
 pub fn same_name(a: &[u8], b: &[u8]) -> bool
-    ensures { result ≡ sameName a.now b.now }
+    ensures { result ≡ same_name a.now b.now }
 {
     let n = a.len();
     if n != b.len() {
@@ -125,14 +125,14 @@ pub fn same_name(a: &[u8], b: &[u8]) -> bool
 // Byte i of key k, and the key's length without its padding.
 pub fn key_byte(k: usize, i: usize) -> u8
     requires { (k < 3) × (i < 12) }
-    ensures { result ≡ get_or (get_or keyTable k []) i 0 }
+    ensures { result ≡ get_or (get_or key_table k []) i 0 }
 {
     KEYS[k][i]
 }
 
 pub fn key_length(k: usize) -> usize
     requires { k < 3 }
-    ensures { result ≡ get_or keyLengths k 0 }
+    ensures { result ≡ get_or key_lengths k 0 }
 {
     KEY_LENGTHS[k]
 }

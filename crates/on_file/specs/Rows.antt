@@ -5,27 +5,27 @@
 use Rattle.std.specs.Prelude.{ℕ, ◌≡◌, List, [], ◌∷◌}
 use Rattle.grammar.specs.Limits.{limits}
 use Rattle.grammar.specs.Grammar.{Grammar}
-use Rattle.grammar.specs.Refusal.{Answer, done, refused, noSentence}
-use Rattle.grammar.specs.TableCheck.{storedTable, checkTable}
+use Rattle.grammar.specs.Refusal.{Answer, done, refused, no_sentence}
+use Rattle.grammar.specs.TableCheck.{stored_table, check_table}
 use Rattle.grammar.specs.Tree.{HasTwoTrees}
 use Rattle.grammar.specs.Live.{HasSentence}
 use Rattle.automaton.specs.Strings.{Potential, Unambiguous}
 use Rattle.automaton.specs.Callers.{callers}
-use Rattle.automaton.specs.CallerMoves.{movesWith}
+use Rattle.automaton.specs.CallerMoves.{moves_with}
 use Rattle.triples.specs.Smallest.{size}
 use Rattle.triples.specs.Certificate.{SmallestCertificate}
 
 -- what is claimed of a grammar
 pub data Claim : Type 0 where
   -- no sentence, so refused
-  withoutSentence : Claim
+  without_sentence : Claim
   -- unambiguous, with this size
   unambiguous : ℕ → Claim
   -- the same, and these bytes are the smallest certificate
   certified : ℕ → List ℕ → Claim
   potential : Claim
   -- potential, though no sentence has two trees
-  potentialOnly : Claim
+  potential_only : Claim
 
 -- t, n, the table, m, Q at m and the claim
 pub record Row : Type 0 where
@@ -38,25 +38,25 @@ pub record Row : Type 0 where
 
 -- the claim is true of the grammar with m callers
 unfoldable pub Claimed : Grammar → ℕ → Claim → Type 0
-Claimed G m withoutSentence = ¬ HasSentence limits G
-Claimed G m (unambiguous n) = Unambiguous (callers limits G m) × (size (movesWith limits G m) ≡ n)
-Claimed G m (certified n bytes) = Unambiguous (callers limits G m) × (size (movesWith limits G m) ≡ n) × SmallestCertificate (callers limits G m) bytes
+Claimed G m without_sentence = ¬ HasSentence limits G
+Claimed G m (unambiguous n) = Unambiguous (callers limits G m) × (size (moves_with limits G m) ≡ n)
+Claimed G m (certified n bytes) = Unambiguous (callers limits G m) × (size (moves_with limits G m) ≡ n) × SmallestCertificate (callers limits G m) bytes
 Claimed G m potential = Potential (callers limits G m)
-Claimed G m potentialOnly = Potential (callers limits G m) × ((w : List ℕ) → ¬ HasTwoTrees limits G w)
+Claimed G m potential_only = Potential (callers limits G m) × ((w : List ℕ) → ¬ HasTwoTrees limits G w)
 
 -- what the table check answers for a grammar with this claim
 unfoldable pub answer_of : Grammar → Claim → Answer Grammar
-answer_of G withoutSentence = refused noSentence 0
+answer_of G without_sentence = refused no_sentence 0
 answer_of G (unambiguous n) = done G
 answer_of G (certified n bytes) = done G
 answer_of G potential = done G
-answer_of G potentialOnly = done G
+answer_of G potential_only = done G
 
 -- the row says true: its table is that of a grammar of which Q and the claim are true at m, and the table check answers so
 pub record Says (r : Row) : Type 0 where
   pub grammar : Grammar
-  pub stored : storedTable limits r.terminals r.nonterminals r.table ≡ done grammar
-  pub answers : checkTable limits r.terminals r.nonterminals r.table ≡ answer_of grammar r.claim
+  pub stored : stored_table limits r.terminals r.nonterminals r.table ≡ done grammar
+  pub answers : check_table limits r.terminals r.nonterminals r.table ≡ answer_of grammar r.claim
   pub count : (callers limits grammar r.callers).states ≡ r.states
   pub claimed : Claimed grammar r.callers r.claim
 
@@ -70,8 +70,8 @@ through = 32768 ∷ 3 ∷ 1 ∷ 32769 ∷ 2 ∷ 32768 ∷ 3 ∷ 1 ∷ 3 ∷ 4 �
 
 -- P → ; P → P K; K → take L vol; K → give L vol; K → repeat num P close; L → ch; L → L sep ch: take, vol, give, repeat, num, close, ch,
 -- sep are 1 to 8, P is 32768, K is 32769, L is 32770
-abbrev pub eightChannels : List ℕ
-eightChannels =
+abbrev pub eight_channels : List ℕ
+eight_channels =
     32768 ∷ 0 ∷ 32768 ∷ 2 ∷ 32768 ∷ 32769
     ∷ 32769 ∷ 3 ∷ 1 ∷ 32770 ∷ 2 ∷ 32769 ∷ 3 ∷ 3 ∷ 32770 ∷ 2 ∷ 32769 ∷ 4 ∷ 4 ∷ 5 ∷ 32768 ∷ 6
     ∷ 32770 ∷ 1 ∷ 7 ∷ 32770 ∷ 3 ∷ 32770 ∷ 8 ∷ 7 ∷ []
@@ -80,7 +80,7 @@ eightChannels =
 unfoldable pub rows : List Row
 rows =
     -- none
-    record { terminals = 0; nonterminals = 1; table = []; callers = 0; states = 4; claim = withoutSentence }
+    record { terminals = 0; nonterminals = 1; table = []; callers = 0; states = 4; claim = without_sentence }
     -- S → (empty)
     ∷ record { terminals = 0; nonterminals = 1; table = 32768 ∷ 0 ∷ []; callers = 0; states = 5; claim = unambiguous 10 }
     -- S → a
@@ -97,11 +97,11 @@ rows =
     -- S → a S b; S → (empty)
     ∷ record { terminals = 2; nonterminals = 1; table = 32768 ∷ 3 ∷ 1 ∷ 32768 ∷ 2 ∷ 32768 ∷ 0 ∷ []; callers = 0; states = 9; claim = unambiguous 30 }
     -- S → S
-    ∷ record { terminals = 0; nonterminals = 1; table = 32768 ∷ 1 ∷ 32768 ∷ []; callers = 0; states = 6; claim = withoutSentence }
+    ∷ record { terminals = 0; nonterminals = 1; table = 32768 ∷ 1 ∷ 32768 ∷ []; callers = 0; states = 6; claim = without_sentence }
     -- S → S; S → a
     ∷ record { terminals = 1; nonterminals = 1; table = 32768 ∷ 1 ∷ 32768 ∷ 32768 ∷ 1 ∷ 1 ∷ []; callers = 0; states = 8; claim = potential }
     -- S → a S a; S → a
-    ∷ record { terminals = 1; nonterminals = 1; table = 32768 ∷ 3 ∷ 1 ∷ 32768 ∷ 1 ∷ 32768 ∷ 1 ∷ 1 ∷ []; callers = 0; states = 10; claim = potentialOnly }
+    ∷ record { terminals = 1; nonterminals = 1; table = 32768 ∷ 3 ∷ 1 ∷ 32768 ∷ 1 ∷ 32768 ∷ 1 ∷ 1 ∷ []; callers = 0; states = 10; claim = potential_only }
     -- S → A; S → B; A → ; B →
     ∷ record {
       terminals = 0;
@@ -130,7 +130,7 @@ rows =
     ∷ record { terminals = 4; nonterminals = 3; table = through; callers = 1; states = 21; claim = potential }
     ∷ record { terminals = 4; nonterminals = 3; table = through; callers = 2; states = 23; claim = unambiguous 82 }
     -- the eight-channel set
-    ∷ record { terminals = 8; nonterminals = 3; table = eightChannels; callers = 0; states = 27; claim = unambiguous 90 }
-    ∷ record { terminals = 8; nonterminals = 3; table = eightChannels; callers = 1; states = 47; claim = unambiguous 214 }
-    ∷ record { terminals = 8; nonterminals = 3; table = eightChannels; callers = 2; states = 93; claim = unambiguous 694 }
+    ∷ record { terminals = 8; nonterminals = 3; table = eight_channels; callers = 0; states = 27; claim = unambiguous 90 }
+    ∷ record { terminals = 8; nonterminals = 3; table = eight_channels; callers = 1; states = 47; claim = unambiguous 214 }
+    ∷ record { terminals = 8; nonterminals = 3; table = eight_channels; callers = 2; states = 93; claim = unambiguous 694 }
     ∷ []

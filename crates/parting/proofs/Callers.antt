@@ -18,7 +18,7 @@ use Rattle.automaton.specs.Callers.{Spot, first, last, spot, Place, SpotOpens, s
 use Rattle.automaton.proofs.Callers.{shorten}
 use Rattle.triples.specs.Successor.{BeforeTerminal, Reached, Acceptable}
 use Rattle.triples.proofs.Reached.{reached-closed}
-use Rattle.parting.proofs.Parting.{Single, parting-held, parting-reached}
+use Rattle.parting.proofs.Parting.{Single, parting_held, parting_reached}
 use Rattle.parting.proofs.Morphism.{Morphism, back}
 
 module _ (L : Limits) (G : Grammar) where
@@ -48,40 +48,40 @@ module _ (L : Limits) (G : Grammar) where
       shifts (spot-shifts p c) = spot-shifts p (shorten L G c)
 
   -- what is acceptable at m is, farthest callers dropped, at m + 1
-  pub acceptable-nearer : (m : ℕ) {C : ℕ → Spot → Spot → Type 0} → Acceptable (callers L G m) C
+  pub acceptable_nearer : (m : ℕ) {C : ℕ → Spot → Spot → Type 0} → Acceptable (callers L G m) C
       → Acceptable (callers L G (suc m)) (λ f p q. C f (fewer m p) (fewer m q))
   unfolding nearer
-  acceptable-nearer m K = back (nearer m) K
+  acceptable_nearer m K = back (nearer m) K
 
-module _ (L : Limits) (G : Grammar) (W : WellFormed L G) (room : L.maxTerminals < L.nonterminalBase) (m : ℕ) where
-  open-clash : {a i : ℕ} {p p' p'' : Spot} → Terminal G.terminals a → SpotShifts L G m a p p' → SpotOpens L G m i p p'' → ⊥
-  open-clash {a} {i} t (spot-shifts p k) (spot-opens r l p' k') =
+module _ (L : Limits) (G : Grammar) (W : WellFormed L G) (room : L.max_terminals < L.nonterminal_base) (m : ℕ) where
+  open_clash : {a i : ℕ} {p p' p'' : Spot} → Terminal G.terminals a → SpotShifts L G m a p p' → SpotOpens L G m i p p'' → ⊥
+  open_clash {a} {i} t (spot-shifts p k) (spot-opens r l p' k') =
       let q : a ≡ (rule L G i).left = cc (p.symbol, p'.symbol) in
       omega (arith, t.1, W.terminals, (W.lefts (rule L G i) (rule-listed L G i r)).0)
 
-  close-clash : {a i : ℕ} {p p' p'' : Spot} → SpotShifts L G m a p p' → SpotCloses L G m i p p'' → ⊥
+  close_clash : {a i : ℕ} {p p' p'' : Spot} → SpotShifts L G m a p p' → SpotCloses L G m i p p'' → ⊥
   unfolding rule
-  close-clash (spot-shifts p k) (spot-ends l e) = omega (arith, p.inside)
-  close-clash (spot-shifts p k) (spot-closes r l p' k' e q) = omega (arith, p.inside)
+  close_clash (spot-shifts p k) (spot-ends l e) = omega (arith, p.inside)
+  close_clash (spot-shifts p k) (spot-closes r l p' k' e q) = omega (arith, p.inside)
 
-  last-clash : {a : ℕ} {p p' : Spot} → SpotShifts L G m a p p' → p ≡ last → ⊥
-  last-clash (spot-shifts p k) e = let z : ◌≡◌ {A = ℕ} 0 1 = cc in omega arith
+  last_clash : {a : ℕ} {p p' : Spot} → SpotShifts L G m a p p' → p ≡ last → ⊥
+  last_clash (spot-shifts p k) e = let z : ◌≡◌ {A = ℕ} 0 1 = cc in omega arith
 
   pub spots-single : Single (callers L G m)
   spots-single = record {
-    no-open = λ b o. open-clash b.1 b.2.1 o;
-    no-close = λ b l. close-clash b.2.1 l;
-    not_last = λ b. last-clash b.2.1 refl;
+    no_open = λ b o. open_clash b.1 b.2.1 o;
+    no_close = λ b l. close_clash b.2.1 l;
+    not_last = λ b. last_clash b.2.1 refl;
   }
 
   -- the verdict is potential precisely when the end is reached, for each m
   pub spots-reached : Potential (callers L G m) ↔ Reached (callers L G m) 1 last last
-  spots-reached = parting-reached (callers L G m) spots-single
+  spots-reached = parting_reached (callers L G m) spots-single
 
 -- whoever has an unambiguous verdict at m keeps it at m + 1
-pub keeps-verdict : (L : Limits) (G : Grammar) → WellFormed L G → L.maxTerminals < L.nonterminalBase → (m : ℕ)
+pub keeps_verdict : (L : Limits) (G : Grammar) → WellFormed L G → L.max_terminals < L.nonterminal_base → (m : ℕ)
     → Unambiguous (callers L G m) → Unambiguous (callers L G (suc m))
 unfolding fewer
-keeps-verdict L G W room m u s =
+keeps_verdict L G W room m u s =
     let K : Acceptable (callers L G m) (Reached (callers L G m)) = record { closed = reached-closed (callers L G m); lacks = λ r. u ((spots-reached L G W room m).1 r) } in
-    u ((spots-reached L G W room m).1 (parting-held (callers L G (suc m)) (λ f p q. Reached (callers L G m) f (fewer L G m p) (fewer L G m q)) (acceptable-nearer L G m K).closed s))
+    u ((spots-reached L G W room m).1 (parting_held (callers L G (suc m)) (λ f p q. Reached (callers L G m) f (fewer L G m p) (fewer L G m q)) (acceptable_nearer L G m K).closed s))

@@ -10,22 +10,22 @@ use lib.ListN.{length, get_or, length-append, length-map}
 use borrow.Author.Tests.{ltb-true, ltb-false}
 use Rattle.grammar.specs.Basics.{choose, when, each, Mem}
 use Rattle.grammar.specs.Limits.{limits}
-use Rattle.automaton.specs.Moves.{Moves, terminalAhead, Regular}
-use Rattle.triples.specs.Index.{tripleCount, layerOf, left_of, rightOf}
-use Rattle.triples.specs.Records.{step, bothShift, bothClose, choices}
+use Rattle.automaton.specs.Moves.{Moves, terminal_ahead, Regular}
+use Rattle.triples.specs.Index.{triple_count, layer_of, left_of, right_of}
+use Rattle.triples.specs.Records.{step, both_shift, both_close, choices}
 use Rattle.triples.specs.Smallest.{successors}
 use Rattle.triples.specs.declared.Move.TheVariants.{Closing, Symbol}
 use Rattle.triples.specs.declared.Step.{Step}
 use Rattle.triples.proofs.Index.{digits}
-use Rattle.triple_laws.proofs.Members.{mem-left, mem-right, mem-either, of_map, distinct_append, distinct-image, distinct-same}
-use Rattle.figures.proofs.Lengths.{one, some_in, none_in, pairs-one, pairs-none, opens, closes, reading, out, moves-length, zero-count, one-count, successors-length}
-use Rattle.moves.specs.Tables.{Ascends, segment, Tables, readsAt}
+use Rattle.triple_laws.proofs.Members.{mem_left, mem_right, mem_either, of_map, distinct_append, distinct_image, distinct_same}
+use Rattle.figures.proofs.Lengths.{one, some_in, none_in, pairs-one, pairs-none, opens, closes, reading, out, moves-length, zero_count, one_count, successors-length}
+use Rattle.moves.specs.Tables.{Ascends, segment, Tables, reads_at}
 use Rattle.moves.specs.Shows.{Shows}
-use Rattle.moves.proofs.Places.{ascends-distinct}
+use Rattle.moves.proofs.Places.{ascends_distinct}
 use Rattle.plans.specs.declared.Side.{Side}
-use Rattle.plans.specs.Plan.{Rows, rows, side_of, aloneOf, shift_of, pairsOf, planFor, plan_of}
+use Rattle.plans.specs.Plan.{Rows, rows, side_of, alone_of, shift_of, pairs_of, plan_for, plan_of}
 use Rattle.plans.proofs.BlockLaws.{pairs-later}
-use Rattle.plans.proofs.PlannedLaws.{part, part-moves, part_length, reads-is}
+use Rattle.plans.proofs.PlannedLaws.{part, part-moves, part_length, reads_is}
 
 -- the states that moves lead to
 abbrev ends : List (ℕ × ℕ) → List ℕ
@@ -34,7 +34,7 @@ ends l = map (λ (m : ℕ × ℕ). m.1) l
 pair_path : {a b : ℕ × ℕ} → a.0 ≡ b.0 → a.1 ≡ b.1 → a ≡ b
 pair_path p q = λ i. (p i, q i)
 
-module _ (M : Moves) (S : Regular M) (t m : ℕ) (new : Tables) (X : Shows M t m new) (long : limits.maxStates ≤ length new.targets) where
+module _ (M : Moves) (S : Regular M) (t m : ℕ) (new : Tables) (X : Shows M t m new) (long : limits.max_states ≤ length new.targets) where
   abbrev Q : ℕ
   Q = M.states
 
@@ -58,31 +58,31 @@ module _ (M : Moves) (S : Regular M) (t m : ℕ) (new : Tables) (X : Shows M t m
       let second : ℕ × ℕ → ℕ = λ m. m.1 in
       let a = ends (M.openings p) in
       let b = ends (M.closings p) in
-      distinct-same (ascends-distinct 0 Q (aims p) (ascending p h))
-      (distinct_append a b (distinct-image (M.openings p) second (S.opens-once p) one-o) (distinct-image (M.closings p) second (S.closes-once p) one-c) never)
+      distinct_same (ascends_distinct 0 Q (aims p) (ascending p h))
+      (distinct_append a b (distinct_image (M.openings p) second (S.opens_once p) one_o) (distinct_image (M.closings p) second (S.closes_once p) one_c) never)
       (λ x. (to x, from x))
       ∙ length-append a b ∙ ap₂ (λ (x y : ℕ). x + y) (length-map (M.openings p) second) (length-map (M.closings p) second)
     where
-      one-o : (a b : ℕ × ℕ) → Mem a (M.openings p) → Mem b (M.openings p) → a.1 ≡ b.1 → a ≡ b
-      one-o a b i j e = pair_path (S.one-opening a.0 b.0 p a.1 i (subst (λ (z : ℕ). Mem {A = ℕ × ℕ} (b.0, z) (M.openings p)) (sym e) j)) e
+      one_o : (a b : ℕ × ℕ) → Mem a (M.openings p) → Mem b (M.openings p) → a.1 ≡ b.1 → a ≡ b
+      one_o a b i j e = pair_path (S.one-opening a.0 b.0 p a.1 i (subst (λ (z : ℕ). Mem {A = ℕ × ℕ} (b.0, z) (M.openings p)) (sym e) j)) e
 
-      one-c : (a b : ℕ × ℕ) → Mem a (M.closings p) → Mem b (M.closings p) → a.1 ≡ b.1 → a ≡ b
-      one-c a b i j e = pair_path (S.one-closing a.0 b.0 p a.1 b.1 i j) e
+      one_c : (a b : ℕ × ℕ) → Mem a (M.closings p) → Mem b (M.closings p) → a.1 ≡ b.1 → a ≡ b
+      one_c a b i j e = pair_path (S.one-closing a.0 b.0 p a.1 b.1 i j) e
 
       never : (x : ℕ) → Mem x (ends (M.openings p)) → Mem x (ends (M.closings p)) → ⊥
       never x k l =
           let u = (of_map (M.openings p) (λ (m : ℕ × ℕ). m.1)).0 k in
           let v = (of_map (M.closings p) (λ (m : ℕ × ℕ). m.1)).0 l in
-          S.opens-no-close u.0.0 v.0.0 p u.0.1 v.0.1 u.1 v.1
+          S.opens_no_close u.0.0 v.0.0 p u.0.1 v.0.1 u.1 v.1
 
       to : (x : ℕ) → Mem x (aims p) → Mem x (ends (M.openings p) ++ ends (M.closings p))
       to x k = elim ((part-moves M S t m new X long p x h).0 k) [
-        | inl o ↦ mem-left (ends (M.closings p)) ((of_map (M.openings p) (λ (m : ℕ × ℕ). m.1)).1 ((o.0, x), o.1, refl))
-        | inr o ↦ mem-right (ends (M.openings p)) ((of_map (M.closings p) (λ (m : ℕ × ℕ). m.1)).1 ((o.0, x), o.1, refl))
+        | inl o ↦ mem_left (ends (M.closings p)) ((of_map (M.openings p) (λ (m : ℕ × ℕ). m.1)).1 ((o.0, x), o.1, refl))
+        | inr o ↦ mem_right (ends (M.openings p)) ((of_map (M.closings p) (λ (m : ℕ × ℕ). m.1)).1 ((o.0, x), o.1, refl))
       ]
 
       from : (x : ℕ) → Mem x (ends (M.openings p) ++ ends (M.closings p)) → Mem x (aims p)
-      from x k = elim (mem-either (ends (M.openings p)) (ends (M.closings p)) k) [
+      from x k = elim (mem_either (ends (M.openings p)) (ends (M.closings p)) k) [
         | inl u ↦
             let o = (of_map (M.openings p) (λ (m : ℕ × ℕ). m.1)).0 u in
             (part-moves M S t m new X long p x h).1 (inl (o.0.0, subst (λ (z : ℕ). Mem {A = ℕ × ℕ} (o.0.0, z) (M.openings p)) (sym o.2) o.1))
@@ -92,38 +92,38 @@ module _ (M : Moves) (S : Regular M) (t m : ℕ) (new : Tables) (X : Shows M t m
       ]
 
   -- so the span of a state's class
-  pub span-is : (p : ℕ) → p < Q → (side p).span ≡ opens M p + closes M p
-  span-is p h = sym (part_length M S t m new X long p h) ∙ moves-targets p h
+  pub span_is : (p : ℕ) → p < Q → (side p).span ≡ opens M p + closes M p
+  span_is p h = sym (part_length M S t m new X long p h) ∙ moves-targets p h
 
   -- the moves of a state, off the rows: the span of its class, and one for a symbol ahead
   pub moves-counted : (p : ℕ) → p < Q → out M p ≡ (side p).span + one (leb 1 (get_or new.ahead p 0))
-  moves-counted p h = omega (arith, moves-length M p, span-is p h, ap (λ (x : ℕ). one (leb 1 x)) (X.ahead p h))
+  moves-counted p h = omega (arith, moves-length M p, span_is p h, ap (λ (x : ℕ). one (leb 1 x)) (X.ahead p h))
 
   -- a class below m closes, another does not
   closing-kind : (p : ℕ) → p < Q → (side p).kind < m → opens M p ≡ 0
-  closing-kind p h l = none_in (M.openings p) (λ k i. omega (arith, l, X.opens-class k.0 p k.1 h i))
+  closing-kind p h l = none_in (M.openings p) (λ k i. omega (arith, l, X.opens_class k.0 p k.1 h i))
 
   opening-kind : (p : ℕ) → p < Q → m ≤ (side p).kind → closes M p ≡ 0
-  opening-kind p h l = none_in (M.closings p) (λ k i. omega (arith, l, X.closes-class k.0 p k.1 h i))
+  opening-kind p h l = none_in (M.closings p) (λ k i. omega (arith, l, X.closes_class k.0 p k.1 h i))
 
   -- moves alone
-  alone-zero : (p q : ℕ) → p < Q → q < Q → aloneOf new.ahead t m 0 (side p) q ≡ opens M p + reading M q * closes M p
-  unfolding aloneOf
-  alone-zero p q hp hq = go (ltb (side p).kind m) (terminalAhead M q) refl (reads-is M S t m new X long q hq)
+  alone-zero : (p q : ℕ) → p < Q → q < Q → alone_of new.ahead t m 0 (side p) q ≡ opens M p + reading M q * closes M p
+  unfolding alone_of
+  alone-zero p q hp hq = go (ltb (side p).kind m) (terminal_ahead M q) refl (reads_is M S t m new X long q hq)
     where
-      go : (b c : Bool) → ltb (side p).kind m ≡ b → readsAt new.ahead t q ≡ c → choose (ltb (side p).kind m && not (readsAt new.ahead t q)) 0 (side p).span ≡ opens M p + one c * closes M p
-      go true true e f = rw (e, f) (omega (arith, span-is p hp, closing-kind p hp (ltb-true (side p).kind m e)))
+      go : (b c : Bool) → ltb (side p).kind m ≡ b → reads_at new.ahead t q ≡ c → choose (ltb (side p).kind m && not (reads_at new.ahead t q)) 0 (side p).span ≡ opens M p + one c * closes M p
+      go true true e f = rw (e, f) (omega (arith, span_is p hp, closing-kind p hp (ltb-true (side p).kind m e)))
       go true false e f = rw (e, f) (omega (arith, closing-kind p hp (ltb-true (side p).kind m e)))
-      go false true e f = rw e (omega (arith, span-is p hp, opening-kind p hp (ltb-false (side p).kind m e)))
-      go false false e f = rw e (omega (arith, span-is p hp, opening-kind p hp (ltb-false (side p).kind m e)))
+      go false true e f = rw e (omega (arith, span_is p hp, opening-kind p hp (ltb-false (side p).kind m e)))
+      go false false e f = rw e (omega (arith, span_is p hp, opening-kind p hp (ltb-false (side p).kind m e)))
 
-  alone-one : (p q : ℕ) → p < Q → aloneOf new.ahead t m 1 (side p) q ≡ opens M p + closes M p
-  unfolding aloneOf
-  alone-one p q hp = span-is p hp
+  alone-one : (p q : ℕ) → p < Q → alone_of new.ahead t m 1 (side p) q ≡ opens M p + closes M p
+  unfolding alone_of
+  alone-one p q hp = span_is p hp
 
   -- shifts
-  shift_zero : (p q : ℕ) → p < Q → q < Q → shift_of new.ahead t 0 p q ≡ length (bothShift M 0 p q)
-  unfolding shift_of bothShift
+  shift_zero : (p q : ℕ) → p < Q → q < Q → shift_of new.ahead t 0 p q ≡ length (both_shift M 0 p q)
+  unfolding shift_of both_shift
   shift_zero p q hp hq = rw (X.ahead p hp, X.ahead q hq) (go (leb 1 (M.ahead p)) (eqb (M.ahead p) (M.ahead q)))
     where
       go : (a b : Bool) → choose {A = ℕ} (a && (b && true)) 1 0 ≡ length (when (a && b) (step 0 (M.after p) (M.after q) (Symbol (M.ahead p)) (Symbol (M.ahead p)) ∷ []))
@@ -131,9 +131,9 @@ module _ (M : Moves) (S : Regular M) (t m : ℕ) (new : Tables) (X : Shows M t m
       go true false = refl
       go false b = refl
 
-  shift_one : (p q : ℕ) → p < Q → q < Q → shift_of new.ahead t 1 p q ≡ reading M p * length (bothShift M 1 p q)
-  unfolding shift_of bothShift
-  shift_one p q hp hq = rw (reads-is M S t m new X long p hp, X.ahead p hp, X.ahead q hq) (go (leb 1 (M.ahead p)) (eqb (M.ahead p) (M.ahead q)) (terminalAhead M p))
+  shift_one : (p q : ℕ) → p < Q → q < Q → shift_of new.ahead t 1 p q ≡ reading M p * length (both_shift M 1 p q)
+  unfolding shift_of both_shift
+  shift_one p q hp hq = rw (reads_is M S t m new X long p hp, X.ahead p hp, X.ahead q hq) (go (leb 1 (M.ahead p)) (eqb (M.ahead p) (M.ahead q)) (terminal_ahead M p))
     where
       go : (a b c : Bool) → choose {A = ℕ} (a && (b && c)) 1 0 ≡ one c * length (when (a && b) (step 1 (M.after p) (M.after q) (Symbol (M.ahead p)) (Symbol (M.ahead p)) ∷ []))
       go true true true = refl
@@ -145,10 +145,10 @@ module _ (M : Moves) (S : Regular M) (t m : ℕ) (new : Tables) (X : Shows M t m
 
   -- pairs of closings
   closed-by : (p : ℕ) → p < Q → (k : ℕ × ℕ) → Mem k (M.closings p) → k.0 ≡ get_or new.number p 0
-  closed-by p h k i = sym (X.closes-number k.0 p k.1 h i)
+  closed-by p h k i = sym (X.closes_number k.0 p k.1 h i)
 
-  pairs-zero : (p q : ℕ) → p < Q → q < Q → pairsOf new.number m 0 p q (side p) (side q) ≡ length (bothClose M p q)
-  unfolding pairsOf bothClose
+  pairs-zero : (p q : ℕ) → p < Q → q < Q → pairs_of new.number m 0 p q (side p) (side q) ≡ length (both_close M p q)
+  unfolding pairs_of both_close
   pairs-zero p q hp hq = go (ltb (side p).kind m) (ltb (side q).kind m) (eqb (get_or new.number p 0) (get_or new.number q 0)) refl refl refl
     where
       pair : ℕ × ℕ → ℕ × ℕ → List Step
@@ -170,8 +170,8 @@ module _ (M : Moves) (S : Regular M) (t m : ℕ) (new : Tables) (X : Shows M t m
       go : (a b c : Bool) → ltb (side p).kind m ≡ a → ltb (side q).kind m ≡ b → eqb (get_or new.number p 0) (get_or new.number q 0) ≡ c
           → choose (a && (b && not c)) ((side p).span * (side q).span) 0 ≡ length both
       go true true false e f g =
-          ap₂ (λ (x y : ℕ). x * y) (let z : (side p).span ≡ closes M p = omega (arith, span-is p hp, closing-kind p hp (ltb-true (side p).kind m e)) in z)
-          (let z : (side q).span ≡ closes M q = omega (arith, span-is q hq, closing-kind q hq (ltb-true (side q).kind m f)) in z)
+          ap₂ (λ (x y : ℕ). x * y) (let z : (side p).span ≡ closes M p = omega (arith, span_is p hp, closing-kind p hp (ltb-true (side p).kind m e)) in z)
+          (let z : (side q).span ≡ closes M q = omega (arith, span_is q hq, closing-kind q hq (ltb-true (side q).kind m f)) in z)
           ∙ sym (pairs-one (M.closings p) (M.closings q) pair (λ k l i j. ap (λ (b : Bool). length (when (not b) (step 1 k.1 l.1 (Closing k.0) (Closing l.0) ∷ []))) (test false g k l i j)))
       go true true true e f g =
           sym (pairs-none (M.closings p) (M.closings q) pair (λ k l i j. ap (λ (b : Bool). length (when (not b) (step 1 k.1 l.1 (Closing k.0) (Closing l.0) ∷ []))) (test true g k l i j)))
@@ -179,18 +179,18 @@ module _ (M : Moves) (S : Regular M) (t m : ℕ) (new : Tables) (X : Shows M t m
       go false b c e f g = sym (nothing (inl (opening-kind p hp (ltb-false (side p).kind m e))))
 
   -- the plan of a triple has as many successors as the triple has choices
-  plan-total : (i f p q : ℕ) → f < 2 → p < Q → q < Q → (planFor R t m Q f p q (side p) (side q)).total ≡ length (choices M f p q)
+  plan-total : (i f p q : ℕ) → f < 2 → p < Q → q < Q → (plan_for R t m Q f p q (side p) (side q)).total ≡ length (choices M f p q)
   plan-total i zero p q hf hp hq =
-      omega (arith, alone-zero p q hp hq, alone-zero q p hq hp, shift_zero p q hp hq, pairs-zero p q hp hq, zero-count M p q)
+      omega (arith, alone-zero p q hp hq, alone-zero q p hq hp, shift_zero p q hp hq, pairs-zero p q hp hq, zero_count M p q)
   plan-total i (suc zero) p q hf hp hq =
-      omega (arith, alone-one p q hp, alone-one q p hq, shift_one p q hp hq, pairs-later new.number m p q (side p) (side q), one-count M p q)
+      omega (arith, alone-one p q hp, alone-one q p hq, shift_one p q hp hq, pairs-later new.number m p q (side p) (side q), one_count M p q)
   plan-total i (suc (suc f)) p q hf hp hq = absurd (omega arith)
 
   -- and of an index as many as it has successors
-  pub total-is : (i : ℕ) → i < tripleCount Q → (plan_of R t m Q i).total ≡ length (successors M i)
+  pub total_is : (i : ℕ) → i < triple_count Q → (plan_of R t m Q i).total ≡ length (successors M i)
   unfolding plan_of
-  total-is i h =
+  total_is i h =
       let d = digits Q i (omega (arith, S.four)) h in
-      plan-total i (layerOf Q i) (left_of Q i) (rightOf Q i) d.layer d.left d.right
-      ∙ sym (successors-length M (layerOf Q i) (left_of Q i) (rightOf Q i) d.left d.right)
+      plan-total i (layer_of Q i) (left_of Q i) (right_of Q i) d.layer d.left d.right
+      ∙ sym (successors-length M (layer_of Q i) (left_of Q i) (right_of Q i) d.left d.right)
       ∙ ap (λ (j : ℕ). length (successors M j)) d.whole

@@ -7,14 +7,14 @@ use Rattle.automaton.specs.Moves.{Moves, Regular}
 use Rattle.moves.specs.Tables.{Tables}
 use Rattle.moves.specs.Shows.{Shows}
 use Rattle.plans.specs.Plan.{rows}
-use Rattle.plans.specs.Contracts.{Planned}
+use Rattle.plans.specs.Clauses.{Planned}
 use Rattle.plans.proofs.PlannedLaws.{lists}
-use Rattle.plans.proofs.Counted.{total-is}
+use Rattle.plans.proofs.Counted.{total_is}
 
 -- with the number of states by itself
 pub planned-of : (M : Moves) (R : Regular M) (t m Q : ℕ) (size : Q ≡ M.states) (new : Tables) (X : Shows M t m new)
-    (long : limits.maxStates ≤ length new.targets)
+    (long : limits.max_states ≤ length new.targets)
     → Planned M (rows new.ahead new.number new.member new.first new.after) new.targets t m Q
 planned-of M R t m Q size new X long =
     subst (λ (Q : ℕ). Planned M (rows new.ahead new.number new.member new.first new.after) new.targets t m Q) (sym size)
-    (record { size = refl; lists = lists M R t m new X long; counts = total-is M R t m new X long })
+    (record { size = refl; lists = lists M R t m new X long; counts = total_is M R t m new X long })

@@ -3,7 +3,7 @@
 ghost use Rattle.std.specs.Prelude.{◌≡◌, ℕ, ◌≤◌};
 ghost use Rattle.grammar.specs.Grammar.{Grammar};
 ghost use Rattle.grammar.specs.declared.TableVerdict.TheVariants.{Refused};
-ghost use Rattle.automaton.specs.Callers.{mostCallers};
+ghost use Rattle.automaton.specs.Callers.{most_callers};
 ghost use Rattle.moves.specs.Tables.{tables};
 ghost use Rattle.caller_rows.specs.Rows.{Begun};
 ghost use Rattle.prepared.specs.Prepared.{IsChecked, PreparesFor, Prepares};
@@ -53,7 +53,7 @@ fn add_callers<'a>(
     targets: &mut [u16; MAX_STATES],
     after: &mut [u16; MAX_STATES],
 ) -> Prepared
-    requires le_callers { (1 ≤ callers) × (callers ≤ mostCallers) }
+    requires le_callers { (1 ≤ callers) × (callers ≤ most_callers) }
     requires t_value { (G : Grammar) × (t ≡ G.terminals) × Begun G n q count used lefts.now lengths.now codes.now ahead.old }
     ensures { (G : Grammar) → t ≡ G.terminals → Begun G n q count used lefts.now lengths.now codes.now ahead.old → PreparesFor G callers result
         (tables ahead.new number.new member.new target.new first.new targets.new after.new) }

@@ -9,25 +9,25 @@ use Rattle.grammar.specs.Limits.{limits}
 use Rattle.grammar.specs.Grammar.{Terminal, Nonterminal}
 use Rattle.automaton.specs.Strings.{Letter, opening, closing, symbol}
 use Rattle.readings.specs.Readings.{Valid, AllValid}
-use Rattle.readings.specs.Letters.{kindUnit, letterNumber, ofKind, letterFrom}
+use Rattle.readings.specs.Letters.{kind_unit, letter_number, of_kind, letter_from}
 
 -- kind and number of an entry
-kind-of : (k x : ℕ) → x < kindUnit → (k * kindUnit + x) / kindUnit ≡ k
+kind-of : (k x : ℕ) → x < kind_unit → (k * kind_unit + x) / kind_unit ≡ k
 kind-of k x h = mul-add-div_right (omega arith) k x ∙ ap (λ (z : ℕ). k + z) (div-eq_of_lt h) ∙ omega arith
 
-number-of : (k x : ℕ) → x < kindUnit → (k * kindUnit + x) % kindUnit ≡ x
-number-of k x h = mul-add-mod_self_right k kindUnit x ∙ mod-eq_of_lt h
+number_of_lem : (k x : ℕ) → x < kind_unit → (k * kind_unit + x) % kind_unit ≡ x
+number_of_lem k x h = mul-add-mod_self_right k kind_unit x ∙ mod-eq_of_lt h
 
-entry-of : (k x : ℕ) → x < kindUnit → letterFrom (k * kindUnit + x) ≡ ofKind k x
-entry-of k x h = ap₂ (λ (a b : ℕ). ofKind a b) (kind-of k x h) (number-of k x h)
+entry-of : (k x : ℕ) → x < kind_unit → letter_from (k * kind_unit + x) ≡ of_kind k x
+entry-of k x h = ap₂ (λ (a b : ℕ). of_kind a b) (kind-of k x h) (number_of_lem k x h)
 
-module _ (t n count : ℕ) (few : t ≤ limits.maxTerminals) (some : n ≤ limits.maxNonterminals) (short : count ≤ limits.maxRules) where
-  pub letter-again : (l : Letter) → Valid limits t n count l → letterFrom (letterNumber l) ≡ l
-  letter-again (opening i) h = entry-of 1 i (omega arith)
-  letter-again (closing i) h = entry-of 2 i (omega arith)
-  letter-again (symbol x) (inl h) = entry-of 3 x (omega (arith, h.1))
-  letter-again (symbol x) (inr h) = entry-of 3 x (omega (arith, h.1))
+module _ (t n count : ℕ) (few : t ≤ limits.max_terminals) (some : n ≤ limits.max_nonterminals) (short : count ≤ limits.max_rules) where
+  pub letter_again : (l : Letter) → Valid limits t n count l → letter_from (letter_number l) ≡ l
+  letter_again (opening i) h = entry-of 1 i (omega arith)
+  letter_again (closing i) h = entry-of 2 i (omega arith)
+  letter_again (symbol x) (inl h) = entry-of 3 x (omega (arith, h.1))
+  letter_again (symbol x) (inr h) = entry-of 3 x (omega (arith, h.1))
 
-  pub letters-again : (u : List Letter) → AllValid limits t n count u → map letterFrom (map letterNumber u) ≡ u
+  pub letters-again : (u : List Letter) → AllValid limits t n count u → map letter_from (map letter_number u) ≡ u
   letters-again [] h = refl
-  letters-again (l ∷ u) h = ap₂ (λ (l : Letter) (u : List Letter). l ∷ u) (letter-again l h.0) (letters-again u h.1)
+  letters-again (l ∷ u) h = ap₂ (λ (l : Letter) (u : List Letter). l ∷ u) (letter_again l h.0) (letters-again u h.1)

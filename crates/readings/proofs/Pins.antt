@@ -5,19 +5,19 @@ use mathlib.Core.List.{List, [], ◌∷◌}
 use Prim.Native.Nat.{ℕ}
 use Prim.Native.Char.{code}
 use Prim.Native.String.{String, [] as empty, ◌∷◌ as ◌then◌}
-use Rattle.grammar.specs.Limits.{byteLimits}
-use Rattle.grammar.specs.Refusal.{Answer, done, refused, refuseUnless, and_then}
+use Rattle.grammar.specs.Limits.{byte_limits}
+use Rattle.grammar.specs.Refusal.{Answer, done, refused, refuse_unless, and_then}
 use Rattle.automaton.specs.Strings.{Letter, opening, closing, symbol}
-use Rattle.text.specs.Pieces.{splitOn, join, ledBy, endedBy}
-use Rattle.text.specs.Names.{isNameByte, all, isName, folded, sameName, place}
-use Rattle.text.specs.Numbers.{decimalTo, numberFrom, isDecimal}
+use Rattle.text.specs.Pieces.{split_on, join, led_by, ended_by}
+use Rattle.text.specs.Names.{is_name_byte, all, is_name, folded, same_name, place}
+use Rattle.text.specs.Numbers.{decimal_to, number_from, is_decimal}
 use Rattle.text.specs.Keys.{value_of}
-use Rattle.text.specs.Read.{refuseNone, number_of, isKnown, code_of, symbol_of, wholeLine}
+use Rattle.text.specs.Read.{refuse_none, number_of, is_known, code_of, symbol_of, whole_line}
 use Rattle.text.specs.Spelling.{spelling}
 use Rattle.text.specs.Print.{name_of}
-use Rattle.readings.specs.Readings.{words, readingLines, ruleNumber, word_of, words_of, pieces_of, readWords, readStrings}
-use Rattle.readings.specs.Spelling.{spelledWord, spelledReadings}
-use Rattle.readings.specs.Letters.{letterNumber}
+use Rattle.readings.specs.Readings.{words, reading_lines, rule_number, word_of, words_of, pieces_of, read_words, read_strings}
+use Rattle.readings.specs.Spelling.{spelled_word, spelled_readings}
+use Rattle.readings.specs.Letters.{letter_number}
 
 -- the bytes of an ASCII text
 bytes : String → List ℕ
@@ -31,17 +31,17 @@ names = bytes "a" ∷ bytes "S" ∷ []
 
 -- what lines say there, and the lines of strings
 read : String → Answer (List Letter × List Letter)
-unfolding bytes names readStrings readWords pieces_of words_of word_of ruleNumber isDecimal numberFrom value_of wholeLine refuseNone isKnown
-    number_of code_of place sameName folded isName isNameByte all splitOn refuseUnless and_then
-read lines = readStrings byteLimits 1 2 names (bytes lines)
+unfolding bytes names read_strings read_words pieces_of words_of word_of rule_number is_decimal number_from value_of whole_line refuse_none is_known
+    number_of code_of place same_name folded is_name is_name_byte all split_on refuse_unless and_then
+read lines = read_strings byte_limits 1 2 names (bytes lines)
 
 print : List Letter → List Letter → List ℕ
-unfolding names readingLines words join ledBy endedBy name_of symbol_of decimalTo
-print u v = readingLines byteLimits 1 names u v
+unfolding names reading_lines words join led_by ended_by name_of symbol_of decimal_to
+print u v = reading_lines byte_limits 1 names u v
 
 spell : List (List ℕ) → String → List ℕ
-unfolding read spelledReadings spelledWord spelling join ledBy
-spell names lines = spelledReadings names (bytes lines)
+unfolding read spelled_readings spelled_word spelling join led_by
+spell names lines = spelled_readings names (bytes lines)
 
 -- the readings' example
 left : List Letter
@@ -59,17 +59,17 @@ unfolding read left right
 back = refl
 
 -- empty strings, a nonterminal, two digits
-empty-strings : read "left=\nright=\n" ≡ done ([], [])
+empty_strings : read "left=\nright=\n" ≡ done ([], [])
 unfolding read
-empty-strings = refl
+empty_strings = refl
 
 -- a name in another case is the same name, and is printed as it is declared; keys are no names
-other-case : (read "left=A s\nright=a\n" ≡ done (symbol 1 ∷ symbol 128 ∷ [], symbol 1 ∷ []))
+other_case : (read "left=A s\nright=a\n" ≡ done (symbol 1 ∷ symbol 128 ∷ [], symbol 1 ∷ []))
     × (print (symbol 1 ∷ symbol 128 ∷ []) (symbol 1 ∷ []) ≡ bytes "left=a S\nright=a\n")
     × (read "Left=a\nright=\n" ≡ refused 16 1)
     × (read "left=a\nRight=\n" ≡ refused 16 2)
 unfolding read print
-other-case = (refl, refl, refl, refl)
+other_case = (refl, refl, refl, refl)
 
 -- lines in declared spelling: names take it; openings and closings, keys, names that are not declared and further lines stay
 spelled-lines : (spell names "left=(0 A s )0\nright=a B\n" ≡ bytes "left=(0 a S )0\nright=a B\n")
@@ -100,25 +100,25 @@ other_key : read "right=\nleft=\n" ≡ refused 16 1
 unfolding read
 other_key = refl
 
-leading-zero : read "left=(01\nright=\n" ≡ refused 16 1
+leading_zero : read "left=(01\nright=\n" ≡ refused 16 1
 unfolding read
-leading-zero = refl
+leading_zero = refl
 
-two-zeros : read "left=)00\nright=\n" ≡ refused 16 1
+two_zeros : read "left=)00\nright=\n" ≡ refused 16 1
 unfolding read
-two-zeros = refl
+two_zeros = refl
 
 no_digit : read "left=(\nright=\n" ≡ refused 16 1
 unfolding read
 no_digit = refl
 
-no-rule : read "left=(3\nright=\n" ≡ refused 16 1
+no_rule : read "left=(3\nright=\n" ≡ refused 16 1
 unfolding read
-no-rule = refl
+no_rule = refl
 
-two-spaces : read "left=a  a\nright=\n" ≡ refused 16 1
+two_spaces : read "left=a  a\nright=\n" ≡ refused 16 1
 unfolding read
-two-spaces = refl
+two_spaces = refl
 
 space-first : read "left= a\nright=\n" ≡ refused 16 1
 unfolding read
@@ -142,22 +142,22 @@ no_second : read "left=\n" ≡ refused 16 2
 unfolding read
 no_second = refl
 
-no-second-end : read "left=\nright=" ≡ refused 16 2
+no_second-end : read "left=\nright=" ≡ refused 16 2
 unfolding read
-no-second-end = refl
+no_second-end = refl
 
-third-line : read "left=\nright=\n\n" ≡ refused 16 2
+third_line : read "left=\nright=\n\n" ≡ refused 16 2
 unfolding read
-third-line = refl
+third_line = refl
 
-past-before-unknown : read "left=\nright=b\na" ≡ refused 16 2
+past-before_unknown : read "left=\nright=b\na" ≡ refused 16 2
 unfolding read
-past-before-unknown = refl
+past-before_unknown = refl
 
-unknown-second : read "left=\nright=b\n" ≡ refused 17 2
+unknown_second : read "left=\nright=b\n" ≡ refused 17 2
 unfolding read
-unknown-second = refl
+unknown_second = refl
 
 -- entries: kind and number
-entries : (letterNumber (opening 2) ≡ 65538) × (letterNumber (closing 0) ≡ 131072) × (letterNumber (symbol 128) ≡ 196736)
+entries : (letter_number (opening 2) ≡ 65538) × (letter_number (closing 0) ≡ 131072) × (letter_number (symbol 128) ≡ 196736)
 entries = (refl, refl, refl)

@@ -10,30 +10,30 @@ use Rattle.grammar.specs.Limits.{Limits}
 use Rattle.grammar.specs.Grammar.{Terminal, Nonterminal, Grammar, rule, WellFormed}
 use Rattle.grammar.specs.Live.{Live}
 use Rattle.grammar.proofs.Derives.{rule-listed}
-use Rattle.grammar.proofs.Lists.{place-mem}
+use Rattle.grammar.proofs.Lists.{place_mem}
 use Rattle.automaton.specs.Items.{states, Before}
 use Rattle.automaton.specs.Position.{Opens, opens-start, opens-rule, Closes, closes-start, closes-rule, shifts, position}
 use Rattle.automaton.specs.PositionMoves.{moves_of}
 use Rattle.automaton.specs.Strings.{Letter}
-use Rattle.triples.specs.Index.{tripleCount, layerOf, left_of, rightOf}
-use Rattle.triples.specs.Successor.{StepTo, open-left, open-right, shift-both, part-both, part_left, part_right, close-left, close-right, read-both}
-use Rattle.triples.specs.Sides.{letters, recordsTo, side_of}
+use Rattle.triples.specs.Index.{triple_count, layer_of, left_of, right_of}
+use Rattle.triples.specs.Successor.{StepTo, open_left, open_right, shift_both, part-both, part_left, part_right, close-left, close-right, read-both}
+use Rattle.triples.specs.Sides.{letters, records_to, side_of}
 use Rattle.triples.specs.declared.Move.{Move}
 use Rattle.triples.specs.declared.Step.{Step}
 use Rattle.triples.proofs.Index.{digits}
 use Rattle.triple_laws.proofs.Position.{position-regular, position-listed}
 use Rattle.triple_laws.proofs.Numbered.{step_same}
-use Rattle.triple_laws.proofs.Records.{records-exact}
-use Rattle.figures.proofs.OneRecord.{leads-to-index}
+use Rattle.triple_laws.proofs.Records.{records_exact}
+use Rattle.figures.proofs.OneRecord.{leads_to-index}
 use Rattle.readings.specs.Readings.{AllValid}
 
 -- ---- strings of valid letters
 
-pub valid-append : (L : Limits) (t n count : ℕ) (u v : List Letter) → AllValid L t n count u → AllValid L t n count v → AllValid L t n count (u ++ v)
-valid-append L t n count [] v a b = b
-valid-append L t n count (l ∷ u) v a b = (a.0, valid-append L t n count u v a.1 b)
+pub valid_append : (L : Limits) (t n count : ℕ) (u v : List Letter) → AllValid L t n count u → AllValid L t n count v → AllValid L t n count (u ++ v)
+valid_append L t n count [] v a b = b
+valid_append L t n count (l ∷ u) v a b = (a.0, valid_append L t n count u v a.1 b)
 
-module _ (L : Limits) (G : Grammar) (W : WellFormed L G) (apart : L.maxTerminals < L.nonterminalBase) where
+module _ (L : Limits) (G : Grammar) (W : WellFormed L G) (apart : L.max_terminals < L.nonterminal_base) where
   abbrev Good : List Letter → Type 0
   Good u = AllValid L G.terminals G.nonterminals (length G.rules) u
 
@@ -56,46 +56,46 @@ module _ (L : Limits) (G : Grammar) (W : WellFormed L G) (apart : L.maxTerminals
       go zero (suc d) r h e = absurd (omega arith)
       go (suc i) d r h e =
           W.codes (rule L G (suc i)) (rule-listed L G (suc i) (omega arith, r)) x
-          (subst (λ (y : ℕ). Mem y (rule L G (suc i)).right) e (place-mem (rule L G (suc i)).right d 0 h))
+          (subst (λ (y : ℕ). Mem y (rule L G (suc i)).right) e (place_mem (rule L G (suc i)).right d 0 h))
 
-  step-valid : {f p q g p' q' : ℕ} {l r : Move} → StepTo (position L G) f p q g p' q' l r → Good (letters l) × Good (letters r)
-  step-valid (open-left o) = ((opens-rules o, tt), tt)
-  step-valid (open-right o) = (tt, (opens-rules o, tt))
-  step-valid (shift-both (shifts a e) (shifts b d)) = ((declared a, tt), (declared b, tt))
-  step-valid (part-both k c d) = ((closes-rules c, tt), (closes-rules d, tt))
-  step-valid (part_left c b) = ((closes-rules c, tt), tt)
-  step-valid (part_right c b) = (tt, (closes-rules c, tt))
-  step-valid (close-left c) = ((closes-rules c, tt), tt)
-  step-valid (close-right c) = (tt, (closes-rules c, tt))
-  step-valid (read-both t (shifts a e) (shifts b d)) = ((declared a, tt), (declared b, tt))
+  step_valid : {f p q g p' q' : ℕ} {l r : Move} → StepTo (position L G) f p q g p' q' l r → Good (letters l) × Good (letters r)
+  step_valid (open_left o) = ((opens-rules o, tt), tt)
+  step_valid (open_right o) = (tt, (opens-rules o, tt))
+  step_valid (shift_both (shifts a e) (shifts b d)) = ((declared a, tt), (declared b, tt))
+  step_valid (part-both k c d) = ((closes-rules c, tt), (closes-rules d, tt))
+  step_valid (part_left c b) = ((closes-rules c, tt), tt)
+  step_valid (part_right c b) = (tt, (closes-rules c, tt))
+  step_valid (close-left c) = ((closes-rules c, tt), tt)
+  step_valid (close-right c) = (tt, (closes-rules c, tt))
+  step_valid (read-both t (shifts a e) (shifts b d)) = ((declared a, tt), (declared b, tt))
 
   -- a record's letters
-  record-valid : (i j : ℕ) → i < tripleCount (states G) → (s : Step) → Mem s (recordsTo (moves_of L G) i j)
+  record_valid : (i j : ℕ) → i < triple_count (states G) → (s : Step) → Mem s (records_to (moves_of L G) i j)
       → Good (letters s.on_left) × Good (letters s.on_right)
-  record-valid i j h s m =
+  record_valid i j h s m =
       let M = moves_of L G in
       let R = position-regular L G W apart in
       let Q = states G in
       let d = digits Q i (omega (arith, R.four)) h in
-      let t = (records-exact M R (layerOf Q i) (left_of Q i) (rightOf Q i) d.layer d.left d.right s).0 (leads-to-index M R i j s m).0 in
-      step-valid ((step_same (position L G) M R (position-listed L G W apart) d.left d.right).1 t)
+      let t = (records_exact M R (layer_of Q i) (left_of Q i) (right_of Q i) d.layer d.left d.right s).0 (leads_to-index M R i j s m).0 in
+      step_valid ((step_same (position L G) M R (position-listed L G W apart) d.left d.right).1 t)
 
   all_of : {A : Type 0} (l : List A) (f : A → List Letter) → ((a : A) → Mem a l → Good (f a)) → Good (each l f)
   unfolding each
   all_of [] f h = tt
-  all_of (a ∷ l) f h = valid-append L G.terminals G.nonterminals (length G.rules) (f a) (each l f) (h a here) (all_of l f (λ b m. h b (there m)))
+  all_of (a ∷ l) f h = valid_append L G.terminals G.nonterminals (length G.rules) (f a) (each l f) (h a here) (all_of l f (λ b m. h b (there m)))
 
-  side-valid : (side : Step → Move) → ((s : Step) → Good (letters s.on_left) × Good (letters s.on_right) → Good (letters (side s)))
-      → (row : List ℕ) → ((i : ℕ) → Mem i row → i < tripleCount (states G)) → Good (side_of (moves_of L G) side row)
+  side_valid : (side : Step → Move) → ((s : Step) → Good (letters s.on_left) × Good (letters s.on_right) → Good (letters (side s)))
+      → (row : List ℕ) → ((i : ℕ) → Mem i row → i < triple_count (states G)) → Good (side_of (moves_of L G) side row)
   unfolding side_of
-  side-valid side pick [] h = tt
-  side-valid side pick (i ∷ []) h = tt
-  side-valid side pick (i ∷ j ∷ row) h =
-      valid-append L G.terminals G.nonterminals (length G.rules) (each (recordsTo (moves_of L G) i j) (λ s. letters (side s))) (side_of (moves_of L G) side (j ∷ row))
-      (all_of (recordsTo (moves_of L G) i j) (λ s. letters (side s)) (λ s m. pick s (record-valid i j (h i here) s m)))
-      (side-valid side pick (j ∷ row) (λ k m. h k (there m)))
+  side_valid side pick [] h = tt
+  side_valid side pick (i ∷ []) h = tt
+  side_valid side pick (i ∷ j ∷ row) h =
+      valid_append L G.terminals G.nonterminals (length G.rules) (each (records_to (moves_of L G) i j) (λ s. letters (side s))) (side_of (moves_of L G) side (j ∷ row))
+      (all_of (records_to (moves_of L G) i j) (λ s. letters (side s)) (λ s m. pick s (record_valid i j (h i here) s m)))
+      (side_valid side pick (j ∷ row) (λ k m. h k (there m)))
 
   -- both sides of a row of indices
-  pub sides-valid : (row : List ℕ) → ((i : ℕ) → Mem i row → i < tripleCount (states G))
+  pub sides_valid : (row : List ℕ) → ((i : ℕ) → Mem i row → i < triple_count (states G))
       → Good (side_of (moves_of L G) (λ s. s.on_left) row) × Good (side_of (moves_of L G) (λ s. s.on_right) row)
-  sides-valid row h = (side-valid (λ s. s.on_left) (λ s g. g.0) row h, side-valid (λ s. s.on_right) (λ s g. g.1) row h)
+  sides_valid row h = (side_valid (λ s. s.on_left) (λ s g. g.0) row h, side_valid (λ s. s.on_right) (λ s g. g.1) row h)

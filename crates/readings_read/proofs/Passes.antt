@@ -10,14 +10,14 @@ use native.Mathlib.Numerals.{add-one}
 use lib.ListN.{length, take, drop, get_or, set, length-set, length-drop}
 use lib.Seq.{drop-cons}
 use Rattle.grammar.specs.Basics.{over}
-use Rattle.text.specs.Pieces.{splitOn}
-use Rattle.text_read.proofs.Rows.{copy_more, copy-all}
+use Rattle.text.specs.Pieces.{split_on}
+use Rattle.text_read.proofs.Rows.{copy_more, copy_all}
 use Rattle.readings.specs.Readings.{word_of, words_of, pieces_of}
 use Rattle.readings_read.specs.declared.Piece.{Piece}
 use Rattle.readings_read.specs.declared.Form.{Form}
 use Rattle.readings_read.specs.declared.Form.TheVariants.{Known}
-use Rattle.readings_read.specs.Words.{entry_of, pieceForm, worse, piece_of, entry_at, form_of}
-use Rattle.readings_read.proofs.Words.{worse-known, worse-assoc, form-none, form-more, pieces-some}
+use Rattle.readings_read.specs.Words.{entry_of, piece_form, worse, piece_of, entry_at, form_of}
+use Rattle.readings_read.proofs.Words.{worse-known, worse_assoc, form_none, form_more, pieces_some}
 
 -- ---- checked
 
@@ -26,29 +26,29 @@ module _ (t count : ℕ) (names : List (List ℕ)) where
     pub formed : form_of t count names (words_of count (pieces_of v)) ≡ worse f (form_of t count names (words_of count rest))
     pub counted : length (pieces_of v) ≡ k + length rest
 
-  pub checking-start : (v : List ℕ) → 0 < length v → Checking v Known 0 (splitOn 32 v)
-  checking-start v h = record {
-    formed = ap (λ ps. form_of t count names (words_of count ps)) (pieces-some v h);
-    counted = ap length (pieces-some v h) ∙ omega arith;
+  pub checking_start : (v : List ℕ) → 0 < length v → Checking v Known 0 (split_on 32 v)
+  checking_start v h = record {
+    formed = ap (λ ps. form_of t count names (words_of count ps)) (pieces_some v h);
+    counted = ap length (pieces_some v h) ∙ omega arith;
   }
 
   -- one piece more
-  pub checking-more : (v : List ℕ) (f : Form) (k : ℕ) (now : List (List ℕ)) (p : List ℕ) (ps : List (List ℕ)) (piece : Piece)
+  pub checking_more : (v : List ℕ) (f : Form) (k : ℕ) (now : List (List ℕ)) (p : List ℕ) (ps : List (List ℕ)) (piece : Piece)
       → now ≡ p ∷ ps → piece ≡ piece_of t count names (word_of count p) → Checking v f k now
-      → Checking v (worse f (pieceForm piece)) (k + 1) ps
-  checking-more v f k now p ps piece e q c = record {
-    formed = c.formed ∙ ap (λ ps. worse f (form_of t count names (words_of count ps))) e ∙ ap (worse f) (form-more t count names p ps)
-        ∙ worse-assoc f (pieceForm (piece_of t count names (word_of count p))) (form_of t count names (words_of count ps))
-        ∙ ap (λ piece. worse (worse f (pieceForm piece)) (form_of t count names (words_of count ps))) (sym q);
+      → Checking v (worse f (piece_form piece)) (k + 1) ps
+  checking_more v f k now p ps piece e q c = record {
+    formed = c.formed ∙ ap (λ ps. worse f (form_of t count names (words_of count ps))) e ∙ ap (worse f) (form_more t count names p ps)
+        ∙ worse_assoc f (piece_form (piece_of t count names (word_of count p))) (form_of t count names (words_of count ps))
+        ∙ ap (λ piece. worse (worse f (piece_form piece)) (form_of t count names (words_of count ps))) (sym q);
     counted = omega (arith, c.counted, ap length e);
   }
 
   -- all are checked
-  pub checking-form : (v : List ℕ) (f : Form) (k : ℕ) → Checking v f k [] → f ≡ form_of t count names (words_of count (pieces_of v))
-  checking-form v f k c = sym (c.formed ∙ ap (worse f) (form-none t count names) ∙ worse-known f)
+  pub checking_form : (v : List ℕ) (f : Form) (k : ℕ) → Checking v f k [] → f ≡ form_of t count names (words_of count (pieces_of v))
+  checking_form v f k c = sym (c.formed ∙ ap (worse f) (form_none t count names) ∙ worse-known f)
 
-  pub checking-count : (v : List ℕ) (f : Form) (k : ℕ) → Checking v f k [] → k ≡ length (pieces_of v)
-  checking-count v f k c = sym (c.counted ∙ add-zero k)
+  pub checking_count : (v : List ℕ) (f : Form) (k : ℕ) → Checking v f k [] → k ≡ length (pieces_of v)
+  checking_count v f k c = sym (c.counted ∙ add-zero k)
 
   -- the entry of a piece that is read
   pub entry-at : (p : List ℕ) (piece : Piece) → piece ≡ piece_of t count names (word_of count p) → entry_of piece ≡ entry_at t count names p
@@ -93,4 +93,4 @@ module _ (front old : List ℕ) (j : ℕ) (row : List ℕ) where
   -- all is written
   pub writing-done : Writing front old j row [] → row ≡ over front old
   writing-done w =
-      w.written ∙ copy-all front old j w.fits (omega (arith, ap length w.onward, length-drop j front)) w.most
+      w.written ∙ copy_all front old j w.fits (omega (arith, ap length w.onward, length-drop j front)) w.most

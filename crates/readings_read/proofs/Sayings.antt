@@ -9,17 +9,17 @@ use native.Mathlib.Omega.{arith}
 use lib.ListN.{length, length-map}
 use Rattle.grammar.specs.Basics.{choose}
 use Rattle.grammar.specs.Limits.{limits}
-use Rattle.grammar.specs.Refusal.{done, refused, refuseUnless}
-use Rattle.grammar.proofs.Answers.{unless_holds, unless-fails}
+use Rattle.grammar.specs.Refusal.{done, refused, refuse_unless}
+use Rattle.grammar.proofs.Answers.{unless_holds, unless_fails}
 use Rattle.automaton.specs.Strings.{Letter}
 use Rattle.text.specs.Names.{all}
 use Rattle.text.specs.Keys.{value_of}
-use Rattle.text.specs.Read.{refuseNone}
+use Rattle.text.specs.Read.{refuse_none}
 use Rattle.text.proofs.Pieces.{all_head, all_tail}
 use Rattle.text.proofs.Names.{no_value, some_inj}
 use Rattle.names.specs.Found.{part}
-use Rattle.readings.specs.Readings.{Word, word_of, joined, words_of, pieces_of, knownWord, letterOf, readWords, readStrings}
-use Rattle.readings.specs.Letters.{letterNumber}
+use Rattle.readings.specs.Readings.{Word, word_of, joined, words_of, pieces_of, known_word, letter_of, read_words, read_strings}
+use Rattle.readings.specs.Letters.{letter_number}
 use Rattle.readings_read.specs.declared.Piece.TheVariants.{Entry, Unknown}
 use Rattle.readings_read.specs.declared.Form.{Form}
 use Rattle.readings_read.specs.declared.Form.TheVariants.{Known, Unknown as FormUnknown, Malformed as FormMalformed}
@@ -45,41 +45,41 @@ module _ (t count : ℕ) (names : List (List ℕ)) where
       → SaysAt t count names at key line start k
   told-said at key line r start k e w = subst (λ (r : Line). LineTold t count names at key line r) e w
 
-  pub told-fault : (at : ℕ) (key line : List ℕ) (r : Line) (cause place : ℕ) → r ≡ LineFault cause place → LineTold t count names at key line r
+  pub told_fault : (at : ℕ) (key line : List ℕ) (r : Line) (cause place : ℕ) → r ≡ LineFault cause place → LineTold t count names at key line r
       → line_of t count names at key line ≡ refused cause place
-  told-fault at key line r cause place e w = subst (λ (r : Line). LineTold t count names at key line r) e w
+  told_fault at key line r cause place e w = subst (λ (r : Line). LineTold t count names at key line r) e w
 
   pub told-both : (lines : List ℕ) (r : Lines) (a e k b f l : ℕ) → r ≡ Said a e k b f l → LinesTold t count names lines r → BothSaid t count names lines a e k b f l
   told-both lines r a e k b f l q w = subst (λ (r : Lines). LinesTold t count names lines r) q w
 
   pub told-refused : (lines : List ℕ) (r : Lines) (cause place : ℕ) → r ≡ Fault cause place → LinesTold t count names lines r
-      → readStrings limits t count names lines ≡ refused cause place
+      → read_strings limits t count names lines ≡ refused cause place
   told-refused lines r cause place e w = subst (λ (r : Lines). LinesTold t count names lines r) e w
 
   -- ---- values
 
   -- the entries of known words are the numbers of their letters
-  entries-said : (ps : List (List ℕ)) (ws : List Word) → words_of count ps ≡ some ws → all (knownWord limits t count names) ws ≡ true
-      → map (entry_at t count names) ps ≡ map letterNumber (map (letterOf limits t count names) ws)
+  entries-said : (ps : List (List ℕ)) (ws : List Word) → words_of count ps ≡ some ws → all (known_word limits t count names) ws ≡ true
+      → map (entry_at t count names) ps ≡ map letter_number (map (letter_of limits t count names) ws)
   unfolding words_of entry_at
-  entries-said [] ws e h = ap (λ ws. map letterNumber (map (letterOf limits t count names) ws)) (some_inj e)
+  entries-said [] ws e h = ap (λ ws. map letter_number (map (letter_of limits t count names) ws)) (some_inj e)
   entries-said (p ∷ ps) ws e h = go (word_of count p) (words_of count ps) e (entries-said ps)
     where
-      known : (w : Word) (b : Bool) → b ≡ true → entry_of (choose b (Entry (letterNumber (letterOf limits t count names w))) Unknown) ≡ letterNumber (letterOf limits t count names w)
-      known w b e = ap (λ b. entry_of (choose b (Entry (letterNumber (letterOf limits t count names w))) Unknown)) e
+      known : (w : Word) (b : Bool) → b ≡ true → entry_of (choose b (Entry (letter_number (letter_of limits t count names w))) Unknown) ≡ letter_number (letter_of limits t count names w)
+      known w b e = ap (λ b. entry_of (choose b (Entry (letter_number (letter_of limits t count names w))) Unknown)) e
 
       go : (o : Option Word) (os : Option (List Word)) → joined o os ≡ some ws
-          → ((vs : List Word) → os ≡ some vs → all (knownWord limits t count names) vs ≡ true
-          → map (entry_at t count names) ps ≡ map letterNumber (map (letterOf limits t count names) vs))
-          → entry_of (piece_of t count names o) ∷ map (entry_at t count names) ps ≡ map letterNumber (map (letterOf limits t count names) ws)
+          → ((vs : List Word) → os ≡ some vs → all (known_word limits t count names) vs ≡ true
+          → map (entry_at t count names) ps ≡ map letter_number (map (letter_of limits t count names) vs))
+          → entry_of (piece_of t count names o) ∷ map (entry_at t count names) ps ≡ map letter_number (map (letter_of limits t count names) ws)
       go none os e again = no_value e
       go (some w) none e again = no_value e
       go (some w) (some vs) e again =
           let q : w ∷ vs ≡ ws = some_inj e in
-          let k : all (knownWord limits t count names) (w ∷ vs) ≡ true = ap (all (knownWord limits t count names)) q ∙ h in
-          ap₂ (λ (x : ℕ) (xs : List ℕ). x ∷ xs) (known w (knownWord limits t count names w) (all_head (knownWord limits t count names) w vs k))
-          (again vs refl (all_tail (knownWord limits t count names) w vs k))
-          ∙ ap (λ ws. map letterNumber (map (letterOf limits t count names) ws)) q
+          let k : all (known_word limits t count names) (w ∷ vs) ≡ true = ap (all (known_word limits t count names)) q ∙ h in
+          ap₂ (λ (x : ℕ) (xs : List ℕ). x ∷ xs) (known w (known_word limits t count names w) (all_head (known_word limits t count names) w vs k))
+          (again vs refl (all_tail (known_word limits t count names) w vs k))
+          ∙ ap (λ ws. map letter_number (map (letter_of limits t count names) ws)) q
 
   -- forms told apart
   abbrev rank : Form → ℕ
@@ -91,52 +91,52 @@ module _ (t count : ℕ) (names : List (List ℕ)) where
   known-all true e = refl
   known-all false e = absurd (let z = ap rank e in omega arith)
 
-  unknown-one : (b : Bool) → choose b Known FormUnknown ≡ FormUnknown → b ≡ false
-  unknown-one true e = absurd (let z = ap rank e in omega arith)
-  unknown-one false e = refl
+  unknown_one : (b : Bool) → choose b Known FormUnknown ≡ FormUnknown → b ≡ false
+  unknown_one true e = absurd (let z = ap rank e in omega arith)
+  unknown_one false e = refl
 
-  never-malformed : (b : Bool) → choose b Known FormUnknown ≡ FormMalformed → ⊥
-  never-malformed true e = let z = ap rank e in omega arith
-  never-malformed false e = let z = ap rank e in omega arith
+  never_malformed : (b : Bool) → choose b Known FormUnknown ≡ FormMalformed → ⊥
+  never_malformed true e = let z = ap rank e in omega arith
+  never_malformed false e = let z = ap rank e in omega arith
 
   module _ (at : ℕ) (v : List ℕ) where
-    value-malformed : form_of t count names (words_of count (pieces_of v)) ≡ FormMalformed → readWords limits t count names at v ≡ refused 16 at
-    unfolding readWords form_of refuseNone
+    value-malformed : form_of t count names (words_of count (pieces_of v)) ≡ FormMalformed → read_words limits t count names at v ≡ refused 16 at
+    unfolding read_words form_of refuse_none
     value-malformed h = go (words_of count (pieces_of v)) h
       where
         go : (o : Option (List Word)) → form_of t count names o ≡ FormMalformed
-            → refuseNone 16 at o (λ ws. refuseUnless 17 at (all (knownWord limits t count names) ws) (done (map (letterOf limits t count names) ws))) ≡ refused 16 at
+            → refuse_none 16 at o (λ ws. refuse_unless 17 at (all (known_word limits t count names) ws) (done (map (letter_of limits t count names) ws))) ≡ refused 16 at
         go none h = refl
-        go (some ws) h = absurd (never-malformed (all (knownWord limits t count names) ws) h)
+        go (some ws) h = absurd (never_malformed (all (known_word limits t count names) ws) h)
 
-    value-unknown : form_of t count names (words_of count (pieces_of v)) ≡ FormUnknown → readWords limits t count names at v ≡ refused 17 at
-    unfolding readWords form_of refuseNone
-    value-unknown h = go (words_of count (pieces_of v)) h
+    value_unknown : form_of t count names (words_of count (pieces_of v)) ≡ FormUnknown → read_words limits t count names at v ≡ refused 17 at
+    unfolding read_words form_of refuse_none
+    value_unknown h = go (words_of count (pieces_of v)) h
       where
         go : (o : Option (List Word)) → form_of t count names o ≡ FormUnknown
-            → refuseNone 16 at o (λ ws. refuseUnless 17 at (all (knownWord limits t count names) ws) (done (map (letterOf limits t count names) ws))) ≡ refused 17 at
+            → refuse_none 16 at o (λ ws. refuse_unless 17 at (all (known_word limits t count names) ws) (done (map (letter_of limits t count names) ws))) ≡ refused 17 at
         go none h = absurd (let z = ap rank h in omega arith)
-        go (some ws) h = unless-fails 17 at _ _ (unknown-one (all (knownWord limits t count names) ws) h)
+        go (some ws) h = unless_fails 17 at _ _ (unknown_one (all (known_word limits t count names) ws) h)
 
     value-known : (k : ℕ) → form_of t count names (words_of count (pieces_of v)) ≡ Known → k ≡ length (pieces_of v)
-        → (u : List Letter) × (readWords limits t count names at v ≡ done u) × Says t count names v u k
-    unfolding readWords form_of refuseNone
+        → (u : List Letter) × (read_words limits t count names at v ≡ done u) × Says t count names v u k
+    unfolding read_words form_of refuse_none
     value-known k h n = go (words_of count (pieces_of v)) refl h
       where
         go : (o : Option (List Word)) → words_of count (pieces_of v) ≡ o → form_of t count names o ≡ Known
             → (u : List Letter)
-            × (refuseNone 16 at o (λ ws. refuseUnless 17 at (all (knownWord limits t count names) ws) (done (map (letterOf limits t count names) ws))) ≡ done u)
+            × (refuse_none 16 at o (λ ws. refuse_unless 17 at (all (known_word limits t count names) ws) (done (map (letter_of limits t count names) ws))) ≡ done u)
             × Says t count names v u k
         go none e h = absurd (let z = ap rank h in omega arith)
         go (some ws) e h =
-            let g = known-all (all (knownWord limits t count names) ws) h in
-            let u = map (letterOf limits t count names) ws in
+            let g = known-all (all (known_word limits t count names) ws) h in
+            let u = map (letter_of limits t count names) ws in
             let q = entries-said (pieces_of v) ws e g in (
               u,
               unless_holds 17 at _ _ g,
               record {
                 entries = q;
-                counts = omega (arith, n, ap length q, length-map (pieces_of v) (entry_at t count names), length-map u letterNumber);
+                counts = omega (arith, n, ap length q, length-map (pieces_of v) (entry_at t count names), length-map u letter_number);
               },
             )
 
@@ -145,12 +145,12 @@ module _ (t count : ℕ) (names : List (List ℕ)) where
   module _ (at : ℕ) (key line : List ℕ) where
     -- no such key
     pub line-none : value_of key line ≡ none → line_of t count names at key line ≡ refused 16 at
-    unfolding line_of refuseNone
+    unfolding line_of refuse_none
     line-none e = rw e refl
 
     module _ (start : ℕ) (s : StartsAt key line start) where
-      line_on : line_of t count names at key line ≡ readWords limits t count names at (part start (length line) line)
-      unfolding line_of refuseNone
+      line_on : line_of t count names at key line ≡ read_words limits t count names at (part start (length line) line)
+      unfolding line_of refuse_none
       line_on = rw s.value refl
 
       -- the words of its value are of some form
@@ -158,9 +158,9 @@ module _ (t count : ℕ) (names : List (List ℕ)) where
           → line_of t count names at key line ≡ refused 16 at
       line-malformed h = line_on ∙ value-malformed at (part start (length line) line) h
 
-      pub line-unknown : form_of t count names (words_of count (pieces_of (part start (length line) line))) ≡ FormUnknown
+      pub line_unknown : form_of t count names (words_of count (pieces_of (part start (length line) line))) ≡ FormUnknown
           → line_of t count names at key line ≡ refused 17 at
-      line-unknown h = line_on ∙ value-unknown at (part start (length line) line) h
+      line_unknown h = line_on ∙ value_unknown at (part start (length line) line) h
 
       pub line_known : (k : ℕ) → form_of t count names (words_of count (pieces_of (part start (length line) line))) ≡ Known
           → k ≡ length (pieces_of (part start (length line) line)) → SaysAt t count names at key line start k

@@ -4,17 +4,17 @@
 use Rattle.std.specs.Prelude.{ℕ, ◌+◌, ◌≤◌, ◌<◌, ◌≡◌, ◌&&◌, List, map, leb, length, drop}
 use Rattle.std.proofs.Math.Option.{none, some}
 use Rattle.grammar.specs.Limits.{limits}
-use Rattle.grammar.specs.Refusal.{Answer, done, refused, refuseUnless, and_then, bufferTooShort, malformed}
+use Rattle.grammar.specs.Refusal.{Answer, done, refused, refuse_unless, and_then, buffer_too_short, malformed}
 use Rattle.automaton.specs.Strings.{Letter}
-use Rattle.text.specs.Pieces.{lineEnd, splitOn}
+use Rattle.text.specs.Pieces.{line_end, split_on}
 use Rattle.text.specs.Keys.{value_of}
-use Rattle.text.specs.Read.{refuseNone, wholeLine}
+use Rattle.text.specs.Read.{refuse_none, whole_line}
 use Rattle.text.specs.declared.TextRead.{TextRead}
 use Rattle.names.specs.Found.{part}
 use Rattle.text_read.specs.Texts.{ChecksText}
-use Rattle.readings.specs.Readings.{rightKey, pieces_of, atEnd, readWords, readStrings}
-use Rattle.readings.specs.Letters.{letterNumber}
-use Rattle.readings.specs.Promise.{readBack, rowAfter}
+use Rattle.readings.specs.Readings.{right_key, pieces_of, at_end, read_words, read_strings}
+use Rattle.readings.specs.Letters.{letter_number}
+use Rattle.readings.specs.Promise.{read_back, row_after}
 use Rattle.readings.specs.declared.ReadBack.{ReadBack}
 use Rattle.readings_read.specs.declared.Start.{Start}
 use Rattle.readings_read.specs.declared.Start.TheVariants.{At, Malformed}
@@ -43,12 +43,12 @@ StartTold key line Malformed = value_of key line ≡ none
 module _ (t count : ℕ) (names : List (List ℕ)) where
   -- a value that says a string of k letters, of which the entries are these
   pub record Says (v : List ℕ) (string : List Letter) (k : ℕ) : Type 0 where
-    pub entries : map (entry_at t count names) (pieces_of v) ≡ map letterNumber string
+    pub entries : map (entry_at t count names) (pieces_of v) ≡ map letter_number string
     pub counts : k ≡ length string
 
   -- what line `at` says under a key: 16, 17
   unfoldable pub line_of : ℕ → List ℕ → List ℕ → Answer (List Letter)
-  line_of at key line = refuseNone malformed at (value_of key line) (readWords limits t count names at)
+  line_of at key line = refuse_none malformed at (value_of key line) (read_words limits t count names at)
 
   -- a line says a string of k letters by its value
   pub record SaysAt (at : ℕ) (key line : List ℕ) (start k : ℕ) : Type 0 where
@@ -63,10 +63,10 @@ module _ (t count : ℕ) (names : List (List ℕ)) where
   LineTold at key line (LineFault cause place) = line_of at key line ≡ refused cause place
 
   -- what the second line and those after it make of the lines, whose first says a string
-  abbrev pub readSecond : List Letter → List ℕ → List (List ℕ) → Answer (List Letter × List Letter)
-  readSecond u second rest =
-      refuseUnless malformed 2 (atEnd rest)
-      (refuseNone malformed 2 (value_of rightKey second) (λ r. and_then (readWords limits t count names 2 r) (λ v. done (u, v))))
+  abbrev pub read_second : List Letter → List ℕ → List (List ℕ) → Answer (List Letter × List Letter)
+  read_second u second rest =
+      refuse_unless malformed 2 (at_end rest)
+      (refuse_none malformed 2 (value_of right_key second) (λ r. and_then (read_words limits t count names 2 r) (λ v. done (u, v))))
 
   -- the first line is read: its value stands from a to e and says a string of k letters; what the lines after it make of the lines
   pub record FirstSaid (lines : List ℕ) (a e k : ℕ) : Type 0 where
@@ -74,7 +74,7 @@ module _ (t count : ℕ) (names : List (List ℕ)) where
     pub ends : e < length lines
     pub string : List Letter
     pub says : Says (part a e lines) string k
-    pub onward : readStrings limits t count names lines ≡ wholeLine 2 (splitOn lineEnd (drop (e + 1) lines)) (readSecond string)
+    pub onward : read_strings limits t count names lines ≡ whole_line 2 (split_on line_end (drop (e + 1) lines)) (read_second string)
 
   -- both lines are read: their values stand from a to e and from b to f, and say strings of k and l letters
   pub record BothSaid (lines : List ℕ) (a e k b f l : ℕ) : Type 0 where
@@ -84,23 +84,23 @@ module _ (t count : ℕ) (names : List (List ℕ)) where
     pub second-inside : f ≤ length lines
     pub left : List Letter
     pub right : List Letter
-    pub read : readStrings limits t count names lines ≡ done (left, right)
+    pub read : read_strings limits t count names lines ≡ done (left, right)
     pub left-says : Says (part a e lines) left k
     pub right-says : Says (part b f lines) right l
 
   -- both lines
   abbrev pub LinesTold : List ℕ → Lines → Type 0
   LinesTold lines (Said a e k b f l) = BothSaid lines a e k b f l
-  LinesTold lines (Fault cause place) = readStrings limits t count names lines ≡ refused cause place
+  LinesTold lines (Fault cause place) = read_strings limits t count names lines ≡ refused cause place
 
   -- then 14, where the rows lent have so many entries
-  unfoldable pub linesInto : ℕ → ℕ → List ℕ → Answer (List Letter × List Letter)
-  linesInto left right lines =
-      and_then (readStrings limits t count names lines) (λ p.
-      refuseUnless bufferTooShort 0 (leb (length p.0) left && leb (length p.1) right) (done p))
+  unfoldable pub lines_into : ℕ → ℕ → List ℕ → Answer (List Letter × List Letter)
+  lines_into left right lines =
+      and_then (read_strings limits t count names lines) (λ p.
+      refuse_unless buffer_too_short 0 (leb (length p.0) left && leb (length p.1) right) (done p))
 
   -- the lines read in the grammar, from two lent rows
   pub record BackTold (lines left right : List ℕ) (r : ReadBack) (left' right' : List ℕ) : Type 0 where
-    pub answer : r ≡ readBack (done (linesInto (length left) (length right) lines))
-    pub left_after : left' ≡ rowAfter (done (linesInto (length left) (length right) lines)) (λ p. p.0) left
-    pub right-after : right' ≡ rowAfter (done (linesInto (length left) (length right) lines)) (λ p. p.1) right
+    pub answer : r ≡ read_back (done (lines_into (length left) (length right) lines))
+    pub left_after : left' ≡ row_after (done (lines_into (length left) (length right) lines)) (λ p. p.0) left
+    pub right-after : right' ≡ row_after (done (lines_into (length left) (length right) lines)) (λ p. p.1) right

@@ -7,7 +7,7 @@ mod values;
 
 ghost use Rattle.std.specs.Prelude.{◌≤◌, length};
 ghost use Rattle.text.specs.Spelled.{spelled};
-ghost use Rattle.text_read.specs.Texts.{smallText};
+ghost use Rattle.text_read.specs.Texts.{small_text};
 ghost use Rattle.readings.specs.Promise.{ReadsBack};
 ghost use Rattle.readings_read.specs.Words.{Named};
 ghost use Rattle.readings_read.specs.Lines.{BackTold, GrammarChecked};
@@ -129,7 +129,7 @@ fn back_in(
 }
 
 fn back_small(text: &[u8], lines: &[u8], left: &mut [u32], right: &mut [u32]) -> ReadBack
-    requires { length text.now ≤ smallText }
+    requires { length text.now ≤ small_text }
     ensures { ReadsBack text.now lines.now left.old right.old result left.new right.new }
 {
     let mut row = [0u16; SMALL_TEXT];

@@ -4,7 +4,7 @@ ghost use Rattle.grammar.specs.Limits.{limits};
 ghost use Rattle.text.specs.Spelled.{spelled};
 ghost use Rattle.lexicon.specs.Tree.{Lexicon};
 ghost use Rattle.readings.specs.Readings.{word_of};
-ghost use Rattle.readings_read.specs.Words.{Symbols, markPiece, namePiece, piece_of, entry_of};
+ghost use Rattle.readings_read.specs.Words.{Symbols, mark_piece, name_piece, piece_of, entry_of};
 
 use super::Piece;
 use readings::{CLOSES, CLOSING, KIND_UNIT, OPENING, OPENS, SYMBOL};
@@ -17,8 +17,8 @@ const NINE: u8 = 57;
 // The digits of a rule's number, decimal without leading zeros and at most count, as a letter of a kind. The value is left as
 // soon as it exceeds count, so it never overflows.
 fn mark(kind: u32, s: &[u8], count: usize) -> Piece
-    requires { (kind ≤ 3) × (count ≤ limits.maxRules) }
-    ensures { result ≡ markPiece kind count s.now }
+    requires { (kind ≤ 3) × (count ≤ limits.max_rules) }
+    ensures { result ≡ mark_piece kind count s.now }
 {
     let n = s.len();
     if n == 0 {
@@ -51,8 +51,8 @@ fn mark(kind: u32, s: &[u8], count: usize) -> Piece
 
 // A name, if it is one, and its symbol's code, if it is known.
 fn name(x: &[u8], text: &[u8], starts: &[u32], lengths: &[u32], links: &[u16], t: usize) -> Piece
-    requires { (Lexicon text.now starts.now lengths.now links.now) × (t ≤ limits.maxTerminals) × (length starts.now ≤ t + limits.maxNonterminals) }
-    ensures { result ≡ namePiece t (spelled text.now starts.now lengths.now) x.now }
+    requires { (Lexicon text.now starts.now lengths.now links.now) × (t ≤ limits.max_terminals) × (length starts.now ≤ t + limits.max_nonterminals) }
+    ensures { result ≡ name_piece t (spelled text.now starts.now lengths.now) x.now }
 {
     if names::is_name(x) {
         let i = lexicon::find(text, starts, lengths, links, x);

@@ -3,7 +3,7 @@ ghost use Rattle.std.specs.Prelude.{◌≡◌, map, ◌≤◌, length};
 ghost use Rattle.grammar.specs.Basics.{over};
 ghost use Rattle.text.specs.Spelled.{spelled};
 ghost use Rattle.readings.specs.Readings.{pieces_of};
-ghost use Rattle.readings_read.specs.Words.{Symbols, worse, pieceForm, ValueTold, entry_at};
+ghost use Rattle.readings_read.specs.Words.{Symbols, worse, piece_form, ValueTold, entry_at};
 
 use super::pieces::{entry, read_piece};
 use super::{Form, Piece, Value};
@@ -11,7 +11,7 @@ use names::SPACE;
 
 // The form of words with one piece more.
 fn with_piece(form: Form, piece: Piece) -> Form
-    ensures { result ≡ worse form (pieceForm piece) }
+    ensures { result ≡ worse form (piece_form piece) }
 {
     match piece {
         Piece::Malformed => Form::Malformed,

@@ -8,47 +8,47 @@ use native.Mathlib.Omega.{arith}
 use lib.ListN.{length, get_or, length-append}
 use Rattle.grammar.specs.Limits.{limits}
 use Rattle.automaton.specs.Strings.{Letter, opening, closing, symbol}
-use Rattle.text.specs.Pieces.{ledBy, join, endedBy}
-use Rattle.text.specs.Names.{all, isName}
+use Rattle.text.specs.Pieces.{led_by, join, ended_by}
+use Rattle.text.specs.Names.{all, is_name}
 use Rattle.text.specs.Read.{symbol_of}
 use Rattle.text.specs.Print.{name_of}
 use Rattle.text.proofs.Pieces.{all-at}
-use Rattle.text.proofs.Names.{name-size, right-number}
+use Rattle.text.proofs.Names.{name-size, right_number}
 use Rattle.text.specs.Spelled.{spelled}
-use Rattle.text_write.proofs.LentLaws.{names-count}
-use Rattle.readings.specs.Readings.{word, words, readingLines, Valid, AllValid}
-use Rattle.readings.specs.Letters.{letterFrom}
-use Rattle.readings_write.specs.Contracts.{Letters, Sayable, wordRoom, keysRoom, lines_of}
+use Rattle.text_write.proofs.LentLaws.{names_count}
+use Rattle.readings.specs.Readings.{word, words, reading_lines, Valid, AllValid}
+use Rattle.readings.specs.Letters.{letter_from}
+use Rattle.readings_write.specs.Clauses.{Letters, Sayable, word_room, keys_room, lines_of}
 use Rattle.readings_write.proofs.Decimal.{decimal-most}
 
-module _ (t n count : ℕ) (names : List (List ℕ)) (named : all isName names ≡ true) (long : length names ≡ t + n)
-    (few-terminals : t ≤ limits.maxTerminals) (few-rules : count ≤ limits.maxRules) where
-  word-most : (l : Letter) → Valid limits t n count l → length (word limits t names l) < wordRoom
+module _ (t n count : ℕ) (names : List (List ℕ)) (named : all is_name names ≡ true) (long : length names ≡ t + n)
+    (few-terminals : t ≤ limits.max_terminals) (few-rules : count ≤ limits.max_rules) where
+  word-most : (l : Letter) → Valid limits t n count l → length (word limits t names l) < word_room
   unfolding name_of
   word-most (opening i) h = omega (arith, decimal-most 2 i (omega arith))
   word-most (closing i) h = omega (arith, decimal-most 2 i (omega arith))
   word-most (symbol x) h =
       let i = symbol_of limits t x in
-      let l : i < length names = omega (arith, (right-number limits t (omega arith) n x h).high, long) in
-      omega (arith, (name-size (get_or names i []) (all-at isName names i [] named l)).1)
+      let l : i < length names = omega (arith, (right_number limits t (omega arith) n x h).high, long) in
+      omega (arith, (name-size (get_or names i []) (all-at is_name names i [] named l)).1)
 
   led-most : (u : List Letter) → AllValid limits t n count u
-      → length (ledBy 32 (map (word limits t names) u)) ≤ wordRoom * length u
-  unfolding ledBy
+      → length (led_by 32 (map (word limits t names) u)) ≤ word_room * length u
+  unfolding led_by
   led-most [] h = omega arith
   led-most (l ∷ u) h =
-      omega (arith, length-append (word limits t names l) (ledBy 32 (map (word limits t names) u)), word-most l h.0, led-most u h.1)
+      omega (arith, length-append (word limits t names l) (led_by 32 (map (word limits t names) u)), word-most l h.0, led-most u h.1)
 
-  words-most : (u : List Letter) → AllValid limits t n count u → length (words limits t names u) ≤ wordRoom * length u
+  words-most : (u : List Letter) → AllValid limits t n count u → length (words limits t names u) ≤ word_room * length u
   unfolding words join
   words-most [] h = omega arith
   words-most (l ∷ u) h =
-      omega (arith, length-append (word limits t names l) (ledBy 32 (map (word limits t names) u)), word-most l h.0, led-most u h.1)
+      omega (arith, length-append (word limits t names l) (led_by 32 (map (word limits t names) u)), word-most l h.0, led-most u h.1)
 
   -- the two lines of two strings of the grammar's letters
   pub lines-most : (u v : List Letter) → AllValid limits t n count u → AllValid limits t n count v
-      → length (readingLines limits t names u v) ≤ wordRoom * (length u + length v) + keysRoom
-  unfolding readingLines endedBy
+      → length (reading_lines limits t names u v) ≤ word_room * (length u + length v) + keys_room
+  unfolding reading_lines ended_by
   lines-most u v hu hv =
       let x = words limits t names u in
       let y = words limits t names v in
@@ -61,12 +61,12 @@ module _ (t n count : ℕ) (names : List (List ℕ)) (named : all isName names �
       )
 
 -- a row of letters is a string of letters
-pub letters-valid : (t n count : ℕ) (letters : List ℕ) → Letters t n count letters
-    → AllValid limits t n count (map letterFrom letters)
-letters-valid t n count [] h = tt
-letters-valid t n count (x ∷ xs) h = (h 0 (omega arith), letters-valid t n count xs (λ i l. h (suc i) (omega arith)))
+pub letters_valid : (t n count : ℕ) (letters : List ℕ) → Letters t n count letters
+    → AllValid limits t n count (map letter_from letters)
+letters_valid t n count [] h = tt
+letters_valid t n count (x ∷ xs) h = (h 0 (omega arith), letters_valid t n count xs (λ i l. h (suc i) (omega arith)))
 
-length-letters : (letters : List ℕ) → length (map letterFrom letters) ≡ length letters
+length-letters : (letters : List ℕ) → length (map letter_from letters) ≡ length letters
 length-letters [] = refl
 length-letters (x ∷ xs) = ap suc (length-letters xs)
 
@@ -80,7 +80,7 @@ lines-room {t} {text = text} {starts} {lengths} {left} {right} s =
       s.room,
       length-letters left,
       length-letters right,
-      lines-most t s.nonterminals s.rules (spelled text starts lengths) n.named (omega (arith, names-count n.rows, n.symbols))
-          n.few-terminals n.few-rules (map letterFrom left) (map letterFrom right)
-          (letters-valid t s.nonterminals s.rules left s.left-letters) (letters-valid t s.nonterminals s.rules right s.right-letters),
+      lines-most t s.nonterminals s.rules (spelled text starts lengths) n.named (omega (arith, names_count n.rows, n.symbols))
+          n.few-terminals n.few-rules (map letter_from left) (map letter_from right)
+          (letters_valid t s.nonterminals s.rules left s.left-letters) (letters_valid t s.nonterminals s.rules right s.right-letters),
     )

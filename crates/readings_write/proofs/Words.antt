@@ -11,40 +11,40 @@ use Rattle.grammar.specs.Limits.{limits}
 use Rattle.grammar.specs.Grammar.{Terminal, Nonterminal}
 use Rattle.grammar.proofs.Lists.{drop-next}
 use Rattle.automaton.specs.Strings.{opening, closing, symbol}
-use Rattle.text.specs.Pieces.{ledBy, join, endedBy}
+use Rattle.text.specs.Pieces.{led_by, join, ended_by}
 use Rattle.text.specs.Numbers.{decimal}
 use Rattle.text.specs.Read.{symbol_of}
 use Rattle.text.specs.Print.{name_of}
-use Rattle.text.proofs.Names.{right-number}
-use Rattle.readings.specs.Readings.{leftKey, rightKey, word, words, readingLines, Valid}
-use Rattle.readings.specs.Letters.{letterFrom}
-use Rattle.readings_write.specs.Contracts.{Worded, Sayable, ledOf, words_of, line_of, lines_of}
+use Rattle.text.proofs.Names.{right_number}
+use Rattle.readings.specs.Readings.{left_key, right_key, word, words, reading_lines, Valid}
+use Rattle.readings.specs.Letters.{letter_from}
+use Rattle.readings_write.specs.Clauses.{Worded, Sayable, led_of, words_of, line_of, lines_of}
 
 -- ---- the letter of an entry, by its kind
 
 module _ (x : ℕ) where
-  is-opening : x / 65536 ≡ 1 → letterFrom x ≡ opening (x % 65536)
-  is-opening h = rw (eq-eqb (x / 65536) 1 h)
+  is_opening : x / 65536 ≡ 1 → letter_from x ≡ opening (x % 65536)
+  is_opening h = rw (eq-eqb (x / 65536) 1 h)
 
   module _ (h : x / 65536 ≡ 1 → ⊥) where
-    is-closing : x / 65536 ≡ 2 → letterFrom x ≡ closing (x % 65536)
-    is-closing k = rw (ne_eqb (x / 65536) 1 h, eq-eqb (x / 65536) 2 k)
+    is_closing : x / 65536 ≡ 2 → letter_from x ≡ closing (x % 65536)
+    is_closing k = rw (ne_eqb (x / 65536) 1 h, eq-eqb (x / 65536) 2 k)
 
-    is-symbol : (x / 65536 ≡ 2 → ⊥) → letterFrom x ≡ symbol (x % 65536)
-    is-symbol k = rw (ne_eqb (x / 65536) 1 h, ne_eqb (x / 65536) 2 k)
+    is_symbol : (x / 65536 ≡ 2 → ⊥) → letter_from x ≡ symbol (x % 65536)
+    is_symbol k = rw (ne_eqb (x / 65536) 1 h, ne_eqb (x / 65536) 2 k)
 
 -- its word
 module _ (t : ℕ) (names : List (List ℕ)) (x : ℕ) where
-  pub opening-word : x / 65536 ≡ 1 → word limits t names (letterFrom x) ≡ 40 ∷ decimal (x % 65536)
-  opening-word h = ap (word limits t names) (is-opening x h)
+  pub opening-word : x / 65536 ≡ 1 → word limits t names (letter_from x) ≡ 40 ∷ decimal (x % 65536)
+  opening-word h = ap (word limits t names) (is_opening x h)
 
-  pub closing-word : (x / 65536 ≡ 1 → ⊥) → x / 65536 ≡ 2 → word limits t names (letterFrom x) ≡ 41 ∷ decimal (x % 65536)
-  closing-word h k = ap (word limits t names) (is-closing x h k)
+  pub closing-word : (x / 65536 ≡ 1 → ⊥) → x / 65536 ≡ 2 → word limits t names (letter_from x) ≡ 41 ∷ decimal (x % 65536)
+  closing-word h k = ap (word limits t names) (is_closing x h k)
 
   pub symbol-word : (s : ℕ) → (x / 65536 ≡ 1 → ⊥) → (x / 65536 ≡ 2 → ⊥) → s ≡ symbol_of limits t (x % 65536)
-      → word limits t names (letterFrom x) ≡ get_or names s []
+      → word limits t names (letter_from x) ≡ get_or names s []
   unfolding name_of
-  symbol-word s h k e = ap (word limits t names) (is-symbol x h k) ∙ ap (λ (s : ℕ). get_or names s []) (sym e)
+  symbol-word s h k e = ap (word limits t names) (is_symbol x h k) ∙ ap (λ (s : ℕ). get_or names s []) (sym e)
 
 -- a symbol has 16 bits, and has a name
 pub record Spelt (t m code : ℕ) : Type 0 where
@@ -52,10 +52,10 @@ pub record Spelt (t m code : ℕ) : Type 0 where
   pub fits : code < 65536
   pub known : symbol_of limits t code < m
 
-spelt : (t n code : ℕ) → t ≤ limits.maxTerminals → n ≤ limits.maxNonterminals → Terminal t code ⊎ Nonterminal limits n code
+spelt : (t n code : ℕ) → t ≤ limits.max_terminals → n ≤ limits.max_nonterminals → Terminal t code ⊎ Nonterminal limits n code
     → Spelt t (t + n) code
 spelt t n code few less h =
-    let r = right-number limits t (omega arith) n code h in
+    let r = right_number limits t (omega arith) n code h in
     elim h [
       | inl a ↦ record { some = a.0; fits = omega (arith, a.1); known = r.high }
       | inr a ↦ record { some = omega (arith, a.0); fits = omega (arith, a.1); known = r.high }
@@ -68,37 +68,37 @@ module _ {t : ℕ} {text starts lengths : List ℕ} where
       let n = w.names in
       subst (λ m. Spelt t m (x % 65536)) (sym n.symbols)
       (spelt t w.nonterminals (x % 65536) n.few-terminals n.few-nonterminals
-      (subst (Valid limits t w.nonterminals w.rules) (is-symbol x h k) (w.valid 0 (omega arith))))
+      (subst (Valid limits t w.nonterminals w.rules) (is_symbol x h k) (w.valid 0 (omega arith))))
 
   -- each letter of a row
-  pub worded-at : {letters : List ℕ} (i : ℕ) → Worded t text starts lengths letters → i < length letters
+  pub worded_at : {letters : List ℕ} (i : ℕ) → Worded t text starts lengths letters → i < length letters
       → Worded t text starts lengths (get_or letters i 0 ∷ [])
-  worded-at {letters} i w h = record {
+  worded_at {letters} i w h = record {
     nonterminals = w.nonterminals;
     rules = w.rules;
     names = w.names;
     valid = λ j l. (let q : 0 ≡ j = omega arith in
-        subst (λ j. Valid limits t w.nonterminals w.rules (letterFrom (get_or (get_or letters i 0 ∷ []) j 0))) q (w.valid i h));
+        subst (λ j. Valid limits t w.nonterminals w.rules (letter_from (get_or (get_or letters i 0 ∷ []) j 0))) q (w.valid i h));
   }
 
   module _ {left right out : List ℕ} {at : ℕ} (s : Sayable t text starts lengths left right at out) where
-    pub left-worded : Worded t text starts lengths left
-    left-worded = record { nonterminals = s.nonterminals; rules = s.rules; names = s.names; valid = s.left-letters }
+    pub left_worded : Worded t text starts lengths left
+    left_worded = record { nonterminals = s.nonterminals; rules = s.rules; names = s.names; valid = s.left-letters }
 
-    pub right-worded : Worded t text starts lengths right
-    right-worded = record { nonterminals = s.nonterminals; rules = s.rules; names = s.names; valid = s.right-letters }
+    pub right_worded : Worded t text starts lengths right
+    right_worded = record { nonterminals = s.nonterminals; rules = s.rules; names = s.names; valid = s.right-letters }
 
 -- ---- strings and lines
 
 module _ (t : ℕ) (names : List (List ℕ)) where
-  pub led-turn : (letters : List ℕ) (i : ℕ) → i < length letters → ledOf t names (drop i letters)
-      ≡ (32 ∷ []) ++ (word limits t names (letterFrom (get_or letters i 0)) ++ ledOf t names (drop (i + 1) letters))
-  unfolding ledBy
-  led-turn letters i h = ap (ledOf t names) (drop-next letters i h)
+  pub led-turn : (letters : List ℕ) (i : ℕ) → i < length letters → led_of t names (drop i letters)
+      ≡ (32 ∷ []) ++ (word limits t names (letter_from (get_or letters i 0)) ++ led_of t names (drop (i + 1) letters))
+  unfolding led_by
+  led-turn letters i h = ap (led_of t names) (drop-next letters i h)
 
-  pub led-end : (letters : List ℕ) (i : ℕ) → length letters ≤ i → ledOf t names (drop i letters) ≡ []
-  unfolding ledBy
-  led-end letters i h = ap (ledOf t names) (drop_of_length-le letters h)
+  pub led-end : (letters : List ℕ) (i : ℕ) → length letters ≤ i → led_of t names (drop i letters) ≡ []
+  unfolding led_by
+  led-end letters i h = ap (led_of t names) (drop_of_length-le letters h)
 
   pub words-none : (letters : List ℕ) → length letters < 1 → words_of t names letters ≡ []
   unfolding words join
@@ -106,15 +106,15 @@ module _ (t : ℕ) (names : List (List ℕ)) where
   words-none (x ∷ xs) h = absurd (omega arith)
 
   pub words-turn : (letters : List ℕ) → 1 ≤ length letters → words_of t names letters
-      ≡ word limits t names (letterFrom (get_or letters 0 0)) ++ ledOf t names (drop 1 letters)
+      ≡ word limits t names (letter_from (get_or letters 0 0)) ++ led_of t names (drop 1 letters)
   unfolding words join
   words-turn [] h = absurd (omega arith)
   words-turn (x ∷ xs) h = refl
 
   -- the left line, then the right one
   pub lines-parts : (left right : List ℕ) → lines_of t names left right
-      ≡ line_of t names (leftKey ++ (61 ∷ [])) left ++ line_of t names (rightKey ++ (61 ∷ [])) right
-  unfolding readingLines endedBy
+      ≡ line_of t names (left_key ++ (61 ∷ [])) left ++ line_of t names (right_key ++ (61 ∷ [])) right
+  unfolding reading_lines ended_by
   lines-parts left right =
-      ap (λ (s : List ℕ). (leftKey ++ (61 ∷ [])) ++ s)
-      (sym (append_assoc (words_of t names left) (10 ∷ []) (line_of t names (rightKey ++ (61 ∷ [])) right)))
+      ap (λ (s : List ℕ). (left_key ++ (61 ∷ [])) ++ s)
+      (sym (append_assoc (words_of t names left) (10 ∷ []) (line_of t names (right_key ++ (61 ∷ [])) right)))

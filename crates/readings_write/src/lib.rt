@@ -4,10 +4,10 @@ ghost use Rattle.std.specs.Prelude.{[], ◌∷◌, ◌+◌, ◌≤◌, ◌<◌, 
 ghost use Rattle.grammar.specs.Limits.{limits};
 ghost use Rattle.text.specs.Numbers.{decimal};
 ghost use Rattle.text.specs.Spelled.{spelled};
-ghost use Rattle.text_write.specs.Contracts.{Wrote};
+ghost use Rattle.text_write.specs.Clauses.{Wrote};
 ghost use Rattle.readings.specs.Readings.{word};
-ghost use Rattle.readings.specs.Letters.{letterFrom};
-ghost use Rattle.readings_write.specs.Contracts.{Worded, Sayable, ledOf, words_of, line_of, lines_of};
+ghost use Rattle.readings.specs.Letters.{letter_from};
+ghost use Rattle.readings_write.specs.Clauses.{Worded, Sayable, led_of, words_of, line_of, lines_of};
 
 use names::{LINE_END, SPACE};
 use readings::{CLOSES, CLOSING, KIND_UNIT, OPENING, OPENS};
@@ -43,9 +43,9 @@ fn put_word(
     lengths: &[u32],
 ) -> usize
     requires { Worded t text.now starts.now lengths.now (letter ∷ [])
-        × (at + length (word limits t (spelled text.now starts.now lengths.now) (letterFrom letter)) ≤ length out.old) }
+        × (at + length (word limits t (spelled text.now starts.now lengths.now) (letter_from letter)) ≤ length out.old) }
     ensures { Wrote at
-        (word limits t (spelled text.now starts.now lengths.now) (letterFrom letter))
+        (word limits t (spelled text.now starts.now lengths.now) (letter_from letter))
         out.old result out.new }
 {
     let kind = letter / KIND_UNIT;
@@ -71,9 +71,9 @@ fn put_led(
     lengths: &[u32],
 ) -> usize
     requires { Worded t text.now starts.now lengths.now letters.now × (1 ≤ length letters.now)
-        × (at + length (ledOf t (spelled text.now starts.now lengths.now) (drop 1 letters.now)) ≤ length out.old) }
+        × (at + length (led_of t (spelled text.now starts.now lengths.now) (drop 1 letters.now)) ≤ length out.old) }
     ensures { Wrote at
-        (ledOf t (spelled text.now starts.now lengths.now) (drop 1 letters.now))
+        (led_of t (spelled text.now starts.now lengths.now) (drop 1 letters.now))
         out.old result out.new }
 {
     let mut j = at;

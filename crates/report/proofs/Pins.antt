@@ -6,29 +6,29 @@ use Prim.Native.Nat.{ℕ}
 use Prim.Native.Char.{code}
 use Prim.Native.String.{String, [] as empty, ◌∷◌ as ◌then◌}
 use lib.ListN.{replicate}
-use Rattle.grammar.specs.Grammar.{stateCount}
-use Rattle.grammar.specs.Refusal.{Answer, done, refused, refuseUnless, and_then}
-use Rattle.grammar.specs.TableCheck.{sameCodes, isAmong}
+use Rattle.grammar.specs.Grammar.{state_count}
+use Rattle.grammar.specs.Refusal.{Answer, done, refused, refuse_unless, and_then}
+use Rattle.grammar.specs.TableCheck.{same_codes, is_among}
 use Rattle.grammar.specs.Basics.{each}
 use Rattle.grammar.specs.Grammar.{rule}
-use Rattle.grammar.specs.Live.{has, hasAll, concluded, waiting, rounds, nonterminalsOf, productive, usable, reachable, hasSentence, isLive}
-use Rattle.automaton.specs.PositionMoves.{shown as codes_of, aheads, rulesOf, completed, past, aheadRow, openings, closings}
-use Rattle.triples.specs.Records.{leftAlone, rightAlone, bothShift, bothClose, choices, insert, ordered, records}
-use Rattle.triples.specs.Smallest.{isElement, push, pushAll, explore, successors, smallest}
-use Rattle.text.specs.Pieces.{splitOn}
-use Rattle.text.specs.Names.{isNameByte, all, any, isName, folded, sameName, hasDouble, place}
-use Rattle.text.specs.Keys.{keyTable, keyLengths, key, value_of}
-use Rattle.text.specs.Read.{Source, refuseNone, names_of, declaration, body_of, sidesOf, number_of, isKnown}
-use Rattle.text.specs.Read.{code_of, ruleOf, ruleLine, ruleLines, wholeLine, readLines, readText}
-use Rattle.text.specs.Rules.{admit, lastTests, checkText}
-use Rattle.text.specs.Pieces.{join, ledBy, endedBy}
-use Rattle.text.specs.Numbers.{decimalTo}
+use Rattle.grammar.specs.Live.{has, has_all, concluded, waiting, rounds, nonterminals_of, productive, usable, reachable, has_sentence, is_live}
+use Rattle.automaton.specs.PositionMoves.{shown as codes_of, aheads, rules_of, completed, past, ahead_row, openings, closings}
+use Rattle.triples.specs.Records.{left_alone, right_alone, both_shift, both_close, choices, insert, ordered, records}
+use Rattle.triples.specs.Smallest.{is_element, push, push_all, explore, successors, smallest}
+use Rattle.text.specs.Pieces.{split_on}
+use Rattle.text.specs.Names.{is_name_byte, all, any, is_name, folded, same_name, has_double, place}
+use Rattle.text.specs.Keys.{key_table, key_lengths, key, value_of}
+use Rattle.text.specs.Read.{Source, refuse_none, names_of, declaration, body_of, sides_of, number_of, is_known}
+use Rattle.text.specs.Read.{code_of, rule_of, rule_line, rule_lines, whole_line, read_lines, read_text}
+use Rattle.text.specs.Rules.{admit, last_tests, check_text}
+use Rattle.text.specs.Pieces.{join, led_by, ended_by}
+use Rattle.text.specs.Numbers.{decimal_to}
 use Rattle.text.specs.Read.{symbol_of}
 use Rattle.text.specs.Print.{name_of}
-use Rattle.triples.specs.Shortest.{firstRow, row_of, fewest, shortest}
-use Rattle.triples.specs.Sides.{recordsTo, side_of}
-use Rattle.readings.specs.Readings.{words, readingLines}
-use Rattle.report.specs.Report.{judge, witnessLines, reportOf}
+use Rattle.triples.specs.Shortest.{first_row, row_of, fewest, shortest}
+use Rattle.triples.specs.Sides.{records_to, side_of}
+use Rattle.readings.specs.Readings.{words, reading_lines}
+use Rattle.report.specs.Report.{judge, witness_lines, report_of}
 
 -- the bytes of an ASCII text
 bytes : String → List ℕ
@@ -37,20 +37,20 @@ bytes (c then s) = code c ∷ bytes s
 
 -- to unfold one of these is to unfold all that it uses
 judged : String → Answer Source
-unfolding bytes judge checkText lastTests admit isAmong sameCodes stateCount readText readLines wholeLine ruleLines ruleLine ruleOf code_of
-    isKnown number_of place sidesOf body_of declaration names_of refuseNone value_of key keyTable keyLengths hasDouble sameName folded
-    isName any all isNameByte splitOn refuseUnless and_then
-    has hasAll concluded waiting rounds nonterminalsOf productive hasSentence
+unfolding bytes judge check_text last_tests admit is_among same_codes state_count read_text read_lines whole_line rule_lines rule_line rule_of code_of
+    is_known number_of place sides_of body_of declaration names_of refuse_none value_of key key_table key_lengths has_double same_name folded
+    is_name any all is_name_byte split_on refuse_unless and_then
+    has has_all concluded waiting rounds nonterminals_of productive has_sentence
 judged text = judge (bytes text)
 
 lived : String → List ℕ
-unfolding judged reportOf rule each usable reachable isLive
-lived text = reportOf (bytes text)
+unfolding judged report_of rule each usable reachable is_live
+lived text = report_of (bytes text)
 
 shown : String → List ℕ
-unfolding lived decimalTo each codes_of aheads rulesOf completed past aheadRow openings closings leftAlone rightAlone bothShift
-    bothClose choices insert ordered records isElement push pushAll explore successors smallest witnessLines firstRow row_of fewest
-    shortest recordsTo side_of words readingLines name_of symbol_of join ledBy endedBy
+unfolding lived decimal_to each codes_of aheads rules_of completed past ahead_row openings closings left_alone right_alone both_shift
+    both_close choices insert ordered records is_element push push_all explore successors smallest witness_lines first_row row_of fewest
+    shortest records_to side_of words reading_lines name_of symbol_of join led_by ended_by
 shown text = lived text
 
 -- document 01's example
@@ -59,9 +59,9 @@ unfolding shown
 example = refl
 
 -- a potential verdict prints the two sides of the shortest witness
-two-readings : shown "terminals=a\nnonterminals=S\nrule=S: S\nrule=S:\n" ≡ bytes "states=7\nverdict=potential\nleft=(0 S )0\nright=(0 (1 S )1 )0\n"
+two_readings : shown "terminals=a\nnonterminals=S\nrule=S: S\nrule=S:\n" ≡ bytes "states=7\nverdict=potential\nleft=(0 S )0\nright=(0 (1 S )1 )0\n"
 unfolding shown
-two-readings = refl
+two_readings = refl
 
 -- a refusal
 refusal : shown "terminals=a\nnonterminals=S\nrule=S: b\n" ≡ bytes "refused=17\nat=3\n"
@@ -74,28 +74,28 @@ cause (done s) = 0
 cause (refused c p) = c
 
 -- 48 states pass, 49 do not, and a rule that stands twice comes before them
-states-48 : cause (judged "terminals=a\nnonterminals=S\nrule=S: a a a a a a a a a a a a\nrule=S: a a a a a a a a a a a\nrule=S: a a a a a a a a a a\nrule=S: a a a a a a a\n") ≡ 0
+states_48 : cause (judged "terminals=a\nnonterminals=S\nrule=S: a a a a a a a a a a a a\nrule=S: a a a a a a a a a a a\nrule=S: a a a a a a a a a a\nrule=S: a a a a a a a\n") ≡ 0
 unfolding judged
-states-48 = refl
+states_48 = refl
 
-states-49 : judged "terminals=a\nnonterminals=S\nrule=S: a a a a a a a a a a a a\nrule=S: a a a a a a a a a a a\nrule=S: a a a a a a a a a a\nrule=S: a a a a a a a a\n" ≡ refused 14 0
+states_49 : judged "terminals=a\nnonterminals=S\nrule=S: a a a a a a a a a a a a\nrule=S: a a a a a a a a a a a\nrule=S: a a a a a a a a a a\nrule=S: a a a a a a a a\n" ≡ refused 14 0
 unfolding judged
-states-49 = refl
+states_49 = refl
 
-fault-first : judged "terminals=a\nnonterminals=S\nrule=S: a a a a a a a a a a a a\nrule=S: a a a a a a a a a a a\nrule=S: a a a a a a a a a a\nrule=S: a a a a a a a a\nrule=S: a a a a a a a a\n" ≡ refused 6 49
+fault_first : judged "terminals=a\nnonterminals=S\nrule=S: a a a a a a a a a a a a\nrule=S: a a a a a a a a a a a\nrule=S: a a a a a a a a a a\nrule=S: a a a a a a a a\nrule=S: a a a a a a a a\n" ≡ refused 6 49
 unfolding judged
-fault-first = refl
+fault_first = refl
 
 -- 19 comes before them too
-sentence-first : judged "terminals=a\nnonterminals=S\nrule=S: S a a a a a a a a a a a\nrule=S: S a a a a a a a a a a\nrule=S: S a a a a a a a a a\nrule=S: S a a a a a a a\n" ≡ refused 19 0
+sentence_first : judged "terminals=a\nnonterminals=S\nrule=S: S a a a a a a a a a a a\nrule=S: S a a a a a a a a a a\nrule=S: S a a a a a a a a a\nrule=S: S a a a a a a a\n" ≡ refused 19 0
 unfolding judged
-sentence-first = refl
+sentence_first = refl
 
 -- 4,096 bytes are read, 4,097 are not
-bytes-4096 : judge (replicate 4096 0) ≡ refused 16 1
+bytes_4096 : judge (replicate 4096 0) ≡ refused 16 1
 unfolding judged
-bytes-4096 = refl
+bytes_4096 = refl
 
-bytes-4097 : judge (replicate 4097 0) ≡ refused 14 0
+bytes_4097 : judge (replicate 4097 0) ≡ refused 14 0
 unfolding judged
-bytes-4097 = refl
+bytes_4097 = refl

@@ -11,9 +11,9 @@ use lib.ListN.{length, take, drop, length-append}
 use lib.Seq.{take-append_seam}
 use Rattle.grammar.specs.Basics.{over}
 use Rattle.grammar.specs.Limits.{limits}
-use Rattle.grammar.specs.Grammar.{Grammar, stateCount}
-use Rattle.grammar.specs.Refusal.{Answer, done, refused, refuseUnless, and_then}
-use Rattle.grammar.proofs.Answers.{unless_holds, unless-fails, then-goes, then-stops}
+use Rattle.grammar.specs.Grammar.{Grammar, state_count}
+use Rattle.grammar.specs.Refusal.{Answer, done, refused, refuse_unless, and_then}
+use Rattle.grammar.proofs.Answers.{unless_holds, unless_fails, then-goes, then_stops}
 use Rattle.grammar.proofs.WellFormed.{room}
 use Rattle.automaton.specs.Items.{states}
 use Rattle.automaton.specs.Moves.{Moves}
@@ -22,13 +22,13 @@ use Rattle.triples.specs.Smallest.{size}
 use Rattle.triples.specs.Shortest.{shortest}
 use Rattle.triple_laws.proofs.CallerChecks.{zero-check}
 use Rattle.text.specs.Read.{Source}
-use Rattle.text.specs.Rules.{checkText}
-use Rattle.search.specs.Promise.{Lent, isPotential, searchable, Told, Answers, Searches}
+use Rattle.text.specs.Rules.{check_text}
+use Rattle.search.specs.Promise.{Lent, is_potential, searchable, Told, Answers, Searches}
 use Rattle.search.specs.declared.SearchVerdict.{SearchVerdict}
 use Rattle.search.specs.declared.SearchVerdict.TheVariants as search
-use Rattle.search.proofs.LentLaws.{is-enough, search-enough}
-use Rattle.report.specs.Report.{programText, programStates, judge}
-use Rattle.report.specs.Contracts.{Tellable}
+use Rattle.search.proofs.LentLaws.{is_enough_lem, search_enough}
+use Rattle.report.specs.Report.{program_text, program_states, judge}
+use Rattle.report.specs.Clauses.{Tellable}
 
 -- ---- the search
 
@@ -45,45 +45,45 @@ number_in (search.Unambiguous n looked) = n
 number_in (search.Potential n looked) = n
 number_in (search.Refused c p) = 0
 
-abbrev kindIn : SearchVerdict → ℕ
-kindIn (search.Unambiguous n looked) = 0
-kindIn (search.Potential n looked) = 1
-kindIn (search.Refused c p) = 2
+abbrev kind_in : SearchVerdict → ℕ
+kind_in (search.Unambiguous n looked) = 0
+kind_in (search.Potential n looked) = 1
+kind_in (search.Refused c p) = 2
 
 module _ (t n : ℕ) (table : List ℕ) (q : ℕ) (text starts lengths : List ℕ) (s : Tellable t n table q text starts lengths)
     (before : Lent) (v : SearchVerdict) (after : Lent) (l : Rows before) (h : Searches t n table 0 before v after) where
   abbrev M : Moves
   M = moves_of limits s.grammar
 
-  told : Told (isPotential M) M before v after
+  told : Told (is_potential M) M before v after
   told =
       let G = s.grammar in
-      let k : states G ≤ programStates = omega (arith, s.counted, s.few) in
-      let m = mul-le-mul {n₂ = programStates} {m₂ = programStates} k k in
-      let e = is-enough (states G) before (record {
+      let k : states G ≤ program_states = omega (arith, s.counted, s.few) in
+      let m = mul-le-mul {n₂ = program_states} {m₂ = program_states} k k in
+      let e = is_enough_lem (states G) before (record {
         certificate = omega (arith, m, l.certificate);
         queue = omega (arith, m, l.queue);
         parents = omega (arith, m, l.parents);
         witness = omega (arith, m, l.witness);
       }) in
-      subst (λ (o : Answer Grammar). Answers limits 0 o before v after) (search-enough t n table 0 before G (zero-check limits room t n table ∙ s.passes) e) h
+      subst (λ (o : Answer Grammar). Answers limits 0 o before v after) (search_enough t n table 0 before G (zero-check limits room t n table ∙ s.passes) e) h
 
   -- unambiguous with the size
-  pub is-unambiguous : (k looked : ℕ) → v ≡ search.Unambiguous k looked → (isPotential M ≡ false) × (k ≡ size M)
-  is-unambiguous k looked e = go (isPotential M) refl told
+  pub is_unambiguous : (k looked : ℕ) → v ≡ search.Unambiguous k looked → (is_potential M ≡ false) × (k ≡ size M)
+  is_unambiguous k looked e = go (is_potential M) refl told
     where
-      go : (b : Bool) → isPotential M ≡ b → Told b M before v after → (isPotential M ≡ false) × (k ≡ size M)
-      go true d w = absurd (let z : ◌≡◌ {A = ℕ} 0 1 = ap kindIn (sym e ∙ w.verdict) in omega (arith, z))
+      go : (b : Bool) → is_potential M ≡ b → Told b M before v after → (is_potential M ≡ false) × (k ≡ size M)
+      go true d w = absurd (let z : ◌≡◌ {A = ℕ} 0 1 = ap kind_in (sym e ∙ w.verdict) in omega (arith, z))
       go false d w = (d, ap number_in (sym e ∙ w.verdict))
 
   -- potential with the shortest witness at the front of its row
-  pub is-potential : (k looked : ℕ) → v ≡ search.Potential k looked
-      → (isPotential M ≡ true) × (k ≤ length after.witness) × (take k after.witness ≡ shortest M)
+  pub is_potential_lem : (k looked : ℕ) → v ≡ search.Potential k looked
+      → (is_potential M ≡ true) × (k ≤ length after.witness) × (take k after.witness ≡ shortest M)
   unfolding over
-  is-potential k looked e = go (isPotential M) refl told
+  is_potential_lem k looked e = go (is_potential M) refl told
     where
-      go : (b : Bool) → isPotential M ≡ b → Told b M before v after
-          → (isPotential M ≡ true) × (k ≤ length after.witness) × (take k after.witness ≡ shortest M)
+      go : (b : Bool) → is_potential M ≡ b → Told b M before v after
+          → (is_potential M ≡ true) × (k ≤ length after.witness) × (take k after.witness ≡ shortest M)
       go true d w =
           let x = shortest M in
           let n : k ≡ length x = ap number_in (sym e ∙ w.verdict) in (
@@ -91,43 +91,43 @@ module _ (t n : ℕ) (table : List ℕ) (q : ℕ) (text starts lengths : List �
             omega (arith, n, ap length w.witness, length-append x (drop (length x) before.witness)),
             ap (λ (n : ℕ). take n after.witness) n ∙ ap (take (length x)) w.witness ∙ take-append_seam x (drop (length x) before.witness),
           )
-      go false d w = absurd (let z : ◌≡◌ {A = ℕ} 1 0 = ap kindIn (sym e ∙ w.verdict) in omega (arith, z))
+      go false d w = absurd (let z : ◌≡◌ {A = ℕ} 1 0 = ap kind_in (sym e ∙ w.verdict) in omega (arith, z))
 
   -- it never refuses
-  pub no-refusal : {A : Type 0} (c p : ℕ) → v ≡ search.Refused c p → A
-  no-refusal {A} c p e = go (isPotential M) told
+  pub no_refusal : {A : Type 0} (c p : ℕ) → v ≡ search.Refused c p → A
+  no_refusal {A} c p e = go (is_potential M) told
     where
       go : (b : Bool) → Told b M before v after → A
-      go true w = absurd (let z : ◌≡◌ {A = ℕ} 2 1 = ap kindIn (sym e ∙ w.verdict) in omega (arith, z))
-      go false w = absurd (let z : ◌≡◌ {A = ℕ} 2 0 = ap kindIn (sym e ∙ w.verdict) in omega (arith, z))
+      go true w = absurd (let z : ◌≡◌ {A = ℕ} 2 1 = ap kind_in (sym e ∙ w.verdict) in omega (arith, z))
+      go false w = absurd (let z : ◌≡◌ {A = ℕ} 2 0 = ap kind_in (sym e ∙ w.verdict) in omega (arith, z))
 
 -- ---- the reader
 
 module _ (text : List ℕ) where
   abbrev rest : Source → Answer Source
-  rest s = refuseUnless 14 0 (leb (stateCount s.rules) programStates) (done s)
+  rest s = refuse_unless 14 0 (leb (state_count s.rules) program_states) (done s)
 
   -- a longer text is 14 at 0
-  pub long-text : programText < length text → judge text ≡ refused 14 0
+  pub long-text : program_text < length text → judge text ≡ refused 14 0
   unfolding judge
-  long-text h = unless-fails 14 0 (leb (length text) programText) _ (lt-leb (length text) programText h)
+  long-text h = unless_fails 14 0 (leb (length text) program_text) _ (lt-leb (length text) program_text h)
 
-  module _ (short : length text ≤ programText) where
-    judged : judge text ≡ and_then (checkText limits text) rest
+  module _ (short : length text ≤ program_text) where
+    judged : judge text ≡ and_then (check_text limits text) rest
     unfolding judge
-    judged = unless_holds 14 0 (leb (length text) programText) _ (le-leb (length text) programText short)
+    judged = unless_holds 14 0 (leb (length text) program_text) _ (le-leb (length text) program_text short)
 
     -- the reader refuses
-    pub text-refused : (cause at : ℕ) → checkText limits text ≡ refused cause at → judge text ≡ refused cause at
-    text-refused cause at c = judged ∙ then-stops (checkText limits text) rest cause at c
+    pub text-refused : (cause at : ℕ) → check_text limits text ≡ refused cause at → judge text ≡ refused cause at
+    text-refused cause at c = judged ∙ then_stops (check_text limits text) rest cause at c
 
     -- there are too many states, or not
-    pub many-states : (s : Source) → checkText limits text ≡ done s → programStates < stateCount s.rules → judge text ≡ refused 14 0
-    many-states s c h =
-        judged ∙ then-goes (checkText limits text) rest s c
-        ∙ unless-fails 14 0 (leb (stateCount s.rules) programStates) _ (lt-leb (stateCount s.rules) programStates h)
+    pub many_states : (s : Source) → check_text limits text ≡ done s → program_states < state_count s.rules → judge text ≡ refused 14 0
+    many_states s c h =
+        judged ∙ then-goes (check_text limits text) rest s c
+        ∙ unless_fails 14 0 (leb (state_count s.rules) program_states) _ (lt-leb (state_count s.rules) program_states h)
 
-    pub few-states : (s : Source) → checkText limits text ≡ done s → stateCount s.rules ≤ programStates → judge text ≡ done s
+    pub few-states : (s : Source) → check_text limits text ≡ done s → state_count s.rules ≤ program_states → judge text ≡ done s
     few-states s c h =
-        judged ∙ then-goes (checkText limits text) rest s c
-        ∙ unless_holds 14 0 (leb (stateCount s.rules) programStates) (done s) (le-leb (stateCount s.rules) programStates h)
+        judged ∙ then-goes (check_text limits text) rest s c
+        ∙ unless_holds 14 0 (leb (state_count s.rules) program_states) (done s) (le-leb (state_count s.rules) program_states h)

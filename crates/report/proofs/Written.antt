@@ -9,10 +9,10 @@ use lib.ListN.{length, take, drop}
 use lib.Seq.{take-append_seam}
 use Rattle.grammar.specs.Basics.{over}
 use Rattle.grammar.specs.Refusal.{Answer, done, refused}
-use Rattle.grammar.proofs.Answers.{unless_holds, unless-fails, unless-done, done_inj}
+use Rattle.grammar.proofs.Answers.{unless_holds, unless_fails, unless_done, done_inj}
 use Rattle.text.specs.Promise.{afterwards}
-use Rattle.text_write.specs.Contracts.{Wrote}
-use Rattle.report.specs.Report.{reportOf, reportInto, reported, Reports}
+use Rattle.text_write.specs.Clauses.{Wrote}
+use Rattle.report.specs.Report.{report_of, report_into, reported, Reports}
 use Rattle.report.specs.declared.Reported.{Reported}
 use Rattle.report.specs.declared.Reported.TheVariants.{Written, Refused}
 
@@ -24,23 +24,23 @@ front-written x old r new w =
 
 module _ (text out : List ℕ) where
   -- 14 at 0
-  pub report-short : (r : ℕ) → r ≡ length (reportOf text) → length out < r → Reports text out (Refused 14 0) out
-  unfolding reportInto
-  report-short r e h =
-      let q : reportInto (length out) text ≡ refused 14 0
-      = unless-fails 14 0 (leb (length (reportOf text)) (length out)) _ (lt-leb (length (reportOf text)) (length out) (omega (arith, e))) in
+  pub report_short : (r : ℕ) → r ≡ length (report_of text) → length out < r → Reports text out (Refused 14 0) out
+  unfolding report_into
+  report_short r e h =
+      let q : report_into (length out) text ≡ refused 14 0
+      = unless_fails 14 0 (leb (length (report_of text)) (length out)) _ (lt-leb (length (report_of text)) (length out) (omega (arith, e))) in
       record { answer = sym (ap reported q); out-after = sym (ap (λ o. afterwards o (λ l. l) out) q) }
 
   -- there is room
-  pub report-done : length (reportOf text) ≤ length out → reportInto (length out) text ≡ done (reportOf text)
-  unfolding reportInto
-  report-done h = unless_holds 14 0 (leb (length (reportOf text)) (length out)) _ (le-leb (length (reportOf text)) (length out) h)
+  pub report_done : length (report_of text) ≤ length out → report_into (length out) text ≡ done (report_of text)
+  unfolding report_into
+  report_done h = unless_holds 14 0 (leb (length (report_of text)) (length out)) _ (le-leb (length (report_of text)) (length out) h)
 
-  pub report-all : (r : ℕ) (x : List ℕ) (m : ℕ) (out' : List ℕ) → r ≡ length (reportOf text) → x ≡ reportOf text → r ≤ length out → Wrote 0 x out m out'
+  pub report_all : (r : ℕ) (x : List ℕ) (m : ℕ) (out' : List ℕ) → r ≡ length (report_of text) → x ≡ report_of text → r ≤ length out → Wrote 0 x out m out'
       → Reports text out (Written r) out'
   unfolding over
-  report-all r x m out' e q h w =
-      let d = report-done (omega (arith, e)) in
+  report_all r x m out' e q h w =
+      let d = report_done (omega (arith, e)) in
       let z : 0 + length x ≡ length x = omega arith in
       record {
         answer = ap Written e ∙ sym (ap reported d);
@@ -49,13 +49,13 @@ module _ (text out : List ℕ) where
       }
 
   -- what is written fits
-  pub written-fits : (r : Reported) (n : ℕ) (out' : List ℕ) → Reports text out r out' → r ≡ Written n → n ≤ length out
-  unfolding reportInto
-  written-fits r n out' h e = go (reportInto (length out) text) refl (sym e ∙ h.answer)
+  pub written_fits : (r : Reported) (n : ℕ) (out' : List ℕ) → Reports text out r out' → r ≡ Written n → n ≤ length out
+  unfolding report_into
+  written_fits r n out' h e = go (report_into (length out) text) refl (sym e ∙ h.answer)
     where
-      go : (o : Answer (List ℕ)) → reportInto (length out) text ≡ o → Written n ≡ reported o → n ≤ length out
+      go : (o : Answer (List ℕ)) → report_into (length out) text ≡ o → Written n ≡ reported o → n ≤ length out
       go (done l) d w =
-          let u = unless-done 14 0 (leb (length (reportOf text)) (length out)) (done (reportOf text)) l d in
+          let u = unless_done 14 0 (leb (length (report_of text)) (length out)) (done (report_of text)) l d in
           let q : n ≡ length l = cc in
-          omega (arith, q, ap length (done_inj u.1), leb-true (length (reportOf text)) (length out) u.0)
+          omega (arith, q, ap length (done_inj u.1), leb-true (length (report_of text)) (length out) u.0)
       go (refused cause at) d w = absurd (let z : ◌≡◌ {A = ℕ} 0 1 = cc in omega arith)

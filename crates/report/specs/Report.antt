@@ -3,57 +3,57 @@
 -- lines of the two readings where 01 prints two lines only, and [11], by which it remembers no caller. Assumes nothing.
 use Rattle.std.specs.Prelude.{ℕ, ◌+◌, ◌*◌, ◌≡◌, Bool, true, false, List, [], ◌∷◌, ◌++◌, leb, length}
 use Rattle.grammar.specs.Limits.{limits}
-use Rattle.grammar.specs.Grammar.{Grammar, stateCount}
-use Rattle.grammar.specs.Refusal.{Answer, done, refused, refuseUnless, and_then, bufferTooShort}
+use Rattle.grammar.specs.Grammar.{Grammar, state_count}
+use Rattle.grammar.specs.Refusal.{Answer, done, refused, refuse_unless, and_then, buffer_too_short}
 use Rattle.automaton.specs.Items.{states}
 use Rattle.automaton.specs.PositionMoves.{moves_of}
-use Rattle.triples.specs.Index.{tripleCount}
+use Rattle.triples.specs.Index.{triple_count}
 use Rattle.triples.specs.Smallest.{size}
 use Rattle.triples.specs.Shortest.{shortest}
-use Rattle.triples.specs.Sides.{leftSide, rightSide}
+use Rattle.triples.specs.Sides.{left_side, right_side}
 use Rattle.text.specs.Numbers.{decimal}
-use Rattle.text.specs.Read.{Source, symbolNames, grammarOf}
-use Rattle.text.specs.Rules.{checkText}
+use Rattle.text.specs.Read.{Source, symbol_names, grammar_of}
+use Rattle.text.specs.Rules.{check_text}
 use Rattle.text.specs.Promise.{afterwards}
-use Rattle.readings.specs.Readings.{readingLines}
-use Rattle.search.specs.Promise.{isPotential}
+use Rattle.readings.specs.Readings.{reading_lines}
+use Rattle.search.specs.Promise.{is_potential}
 use Rattle.report.specs.declared.Reported.{Reported}
 use Rattle.report.specs.declared.Reported.TheVariants.{Written, Refused}
 
 -- the program takes up to 4,096 bytes of text and 48 states
-abbrev pub programText : ℕ
-programText = 4096
+abbrev pub program_text : ℕ
+program_text = 4096
 
-abbrev pub programStates : ℕ
-programStates = 48
+abbrev pub program_states : ℕ
+program_states = 48
 
 -- a longer text is 14 before any other fault; more states are 14 after all faults of the text
 unfoldable pub judge : List ℕ → Answer Source
 judge text =
-    refuseUnless bufferTooShort 0 (leb (length text) programText)
-    (and_then (checkText limits text) (λ s.
-    refuseUnless bufferTooShort 0 (leb (stateCount s.rules) programStates)
+    refuse_unless buffer_too_short 0 (leb (length text) program_text)
+    (and_then (check_text limits text) (λ s.
+    refuse_unless buffer_too_short 0 (leb (state_count s.rules) program_states)
     (done s)))
 
 -- states=
-abbrev pub statesIs : List ℕ
-statesIs = 115 ∷ 116 ∷ 97 ∷ 116 ∷ 101 ∷ 115 ∷ 61 ∷ []
+abbrev pub states_is : List ℕ
+states_is = 115 ∷ 116 ∷ 97 ∷ 116 ∷ 101 ∷ 115 ∷ 61 ∷ []
 
 -- verdict=
-abbrev pub verdictIs : List ℕ
-verdictIs = 118 ∷ 101 ∷ 114 ∷ 100 ∷ 105 ∷ 99 ∷ 116 ∷ 61 ∷ []
+abbrev pub verdict_is : List ℕ
+verdict_is = 118 ∷ 101 ∷ 114 ∷ 100 ∷ 105 ∷ 99 ∷ 116 ∷ 61 ∷ []
 
 -- reached=
-abbrev pub reachedIs : List ℕ
-reachedIs = 114 ∷ 101 ∷ 97 ∷ 99 ∷ 104 ∷ 101 ∷ 100 ∷ 61 ∷ []
+abbrev pub reached_is : List ℕ
+reached_is = 114 ∷ 101 ∷ 97 ∷ 99 ∷ 104 ∷ 101 ∷ 100 ∷ 61 ∷ []
 
 -- refused=
-abbrev pub refusedIs : List ℕ
-refusedIs = 114 ∷ 101 ∷ 102 ∷ 117 ∷ 115 ∷ 101 ∷ 100 ∷ 61 ∷ []
+abbrev pub refused_is : List ℕ
+refused_is = 114 ∷ 101 ∷ 102 ∷ 117 ∷ 115 ∷ 101 ∷ 100 ∷ 61 ∷ []
 
 -- at=
-abbrev pub atIs : List ℕ
-atIs = 97 ∷ 116 ∷ 61 ∷ []
+abbrev pub at_is : List ℕ
+at_is = 97 ∷ 116 ∷ 61 ∷ []
 
 -- unambiguous
 abbrev pub unambiguous : List ℕ
@@ -68,37 +68,37 @@ abbrev pub line : List ℕ → List ℕ → List ℕ
 line key value = key ++ (value ++ (10 ∷ []))
 
 -- the two sides of the shortest witness, by these names
-unfoldable pub witnessLines : Grammar → List (List ℕ) → List ℕ
-witnessLines G names =
+unfoldable pub witness_lines : Grammar → List (List ℕ) → List ℕ
+witness_lines G names =
     let M = moves_of limits G in
-    readingLines limits G.terminals names (leftSide M (shortest M)) (rightSide M (shortest M))
+    reading_lines limits G.terminals names (left_side M (shortest M)) (right_side M (shortest M))
 
 -- the verdict: with potential the two lines, with unambiguous the size
-abbrev pub verdictLines : Bool → ℕ → List ℕ → List ℕ
-verdictLines true reached lines = line verdictIs potential ++ lines
-verdictLines false reached lines = line verdictIs unambiguous ++ line reachedIs (decimal reached)
+abbrev pub verdict_lines : Bool → ℕ → List ℕ → List ℕ
+verdict_lines true reached lines = line verdict_is potential ++ lines
+verdict_lines false reached lines = line verdict_is unambiguous ++ line reached_is (decimal reached)
 
 -- Q, then the verdict, for a grammar with these names
-abbrev pub grammarLines : Grammar → List (List ℕ) → List ℕ
-grammarLines G names =
-    line statesIs (decimal (states G))
-    ++ verdictLines (isPotential (moves_of limits G)) (size (moves_of limits G)) (witnessLines G names)
+abbrev pub grammar_lines : Grammar → List (List ℕ) → List ℕ
+grammar_lines G names =
+    line states_is (decimal (states G))
+    ++ verdict_lines (is_potential (moves_of limits G)) (size (moves_of limits G)) (witness_lines G names)
 
 -- for a text: the lines of its grammar, or its refusal's number and position
 abbrev pub printed : Answer Source → List ℕ
-printed (done s) = grammarLines (grammarOf s) (symbolNames s)
-printed (refused cause at) = line refusedIs (decimal cause) ++ line atIs (decimal at)
+printed (done s) = grammar_lines (grammar_of s) (symbol_names s)
+printed (refused cause at) = line refused_is (decimal cause) ++ line at_is (decimal at)
 
-unfoldable pub reportOf : List ℕ → List ℕ
-reportOf text = printed (judge text)
+unfoldable pub report_of : List ℕ → List ℕ
+report_of text = printed (judge text)
 
 -- an output of this many bytes, which the program lends, is never too short: 16 bytes for each letter of the two sides, 64 for the rest
-abbrev pub reportSize : ℕ
-reportSize = 2 * (16 * tripleCount programStates) + 64
+abbrev pub report_size : ℕ
+report_size = 2 * (16 * triple_count program_states) + 64
 
 -- an output too short is 14 at 0
-unfoldable pub reportInto : ℕ → List ℕ → Answer (List ℕ)
-reportInto room text = refuseUnless bufferTooShort 0 (leb (length (reportOf text)) room) (done (reportOf text))
+unfoldable pub report_into : ℕ → List ℕ → Answer (List ℕ)
+report_into room text = refuse_unless buffer_too_short 0 (leb (length (report_of text)) room) (done (report_of text))
 
 abbrev pub reported : Answer (List ℕ) → Reported
 reported (done l) = Written (length l)
@@ -106,5 +106,5 @@ reported (refused cause at) = Refused cause at
 
 -- the promise: the output's front is what the program prints, the rest is unchanged; where the output is too short, all of it is
 pub record Reports (text out : List ℕ) (r : Reported) (out' : List ℕ) : Type 0 where
-  pub answer : r ≡ reported (reportInto (length out) text)
-  pub out-after : out' ≡ afterwards (reportInto (length out) text) (λ l. l) out
+  pub answer : r ≡ reported (report_into (length out) text)
+  pub out-after : out' ≡ afterwards (report_into (length out) text) (λ l. l) out

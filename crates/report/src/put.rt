@@ -1,9 +1,9 @@
 // Lines. The put functions write into the output from a place on, and return the place after what they wrote.
 ghost use Rattle.std.specs.Prelude.{◌+◌, ◌≤◌, length};
-ghost use Rattle.text_write.specs.Contracts.{Wrote};
+ghost use Rattle.text_write.specs.Clauses.{Wrote};
 ghost use Rattle.text.specs.Numbers.{decimal};
 ghost use Rattle.report.specs.Report.{line};
-ghost use Rattle.report.specs.Contracts.{unambiguousLines, potentialLines, refusedLines};
+ghost use Rattle.report.specs.Clauses.{unambiguous_lines, potential_lines, refused_lines};
 
 use readings_write::put_number;
 use text_write::put_bytes;
@@ -30,8 +30,8 @@ fn put_count(out: &mut [u8], at: usize, key: &[u8], x: usize) -> usize
 
 // Q, verdict, size.
 pub fn put_unambiguous(out: &mut [u8], states: usize, reached: usize) -> usize
-    requires { length (unambiguousLines states reached) ≤ length out.old }
-    ensures { Wrote 0 (unambiguousLines states reached) out.old result out.new }
+    requires { length (unambiguous_lines states reached) ≤ length out.old }
+    ensures { Wrote 0 (unambiguous_lines states reached) out.old result out.new }
 {
     let a = put_count(out, 0, b"states=", states);
     let b = put_line(out, a, b"verdict=", b"unambiguous");
@@ -40,8 +40,8 @@ pub fn put_unambiguous(out: &mut [u8], states: usize, reached: usize) -> usize
 
 // Q, verdict.
 pub fn put_potential(out: &mut [u8], states: usize) -> usize
-    requires { length (potentialLines states) ≤ length out.old }
-    ensures { Wrote 0 (potentialLines states) out.old result out.new }
+    requires { length (potential_lines states) ≤ length out.old }
+    ensures { Wrote 0 (potential_lines states) out.old result out.new }
 {
     let a = put_count(out, 0, b"states=", states);
     put_line(out, a, b"verdict=", b"potential")
@@ -49,8 +49,8 @@ pub fn put_potential(out: &mut [u8], states: usize) -> usize
 
 // A refusal's number and position.
 pub fn put_refused(out: &mut [u8], cause: u8, at: usize) -> usize
-    requires { length (refusedLines cause at) ≤ length out.old }
-    ensures { Wrote 0 (refusedLines cause at) out.old result out.new }
+    requires { length (refused_lines cause at) ≤ length out.old }
+    ensures { Wrote 0 (refused_lines cause at) out.old result out.new }
 {
     let a = put_count(out, 0, b"refused=", cause as usize);
     put_count(out, a, b"at=", at)

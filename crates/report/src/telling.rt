@@ -2,11 +2,11 @@
 // Each function writes into an output that is never too short, and returns the place after what it wrote.
 ghost use Rattle.std.specs.Prelude.{◌≡◌, ◌≤◌, length};
 ghost use Rattle.grammar.specs.Limits.{limits};
-ghost use Rattle.grammar.specs.TableCheck.{checkTable};
+ghost use Rattle.grammar.specs.TableCheck.{check_table};
 ghost use Rattle.text.specs.Spelled.{spelled};
-ghost use Rattle.text_write.specs.Contracts.{Wrote};
-ghost use Rattle.report.specs.Report.{reportOf, reportSize};
-ghost use Rattle.report.specs.Contracts.{Tellable, Speakable, tableLines, sidesLines};
+ghost use Rattle.text_write.specs.Clauses.{Wrote};
+ghost use Rattle.report.specs.Report.{report_of, report_size};
+ghost use Rattle.report.specs.Clauses.{Tellable, Speakable, table_lines, sides_lines};
 
 use super::put::{put_potential, put_refused, put_unambiguous};
 use super::{PROGRAM_STATES, PROGRAM_TEXT};
@@ -33,7 +33,7 @@ fn put_sides(
     lengths: &[u32],
 ) -> usize
     requires { Speakable t n table.now q text.now starts.now lengths.now row.now at out.old }
-    ensures { Wrote at (sidesLines (checkTable limits t n table.now) (spelled text.now starts.now lengths.now))
+    ensures { Wrote at (sides_lines (check_table limits t n table.now) (spelled text.now starts.now lengths.now))
         out.old result out.new }
 {
     let mut left = [0u32; TRIPLES];
@@ -56,8 +56,8 @@ fn put_table(
     starts: &[u32],
     lengths: &[u32],
 ) -> usize
-    requires { Tellable t n table.now q text.now starts.now lengths.now × (reportSize ≤ length out.old) }
-    ensures { Wrote 0 (tableLines (checkTable limits t n table.now) (spelled text.now starts.now lengths.now))
+    requires { Tellable t n table.now q text.now starts.now lengths.now × (report_size ≤ length out.old) }
+    ensures { Wrote 0 (table_lines (check_table limits t n table.now) (spelled text.now starts.now lengths.now))
         out.old result out.new }
 {
     let mut certificate = [0u8; BYTES];
@@ -97,8 +97,8 @@ fn put_table(
 
 // A longer text is 14 before any other fault; more states are 14 after all faults of the text.
 pub fn put_report(out: &mut [u8], text: &[u8]) -> usize
-    requires { reportSize ≤ length out.old }
-    ensures { Wrote 0 (reportOf text.now) out.old result out.new }
+    requires { report_size ≤ length out.old }
+    ensures { Wrote 0 (report_of text.now) out.old result out.new }
 {
     if PROGRAM_TEXT < text.len() {
         return put_refused(out, BUFFER_TOO_SHORT, 0);

@@ -5,10 +5,10 @@ use Rattle.std.specs.Prelude.{ℕ, ◌≡◌, List}
 use Rattle.grammar.specs.Limits.{Limits, limits}
 use Rattle.grammar.specs.Refusal.{Answer, done, refused, and_then}
 use Rattle.automaton.specs.Moves.{Moves}
-use Rattle.automaton.specs.AllMoves.{moveCount}
-use Rattle.automaton.specs.Callers.{checkWith}
-use Rattle.automaton.specs.CallerMoves.{movesWith}
-use Rattle.triples.specs.Index.{tripleCount}
+use Rattle.automaton.specs.AllMoves.{move_count}
+use Rattle.automaton.specs.Callers.{check_with}
+use Rattle.automaton.specs.CallerMoves.{moves_with}
+use Rattle.triples.specs.Index.{triple_count}
 use Rattle.triples.specs.Certificate.{byte_count}
 use Rattle.rooms.specs.declared.SearchRoom.{SearchRoom}
 use Rattle.rooms.specs.declared.SearchRoom.TheVariants as told
@@ -21,18 +21,18 @@ pub record Room : Type 0 where
   pub moves : ℕ
 
 -- the room of a search over these moves
-abbrev pub roomOf : Moves → Room
-roomOf M = record { states = M.states; certificate = byte_count M.states; entries = tripleCount M.states; moves = moveCount M }
+abbrev pub room_of : Moves → Room
+room_of M = record { states = M.states; certificate = byte_count M.states; entries = triple_count M.states; moves = move_count M }
 
 -- the room of a search with m callers, or the first refusal up to [11]'s 8
-unfoldable pub searchRoom : Limits → ℕ → ℕ → List ℕ → ℕ → Answer Room
-searchRoom L t n table m = and_then (checkWith L t n table m) (λ G. done (roomOf (movesWith L G m)))
+unfoldable pub search_room : Limits → ℕ → ℕ → List ℕ → ℕ → Answer Room
+search_room L t n table m = and_then (check_with L t n table m) (λ G. done (room_of (moves_with L G m)))
 
 -- the answer as the code gives it
-abbrev pub roomTold : Answer Room → SearchRoom
-roomTold (done r) = told.Room r.states r.certificate r.entries r.moves
-roomTold (refused cause at) = told.Refused cause at
+abbrev pub room_told : Answer Room → SearchRoom
+room_told (done r) = told.Room r.states r.certificate r.entries r.moves
+room_told (refused cause at) = told.Refused cause at
 
 -- what search_room promises of its answer
 abbrev pub RoomAnswer : ℕ → ℕ → List ℕ → ℕ → SearchRoom → Type 0
-RoomAnswer t n table m r = r ≡ roomTold (searchRoom limits t n table m)
+RoomAnswer t n table m r = r ≡ room_told (search_room limits t n table m)

@@ -2,8 +2,8 @@
 ghost use Rattle.std.specs.Prelude.{◌≡◌, ◌+◌, ◌≤◌};
 ghost use Rattle.grammar.specs.Limits.{limits};
 ghost use Rattle.figures.specs.Sum.{sum};
-ghost use Rattle.plans.specs.Contracts.{SideFits, Fits};
-ghost use Rattle.rooms.specs.Contracts.{movesAt};
+ghost use Rattle.plans.specs.Clauses.{SideFits, Fits};
+ghost use Rattle.rooms.specs.Clauses.{moves_at};
 ghost use Rattle.rooms.specs.Room.{RoomAnswer};
 
 use grammar::{MAX_STATES, TableVerdict};
@@ -29,7 +29,7 @@ fn moves_at<'a>(
     p: usize,
 ) -> usize
     requires { SideFits member.now first.now p }
-    ensures { (result ≡ movesAt ahead.now member.now first.now p) × (result ≤ limits.maxStates + 1) }
+    ensures { (result ≡ moves_at ahead.now member.now first.now p) × (result ≤ limits.max_states + 1) }
 {
     let side = plans::side_of(member, first, p);
     if ahead[p] < 1 {
@@ -46,7 +46,7 @@ fn count_moves<'a>(
     q: usize,
 ) -> usize
     requires { Fits member.now first.now q }
-    ensures { result ≡ sum (movesAt ahead.now member.now first.now) q }
+    ensures { result ≡ sum (moves_at ahead.now member.now first.now) q }
 {
     let mut count = 0;
     let mut p = 0;

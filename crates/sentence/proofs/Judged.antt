@@ -21,17 +21,17 @@ zeros (suc n) (suc k) = zeros n k
 
 module _ (G : Grammar) (g : CheckedGrammar) (ahead number lead next head home : List ℕ) (S : Showing G g ahead number lead next head home) where
   -- what the chart's start asks of the columns
-  pub sow-asks : (g.count ≤ limits.maxRules) × ((r : ℕ) → r < g.count → (start limits ≤ get_or g.lefts r 0) × (get_or g.lefts r 0 < start limits + limits.maxNonterminals))
-  sow-asks = (
-    omega (arith, S.columned.all, S.sheet.wellFormed.count),
+  pub sow_asks : (g.count ≤ limits.max_rules) × ((r : ℕ) → r < g.count → (start limits ≤ get_or g.lefts r 0) × (get_or g.lefts r 0 < start limits + limits.max_nonterminals))
+  sow_asks = (
+    omega (arith, S.columned.all, S.sheet.well_formed.count),
     λ r h.
-        let i = S.sheet.wellFormed.lefts (rule limits G (suc r)) (rule-listed limits G (suc r) (omega arith, omega (arith, S.columned.all))) in
-        (omega (arith, S.columned.left r h, i.0), omega (arith, S.columned.left r h, i.1, S.sheet.wellFormed.nonterminals.1)),
+        let i = S.sheet.well_formed.lefts (rule limits G (suc r)) (rule-listed limits G (suc r) (omega arith, omega (arith, S.columned.all))) in
+        (omega (arith, S.columned.left r h, i.0), omega (arith, S.columned.left r h, i.1, S.sheet.well_formed.nonterminals.1)),
   )
 
-  pub charted-of : (w row sown filled : List ℕ) → Zeros row → Sows g.states ahead lead home w g.lefts g.lengths g.count row sown → FillsAll g.states ahead lead home w sown filled
+  pub charted_of : (w row sown filled : List ℕ) → Zeros row → Sows g.states ahead lead home w g.lefts g.lengths g.count row sown → FillsAll g.states ahead lead home w sown filled
       → Charted G S.places (rows g.states ahead lead number home w) filled
-  charted-of w row sown filled z a b = record {
+  charted_of w row sown filled z a b = record {
     ready = S.wired.ready;
     sheet = S.sheet;
     numbers = S.numbers;

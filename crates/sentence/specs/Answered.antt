@@ -3,7 +3,7 @@ use Rattle.std.specs.Prelude.{ℕ, ◌≤◌, ◌<◌, ◌≡◌, List, length}
 use Rattle.grammar.specs.Basics.{over}
 use Rattle.grammar.specs.Limits.{limits}
 use Rattle.grammar.specs.Grammar.{Grammar, WellFormed}
-use Rattle.grammar.specs.Record.{recordOf}
+use Rattle.grammar.specs.Record.{record_of}
 use Rattle.grammar.specs.declared.CheckedGrammar.{CheckedGrammar}
 use Rattle.trees.specs.Trees.{nothing, one, several, Agrees}
 use Rattle.tree_laws.specs.Chart.{Places}
@@ -30,4 +30,4 @@ Answers R row list list' r = (G : Grammar) (P : Places limits G) → Charted G P
 
 -- the answer for the grammar that a record stands for
 abbrev pub Judges : CheckedGrammar → (w list list' : List ℕ) → Outcome → Type 0
-Judges g w list list' r = (G : Grammar) → WellFormed limits G → g ≡ recordOf G → Answered G w list list' r
+Judges g w list list' r = (G : Grammar) → WellFormed limits G → g ≡ record_of G → Answered G w list list' r

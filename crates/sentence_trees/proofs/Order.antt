@@ -6,27 +6,27 @@ use native.Mathlib.Omega.{arith}
 use lib.ListN.{length}
 use borrow.Author.Tests.{le-leb, lt-leb}
 use Rattle.grammar.specs.Limits.{limits}
-use Rattle.grammar.specs.Grammar.{Grammar, stateCount}
-use Rattle.grammar.specs.Record.{recordOf}
+use Rattle.grammar.specs.Grammar.{Grammar, state_count}
+use Rattle.grammar.specs.Record.{record_of}
 use Rattle.grammar.specs.declared.CheckedGrammar.{CheckedGrammar}
-use Rattle.grammar.specs.Refusal.{done, refused, refuseUnless, and_then, bufferTooShort, rowWrong}
-use Rattle.grammar.specs.TableCheck.{checkTable}
-use Rattle.trees.specs.Trees.{rowFault, maxRow, places, workSize, checkRow, cleared}
-use Rattle.trees.specs.Promise.{FindsTrees, refuses, no-tree, several-trees, one-tree, too_short}
+use Rattle.grammar.specs.Refusal.{done, refused, refuse_unless, and_then, buffer_too_short, row_wrong}
+use Rattle.grammar.specs.TableCheck.{check_table}
+use Rattle.trees.specs.Trees.{row_fault, max_row, places, work_size, check_row, cleared}
+use Rattle.trees.specs.Promise.{FindsTrees, refuses, no_tree, several-trees, one-tree, too_short}
 use Rattle.trees.specs.declared.TreesFound.{TreesFound}
 use Rattle.trees.specs.declared.TreesFound.TheVariants as found
 use Rattle.sentence.specs.Answered.{Answered}
 use Rattle.sentence.specs.declared.Outcome.{Outcome}
 use Rattle.sentence.specs.declared.Outcome.TheVariants.{Nothing, One, Several, Short}
-use Rattle.sentence_trees.proofs.Faults.{fault-most}
+use Rattle.sentence_trees.proofs.Faults.{fault_most}
 
 -- the states and terminals of a grammar's record
-pub states-of : (g : CheckedGrammar) (G : Grammar) → g ≡ recordOf G → g.states ≡ stateCount G.rules
-unfolding recordOf
+pub states-of : (g : CheckedGrammar) (G : Grammar) → g ≡ record_of G → g.states ≡ state_count G.rules
+unfolding record_of
 states-of g G e = ap (λ g. g.states) e
 
-pub terminals-of : (g : CheckedGrammar) (G : Grammar) → g ≡ recordOf G → g.terminals ≡ G.terminals
-unfolding recordOf
+pub terminals-of : (g : CheckedGrammar) (G : Grammar) → g ≡ record_of G → g.terminals ≡ G.terminals
+unfolding record_of
 terminals-of g G e = ap (λ g. g.terminals) e
 
 -- what is told of an outcome
@@ -34,45 +34,45 @@ abbrev pub told : Outcome → TreesFound
 told Nothing = found.Nothing
 told (One k) = found.One k
 told Several = found.Several
-told Short = found.Refused bufferTooShort 0
+told Short = found.Refused buffer_too_short 0
 
 module _ (t n : ℕ) (table w work list : List ℕ) where
-  pub table-refused : (cause at : ℕ) → checkTable limits t n table ≡ refused cause at
+  pub table-refused : (cause at : ℕ) → check_table limits t n table ≡ refused cause at
       → FindsTrees t n table w work list (found.Refused cause at) work list
-  unfolding checkRow and_then
+  unfolding check_row and_then
   table-refused cause at e = refuses cause at (rw e refl)
 
-  module _ (G : Grammar) (e : checkTable limits t n table ≡ done G) (f : ℕ) (q : f ≡ rowFault t maxRow w) where
-    of_row : f < length w → checkRow limits t n table w work ≡ refused rowWrong f
-    unfolding checkRow and_then refuseUnless
-    of_row h = rw (e, lt-leb (length w) (rowFault t maxRow w) (omega arith)) (ap (refused rowWrong) (sym q))
+  module _ (G : Grammar) (e : check_table limits t n table ≡ done G) (f : ℕ) (q : f ≡ row_fault t max_row w) where
+    of_row : f < length w → check_row limits t n table w work ≡ refused row_wrong f
+    unfolding check_row and_then refuse_unless
+    of_row h = rw (e, lt-leb (length w) (row_fault t max_row w) (omega arith)) (ap (refused row_wrong) (sym q))
 
-    of-work : length w ≤ f → length work < workSize G → checkRow limits t n table w work ≡ refused bufferTooShort 0
-    unfolding checkRow and_then refuseUnless
-    of-work h g = rw (e, le-leb (length w) (rowFault t maxRow w) (omega arith), lt-leb (workSize G) (length work) g) refl
+    of_work : length w ≤ f → length work < work_size G → check_row limits t n table w work ≡ refused buffer_too_short 0
+    unfolding check_row and_then refuse_unless
+    of_work h g = rw (e, le-leb (length w) (row_fault t max_row w) (omega arith), lt-leb (work_size G) (length work) g) refl
 
-    of-done : length w ≤ f → workSize G ≤ length work → checkRow limits t n table w work ≡ done G
-    unfolding checkRow and_then refuseUnless
-    of-done h g = rw (e, le-leb (length w) (rowFault t maxRow w) (omega arith), le-leb (workSize G) (length work) g) refl
+    of-done : length w ≤ f → work_size G ≤ length work → check_row limits t n table w work ≡ done G
+    unfolding check_row and_then refuse_unless
+    of-done h g = rw (e, le-leb (length w) (row_fault t max_row w) (omega arith), le-leb (work_size G) (length work) g) refl
 
-    pub row-refused : f < length w → FindsTrees t n table w work list (found.Refused rowWrong f) work list
-    row-refused h = refuses rowWrong f (of_row h)
+    pub row-refused : f < length w → FindsTrees t n table w work list (found.Refused row_wrong f) work list
+    row-refused h = refuses row_wrong f (of_row h)
 
-    pub work-refused : length w ≤ f → length work < workSize G → FindsTrees t n table w work list (found.Refused bufferTooShort 0) work list
-    work-refused h g = refuses bufferTooShort 0 (of-work h g)
+    pub work_refused : length w ≤ f → length work < work_size G → FindsTrees t n table w work list (found.Refused buffer_too_short 0) work list
+    work_refused h g = refuses buffer_too_short 0 (of_work h g)
 
     -- a row without fault has fewer terminals than places
     pub row-few : length w ≤ f → length w < places
-    row-few h = omega (arith, fault-most t maxRow w)
+    row-few h = omega (arith, fault_most t max_row w)
 
-    pub answered : length w ≤ f → workSize G ≤ length work → (r : Outcome) (list' : List ℕ) → Answered G w list list' r
+    pub answered : length w ≤ f → work_size G ≤ length work → (r : Outcome) (list' : List ℕ) → Answered G w list list' r
         → FindsTrees t n table w work list (told r) (cleared G work) list'
     answered h g Nothing list' (a, l) =
-        subst (FindsTrees t n table w work list found.Nothing (cleared G work)) (sym l) (no-tree G (of-done h g) a)
+        subst (FindsTrees t n table w work list found.Nothing (cleared G work)) (sym l) (no_tree G (of-done h g) a)
     answered h g Several list' (a, l) =
         subst (FindsTrees t n table w work list found.Several (cleared G work)) (sym l) (several-trees G (of-done h g) a)
     answered h g Short list' (rules, (a, s, l)) =
-        subst (FindsTrees t n table w work list (found.Refused bufferTooShort 0) (cleared G work)) (sym l) (too_short G (of-done h g) rules a s)
+        subst (FindsTrees t n table w work list (found.Refused buffer_too_short 0) (cleared G work)) (sym l) (too_short G (of-done h g) rules a s)
     answered h g (One k) list' (rules, (a, c, s, l)) =
         subst (λ z. FindsTrees t n table w work list (found.One z) (cleared G work) list') (sym c)
         (subst (FindsTrees t n table w work list (found.One (length rules)) (cleared G work)) (sym l)

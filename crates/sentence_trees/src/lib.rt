@@ -2,7 +2,7 @@
 ghost use Rattle.std.specs.Prelude.{◌≡◌, ◌*◌, ◌≤◌, ◌<◌, length, replicate};
 ghost use Rattle.grammar.specs.Basics.{over};
 ghost use Rattle.grammar.specs.Record.{IsRecord};
-ghost use Rattle.trees.specs.Trees.{rowFault, maxRow, places};
+ghost use Rattle.trees.specs.Trees.{row_fault, max_row, places};
 ghost use Rattle.trees.specs.Promise.{FindsTrees, TreesRoomAnswer};
 ghost use Rattle.sentence.specs.Answered.{Judges};
 
@@ -13,7 +13,7 @@ use trees::{MAX_ROW, PLACES, TreesFound, TreesRoom};
 
 // The first place at fault, or the row's length: a code that is no terminal, or a terminal too many.
 fn row_fault(t: u16, row: &[u16]) -> usize
-    ensures { result ≡ rowFault t maxRow row.now }
+    ensures { result ≡ row_fault t max_row row.now }
 {
     let mut i = 0;
     while i < row.len() {

@@ -11,7 +11,7 @@ use Rattle.grammar.specs.Grammar.{Grammar, IsRule, rule, WellFormed}
 use Rattle.grammar.specs.Tree.{Tree, Trees, AppliesRuleOf, HasTree, HasTwoTrees}
 use Rattle.grammar.specs.Live.{Live, live-start, live-rule, UsesBelow, in-first}
 use Rattle.grammar.proofs.Trees.{is_same}
-use Rattle.grammar.proofs.Derives.{forest, tree-same, apart, has-derives}
+use Rattle.grammar.proofs.Derives.{forest, tree-same, apart, has_derives}
 use Rattle.automaton.specs.Items.{length_of}
 use Rattle.automaton.specs.Callers.{Spot, first, last, spot, Place, Calls, SpotOpens, spot-start, spot-opens, SpotCloses, spot-ends, spot-closes, SpotShifts, spot-shifts, callers}
 use Rattle.triples.specs.Successor.{Acceptable}
@@ -56,9 +56,9 @@ module _ (L : Limits) (G : Grammar) (m : ℕ) where
       place : Place L G x i d
       place = record { live = l; rule-of = u; inside = omega arith; symbol = cc split }
 
-  pub spots-follow : Live L G 0 → Follows L G (Live L G) (callers L G m)
+  pub spots_follow : Live L G 0 → Follows L G (Live L G) (callers L G m)
   unfolding rule
-  spots-follow l = record {
+  spots_follow l = record {
     terminals = λ a t. t;
     On = On;
     at-end = at-end;
@@ -67,12 +67,12 @@ module _ (L : Limits) (G : Grammar) (m : ℕ) where
   }
 
 -- an acceptable set at any m leaves no row of terminals two trees
-pub one-tree-at : (L : Limits) (G : Grammar) → WellFormed L G → L.maxTerminals < L.nonterminalBase → (m : ℕ) (C : ℕ → Spot → Spot → Type 0)
+pub one-tree-at : (L : Limits) (G : Grammar) → WellFormed L G → L.max_terminals < L.nonterminal_base → (m : ℕ) (C : ℕ → Spot → Spot → Type 0)
     → Acceptable (callers L G m) C → (w : List ℕ) → ¬ HasTwoTrees L G w
 one-tree-at L G W h m C K w two =
-    two.unequal (is_same (tree-same (one-derived L G (callers L G m) C K (Live L G) (spots-follow L G m (live-start two.first-has))
+    two.unequal (is_same (tree-same (one-derived L G (callers L G m) C K (Live L G) (spots_follow L G m (live-start two.first-has))
     (λ b i r t. apart L G W h r t) (all two.first two.first-has) (all two.second two.second-has)
-    (has-derives L G W h two.first-has) (has-derives L G W h two.second-has))))
+    (has_derives L G W h two.first-has) (has_derives L G W h two.second-has))))
   where
     all : (t : Tree) → HasTree L G w t → AllTaken (Live L G) (forest (Trees.child t Trees.none))
     all t d = trees-taken (Live L G) (Trees.child t Trees.none) (λ j k. used k)
@@ -81,6 +81,6 @@ one-tree-at L G W h m C K w two =
         used (in-first u) = live-rule d u
 
 -- and so does an acceptable certificate
-pub certified-at : (L : Limits) (G : Grammar) → WellFormed L G → L.maxTerminals < L.nonterminalBase → (m : ℕ) (bytes : List ℕ)
+pub certified-at : (L : Limits) (G : Grammar) → WellFormed L G → L.max_terminals < L.nonterminal_base → (m : ℕ) (bytes : List ℕ)
     → AcceptableCertificate (callers L G m) bytes → (w : List ℕ) → ¬ HasTwoTrees L G w
 certified-at L G W h m bytes c = one-tree-at L G W h m _ c.acceptable

@@ -15,13 +15,13 @@ use Rattle.grammar.proofs.Lists.{drop-next}
 use Rattle.triples.specs.Records.{step}
 use Rattle.triples.specs.declared.Move.TheVariants.{Closing}
 use Rattle.triples.specs.declared.Step.{Step}
-use Rattle.triple_laws.proofs.Members.{mem-place}
+use Rattle.triple_laws.proofs.Members.{mem_place}
 use Rattle.steps.specs.declared.StepAnswer.{StepAnswer}
 use Rattle.steps.specs.declared.StepAnswer.TheVariants.{Record, NoMore}
 use Rattle.steps.specs.declared.Pick.{Pick}
-use Rattle.steps.specs.Steps.{nth, recordAnswer}
+use Rattle.steps.specs.Steps.{nth, record_answer}
 use Rattle.steps.specs.declared.Sides.{Sides}
-use Rattle.steps.specs.Plan.{inside, between, hit, missed, pick_of, weight, Low, grid, pairs, lefts, shift_of, above, fromShift, shifted}
+use Rattle.steps.specs.Plan.{inside, between, hit, missed, pick_of, weight, Low, grid, pairs, lefts, shift_of, above, from_shift, shifted}
 use Rattle.steps.proofs.Between.{of-between}
 
 -- ---- one turn of the search for a target
@@ -72,27 +72,27 @@ pick_at (u ∷ l) (suc k) e = there (pick_at l k e)
 
 module _ (l : List ℕ) (k : ℕ) (r : Pick) (e : r ≡ pick_of l k) where
   -- the element is in the part
-  pub found_here : (g : ℕ → Step) (m : List Step) (v : Step) → r.found ≡ true → v ≡ g r.target → Record v ≡ recordAnswer (nth (map g l ++ m) k)
+  pub found_here : (g : ℕ → Step) (m : List Step) (v : Step) → r.found ≡ true → v ≡ g r.target → Record v ≡ record_answer (nth (map g l ++ m) k)
   found_here g m v f z =
       ap (λ (s : Step). Record s) (z ∙ ap (λ (r : Pick). g r.target) e)
-      ∙ ap recordAnswer (sym (pick_some g l m k (ap (λ (r : Pick). r.found) (sym e) ∙ f)))
+      ∙ ap record_answer (sym (pick_some g l m k (ap (λ (r : Pick). r.found) (sym e) ∙ f)))
 
   -- or further on
-  pub not-here : (g : ℕ → Step) (m : List Step) (z : StepAnswer) → r.found ≡ false → z ≡ recordAnswer (nth m r.rest)
-      → z ≡ recordAnswer (nth (map g l ++ m) k)
+  pub not-here : (g : ℕ → Step) (m : List Step) (z : StepAnswer) → r.found ≡ false → z ≡ record_answer (nth m r.rest)
+      → z ≡ record_answer (nth (map g l ++ m) k)
   not-here g m z f q =
-      q ∙ ap (λ (r : Pick). recordAnswer (nth m r.rest)) e ∙ ap recordAnswer (sym (pick-none g l m k (ap (λ (r : Pick). r.found) (sym e) ∙ f)))
+      q ∙ ap (λ (r : Pick). record_answer (nth m r.rest)) e ∙ ap record_answer (sym (pick-none g l m k (ap (λ (r : Pick). r.found) (sym e) ∙ f)))
 
 -- a target that was found is a state
 pub found-low : (a b : ℕ) (row : List ℕ) (k : ℕ) (r : Pick) → Low row → r ≡ pick_of (between a b row) k → r.found ≡ true
-    → r.target < limits.maxStates
+    → r.target < limits.max_states
 found-low a b row k r low e f =
     let m = pick_at (between a b row) k (ap (λ (r : Pick). r.found) (sym e) ∙ f) in
-    let p = mem-place 0 ((of-between a b row (pick_of (between a b row) k).target).0 m).0 in
+    let p = mem_place 0 ((of-between a b row (pick_of (between a b row) k).target).0 m).0 in
     omega (arith, low p.0 p.1, p.2, ap (λ (r : Pick). r.target) e)
 
 -- no part is left
-pub no_more : (k : ℕ) → NoMore ≡ recordAnswer (nth [] k)
+pub no_more : (k : ℕ) → NoMore ≡ record_answer (nth [] k)
 unfolding nth
 no_more k = refl
 
@@ -110,9 +110,9 @@ image-past g [] m k h = ap (nth m) (let z : k ≡ k - 0 = omega arith in z)
 image-past g (u ∷ l) m zero h = absurd (omega arith)
 image-past g (u ∷ l) m (suc k) h = image-past g l m k (omega arith) ∙ ap (nth m) (let z : k - length l ≡ suc k - suc (length l) = omega arith in z)
 
-pub image-ends : (g : ℕ → Step) (l : List ℕ) (k : ℕ) → length l ≤ k → NoMore ≡ recordAnswer (nth (map g l ++ []) k)
+pub image-ends : (g : ℕ → Step) (l : List ℕ) (k : ℕ) → length l ≤ k → NoMore ≡ record_answer (nth (map g l ++ []) k)
 unfolding nth
-image-ends g l k h = ap recordAnswer (sym (image-past g l [] k h))
+image-ends g l k h = ap record_answer (sym (image-past g l [] k h))
 
 -- ---- all pairs
 
@@ -132,21 +132,21 @@ module _ (i j : ℕ) (rs : List ℕ) where
       let z : k - length rs ≡ a * length rs + b = omega arith in
       image-past (pair u) rs (grid i j ls rs) k (omega arith) ∙ pairs-here ls a b (k - length rs) z h (omega arith)
 
-  pairs-gone : (ls : List ℕ) (a b k : ℕ) → k ≡ a * length rs + b → length ls ≤ a → nth (grid i j ls rs) k ≡ none
+  pairs_gone : (ls : List ℕ) (a b k : ℕ) → k ≡ a * length rs + b → length ls ≤ a → nth (grid i j ls rs) k ≡ none
   unfolding grid each nth
-  pairs-gone [] a b k e l = refl
-  pairs-gone (u ∷ ls) zero b k e l = absurd (omega arith)
-  pairs-gone (u ∷ ls) (suc a) b k e l =
+  pairs_gone [] a b k e l = refl
+  pairs_gone (u ∷ ls) zero b k e l = absurd (omega arith)
+  pairs_gone (u ∷ ls) (suc a) b k e l =
       let w = suc-mul a (length rs) in
       let z : k - length rs ≡ a * length rs + b = omega arith in
-      image-past (pair u) rs (grid i j ls rs) k (omega arith) ∙ pairs-gone ls a b (k - length rs) z (omega arith)
+      image-past (pair u) rs (grid i j ls rs) k (omega arith) ∙ pairs_gone ls a b (k - length rs) z (omega arith)
 
   pub pair-at : (ls : List ℕ) (k : ℕ) → 0 < length rs → k / length rs < length ls
       → nth (grid i j ls rs) k ≡ some (pair (get_or ls (k / length rs) 0) (get_or rs (k % length rs) 0))
   pair-at ls k h l = pairs-here ls (k / length rs) (k % length rs) k (sym (div-add-mod' k (length rs))) (mod-lt k h) l
 
   pub pair-past : (ls : List ℕ) (k : ℕ) → length ls ≤ k / length rs → nth (grid i j ls rs) k ≡ none
-  pair-past ls k l = pairs-gone ls (k / length rs) (k % length rs) k (sym (div-add-mod' k (length rs))) l
+  pair-past ls k l = pairs_gone ls (k / length rs) (k % length rs) k (sym (div-add-mod' k (length rs))) l
 
   pub pair-none : (ls : List ℕ) (k : ℕ) → length rs ≡ 0 → nth (grid i j ls rs) k ≡ none
   unfolding grid each nth
@@ -161,14 +161,14 @@ positive zero h = absurd (h refl)
 positive (suc n) h = omega arith
 
 -- none for equal rules
-pub pairs-equal : (i j : ℕ) (ls rs : List ℕ) (k : ℕ) → i ≡ j → NoMore ≡ recordAnswer (nth (pairs i j ls rs) k)
+pub pairs_equal : (i j : ℕ) (ls rs : List ℕ) (k : ℕ) → i ≡ j → NoMore ≡ record_answer (nth (pairs i j ls rs) k)
 unfolding nth
-pairs-equal i j ls rs k e = ap (λ b. recordAnswer (nth (choose b [] (grid i j ls rs)) k)) (sym (eq-eqb i j e))
+pairs_equal i j ls rs k e = ap (λ b. record_answer (nth (choose b [] (grid i j ls rs)) k)) (sym (eq-eqb i j e))
 
-pub pairs-unequal : (i j : ℕ) (ls rs : List ℕ) (k : ℕ) (o : Option Step) → (i ≡ j → ⊥) → nth (grid i j ls rs) k ≡ o
-    → recordAnswer o ≡ recordAnswer (nth (pairs i j ls rs) k)
-pairs-unequal i j ls rs k o n e =
-    ap recordAnswer (sym e) ∙ ap (λ b. recordAnswer (nth (choose b [] (grid i j ls rs)) k)) (sym (ne_eqb i j n))
+pub pairs_unequal : (i j : ℕ) (ls rs : List ℕ) (k : ℕ) (o : Option Step) → (i ≡ j → ⊥) → nth (grid i j ls rs) k ≡ o
+    → record_answer o ≡ record_answer (nth (pairs i j ls rs) k)
+pairs_unequal i j ls rs k o n e =
+    ap record_answer (sym e) ∙ ap (λ b. record_answer (nth (choose b [] (grid i j ls rs)) k)) (sym (ne_eqb i j n))
 
 -- ---- the shift
 
@@ -178,23 +178,23 @@ module _ (number after ls : List ℕ) (s : Sides) (x k : ℕ) where
   n = get_or after s.left 0
 
   abbrev near : List Step
-  near = lefts number ls s (s.left + 1) (n + 1) ++ fromShift number after ls s x
+  near = lefts number ls s (s.left + 1) (n + 1) ++ from_shift number after ls s x
 
   pub shift_none : x ≡ 0 → nth (above number ls s (s.left + 1)) k ≡ nth (shifted number after ls s x) k
   unfolding shifted
   shift_none e = ap (λ b. nth (choose b near (above number ls s (s.left + 1))) k) (sym (lt-leb 1 x (omega arith)))
 
-  pub shift-some : (x ≡ 0 → ⊥) → nth near k ≡ nth (shifted number after ls s x) k
+  pub shift_some : (x ≡ 0 → ⊥) → nth near k ≡ nth (shifted number after ls s x) k
   unfolding shifted
-  shift-some m = ap (λ b. nth (choose b near (above number ls s (s.left + 1))) k) (sym (le-leb 1 x (positive x m)))
+  shift_some m = ap (λ b. nth (choose b near (above number ls s (s.left + 1))) k) (sym (le-leb 1 x (positive x m)))
 
-  pub shift-first : k ≡ 0 → some (shift_of after s x) ≡ nth (fromShift number after ls s x) k
-  unfolding fromShift nth
-  shift-first e = ap (λ (k : ℕ). nth (shift_of after s x ∷ above number ls s (n + 1)) k) (sym e)
+  pub shift_first : k ≡ 0 → some (shift_of after s x) ≡ nth (from_shift number after ls s x) k
+  unfolding from_shift nth
+  shift_first e = ap (λ (k : ℕ). nth (shift_of after s x ∷ above number ls s (n + 1)) k) (sym e)
 
-  pub shift-later : (b : ℕ) → b ≡ n + 1 → (k ≡ 0 → ⊥) → nth (above number ls s b) (k - 1) ≡ nth (fromShift number after ls s x) k
-  unfolding fromShift nth
-  shift-later b e m = ap (λ (b : ℕ). nth (above number ls s b) (k - 1)) e ∙ go k m
+  pub shift_later : (b : ℕ) → b ≡ n + 1 → (k ≡ 0 → ⊥) → nth (above number ls s b) (k - 1) ≡ nth (from_shift number after ls s x) k
+  unfolding from_shift nth
+  shift_later b e m = ap (λ (b : ℕ). nth (above number ls s b) (k - 1)) e ∙ go k m
     where
       go : (k : ℕ) → (k ≡ 0 → ⊥) → nth (above number ls s (n + 1)) (k - 1) ≡ nth (shift_of after s x ∷ above number ls s (n + 1)) k
       go zero m = absurd (m refl)

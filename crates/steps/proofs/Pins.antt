@@ -1,37 +1,37 @@
--- Small closed cases of `nthStep` at the byte limits, on S → a and on S → S; S → : the records of a triple in their order, one
+-- Small closed cases of `nth_step` at the byte limits, on S → a and on S → S; S → : the records of a triple in their order, one
 -- past the last, triples out of range, and a fault of the table.
 -- Assumes nothing.
 use Prim.Native.Nat.{ℕ}
 use mathlib.Core.Path.{◌≡◌, refl}
 use mathlib.Core.List.{List, [], ◌∷◌}
 use mathlib.Core.Option.{Option, none, some}
-use Rattle.grammar.specs.Limits.{byteLimits}
-use Rattle.grammar.specs.Grammar.{stateCount, rule}
-use Rattle.grammar.specs.Table.{decodeUpTo}
-use Rattle.grammar.specs.Refusal.{Answer, done, refused, refuseUnless, and_then}
-use Rattle.grammar.specs.TableCheck.{sameCodes, isAmong, declaredFront, readRule, nextRule, checkFrom, storedTable, checkTable}
+use Rattle.grammar.specs.Limits.{byte_limits}
+use Rattle.grammar.specs.Grammar.{state_count, rule}
+use Rattle.grammar.specs.Table.{decode_up_to}
+use Rattle.grammar.specs.Refusal.{Answer, done, refused, refuse_unless, and_then}
+use Rattle.grammar.specs.TableCheck.{same_codes, is_among, declared_front, read_rule, next_rule, check_from, stored_table, check_table}
 use Rattle.grammar.specs.Basics.{each}
-use Rattle.grammar.specs.Live.{has, hasAll, concluded, waiting, rounds, nonterminalsOf, productive, usable, reachable, hasSentence, isLive}
-use Rattle.automaton.specs.PositionMoves.{shown, aheads, rulesOf, completed, past, aheadRow, openings, closings}
-use Rattle.automaton.specs.Callers.{up_to, itemsFrom, items, spots, checkCallers, checkWith}
+use Rattle.grammar.specs.Live.{has, has_all, concluded, waiting, rounds, nonterminals_of, productive, usable, reachable, has_sentence, is_live}
+use Rattle.automaton.specs.PositionMoves.{shown, aheads, rules_of, completed, past, ahead_row, openings, closings}
+use Rattle.automaton.specs.Callers.{up_to, items_from, items, spots, check_callers, check_with}
 use Rattle.triples.specs.declared.Move.TheVariants.{Opening, Closing, Symbol, Still}
 use Rattle.triples.specs.declared.Step.{Step}
 use Rattle.triples.specs.Records.{step}
-use Rattle.triples.specs.Records.{leftAlone, rightAlone, bothShift, bothClose, choices, insert, ordered, records}
-use Rattle.steps.specs.Steps.{nth, nthStep}
+use Rattle.triples.specs.Records.{left_alone, right_alone, both_shift, both_close, choices, insert, ordered, records}
+use Rattle.steps.specs.Steps.{nth, nth_step}
 
 -- to unfold one of these is to unfold all that it uses
 checked : ℕ → List ℕ → ℕ → ℕ → ℕ → ℕ → Answer (Option Step)
-unfolding decodeUpTo stateCount sameCodes isAmong declaredFront readRule nextRule checkFrom storedTable checkTable refuseUnless and_then
-    up_to itemsFrom items spots checkCallers checkWith nthStep
-checked t table f p q k = nthStep byteLimits t 1 table 0 f p q k
+unfolding decode_up_to state_count same_codes is_among declared_front read_rule next_rule check_from stored_table check_table refuse_unless and_then
+    up_to items_from items spots check_callers check_with nth_step
+checked t table f p q k = nth_step byte_limits t 1 table 0 f p q k
 
 lived : ℕ → List ℕ → ℕ → ℕ → ℕ → ℕ → Answer (Option Step)
-unfolding checked rule each has hasAll concluded waiting rounds nonterminalsOf productive usable reachable hasSentence isLive
+unfolding checked rule each has has_all concluded waiting rounds nonterminals_of productive usable reachable has_sentence is_live
 lived t table f p q k = checked t table f p q k
 
 answer : ℕ → List ℕ → ℕ → ℕ → ℕ → ℕ → Answer (Option Step)
-unfolding lived each shown aheads rulesOf completed past aheadRow openings closings leftAlone rightAlone bothShift bothClose choices insert ordered records nth
+unfolding lived each shown aheads rules_of completed past ahead_row openings closings left_alone right_alone both_shift both_close choices insert ordered records nth
 answer t table f p q k = lived t table f p q k
 
 -- S → a
@@ -71,12 +71,12 @@ unfolding answer
 back-first = (refl, refl, refl, refl, refl, refl, refl, refl, refl, refl, refl)
 
 -- a state of Q and a layer above 1 have no record
-out_of_range : (single 0 6 0 0 ≡ done none) × (single 0 0 6 0 ≡ done none) × (single 2 0 0 0 ≡ done none)
+out_of_range_lem : (single 0 6 0 0 ≡ done none) × (single 0 0 6 0 ≡ done none) × (single 2 0 0 0 ≡ done none)
     × (single 0 0 0 0 ≡ done (some (step 0 0 2 Still (Opening 0))))
 unfolding answer
-out_of_range = (refl, refl, refl, refl)
+out_of_range_lem = (refl, refl, refl, refl)
 
 -- a fault of the table comes before a triple out of range
-fault-first : answer 1 (128 ∷ []) 2 6 6 0 ≡ refused 2 0
+fault_first : answer 1 (128 ∷ []) 2 6 6 0 ≡ refused 2 0
 unfolding answer
-fault-first = refl
+fault_first = refl

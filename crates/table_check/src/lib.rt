@@ -6,10 +6,10 @@ ghost use Rattle.std.specs.Prelude.{◌≡◌, ◌+◌, ◌≤◌, length};
 ghost use Rattle.std.proofs.Math.Seq.{paste};
 ghost use Rattle.grammar.specs.Basics.{choose};
 ghost use Rattle.grammar.specs.Limits.{limits};
-ghost use Rattle.grammar.specs.Record.{recordOf};
+ghost use Rattle.grammar.specs.Record.{record_of};
 ghost use Rattle.grammar.specs.Refusal.{refused};
-ghost use Rattle.grammar.specs.TableCheck.{in_range, storedTable, checkTable, tableChecked, TableAnswer};
-ghost use Rattle.table_check.specs.Contracts.{ruleRead, ruleless, Before, nextOrFull};
+ghost use Rattle.grammar.specs.TableCheck.{in_range, stored_table, check_table, table_checked, TableAnswer};
+ghost use Rattle.table_check.specs.Clauses.{rule_read, ruleless, Before, next_or_full};
 
 use earlier::repeats;
 pub use earlier::same_rule;
@@ -52,7 +52,7 @@ fn next_rule<'a>(
     at: usize,
 ) -> RuleRead
     requires { Before table.now offsets.now lefts.now count states at }
-    ensures { result ≡ ruleRead (nextOrFull t n table.now count at) }
+    ensures { result ≡ rule_read (next_or_full t n table.now count at) }
 {
     if MAX_RULES <= count {
         return RuleRead::Fault(TOO_MANY_RULES, at);
@@ -72,7 +72,7 @@ fn next_rule<'a>(
 
 // The record of a grammar without rules.
 fn without_rules(t: u16, n: u16) -> CheckedGrammar
-    ensures { result ≡ recordOf (ruleless t n) }
+    ensures { result ≡ record_of (ruleless t n) }
 {
     CheckedGrammar {
         terminals: t,
@@ -89,7 +89,7 @@ fn without_rules(t: u16, n: u16) -> CheckedGrammar
 
 // The codes of a right side, copied from that part of the table to a place in the row.
 fn put_codes(codes: &mut [u16; MAX_STATES], used: usize, right: &[u16])
-    requires { (length codes.old ≡ limits.maxStates) × (used + length right.now ≤ limits.maxStates) }
+    requires { (length codes.old ≡ limits.max_states) × (used + length right.now ≤ limits.max_states) }
     ensures { codes.new ≡ paste codes.old used right.now (length right.now) }
 {
     let mut i = 0;
@@ -100,7 +100,7 @@ fn put_codes(codes: &mut [u16; MAX_STATES], used: usize, right: &[u16])
 }
 
 fn refuse(cause: u8, at: usize) -> TableChecked
-    ensures { result ≡ tableChecked (refused cause at) }
+    ensures { result ≡ table_checked (refused cause at) }
 {
     let none = without_rules(0, 0);
     TableChecked {
@@ -113,7 +113,7 @@ fn refuse(cause: u8, at: usize) -> TableChecked
 // for a grammar without a sentence, where the whole check is asked for. One function does all, so that the record is copied only as it
 // is returned.
 pub fn check_up_to(t: usize, n: usize, table: &[u16], whole: bool) -> TableChecked
-    ensures { result ≡ tableChecked (choose whole (checkTable limits t n table.now) (storedTable limits t n table.now)) }
+    ensures { result ≡ table_checked (choose whole (check_table limits t n table.now) (stored_table limits t n table.now)) }
 {
     if !in_range(t, n) {
         return refuse(OUT_OF_RANGE, 0);

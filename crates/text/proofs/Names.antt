@@ -1,5 +1,5 @@
 -- Names: what no name has in it, names compared and looked up, codes and symbol numbers, and the value of a line.
--- Lookup uses only that `sameName` is reflexive and symmetric; `same_case` alone uses which bytes count as the same.
+-- Lookup uses only that `same_name` is reflexive and symmetric; `same_case` alone uses which bytes count as the same.
 -- Assumes nothing.
 use Prim.Native.Nat.{ℕ, zero, suc, ◌+◌, ◌-◌, ◌≤◌, ◌<◌}
 use mathlib.Core.Path.{◌≡◌, refl, ap, ap₂, sym, ◌∙◌}
@@ -14,10 +14,10 @@ use lib.ListN.{length, get_or}
 use Rattle.grammar.specs.Basics.{choose}
 use Rattle.grammar.specs.Limits.{Limits}
 use Rattle.grammar.specs.Grammar.{Terminal, Nonterminal, start}
-use Rattle.grammar.proofs.Answers.{no_bool, and_both, both-and}
-use Rattle.text.specs.Names.{within, isNameByte, all, any, isName, folded, sameName, hasDouble, place}
+use Rattle.grammar.proofs.Answers.{no_bool, and_both, both_and}
+use Rattle.text.specs.Names.{within, is_name_byte, all, any, is_name, folded, same_name, has_double, place}
 use Rattle.text.specs.Keys.{value_of}
-use Rattle.text.specs.Read.{number_of, isKnown, code_of, symbol_of}
+use Rattle.text.specs.Read.{number_of, is_known, code_of, symbol_of}
 use Rattle.text.specs.Spelling.{spelling}
 use Rattle.text.specs.Print.{name_of}
 use Rattle.text.proofs.Pieces.{all_weaker, other}
@@ -33,14 +33,14 @@ pub some_inj : {A : Type 0} {x y : A} → some x ≡ some y → x ≡ y
 some_inj {x = x} {y = y} h = cc
 
 -- neither holds
-pub or-neither : (a b : Bool) → a || b ≡ false → (a ≡ false) × (b ≡ false)
-or-neither true b h = no_bool h
-or-neither false b h = (refl, h)
+pub or_neither : (a b : Bool) → a || b ≡ false → (a ≡ false) × (b ≡ false)
+or_neither true b h = no_bool h
+or_neither false b h = (refl, h)
 
 -- and the other way round
-pub neither-or : (a b : Bool) → a ≡ false → b ≡ false → a || b ≡ false
-neither-or true b h k = no_bool h
-neither-or false b h k = k
+pub neither_or : (a b : Bool) → a ≡ false → b ≡ false → a || b ≡ false
+neither_or true b h k = no_bool h
+neither_or false b h k = k
 
 -- a number between two is at least one and at most the other
 pub within_both : (lo hi n : ℕ) → within lo hi n ≡ true → (lo ≤ n) × (n ≤ hi)
@@ -48,57 +48,57 @@ within_both lo hi n h = let a = and_both (leb lo n) (leb n hi) h in (leb-true lo
 
 -- and the other way round
 pub both-within : (lo hi n : ℕ) → lo ≤ n → n ≤ hi → within lo hi n ≡ true
-both-within lo hi n h k = both-and (leb lo n) (leb n hi) (le-leb lo n h) (le-leb n hi k)
+both-within lo hi n h k = both_and (leb lo n) (leb n hi) (le-leb lo n h) (le-leb n hi k)
 
 -- ---- the bytes of a name
 
 -- a name has 1 to 15 bytes
-pub name-size : (p : List ℕ) → isName p ≡ true → (1 ≤ length p) × (length p ≤ 15)
-unfolding isName
-name-size p h = within_both 1 15 (length p) (and_both (within 1 15 (length p)) (all isNameByte p) h).0
+pub name-size : (p : List ℕ) → is_name p ≡ true → (1 ≤ length p) × (length p ≤ 15)
+unfolding is_name
+name-size p h = within_both 1 15 (length p) (and_both (within 1 15 (length p)) (all is_name_byte p) h).0
 
-name-other : (c b : ℕ) → isNameByte c ≡ false → isNameByte b ≡ true → other c b ≡ true
+name-other : (c b : ℕ) → is_name_byte c ≡ false → is_name_byte b ≡ true → other c b ≡ true
 name-other c b n h = go (eqb b c) refl
   where
     go : (t : Bool) → eqb b c ≡ t → not t ≡ true
     go false e = refl
-    go true e = no_bool (sym h ∙ ap isNameByte (eqb-true b c e) ∙ n)
+    go true e = no_bool (sym h ∙ ap is_name_byte (eqb-true b c e) ∙ n)
 
 -- a name is free of a byte that no name has
-pub name_free : (c : ℕ) (p : List ℕ) → isNameByte c ≡ false → isName p ≡ true → all (other c) p ≡ true
-unfolding isName
+pub name_free : (c : ℕ) (p : List ℕ) → is_name_byte c ≡ false → is_name p ≡ true → all (other c) p ≡ true
+unfolding is_name
 name_free c p n h =
-    all_weaker isNameByte (other c) p (λ b e. name-other c b n e) (and_both (within 1 15 (length p)) (all isNameByte p) h).1
+    all_weaker is_name_byte (other c) p (λ b e. name-other c b n e) (and_both (within 1 15 (length p)) (all is_name_byte p) h).1
 
 -- so are names
-pub names-free : (c : ℕ) (ps : List (List ℕ)) → isNameByte c ≡ false → all isName ps ≡ true → all (all (other c)) ps ≡ true
-names-free c ps n h = all_weaker isName (all (other c)) ps (λ p e. name_free c p n e) h
+pub names_free : (c : ℕ) (ps : List (List ℕ)) → is_name_byte c ≡ false → all is_name ps ≡ true → all (all (other c)) ps ≡ true
+names_free c ps n h = all_weaker is_name (all (other c)) ps (λ p e. name_free c p n e) h
 
 -- the line end is no byte of names
-pub no-line-end : isNameByte 10 ≡ false
-unfolding isNameByte
-no-line-end = refl
+pub no_line-end : is_name_byte 10 ≡ false
+unfolding is_name_byte
+no_line-end = refl
 
 -- nor is the space
-pub no-space : isNameByte 32 ≡ false
-unfolding isNameByte
-no-space = refl
+pub no_space : is_name_byte 32 ≡ false
+unfolding is_name_byte
+no_space = refl
 
 -- nor is the comma
-pub no-comma : isNameByte 44 ≡ false
-unfolding isNameByte
-no-comma = refl
+pub no_comma : is_name_byte 44 ≡ false
+unfolding is_name_byte
+no_comma = refl
 
 -- nor is the colon
-pub no-colon : isNameByte 58 ≡ false
-unfolding isNameByte
-no-colon = refl
+pub no_colon : is_name_byte 58 ≡ false
+unfolding is_name_byte
+no_colon = refl
 
 -- ---- names compared
 
 -- a name is the same as itself
-pub same_refl : (a : List ℕ) → sameName a a ≡ true
-unfolding sameName
+pub same_refl : (a : List ℕ) → same_name a a ≡ true
+unfolding same_name
 same_refl [] = refl
 same_refl (x ∷ a) = rw (eq-eqb (folded x) (folded x) refl) (same_refl a)
 
@@ -110,74 +110,74 @@ eqb-sym a b = go (eqb b a) refl
     go false e = ne_eqb a b (λ q. eqb-false b a e (sym q))
 
 -- the order does not count
-pub same-sym : (a b : List ℕ) → sameName a b ≡ sameName b a
-unfolding sameName
+pub same-sym : (a b : List ℕ) → same_name a b ≡ same_name b a
+unfolding same_name
 same-sym [] [] = refl
 same-sym [] (y ∷ b) = refl
 same-sym (x ∷ a) [] = refl
 same-sym (x ∷ a) (y ∷ b) = rw (same-sym a b, eqb-sym (folded x) (folded y))
 
 -- the same names differ only in the case of letters
-same_case : (a b : List ℕ) → sameName a b ≡ true → map folded a ≡ map folded b
-unfolding sameName
+same_case : (a b : List ℕ) → same_name a b ≡ true → map folded a ≡ map folded b
+unfolding same_name
 same_case [] [] h = refl
 same_case [] (y ∷ b) h = no_bool (sym h)
 same_case (x ∷ a) [] h = no_bool (sym h)
 same_case (x ∷ a) (y ∷ b) h =
-    let c = and_both (eqb (folded x) (folded y)) (sameName a b) h in
+    let c = and_both (eqb (folded x) (folded y)) (same_name a b) h in
     ap₂ (λ (z : ℕ) (l : List ℕ). z ∷ l) (eqb-true (folded x) (folded y) c.0) (same_case a b c.1)
 
 -- an element of a list in which none passes does not pass
 any_at : {A : Type 0} (p : A → Bool) (xs : List A) (i : ℕ) (d : A) → any p xs ≡ false → i < length xs → p (get_or xs i d) ≡ false
 unfolding any
 any_at p [] i d h l = absurd (omega arith)
-any_at p (x ∷ xs) zero d h l = (or-neither (p x) (any p xs) h).0
-any_at p (x ∷ xs) (suc i) d h l = any_at p xs i d (or-neither (p x) (any p xs) h).1 (omega arith)
+any_at p (x ∷ xs) zero d h l = (or_neither (p x) (any p xs) h).0
+any_at p (x ∷ xs) (suc i) d h l = any_at p xs i d (or_neither (p x) (any p xs) h).1 (omega arith)
 
 any-front : {A : Type 0} (p : A → Bool) (xs ys : List A) → any p (xs ++ ys) ≡ false → any p xs ≡ false
 unfolding any
 any-front p [] ys h = refl
 any-front p (x ∷ xs) ys h =
-    let c = or-neither (p x) (any p (xs ++ ys)) h in
-    neither-or (p x) (any p xs) c.0 (any-front p xs ys c.1)
+    let c = or_neither (p x) (any p (xs ++ ys)) h in
+    neither_or (p x) (any p xs) c.0 (any-front p xs ys c.1)
 
 -- no name twice among all: none twice among the first ones
-pub double-front : (xs ys : List (List ℕ)) → hasDouble (xs ++ ys) ≡ false → hasDouble xs ≡ false
-unfolding hasDouble
-double-front [] ys h = refl
-double-front (x ∷ xs) ys h =
-    let c = or-neither (any (sameName x) (xs ++ ys)) (hasDouble (xs ++ ys)) h in
-    neither-or (any (sameName x) xs) (hasDouble xs) (any-front (sameName x) xs ys c.0) (double-front xs ys c.1)
+pub double_front : (xs ys : List (List ℕ)) → has_double (xs ++ ys) ≡ false → has_double xs ≡ false
+unfolding has_double
+double_front [] ys h = refl
+double_front (x ∷ xs) ys h =
+    let c = or_neither (any (same_name x) (xs ++ ys)) (has_double (xs ++ ys)) h in
+    neither_or (any (same_name x) xs) (has_double xs) (any-front (same_name x) xs ys c.0) (double_front xs ys c.1)
 
 -- ---- names looked up
 
 -- a declared name is found at its own number
-pub place-again : (names : List (List ℕ)) (i : ℕ) → hasDouble names ≡ false → i < length names
-    → place (sameName (get_or names i [])) names ≡ i
-unfolding place hasDouble
+pub place-again : (names : List (List ℕ)) (i : ℕ) → has_double names ≡ false → i < length names
+    → place (same_name (get_or names i [])) names ≡ i
+unfolding place has_double
 place-again [] i o l = absurd (omega arith)
 place-again (x ∷ xs) zero o l = rw (same_refl x)
 place-again (x ∷ xs) (suc i) o l =
-    let c = or-neither (any (sameName x) xs) (hasDouble xs) o in
-    rw (same-sym (get_or xs i []) x, any_at (sameName x) xs i [] c.0 (omega arith))
+    let c = or_neither (any (same_name x) xs) (has_double xs) o in
+    rw (same-sym (get_or xs i []) x, any_at (same_name x) xs i [] c.0 (omega arith))
     (ap suc (place-again xs i c.1 (omega arith)))
 
 -- a known name's number is in the range that was asked for
-pub known-number : (from : ℕ) (names : List (List ℕ)) (x : List ℕ) → isKnown from names x ≡ true
+pub known_number : (from : ℕ) (names : List (List ℕ)) (x : List ℕ) → is_known from names x ≡ true
     → (from ≤ number_of names x) × (number_of names x < length names)
-unfolding isKnown
-known-number from names x h =
+unfolding is_known
+known_number from names x h =
     let i = number_of names x in
     let c = and_both (leb from i) (ltb i (length names)) h in
     (leb-true from i c.0, ltb-true i (length names) c.1)
 
 -- and the other way round
-pub number-known : (from : ℕ) (names : List (List ℕ)) (x : List ℕ) → from ≤ number_of names x → number_of names x < length names
-    → isKnown from names x ≡ true
-unfolding isKnown
-number-known from names x h k =
+pub number_known : (from : ℕ) (names : List (List ℕ)) (x : List ℕ) → from ≤ number_of names x → number_of names x < length names
+    → is_known from names x ≡ true
+unfolding is_known
+number_known from names x h k =
     let i = number_of names x in
-    both-and (leb from i) (ltb i (length names)) (le-leb from i h) (lt-ltb i (length names) k)
+    both_and (leb from i) (ltb i (length names)) (le-leb from i h) (lt-ltb i (length names) k)
 
 -- ---- codes
 
@@ -221,9 +221,9 @@ module _ (L : Limits) (t : ℕ) (apart : t < start L) where
       go false e = inr (omega arith, omega (arith, ltb-false i t e))
 
   -- a nonterminal's number is from t on
-  pub left-number : (n c : ℕ) → Nonterminal L n c → Numbered L t n t c
+  pub left_number : (n c : ℕ) → Nonterminal L n c → Numbered L t n t c
   unfolding symbol_of code_of
-  left-number n c h =
+  left_number n c h =
       let b = start L in
       let l : b ≤ c = h.0 in
       let m : c < b + n = h.1 in
@@ -232,16 +232,16 @@ module _ (L : Limits) (t : ℕ) (apart : t < start L) where
       record { low = rw e (omega arith); high = rw e (omega arith); again = rw (e, f) (omega arith) }
 
   -- a declared code has a number
-  pub right-number : (n c : ℕ) → Terminal t c ⊎ Nonterminal L n c → Numbered L t n 0 c
+  pub right_number : (n c : ℕ) → Terminal t c ⊎ Nonterminal L n c → Numbered L t n 0 c
   unfolding symbol_of code_of
-  right-number n c (inl h) =
+  right_number n c (inl h) =
       let b = start L in
       let l : 1 ≤ c = h.0 in
       let m : c ≤ t = h.1 in
       let p : ltb c b ≡ true = lt-ltb c b (omega arith) in
       let q : ltb (c - 1) t ≡ true = lt-ltb (c - 1) t (omega arith) in
       record { low = omega arith; high = rw p (omega arith); again = rw (p, q) (omega arith) }
-  right-number n c (inr h) = let a = left-number n c h in record { low = omega arith; high = a.high; again = a.again }
+  right_number n c (inr h) = let a = left_number n c h in record { low = omega arith; high = a.high; again = a.again }
 
 get_d_any : {A : Type 0} (l : List A) (i : ℕ) (d e : A) → i < length l → get_or l i d ≡ get_or l i e
 get_d_any [] i d e h = absurd (omega arith)
@@ -249,27 +249,27 @@ get_d_any (x ∷ l) zero d e h = refl
 get_d_any (x ∷ l) (suc i) d e h = get_d_any l i d e (omega arith)
 
 -- a known name's code has that name, as it is declared
-pub known-name : (L : Limits) (t from : ℕ) (names : List (List ℕ)) (x : List ℕ) → t < start L → isKnown from names x ≡ true
+pub known-name : (L : Limits) (t from : ℕ) (names : List (List ℕ)) (x : List ℕ) → t < start L → is_known from names x ≡ true
     → name_of L t names (code_of L t (number_of names x)) ≡ spelling names x
 unfolding name_of number_of spelling
 known-name L t from names x h e =
-    let i = place (sameName x) names in
-    ap (λ j. get_or names j []) (symbol-code L t h i) ∙ get_d_any names i [] x (known-number from names x e).1
+    let i = place (same_name x) names in
+    ap (λ j. get_or names j []) (symbol-code L t h i) ∙ get_d_any names i [] x (known_number from names x e).1
 
 -- which differs from a name, declared or not, only in the case of letters
-place-case : (x : List ℕ) (names : List (List ℕ)) → map folded (get_or names (place (sameName x) names) x) ≡ map folded x
+place_case : (x : List ℕ) (names : List (List ℕ)) → map folded (get_or names (place (same_name x) names) x) ≡ map folded x
 unfolding place
-place-case x [] = refl
-place-case x (y ∷ ys) = go (sameName x y) refl (place-case x ys)
+place_case x [] = refl
+place_case x (y ∷ ys) = go (same_name x y) refl (place_case x ys)
   where
-    go : (b : Bool) → sameName x y ≡ b → map folded (get_or ys (place (sameName x) ys) x) ≡ map folded x
-        → map folded (get_or (y ∷ ys) (choose b 0 (suc (place (sameName x) ys))) x) ≡ map folded x
+    go : (b : Bool) → same_name x y ≡ b → map folded (get_or ys (place (same_name x) ys) x) ≡ map folded x
+        → map folded (get_or (y ∷ ys) (choose b 0 (suc (place (same_name x) ys))) x) ≡ map folded x
     go true e again = sym (same_case x y e)
     go false e again = again
 
-pub spelling-case : (names : List (List ℕ)) (x : List ℕ) → map folded (spelling names x) ≡ map folded x
+pub spelling_case : (names : List (List ℕ)) (x : List ℕ) → map folded (spelling names x) ≡ map folded x
 unfolding number_of spelling
-spelling-case names x = place-case x names
+spelling_case names x = place_case x names
 
 -- ---- the value of a line
 

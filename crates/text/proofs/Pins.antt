@@ -13,22 +13,22 @@ use lib.Dec.{leb}
 use borrow.Author.Tests.{le-leb, lt-leb}
 use native.Mathlib.Omega.{arith}
 use Prim.Native.String.{String, [] as empty, ◌∷◌ as ◌then◌}
-use Rattle.grammar.specs.Limits.{Limits, byteLimits, limits}
-use Rattle.grammar.specs.Grammar.{Rule, stateCount}
+use Rattle.grammar.specs.Limits.{Limits, byte_limits, limits}
+use Rattle.grammar.specs.Grammar.{Rule, state_count}
 use Rattle.grammar.specs.Table.{encode}
-use Rattle.grammar.proofs.Answers.{unless_holds, unless-fails}
-use Rattle.grammar.specs.Refusal.{Answer, done, refused, refuseUnless, and_then}
-use Rattle.grammar.specs.TableCheck.{sameCodes, isAmong, declaredFront, readRule, nextRule, checkFrom, storedTable, checkTable}
-use Rattle.grammar.specs.Live.{has, hasAll, concluded, waiting, rounds, nonterminalsOf, productive, hasSentence}
-use Rattle.text.specs.Pieces.{splitOn, ledBy, join, endedBy}
-use Rattle.text.specs.Names.{isNameByte, all, any, isName, folded, sameName, hasDouble, place}
-use Rattle.text.specs.Keys.{keyTable, keyLengths, key, value_of}
-use Rattle.text.specs.Read.{Source, refuseNone, names_of, declaration, body_of, sidesOf, number_of, isKnown}
-use Rattle.text.specs.Read.{code_of, symbol_of, ruleOf, ruleLine, ruleLines, wholeLine, readLines, readText}
-use Rattle.text.specs.Spelling.{spelling, spelledLine, spelledLines, spelledText}
-use Rattle.text.specs.Rules.{admit, lastTests, checkText, readInto}
-use Rattle.text.specs.Print.{printLine, name_of, printRule, printed, name_at, gather, firstDouble, textFrom, writeInto}
-use Rattle.text.specs.Promise.{startsFrom, nameStarts, nameLengths, textLength}
+use Rattle.grammar.proofs.Answers.{unless_holds, unless_fails}
+use Rattle.grammar.specs.Refusal.{Answer, done, refused, refuse_unless, and_then}
+use Rattle.grammar.specs.TableCheck.{same_codes, is_among, declared_front, read_rule, next_rule, check_from, stored_table, check_table}
+use Rattle.grammar.specs.Live.{has, has_all, concluded, waiting, rounds, nonterminals_of, productive, has_sentence}
+use Rattle.text.specs.Pieces.{split_on, led_by, join, ended_by}
+use Rattle.text.specs.Names.{is_name_byte, all, any, is_name, folded, same_name, has_double, place}
+use Rattle.text.specs.Keys.{key_table, key_lengths, key, value_of}
+use Rattle.text.specs.Read.{Source, refuse_none, names_of, declaration, body_of, sides_of, number_of, is_known}
+use Rattle.text.specs.Read.{code_of, symbol_of, rule_of, rule_line, rule_lines, whole_line, read_lines, read_text}
+use Rattle.text.specs.Spelling.{spelling, spelled_line, spelled_lines, spelled_text}
+use Rattle.text.specs.Rules.{admit, last_tests, check_text, read_into}
+use Rattle.text.specs.Print.{print_line, name_of, print_rule, printed, name_at, gather, first_double, text_from, write_into}
+use Rattle.text.specs.Promise.{starts_from, name_starts, name_lengths, text_length}
 use Rattle.text.specs.declared.TextLength.{TextLength}
 use Rattle.text.specs.declared.TextLength.TheVariants.{Bytes, Refused}
 
@@ -46,80 +46,80 @@ source ts ns rules = record { terminals = map bytes ts; nonterminals = map bytes
 -- 2 terminals, 3 nonterminals from code 10 on, 1 code on the right, 1 rule, 6 states, 45 bytes
 abbrev small : Limits
 small = record {
-  maxTerminals = 2;
-  nonterminalBase = 10;
-  maxNonterminals = 3;
-  maxLength = 1;
-  maxRules = 1;
-  maxStates = 6;
-  maxText = 45;
+  max_terminals = 2;
+  nonterminal_base = 10;
+  max_nonterminals = 3;
+  max_length = 1;
+  max_rules = 1;
+  max_states = 6;
+  max_text = 45;
 }
 
 -- the same with room for 2 rules and a long text
 abbrev roomy : Limits
 roomy = record {
-  maxTerminals = 2;
-  nonterminalBase = 10;
-  maxNonterminals = 3;
-  maxLength = 1;
-  maxRules = 2;
-  maxStates = 6;
-  maxText = 200;
+  max_terminals = 2;
+  nonterminal_base = 10;
+  max_nonterminals = 3;
+  max_length = 1;
+  max_rules = 2;
+  max_states = 6;
+  max_text = 200;
 }
 
 -- to unfold one of these is to unfold all that it uses
 read : String → Answer Source
-unfolding bytes readText readLines wholeLine ruleLines ruleLine ruleOf code_of isKnown number_of place sidesOf body_of
-    declaration names_of refuseNone value_of key keyTable keyLengths hasDouble sameName folded isName any all isNameByte
-    splitOn refuseUnless and_then
-read text = readText byteLimits (bytes text)
+unfolding bytes read_text read_lines whole_line rule_lines rule_line rule_of code_of is_known number_of place sides_of body_of
+    declaration names_of refuse_none value_of key key_table key_lengths has_double same_name folded is_name any all is_name_byte
+    split_on refuse_unless and_then
+read text = read_text byte_limits (bytes text)
 
-readSmall : String → Answer Source
+read_small : String → Answer Source
 unfolding read
-readSmall text = readText small (bytes text)
+read_small text = read_text small (bytes text)
 
 check : Limits → String → Answer Source
-unfolding read checkText lastTests admit isAmong sameCodes stateCount has hasAll concluded waiting rounds nonterminalsOf productive hasSentence
-check L text = checkText L (bytes text)
+unfolding read check_text last_tests admit is_among same_codes state_count has has_all concluded waiting rounds nonterminals_of productive has_sentence
+check L text = check_text L (bytes text)
 
 into : ℕ → ℕ → ℕ → String → Answer Source
-unfolding check readInto encode
-into entries starts lengths text = readInto byteLimits entries starts lengths (bytes text)
+unfolding check read_into encode
+into entries starts lengths text = read_into byte_limits entries starts lengths (bytes text)
 
 print : Source → List ℕ
-unfolding bytes printed printRule name_of symbol_of printLine endedBy join ledBy key keyTable keyLengths
-print s = printed byteLimits s
+unfolding bytes printed print_rule name_of symbol_of print_line ended_by join led_by key key_table key_lengths
+print s = printed byte_limits s
 
 spell : List String → String → List ℕ
-unfolding read spelledText spelledLines spelledLine spelling join ledBy
-spell names text = spelledText (map bytes names) (bytes text)
+unfolding read spelled_text spelled_lines spelled_line spelling join led_by
+spell names text = spelled_text (map bytes names) (bytes text)
 
-toldLength : ℕ → ℕ → List ℕ → String → List ℕ → List ℕ → TextLength
-unfolding print textFrom gather name_at firstDouble refuseNone isName isNameByte all any sameName folded refuseUnless
-    and_then checkTable storedTable checkFrom nextRule readRule declaredFront isAmong sameCodes stateCount encode
-    has hasAll concluded waiting rounds nonterminalsOf productive hasSentence
-toldLength t n table lent starts lengths = textLength (textFrom byteLimits t n table (bytes lent) starts lengths)
+told_length : ℕ → ℕ → List ℕ → String → List ℕ → List ℕ → TextLength
+unfolding print text_from gather name_at first_double refuse_none is_name is_name_byte all any same_name folded refuse_unless
+    and_then check_table stored_table check_from next_rule read_rule declared_front is_among same_codes state_count encode
+    has has_all concluded waiting rounds nonterminals_of productive has_sentence
+told_length t n table lent starts lengths = text_length (text_from byte_limits t n table (bytes lent) starts lengths)
 
 write : ℕ → ℕ → List ℕ → String → List ℕ → List ℕ → ℕ → Answer (List ℕ)
-unfolding toldLength writeInto
-write t n table lent starts lengths room = writeInto byteLimits t n table (bytes lent) starts lengths room
+unfolding told_length write_into
+write t n table lent starts lengths room = write_into byte_limits t n table (bytes lent) starts lengths room
 
 -- ---- names
 
 -- letters, digits and the hyphen, and the bytes beside them
-name-bytes : (map isNameByte (96 ∷ 97 ∷ 122 ∷ 123 ∷ []) ≡ false ∷ true ∷ true ∷ false ∷ [])
-    × (map isNameByte (64 ∷ 65 ∷ 90 ∷ 91 ∷ []) ≡ false ∷ true ∷ true ∷ false ∷ [])
-    × (map isNameByte (47 ∷ 48 ∷ 57 ∷ 58 ∷ []) ≡ false ∷ true ∷ true ∷ false ∷ [])
-    × (map isNameByte (44 ∷ 45 ∷ 46 ∷ 95 ∷ []) ≡ false ∷ true ∷ false ∷ false ∷ [])
-unfolding isNameByte
+name-bytes : (map is_name_byte (96 ∷ 97 ∷ 122 ∷ 123 ∷ []) ≡ false ∷ true ∷ true ∷ false ∷ [])
+    × (map is_name_byte (64 ∷ 65 ∷ 90 ∷ 91 ∷ []) ≡ false ∷ true ∷ true ∷ false ∷ [])
+    × (map is_name_byte (47 ∷ 48 ∷ 57 ∷ 58 ∷ []) ≡ false ∷ true ∷ true ∷ false ∷ [])
+    × (map is_name_byte (44 ∷ 45 ∷ 46 ∷ 95 ∷ []) ≡ false ∷ true ∷ false ∷ false ∷ [])
+unfolding is_name_byte
 name-bytes = (refl, refl, refl, refl)
 
 -- 0, 1, 15 and 16 bytes
-name-lengths : (isName [] ≡ false)
-    × (isName (bytes "a") ≡ true)
-    × (isName (bytes "a-z-A-Z-0-9-abc") ≡ true)
-    × (isName (bytes "a-z-A-Z-0-9-abcd") ≡ false)
-unfolding bytes isName all isNameByte
+name-lengths : (is_name [] ≡ false)
+    × (is_name (bytes "a") ≡ true)
+    × (is_name (bytes "a-z-A-Z-0-9-abc") ≡ true)
+    × (is_name (bytes "a-z-A-Z-0-9-abcd") ≡ false)
+unfolding bytes is_name all is_name_byte
 name-lengths = (refl, refl, refl, refl)
 
 -- capital letters count as small ones; the bytes beside letters, digits and the hyphen count as they are
@@ -130,16 +130,16 @@ unfolding folded
 folds = (refl, refl, refl)
 
 -- a name is not the same as its front; case does not count
-names-differ : (sameName (bytes "a") (bytes "a") ≡ true)
-    × (sameName (bytes "a") (bytes "ab") ≡ false)
-    × (sameName (bytes "ab") (bytes "a") ≡ false)
-    × (sameName (bytes "A") (bytes "a") ≡ true)
-    × (sameName (bytes "a") (bytes "A") ≡ true)
-    × (sameName (bytes "Take-9") (bytes "tAKE-9") ≡ true)
-    × (sameName (bytes "A") (bytes "b") ≡ false)
-    × (sameName (bytes "@") (bytes "`") ≡ false)
-    × (sameName (bytes "[") (bytes "{") ≡ false)
-unfolding bytes sameName folded
+names-differ : (same_name (bytes "a") (bytes "a") ≡ true)
+    × (same_name (bytes "a") (bytes "ab") ≡ false)
+    × (same_name (bytes "ab") (bytes "a") ≡ false)
+    × (same_name (bytes "A") (bytes "a") ≡ true)
+    × (same_name (bytes "a") (bytes "A") ≡ true)
+    × (same_name (bytes "Take-9") (bytes "tAKE-9") ≡ true)
+    × (same_name (bytes "A") (bytes "b") ≡ false)
+    × (same_name (bytes "@") (bytes "`") ≡ false)
+    × (same_name (bytes "[") (bytes "{") ≡ false)
+unfolding bytes same_name folded
 names-differ = (refl, refl, refl, refl, refl, refl, refl, refl, refl)
 
 -- ---- what texts say, and how sources are printed
@@ -173,16 +173,16 @@ unfolding spell
 spells = (refl, refl, refl)
 
 -- the names' starts and lengths; none for no terminals
-spans : (nameStarts (source ("a" ∷ "bc" ∷ []) ("S" ∷ "T" ∷ []) []) ≡ 10 ∷ 12 ∷ 28 ∷ 30 ∷ [])
-    × (nameStarts (source [] ("S" ∷ []) []) ≡ 24 ∷ [])
-    × (nameLengths (bytes "a" ∷ bytes "bc" ∷ bytes "S" ∷ bytes "T" ∷ []) ≡ 1 ∷ 2 ∷ 1 ∷ 1 ∷ [])
-unfolding bytes nameStarts startsFrom nameLengths printLine join ledBy key keyTable keyLengths
+spans : (name_starts (source ("a" ∷ "bc" ∷ []) ("S" ∷ "T" ∷ []) []) ≡ 10 ∷ 12 ∷ 28 ∷ 30 ∷ [])
+    × (name_starts (source [] ("S" ∷ []) []) ≡ 24 ∷ [])
+    × (name_lengths (bytes "a" ∷ bytes "bc" ∷ bytes "S" ∷ bytes "T" ∷ []) ≡ 1 ∷ 2 ∷ 1 ∷ 1 ∷ [])
+unfolding bytes name_starts starts_from name_lengths print_line join led_by key key_table key_lengths
 spans = (refl, refl, refl)
 
 -- ---- the reader's refusals
 
 -- 16 at a line that is missing, unended or blank, wherever it stands
-cause-16-lines : (read "" ≡ refused 16 1)
+cause_16_lines : (read "" ≡ refused 16 1)
     × (read "terminals=a" ≡ refused 16 1)
     × (read "terminals=a\n" ≡ refused 16 2)
     × (read "terminals=a\nnonterminals=S" ≡ refused 16 2)
@@ -192,10 +192,10 @@ cause-16-lines : (read "" ≡ refused 16 1)
     × (read "terminals=a\nnonterminals=S\nrule=S: a\n\n" ≡ refused 16 4)
     × (read "\nnonterminals=S\n" ≡ refused 16 1)
 unfolding read
-cause-16-lines = (refl, refl, refl, refl, refl, refl, refl, refl, refl)
+cause_16_lines = (refl, refl, refl, refl, refl, refl, refl, refl, refl)
 
 -- 16 at a line with another key, in another order, or without an equals sign; keys are no names, so their case counts
-cause-16-keys : (read "terminal=a\nnonterminals=S\n" ≡ refused 16 1)
+cause_16_keys : (read "terminal=a\nnonterminals=S\n" ≡ refused 16 1)
     × (read "nonterminals=S\nterminals=a\n" ≡ refused 16 1)
     × (read "terminals\nnonterminals=S\n" ≡ refused 16 1)
     × (read " terminals=a\nnonterminals=S\n" ≡ refused 16 1)
@@ -206,10 +206,10 @@ cause-16-keys : (read "terminal=a\nnonterminals=S\n" ≡ refused 16 1)
     × (read "terminals=a\nnonTerminals=S\n" ≡ refused 16 2)
     × (read "terminals=a\nnonterminals=S\nRule=S: a\n" ≡ refused 16 3)
 unfolding read
-cause-16-keys = (refl, refl, refl, refl, refl, refl, refl, refl, refl, refl)
+cause_16_keys = (refl, refl, refl, refl, refl, refl, refl, refl, refl, refl)
 
 -- 16 at a list with an empty or malformed name
-cause-16-names : (read "terminals=a,\nnonterminals=S\n" ≡ refused 16 1)
+cause_16_names : (read "terminals=a,\nnonterminals=S\n" ≡ refused 16 1)
     × (read "terminals=,a\nnonterminals=S\n" ≡ refused 16 1)
     × (read "terminals=a, b\nnonterminals=S\n" ≡ refused 16 1)
     × (read "terminals=a_b\nnonterminals=S\n" ≡ refused 16 1)
@@ -217,11 +217,11 @@ cause-16-names : (read "terminals=a,\nnonterminals=S\n" ≡ refused 16 1)
     × (read "terminals=a\nnonterminals=S,,T\n" ≡ refused 16 2)
     × (read "terminals=a\nnonterminals=abcdefghijklmnop\n" ≡ refused 16 2)
 unfolding read
-cause-16-names = (refl, refl, refl, refl, refl, refl, refl)
+cause_16_names = (refl, refl, refl, refl, refl, refl, refl)
 
 -- 16 at a rule without or with two colons, without a space before a name, with a space at the end or two in a row, with a
 -- malformed name on the left or on the right
-cause-16-rules : (read "terminals=a\nnonterminals=S\nrule=S\n" ≡ refused 16 3)
+cause_16_rules : (read "terminals=a\nnonterminals=S\nrule=S\n" ≡ refused 16 3)
     × (read "terminals=a\nnonterminals=S\nrule=S: a:\n" ≡ refused 16 3)
     × (read "terminals=a\nnonterminals=S\nrule=S:a\n" ≡ refused 16 3)
     × (read "terminals=a\nnonterminals=S\nrule=S: a \n" ≡ refused 16 3)
@@ -231,87 +231,87 @@ cause-16-rules : (read "terminals=a\nnonterminals=S\nrule=S\n" ≡ refused 16 3)
     × (read "terminals=a\nnonterminals=S\nrule=S : a\n" ≡ refused 16 3)
     × (read "terminals=a\nnonterminals=S\nrule=S: a\nrule=S: _\n" ≡ refused 16 4)
 unfolding read
-cause-16-rules = (refl, refl, refl, refl, refl, refl, refl, refl, refl)
+cause_16_rules = (refl, refl, refl, refl, refl, refl, refl, refl, refl)
 
 -- 18 at the line that declares a name again, in whatever case
-cause-18 : (read "terminals=a,b,a\nnonterminals=S\n" ≡ refused 18 1)
+cause_18 : (read "terminals=a,b,a\nnonterminals=S\n" ≡ refused 18 1)
     × (read "terminals=a\nnonterminals=S,S\n" ≡ refused 18 2)
     × (read "terminals=a,b\nnonterminals=S,b\n" ≡ refused 18 2)
     × (read "terminals=a,A\nnonterminals=S\n" ≡ refused 18 1)
     × (read "terminals=a\nnonterminals=S,s\n" ≡ refused 18 2)
     × (read "terminals=a,Take\nnonterminals=S,tAKE\n" ≡ refused 18 2)
 unfolding read
-cause-18 = (refl, refl, refl, refl, refl, refl)
+cause_18 = (refl, refl, refl, refl, refl, refl)
 
 -- 1 at the line with no nonterminal or with too many names
-cause-1 : (read "terminals=a\nnonterminals=\n" ≡ refused 1 2)
-    × (readSmall "terminals=a,b,c\nnonterminals=S\n" ≡ refused 1 1)
-    × (readSmall "terminals=\nnonterminals=S,T,U,V\n" ≡ refused 1 2)
-    × (readSmall "terminals=a,b\nnonterminals=S,T,U\n" ≡ done (source ("a" ∷ "b" ∷ []) ("S" ∷ "T" ∷ "U" ∷ []) []))
-unfolding readSmall
-cause-1 = (refl, refl, refl, refl)
+cause_1 : (read "terminals=a\nnonterminals=\n" ≡ refused 1 2)
+    × (read_small "terminals=a,b,c\nnonterminals=S\n" ≡ refused 1 1)
+    × (read_small "terminals=\nnonterminals=S,T,U,V\n" ≡ refused 1 2)
+    × (read_small "terminals=a,b\nnonterminals=S,T,U\n" ≡ done (source ("a" ∷ "b" ∷ []) ("S" ∷ "T" ∷ "U" ∷ []) []))
+unfolding read_small
+cause_1 = (refl, refl, refl, refl)
 
 -- 17 at a rule with an unknown name, or a terminal's on the left
-cause-17 : (read "terminals=a\nnonterminals=S\nrule=S: b\n" ≡ refused 17 3)
+cause_17 : (read "terminals=a\nnonterminals=S\nrule=S: b\n" ≡ refused 17 3)
     × (read "terminals=a\nnonterminals=S\nrule=T: a\n" ≡ refused 17 3)
     × (read "terminals=a\nnonterminals=S\nrule=a: a\n" ≡ refused 17 3)
     × (read "terminals=a\nnonterminals=S\nrule=S: S-\n" ≡ refused 17 3)
     × (read "terminals=a\nnonterminals=S\nrule=S: a\nrule=S: aa\n" ≡ refused 17 4)
 unfolding read
-cause-17 = (refl, refl, refl, refl, refl)
+cause_17 = (refl, refl, refl, refl, refl)
 
 -- 4 at a rule of 13 names, not of 12
-cause-4 : (read "terminals=a\nnonterminals=S\nrule=S: a a a a a a a a a a a a a\n" ≡ refused 4 3)
+cause_4 : (read "terminals=a\nnonterminals=S\nrule=S: a a a a a a a a a a a a a\n" ≡ refused 4 3)
     × (read "terminals=a\nnonterminals=S\nrule=S: a a a a a a a a a a a a\n"
     ≡ done (source ("a" ∷ []) ("S" ∷ []) (rule 128 (replicate 12 1) ∷ [])))
 unfolding read
-cause-4 = (refl, refl)
+cause_4 = (refl, refl)
 
 -- 16 at line 0 for a text of 46 bytes, not of 45
-too_long : (readSmall "terminals=a\nnonterminals=S\nrule=S: aaaaaaaaa\n" ≡ refused 17 3)
-    × (readSmall "terminals=a\nnonterminals=S\nrule=S: aaaaaaaaaa\n" ≡ refused 16 0)
-unfolding readSmall
+too_long : (read_small "terminals=a\nnonterminals=S\nrule=S: aaaaaaaaa\n" ≡ refused 17 3)
+    × (read_small "terminals=a\nnonterminals=S\nrule=S: aaaaaaaaaa\n" ≡ refused 16 0)
+unfolding read_small
 too_long = (refl, refl)
 
 -- in a line 16 before 18 before 1, and 16 before 17 before 4; the first line with a fault counts
-reader-order : (read "terminals=a,a,_\nnonterminals=S\n" ≡ refused 16 1)
-    × (readSmall "terminals=a,b,a\nnonterminals=S\n" ≡ refused 18 1)
+reader_order : (read "terminals=a,a,_\nnonterminals=S\n" ≡ refused 16 1)
+    × (read_small "terminals=a,b,a\nnonterminals=S\n" ≡ refused 18 1)
     × (read "terminals=a\nnonterminals=S\nrule=T: b _\n" ≡ refused 16 3)
     × (read "terminals=a\nnonterminals=S\nrule=S: a a a a a a a a a a a a b\n" ≡ refused 17 3)
     × (read "terminals=a,a\nnonterminals=\nrule\n" ≡ refused 18 1)
     × (read "terminals=a\nnonterminals=\nrule\n" ≡ refused 1 2)
     × (read "terminals=a\nnonterminals=S\nrule=S: b\nrule" ≡ refused 17 3)
-unfolding readSmall
-reader-order = (refl, refl, refl, refl, refl, refl, refl)
+unfolding read_small
+reader_order = (refl, refl, refl, refl, refl, refl, refl)
 
 -- 7, 6 and 8 at the rule's offset in the table, in this order, and after all lines; a rule in another case is the same rule
-rules-order : (check small "terminals=a\nnonterminals=S\nrule=S:\nrule=S:\n" ≡ refused 7 2)
+rules_order : (check small "terminals=a\nnonterminals=S\nrule=S:\nrule=S:\n" ≡ refused 7 2)
     × (check roomy "terminals=a\nnonterminals=S\nrule=S: a\nrule=S: a\n" ≡ refused 6 3)
     × (check roomy "terminals=a\nnonterminals=S\nrule=S:\nrule=S: a\n" ≡ refused 8 2)
     × (check roomy "terminals=a\nnonterminals=S\nrule=S: a\n" ≡ done (source ("a" ∷ []) ("S" ∷ []) (rule 10 (1 ∷ []) ∷ [])))
-    × (check byteLimits "terminals=a\nnonterminals=S\nrule=S: a\nrule=S:\nrule=S: a\n" ≡ refused 6 5)
-    × (check byteLimits "terminals=a\nnonterminals=S\nrule=S: a\nrule=S: a\nrule=S: b\n" ≡ refused 17 5)
-    × (check byteLimits "terminals=a\nnonterminals=S\nrule=S: a\nrule=s: A\n" ≡ refused 6 3)
+    × (check byte_limits "terminals=a\nnonterminals=S\nrule=S: a\nrule=S:\nrule=S: a\n" ≡ refused 6 5)
+    × (check byte_limits "terminals=a\nnonterminals=S\nrule=S: a\nrule=S: a\nrule=S: b\n" ≡ refused 17 5)
+    × (check byte_limits "terminals=a\nnonterminals=S\nrule=S: a\nrule=s: A\n" ≡ refused 6 3)
 unfolding check
-rules-order = (refl, refl, refl, refl, refl, refl, refl)
+rules_order = (refl, refl, refl, refl, refl, refl, refl)
 
 -- 19 at 0 where S has no finite tree, after 8 and before 14; one whose only sentence is empty passes
-cause-19 : (check byteLimits "terminals=a\nnonterminals=S\n" ≡ refused 19 0)
-    × (check byteLimits "terminals=a\nnonterminals=S,B\nrule=S: a B\nrule=B: S\n" ≡ refused 19 0)
+cause_19 : (check byte_limits "terminals=a\nnonterminals=S\n" ≡ refused 19 0)
+    × (check byte_limits "terminals=a\nnonterminals=S,B\nrule=S: a B\nrule=B: S\n" ≡ refused 19 0)
     × (check roomy "terminals=a\nnonterminals=S\nrule=S: S\nrule=S: S\n" ≡ refused 6 3)
     × (into 0 0 0 "terminals=a\nnonterminals=S\nrule=S: S\n" ≡ refused 19 0)
-    × (check byteLimits "terminals=\nnonterminals=S\nrule=S:\n" ≡ done (source [] ("S" ∷ []) (rule 128 [] ∷ [])))
+    × (check byte_limits "terminals=\nnonterminals=S\nrule=S:\n" ≡ done (source [] ("S" ∷ []) (rule 128 [] ∷ [])))
 unfolding check into
-cause-19 = (refl, refl, refl, refl, refl)
+cause_19 = (refl, refl, refl, refl, refl)
 
 -- 14 at 0 where a lent row is short of 3 entries, 2 starts or 2 lengths, and after all else
-cause-14 : (into 3 2 2 "terminals=a\nnonterminals=S\nrule=S: a\n" ≡ done (source ("a" ∷ []) ("S" ∷ []) (rule 128 (1 ∷ []) ∷ [])))
+cause_14 : (into 3 2 2 "terminals=a\nnonterminals=S\nrule=S: a\n" ≡ done (source ("a" ∷ []) ("S" ∷ []) (rule 128 (1 ∷ []) ∷ [])))
     × (into 2 2 2 "terminals=a\nnonterminals=S\nrule=S: a\n" ≡ refused 14 0)
     × (into 3 1 2 "terminals=a\nnonterminals=S\nrule=S: a\n" ≡ refused 14 0)
     × (into 3 2 1 "terminals=a\nnonterminals=S\nrule=S: a\n" ≡ refused 14 0)
     × (into 0 0 0 "terminals=a\nnonterminals=S\nrule=S: a\nrule=S: a\n" ≡ refused 6 3)
 unfolding into
-cause-14 = (refl, refl, refl, refl, refl)
+cause_14 = (refl, refl, refl, refl, refl)
 
 -- ---- the writer
 
@@ -332,51 +332,51 @@ unfolding bytes name_at
 lent-names = (refl, refl, refl, refl)
 
 -- 16 at the symbol without a start, without a length, past the bytes, or with a malformed name
-writer-16 : (write 1 1 (128 ∷ 0 ∷ []) "aS" (0 ∷ []) (1 ∷ 1 ∷ []) 100 ≡ refused 16 1)
+writer_16 : (write 1 1 (128 ∷ 0 ∷ []) "aS" (0 ∷ []) (1 ∷ 1 ∷ []) 100 ≡ refused 16 1)
     × (write 1 1 (128 ∷ 0 ∷ []) "aS" (0 ∷ 1 ∷ []) (1 ∷ []) 100 ≡ refused 16 1)
     × (write 1 1 (128 ∷ 0 ∷ []) "aS" (0 ∷ 1 ∷ []) (1 ∷ 2 ∷ []) 100 ≡ refused 16 1)
     × (write 1 1 (128 ∷ 0 ∷ []) "_S" (0 ∷ 1 ∷ []) (1 ∷ 1 ∷ []) 100 ≡ refused 16 0)
     × (write 1 1 (128 ∷ 0 ∷ []) "aS" (0 ∷ 1 ∷ []) (0 ∷ 1 ∷ []) 100 ≡ refused 16 0)
 unfolding write
-writer-16 = (refl, refl, refl, refl, refl)
+writer_16 = (refl, refl, refl, refl, refl)
 
 -- 18 at the lowest symbol whose name an earlier one has, in whatever case; names are written as they are lent
-writer-18 : (write 2 2 (128 ∷ 0 ∷ []) "ab" (0 ∷ 1 ∷ 0 ∷ 1 ∷ []) (1 ∷ 1 ∷ 1 ∷ 1 ∷ []) 100 ≡ refused 18 2)
+writer_18 : (write 2 2 (128 ∷ 0 ∷ []) "ab" (0 ∷ 1 ∷ 0 ∷ 1 ∷ []) (1 ∷ 1 ∷ 1 ∷ 1 ∷ []) 100 ≡ refused 18 2)
     × (write 1 2 (128 ∷ 0 ∷ []) "ab" (1 ∷ 0 ∷ 0 ∷ []) (1 ∷ 1 ∷ 1 ∷ []) 100 ≡ refused 18 2)
     × (write 1 1 (128 ∷ 0 ∷ []) "sS" (0 ∷ 1 ∷ []) (1 ∷ 1 ∷ []) 100 ≡ refused 18 1)
     × (write 1 1 (128 ∷ 1 ∷ 1 ∷ []) "TAKEs" (0 ∷ 4 ∷ []) (4 ∷ 1 ∷ []) 100
     ≡ done (bytes "terminals=TAKE\nnonterminals=s\nrule=s: TAKE\n"))
 unfolding write
-writer-18 = (refl, refl, refl, refl)
+writer_18 = (refl, refl, refl, refl)
 
 -- table faults before 16 before 18 before 14
-writer-order : (write 1 0 [] "" [] [] 0 ≡ refused 1 0)
+writer_order : (write 1 0 [] "" [] [] 0 ≡ refused 1 0)
     × (write 1 1 (128 ∷ 1 ∷ 2 ∷ []) "" [] [] 0 ≡ refused 5 2)
     × (write 1 1 [] "" [] [] 0 ≡ refused 19 0)
     × (write 2 1 (128 ∷ 0 ∷ []) "a_" (0 ∷ 0 ∷ 1 ∷ []) (1 ∷ 1 ∷ 1 ∷ []) 0 ≡ refused 16 2)
     × (write 1 1 (128 ∷ 0 ∷ []) "a" (0 ∷ 0 ∷ []) (1 ∷ 1 ∷ []) 0 ≡ refused 18 1)
 unfolding write
-writer-order = (refl, refl, refl, refl, refl)
+writer_order = (refl, refl, refl, refl, refl)
 
 -- ---- the length told beforehand
 
 -- the bytes that the writer writes, the last line's end counted; a name one byte longer in each of its two lines; an empty right side
-told-lengths : (toldLength 1 1 (128 ∷ 1 ∷ 1 ∷ []) "Sa" (1 ∷ 0 ∷ []) (1 ∷ 1 ∷ []) ≡ Bytes 37)
-    × (toldLength 1 1 (128 ∷ 1 ∷ 1 ∷ []) "Sab" (1 ∷ 0 ∷ []) (2 ∷ 1 ∷ []) ≡ Bytes 39)
-    × (toldLength 0 1 (128 ∷ 0 ∷ []) "S" (0 ∷ []) (1 ∷ []) ≡ Bytes 34)
-unfolding toldLength
+told-lengths : (told_length 1 1 (128 ∷ 1 ∷ 1 ∷ []) "Sa" (1 ∷ 0 ∷ []) (1 ∷ 1 ∷ []) ≡ Bytes 37)
+    × (told_length 1 1 (128 ∷ 1 ∷ 1 ∷ []) "Sab" (1 ∷ 0 ∷ []) (2 ∷ 1 ∷ []) ≡ Bytes 39)
+    × (told_length 0 1 (128 ∷ 0 ∷ []) "S" (0 ∷ []) (1 ∷ []) ≡ Bytes 34)
+unfolding told_length
 told-lengths = (refl, refl, refl)
 
 -- the writer's refusals but 14, in its order: table faults, 19 the last of them, then 16, then 18
-told-refusals : (toldLength 1 0 [] "" [] [] ≡ Refused 1 0)
-    × (toldLength 1 1 (128 ∷ 1 ∷ 2 ∷ []) "" [] [] ≡ Refused 5 2)
-    × (toldLength 1 1 [] "" [] [] ≡ Refused 19 0)
-    × (toldLength 1 1 (128 ∷ 0 ∷ []) "aS" (0 ∷ 1 ∷ []) (1 ∷ []) ≡ Refused 16 1)
-    × (toldLength 2 1 (128 ∷ 0 ∷ []) "a_" (0 ∷ 0 ∷ 1 ∷ []) (1 ∷ 1 ∷ 1 ∷ []) ≡ Refused 16 2)
-    × (toldLength 1 1 (128 ∷ 0 ∷ []) "a" (0 ∷ 0 ∷ []) (1 ∷ 1 ∷ []) ≡ Refused 18 1)
-    × (toldLength 1 1 (128 ∷ 0 ∷ []) "aA" (0 ∷ 1 ∷ []) (1 ∷ 1 ∷ []) ≡ Refused 18 1)
-unfolding toldLength
-told-refusals = (refl, refl, refl, refl, refl, refl, refl)
+told_refusals : (told_length 1 0 [] "" [] [] ≡ Refused 1 0)
+    × (told_length 1 1 (128 ∷ 1 ∷ 2 ∷ []) "" [] [] ≡ Refused 5 2)
+    × (told_length 1 1 [] "" [] [] ≡ Refused 19 0)
+    × (told_length 1 1 (128 ∷ 0 ∷ []) "aS" (0 ∷ 1 ∷ []) (1 ∷ []) ≡ Refused 16 1)
+    × (told_length 2 1 (128 ∷ 0 ∷ []) "a_" (0 ∷ 0 ∷ 1 ∷ []) (1 ∷ 1 ∷ 1 ∷ []) ≡ Refused 16 2)
+    × (told_length 1 1 (128 ∷ 0 ∷ []) "a" (0 ∷ 0 ∷ []) (1 ∷ 1 ∷ []) ≡ Refused 18 1)
+    × (told_length 1 1 (128 ∷ 0 ∷ []) "aA" (0 ∷ 1 ∷ []) (1 ∷ 1 ∷ []) ≡ Refused 18 1)
+unfolding told_length
+told_refusals = (refl, refl, refl, refl, refl, refl, refl)
 
 -- ---- the limits in force
 
@@ -387,13 +387,13 @@ unfolding code_of symbol_of
 wide-codes = (refl, refl)
 
 -- 16 at line 0 for a text of 262,145 bytes; one of 262,144 bytes is read by its lines
-wide-texts : (text : List ℕ)
-    → (length text ≡ 262145 → readText limits text ≡ refused 16 0)
-    × (length text ≡ 262144 → readText limits text ≡ readLines limits (splitOn 10 text))
-unfolding readText
-wide-texts text =
-    let m = limits.maxText in
+wide_texts : (text : List ℕ)
+    → (length text ≡ 262145 → read_text limits text ≡ refused 16 0)
+    × (length text ≡ 262144 → read_text limits text ≡ read_lines limits (split_on 10 text))
+unfolding read_text
+wide_texts text =
+    let m = limits.max_text in
     let test = leb (length text) m in (
-      λ e. unless-fails 16 0 test (readLines limits (splitOn 10 text)) (lt-leb (length text) m (omega (arith, e))),
-      λ e. unless_holds 16 0 test (readLines limits (splitOn 10 text)) (le-leb (length text) m (omega (arith, e))),
+      λ e. unless_fails 16 0 test (read_lines limits (split_on 10 text)) (lt-leb (length text) m (omega (arith, e))),
+      λ e. unless_holds 16 0 test (read_lines limits (split_on 10 text)) (le-leb (length text) m (omega (arith, e))),
     )

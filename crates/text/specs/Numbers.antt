@@ -5,24 +5,24 @@ use Rattle.grammar.specs.Basics.{choose}
 use Rattle.text.specs.Names.{within, all}
 
 -- the last m digits of a number in decimal, or all where there are fewer
-unfoldable pub decimalTo : ℕ → ℕ → List ℕ
-decimalTo zero x = []
-decimalTo (suc m) x = choose (ltb x 10) ((48 + x) ∷ []) (decimalTo m (x / 10) ++ ((48 + x % 10) ∷ []))
+unfoldable pub decimal_to : ℕ → ℕ → List ℕ
+decimal_to zero x = []
+decimal_to (suc m) x = choose (ltb x 10) ((48 + x) ∷ []) (decimal_to m (x / 10) ++ ((48 + x % 10) ∷ []))
 
 -- a number in decimal: x has no more than x + 1 digits
 abbrev pub decimal : ℕ → List ℕ
-decimal x = decimalTo (suc x) x
+decimal x = decimal_to (suc x) x
 
 -- the number that digits say, after those that say `before`
-unfoldable pub numberFrom : ℕ → List ℕ → ℕ
-numberFrom before [] = before
-numberFrom before (b ∷ s) = numberFrom (before * 10 + (b - 48)) s
+unfoldable pub number_from : ℕ → List ℕ → ℕ
+number_from before [] = before
+number_from before (b ∷ s) = number_from (before * 10 + (b - 48)) s
 
 -- a digit
-abbrev pub isDigit : ℕ → Bool
-isDigit b = within 48 57 b
+abbrev pub is_digit : ℕ → Bool
+is_digit b = within 48 57 b
 
 -- one digit or more, without leading zeros
-unfoldable pub isDecimal : List ℕ → Bool
-isDecimal [] = false
-isDecimal (b ∷ s) = all isDigit (b ∷ s) && (eqb (length s) 0 || not (eqb b 48))
+unfoldable pub is_decimal : List ℕ → Bool
+is_decimal [] = false
+is_decimal (b ∷ s) = all is_digit (b ∷ s) && (eqb (length s) 0 || not (eqb b 48))

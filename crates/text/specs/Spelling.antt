@@ -3,40 +3,40 @@
 -- Assumes nothing.
 use Rattle.std.specs.Prelude.{ℕ, ◌≡◌, List, [], ◌∷◌, ◌++◌, map, get_or}
 use Rattle.std.proofs.Math.Option.{Option, none, some}
-use Rattle.text.specs.Pieces.{lineEnd, colon, space, equals, splitOn, ledBy, join}
+use Rattle.text.specs.Pieces.{line_end, colon, space, equals, split_on, led_by, join}
 use Rattle.text.specs.Keys.{key, value_of}
-use Rattle.text.specs.Read.{Sides, sidesOf, number_of}
+use Rattle.text.specs.Read.{Sides, sides_of, number_of}
 
 -- the spelling in which a name is declared; a name that is not declared keeps its own
 unfoldable pub spelling : List (List ℕ) → List ℕ → List ℕ
 spelling names x = get_or names (number_of names x) x
 
 -- a rule's line by its two sides, each name in its declared spelling
-abbrev pub spelledSides : List (List ℕ) → Sides → List ℕ
-spelledSides names s = key 2 ++ equals ∷ (spelling names s.head ++ colon ∷ ledBy space (map (spelling names) s.body))
+abbrev pub spelled_sides : List (List ℕ) → Sides → List ℕ
+spelled_sides names s = key 2 ++ equals ∷ (spelling names s.head ++ colon ∷ led_by space (map (spelling names) s.body))
 
 -- the same of a line; one that is no rule's stays
-abbrev pub orLine : List ℕ → List (List ℕ) → Option Sides → List ℕ
-orLine line names none = line
-orLine line names (some s) = spelledSides names s
+abbrev pub or_line : List ℕ → List (List ℕ) → Option Sides → List ℕ
+or_line line names none = line
+or_line line names (some s) = spelled_sides names s
 
-abbrev pub valueSides : Option (List ℕ) → Option Sides
-valueSides none = none
-valueSides (some v) = sidesOf (splitOn colon v)
+abbrev pub value_sides : Option (List ℕ) → Option Sides
+value_sides none = none
+value_sides (some v) = sides_of (split_on colon v)
 
-unfoldable pub spelledLine : List (List ℕ) → List ℕ → List ℕ
-spelledLine names line = orLine line names (valueSides (value_of (key 2) line))
+unfoldable pub spelled_line : List (List ℕ) → List ℕ → List ℕ
+spelled_line names line = or_line line names (value_sides (value_of (key 2) line))
 
 -- the lines of a text: the two that declare stay
-unfoldable pub spelledLines : List (List ℕ) → List (List ℕ) → List (List ℕ)
-spelledLines names [] = []
-spelledLines names (first ∷ []) = first ∷ []
-spelledLines names (first ∷ second ∷ rest) = first ∷ second ∷ map (spelledLine names) rest
+unfoldable pub spelled_lines : List (List ℕ) → List (List ℕ) → List (List ℕ)
+spelled_lines names [] = []
+spelled_lines names (first ∷ []) = first ∷ []
+spelled_lines names (first ∷ second ∷ rest) = first ∷ second ∷ map (spelled_line names) rest
 
 -- the text with each use of a name in its declared spelling
-unfoldable pub spelledText : List (List ℕ) → List ℕ → List ℕ
-spelledText names text = join lineEnd (spelledLines names (splitOn lineEnd text))
+unfoldable pub spelled_text : List (List ℕ) → List ℕ → List ℕ
+spelled_text names text = join line_end (spelled_lines names (split_on line_end text))
 
 -- each use of a name in a text has its declared spelling already
 abbrev pub AsDeclared : List (List ℕ) → List ℕ → Type 0
-AsDeclared names text = spelledText names text ≡ text
+AsDeclared names text = spelled_text names text ≡ text

@@ -10,27 +10,27 @@ use lib.ListN.{length, take, drop, length-drop}
 use lib.Seq.{drop-drop, length-take-le, take-take}
 use Rattle.grammar.specs.Limits.{limits}
 use Rattle.grammar.specs.Refusal.{Answer, refused, and_then}
-use Rattle.grammar.proofs.Answers.{then-goes, then-stops}
-use Rattle.text.specs.Pieces.{splitOn}
+use Rattle.grammar.proofs.Answers.{then-goes, then_stops}
+use Rattle.text.specs.Pieces.{split_on}
 use Rattle.text.specs.Keys.{key, value_of}
-use Rattle.text.specs.Read.{names_of, declaration, wholeLine, readLines}
-use Rattle.text.proofs.Pieces.{split-pos}
+use Rattle.text.specs.Read.{names_of, declaration, whole_line, read_lines}
+use Rattle.text.proofs.Pieces.{split_pos}
 use Rattle.text.proofs.ReadPrinted.{whole-step}
 use Rattle.names.specs.Found.{index, part}
-use Rattle.names.proofs.Pieces.{piece-more, piece-last}
+use Rattle.names.proofs.Pieces.{piece_more, piece_last}
 use Rattle.text_read.specs.declared.Declared.{Declared}
 use Rattle.text_read.specs.declared.Declared.TheVariants.{Names, Fault}
 use Rattle.text_read.specs.Values.{HasValue, NamesHeld, NamesAt, DeclaredTold, DeclaredHeld}
-use Rattle.text_read.specs.Texts.{readSecond, FirstHead, HeadsAt}
+use Rattle.text_read.specs.Texts.{read_second, FirstHead, HeadsAt}
 
 -- what the answer of a declaring line tells
 module _ (at k lo hi : ℕ) (earlier : List (List ℕ)) (text : List ℕ) (a e : ℕ) (r : Declared) where
   pub told_names : (b count : ℕ) → r ≡ Names b count → DeclaredTold at k lo hi earlier text a e r → NamesAt at k lo hi earlier text a e b count
   told_names b count q t = subst (λ (r : Declared). DeclaredTold at k lo hi earlier text a e r) q t
 
-  pub told-fault : (cause place : ℕ) → r ≡ Fault cause place → DeclaredTold at k lo hi earlier text a e r
+  pub told_fault : (cause place : ℕ) → r ≡ Fault cause place → DeclaredTold at k lo hi earlier text a e r
       → declaration at k lo hi earlier (part a e text) ≡ refused cause place
-  told-fault cause place q t = subst (λ (r : Declared). DeclaredTold at k lo hi earlier text a e r) q t
+  told_fault cause place q t = subst (λ (r : Declared). DeclaredTold at k lo hi earlier text a e r) q t
 
 pub told-held : (text : List ℕ) (e from : ℕ) (starts lengths starts' lengths' links' : List ℕ) (r : Declared) (b count : ℕ) → r ≡ Names b count
     → DeclaredHeld text e from starts lengths starts' lengths' links' r → NamesHeld text b e from starts lengths starts' lengths' links' count
@@ -38,8 +38,8 @@ told-held text e from starts lengths starts' lengths' links' r b count q t =
     subst (λ (r : Declared). DeclaredHeld text e from starts lengths starts' lengths' links' r) q t
 
 -- one that lacks its byte 10 is refused
-whole-last : {B : Type 0} (at : ℕ) (p : List ℕ) (go : List ℕ → List (List ℕ) → Answer B) → wholeLine at (p ∷ []) go ≡ refused 16 at
-unfolding wholeLine
+whole-last : {B : Type 0} (at : ℕ) (p : List ℕ) (go : List ℕ → List (List ℕ) → Answer B) → whole_line at (p ∷ []) go ≡ refused 16 at
+unfolding whole_line
 whole-last at p go = refl
 
 -- the value's part of a line's part of the text
@@ -72,22 +72,22 @@ line-value k text a e start end l m h =
 -- ---- the first line
 
 module _ (text : List ℕ) (e : ℕ) (found : e ≡ 0 + index 10 (drop 0 text)) where
-  pub first-missing : length text ≤ e → readLines limits (splitOn 10 text) ≡ refused 16 1
-  unfolding readLines
-  first-missing h = ap (readLines limits) (piece-last 10 text 0 e (omega arith) found h) ∙ whole-last 1 (part 0 e text) _
+  pub first-missing : length text ≤ e → read_lines limits (split_on 10 text) ≡ refused 16 1
+  unfolding read_lines
+  first-missing h = ap (read_lines limits) (piece_last 10 text 0 e (omega arith) found h) ∙ whole-last 1 (part 0 e text) _
 
   module _ (inside : e < length text) where
-    first_on : readLines limits (splitOn 10 text)
-        ≡ and_then (declaration 1 0 0 limits.maxTerminals [] (part 0 e text)) (λ ts. wholeLine 2 (splitOn 10 (drop (e + 1) text)) (readSecond ts))
-    unfolding readLines
-    first_on = ap (readLines limits) (piece-more 10 text 0 e (omega arith) found inside)
-        ∙ whole-step 1 (part 0 e text) (splitOn 10 (drop (e + 1) text)) _ (split-pos 10 _)
+    first_on : read_lines limits (split_on 10 text)
+        ≡ and_then (declaration 1 0 0 limits.max_terminals [] (part 0 e text)) (λ ts. whole_line 2 (split_on 10 (drop (e + 1) text)) (read_second ts))
+    unfolding read_lines
+    first_on = ap (read_lines limits) (piece_more 10 text 0 e (omega arith) found inside)
+        ∙ whole-step 1 (part 0 e text) (split_on 10 (drop (e + 1) text)) _ (split_pos 10 _)
 
-    pub first-fault : (c p : ℕ) → declaration 1 0 0 limits.maxTerminals [] (part 0 e text) ≡ refused c p
-        → readLines limits (splitOn 10 text) ≡ refused c p
-    first-fault c p q = first_on ∙ then-stops _ _ c p q
+    pub first_fault : (c p : ℕ) → declaration 1 0 0 limits.max_terminals [] (part 0 e text) ≡ refused c p
+        → read_lines limits (split_on 10 text) ≡ refused c p
+    first_fault c p q = first_on ∙ then_stops _ _ c p q
 
-    pub first-names : (b count : ℕ) → NamesAt 1 0 0 limits.maxTerminals [] text 0 e b count → length text ≤ limits.maxText → FirstHead text b e count
+    pub first-names : (b count : ℕ) → NamesAt 1 0 0 limits.max_terminals [] text 0 e b count → length text ≤ limits.max_text → FirstHead text b e count
     first-names b count n short = record {
       starts = n.starts ∙ zero-add (length (key 0) + 1);
       inside = n.inside;
@@ -101,25 +101,25 @@ module _ (text : List ℕ) (e : ℕ) (found : e ≡ 0 + index 10 (drop 0 text)) 
 -- ---- the second line
 
 module _ (text : List ℕ) (a e t : ℕ) (h : FirstHead text a e t) (f : ℕ) (found : f ≡ e + 1 + index 10 (drop (e + 1) text)) where
-  pub second-missing : length text ≤ f → readLines limits (splitOn 10 text) ≡ refused 16 2
+  pub second-missing : length text ≤ f → read_lines limits (split_on 10 text) ≡ refused 16 2
   second-missing k =
       h.lines
-      ∙ ap (λ ls. wholeLine 2 ls (readSecond (names_of (part a e text)))) (piece-last 10 text (e + 1) f (omega (arith, h.ends)) found k)
-      ∙ whole-last 2 (part (e + 1) f text) (readSecond (names_of (part a e text)))
+      ∙ ap (λ ls. whole_line 2 ls (read_second (names_of (part a e text)))) (piece_last 10 text (e + 1) f (omega (arith, h.ends)) found k)
+      ∙ whole-last 2 (part (e + 1) f text) (read_second (names_of (part a e text)))
 
   module _ (inside : f < length text) where
-    second-on : readLines limits (splitOn 10 text)
-        ≡ readSecond (names_of (part a e text)) (part (e + 1) f text) (splitOn 10 (drop (f + 1) text))
+    second-on : read_lines limits (split_on 10 text)
+        ≡ read_second (names_of (part a e text)) (part (e + 1) f text) (split_on 10 (drop (f + 1) text))
     second-on =
         h.lines
-        ∙ ap (λ ls. wholeLine 2 ls (readSecond (names_of (part a e text)))) (piece-more 10 text (e + 1) f (omega (arith, h.ends)) found inside)
-        ∙ whole-step 2 (part (e + 1) f text) (splitOn 10 (drop (f + 1) text)) (readSecond (names_of (part a e text))) (split-pos 10 _)
+        ∙ ap (λ ls. whole_line 2 ls (read_second (names_of (part a e text)))) (piece_more 10 text (e + 1) f (omega (arith, h.ends)) found inside)
+        ∙ whole-step 2 (part (e + 1) f text) (split_on 10 (drop (f + 1) text)) (read_second (names_of (part a e text))) (split_pos 10 _)
 
-    pub second-fault : (c p : ℕ) → declaration 2 1 1 limits.maxNonterminals (names_of (part a e text)) (part (e + 1) f text) ≡ refused c p
-        → readLines limits (splitOn 10 text) ≡ refused c p
-    second-fault c p q = second-on ∙ then-stops _ _ c p q
+    pub second_fault : (c p : ℕ) → declaration 2 1 1 limits.max_nonterminals (names_of (part a e text)) (part (e + 1) f text) ≡ refused c p
+        → read_lines limits (split_on 10 text) ≡ refused c p
+    second_fault c p q = second-on ∙ then_stops _ _ c p q
 
-    pub second-names : (b count : ℕ) → NamesAt 2 1 1 limits.maxNonterminals (names_of (part a e text)) text (e + 1) f b count
+    pub second-names : (b count : ℕ) → NamesAt 2 1 1 limits.max_nonterminals (names_of (part a e text)) text (e + 1) f b count
         → HeadsAt text a e b f t count
     second-names b count n = record {
       first = h.starts;

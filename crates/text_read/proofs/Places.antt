@@ -6,10 +6,10 @@ use mathlib.Core.List.{List, ◌++◌}
 use lib.ListN.{length, take, drop, take-append-drop}
 use Rattle.text.specs.Pieces.{join}
 use Rattle.text.specs.Read.{names_of}
-use Rattle.text.specs.Promise.{startsFrom, nameLengths}
+use Rattle.text.specs.Promise.{starts_from, name_lengths}
 use Rattle.text.proofs.PrintRead.{join_names}
 use Rattle.text.specs.Spelled.{spelled}
-use Rattle.text.proofs.Spans.{length-starts, length-lengths, spans-spell, spelled-append}
+use Rattle.text.proofs.Spans.{length-starts, length-lengths, spans_spell, spelled_append}
 use Rattle.names.specs.Found.{part}
 use Rattle.text_read.specs.Texts.{HeadsAt}
 
@@ -23,15 +23,15 @@ value-stands text a e =
 -- ---- both lines
 
 module _ (text : List ℕ) (a e b f t n : ℕ) (h : HeadsAt text a e b f t n) (starts lengths : List ℕ)
-    (s : take (t + n) starts ≡ startsFrom a (names_of (part a e text)) ++ startsFrom b (names_of (part b f text)))
-    (l : take (t + n) lengths ≡ nameLengths (names_of (part a e text)) ++ nameLengths (names_of (part b f text))) where
-  even : length (startsFrom a (names_of (part a e text))) ≡ length (nameLengths (names_of (part a e text)))
+    (s : take (t + n) starts ≡ starts_from a (names_of (part a e text)) ++ starts_from b (names_of (part b f text)))
+    (l : take (t + n) lengths ≡ name_lengths (names_of (part a e text)) ++ name_lengths (names_of (part b f text))) where
+  even : length (starts_from a (names_of (part a e text))) ≡ length (name_lengths (names_of (part a e text)))
   even = length-starts a (names_of (part a e text)) ∙ sym (length-lengths (names_of (part a e text)))
 
-  pub heads-spelled : spelled text (take (t + n) starts) (take (t + n) lengths) ≡ names_of (part a e text) ++ names_of (part b f text)
-  heads-spelled =
+  pub heads_spelled : spelled text (take (t + n) starts) (take (t + n) lengths) ≡ names_of (part a e text) ++ names_of (part b f text)
+  heads_spelled =
       let ts = names_of (part a e text) in
       let ns = names_of (part b f text) in
       ap₂ (spelled text) s l
-      ∙ spelled-append text (startsFrom a ts) (startsFrom b ns) (nameLengths ts) (nameLengths ns) even
-      ∙ ap₂ (λ xs ys. xs ++ ys) (spans-spell text a ts _ (value-stands text a e)) (spans-spell text b ns _ (value-stands text b f))
+      ∙ spelled_append text (starts_from a ts) (starts_from b ns) (name_lengths ts) (name_lengths ns) even
+      ∙ ap₂ (λ xs ys. xs ++ ys) (spans_spell text a ts _ (value-stands text a e)) (spans_spell text b ns _ (value-stands text b f))

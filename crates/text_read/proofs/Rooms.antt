@@ -10,19 +10,19 @@ use lib.Dec.{eqb, leb}
 use lib.ListN.{length, drop, replicate, length-drop, length-replicate}
 use lib.Seq.{length-take-le}
 use Rattle.grammar.specs.Basics.{choose}
-use Rattle.text.specs.Pieces.{onto, splitOn}
+use Rattle.text.specs.Pieces.{onto, split_on}
 use Rattle.text.specs.Read.{names_of}
 use Rattle.names.specs.Found.{part}
-use Rattle.text_read.specs.Values.{allNames, smaller, NameRows}
-use Rattle.text_read.specs.Lines.{ShapeAt, LineReady, keptRules, keptEntries}
-use Rattle.text_read.specs.Texts.{HeadsAt, smallText, Rows}
+use Rattle.text_read.specs.Values.{all_names, smaller, NameRows}
+use Rattle.text_read.specs.Lines.{ShapeAt, LineReady, kept_rules, kept_entries}
+use Rattle.text_read.specs.Texts.{HeadsAt, small_text, Rows}
 
 -- ---- the smaller of two numbers
 
 module _ (a b : ℕ) where
-  pub smaller-in : (m : ℕ) → m ≤ a → m ≤ b → m ≤ smaller a b
+  pub smaller_in : (m : ℕ) → m ≤ a → m ≤ b → m ≤ smaller a b
   unfolding smaller
-  smaller-in m h l = go (leb a b)
+  smaller_in m h l = go (leb a b)
     where
       go : (t : Bool) → m ≤ choose t a b
       go true = h
@@ -47,10 +47,10 @@ module _ (a b : ℕ) where
 -- ---- names
 
 -- there is one piece more than separators
-pub pieces-most : (c : ℕ) (s : List ℕ) → length (splitOn c s) ≤ length s + 1
-unfolding splitOn
-pieces-most c [] = omega arith
-pieces-most c (b ∷ s) = go (eqb b c) (splitOn c s) (pieces-most c s)
+pub pieces_most : (c : ℕ) (s : List ℕ) → length (split_on c s) ≤ length s + 1
+unfolding split_on
+pieces_most c [] = omega arith
+pieces_most c (b ∷ s) = go (eqb b c) (split_on c s) (pieces_most c s)
   where
     same : (ps : List (List ℕ)) → length (onto b ps) ≡ length ps
     same [] = refl
@@ -63,7 +63,7 @@ pieces-most c (b ∷ s) = go (eqb b c) (splitOn c s) (pieces-most c s)
 names-most : (v : List ℕ) → length (names_of v) ≤ length v + 1
 unfolding names_of
 names-most [] = omega arith
-names-most (b ∷ v) = pieces-most 44 (b ∷ v)
+names-most (b ∷ v) = pieces_most 44 (b ∷ v)
 
 pub part-names : (text : List ℕ) (b e : ℕ) → b ≤ e → e ≤ length text → length (names_of (part b e text)) ≤ e - b + 1
 part-names text b e h l =
@@ -71,8 +71,8 @@ part-names text b e h l =
     omega (arith, n, names-most (part b e text))
 
 -- both lines' names
-pub heads-most : (text : List ℕ) (a e b f t n : ℕ) → HeadsAt text a e b f t n → t + n ≤ length text
-heads-most text a e b f t n h =
+pub heads_most : (text : List ℕ) (a e b f t n : ℕ) → HeadsAt text a e b f t n → t + n ≤ length text
+heads_most text a e b f t n h =
     omega (
       arith,
       h.first,
@@ -91,14 +91,14 @@ heads-most text a e b f t n h =
 -- a rule has fewer entries than its value has bytes, and one
 pub rule-bytes : (v : List ℕ) (colon count : ℕ) → ShapeAt v colon count → count + 2 ≤ length v + 1
 rule-bytes v colon count h =
-    let n : length (splitOn 32 (drop (colon + 1) v)) ≡ 1 + length h.sides.body = ap length h.body ∙ omega arith in
-    omega (arith, pieces-most 32 (drop (colon + 1) v), length-drop (colon + 1) v, h.inside, h.counts, n)
+    let n : length (split_on 32 (drop (colon + 1) v)) ≡ 1 + length h.sides.body = ap length h.body ∙ omega arith in
+    omega (arith, pieces_most 32 (drop (colon + 1) v), length-drop (colon + 1) v, h.inside, h.counts, n)
 
 -- the row has room for a rule that is kept
 pub rule-room : (text starts lengths links : List ℕ) (t : ℕ) (row : List ℕ) (k end : ℕ) (v : List ℕ) (colon count : ℕ) → ShapeAt v colon count
-    → LineReady text starts lengths links t row k end (length v + 1) → k < keptRules → count ≤ 12 → end + 2 + count ≤ length row
+    → LineReady text starts lengths links t row k end (length v + 1) → k < kept_rules → count ≤ 12 → end + 2 + count ≤ length row
 rule-room text starts lengths links t row k end v colon count s h l m =
-    let x = smaller-in (length text) keptEntries (end + 2 + count) (omega (arith, h.fits, rule-bytes v colon count s)) (omega (arith, h.near)) in
+    let x = smaller_in (length text) kept_entries (end + 2 + count) (omega (arith, h.fits, rule-bytes v colon count s)) (omega (arith, h.near)) in
     omega (arith, x, h.enough)
 
 -- ---- rows
@@ -120,24 +120,24 @@ rows-kept h p q z = record {
 }
 
 -- local rows
-pub rows-small : (bytes : ℕ) → bytes ≤ smallText → Rows bytes (replicate smallText 0) (replicate smallText 0) (replicate smallText 0)
+pub rows-small : (bytes : ℕ) → bytes ≤ small_text → Rows bytes (replicate small_text 0) (replicate small_text 0) (replicate small_text 0)
 rows-small bytes h =
-    let z = length-replicate {A = ℕ} smallText 0 in
+    let z = length-replicate {A = ℕ} small_text 0 in
     record {
-      entries = omega (arith, z, smaller-first bytes keptEntries);
-      names = omega (arith, z, smaller-first bytes allNames);
+      entries = omega (arith, z, smaller-first bytes kept_entries);
+      names = omega (arith, z, smaller-first bytes all_names);
       some = omega (arith, z);
       paired = refl;
       most = omega (arith, z);
     }
 
-pub rows-large : (bytes : ℕ) → Rows bytes (replicate keptEntries 0) (replicate allNames 0) (replicate allNames 0)
+pub rows-large : (bytes : ℕ) → Rows bytes (replicate kept_entries 0) (replicate all_names 0) (replicate all_names 0)
 rows-large bytes =
-    let z = length-replicate {A = ℕ} keptEntries 0 in
-    let w = length-replicate {A = ℕ} allNames 0 in
+    let z = length-replicate {A = ℕ} kept_entries 0 in
+    let w = length-replicate {A = ℕ} all_names 0 in
     record {
-      entries = omega (arith, z, smaller-second bytes keptEntries);
-      names = omega (arith, w, smaller-second bytes allNames);
+      entries = omega (arith, z, smaller-second bytes kept_entries);
+      names = omega (arith, w, smaller-second bytes all_names);
       some = omega (arith, w);
       paired = refl;
       most = omega (arith, w);

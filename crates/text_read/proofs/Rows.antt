@@ -10,63 +10,63 @@ use native.Mathlib.Nat.{add-zero}
 use lib.ListN.{length, take, drop, get_or, set, length-set}
 use lib.Seq.{take-suc-set, take-suc, take-set-lt, take-length, length-take-le, drop-cons, append_snoc, set_at, set-append_left}
 use Rattle.grammar.specs.Basics.{over}
-use Rattle.text.specs.Pieces.{splitOn}
-use Rattle.text.specs.Promise.{startsFrom, nameLengths}
+use Rattle.text.specs.Pieces.{split_on}
+use Rattle.text.specs.Promise.{starts_from, name_lengths}
 use Rattle.names.specs.Found.{index}
-use Rattle.names.proofs.Pieces.{piece-more, piece-last, piece-from, length-piece}
+use Rattle.names.proofs.Pieces.{piece_more, piece_last, piece_from, length_piece}
 
 pub record Filling (at : ℕ) (old whole : List ℕ) (j : ℕ) (row rest : List ℕ) : Type 0 where
   pub long : length row ≡ length old
   pub front : take j row ++ rest ≡ take at old ++ whole
 
-pub filling-start : {at : ℕ} {old whole rest : List ℕ} → rest ≡ whole → Filling at old whole at old rest
-filling-start {at} {old} e = record { long = refl; front = ap (λ r. take at old ++ r) e }
+pub filling_start : {at : ℕ} {old whole rest : List ℕ} → rest ≡ whole → Filling at old whole at old rest
+filling_start {at} {old} e = record { long = refl; front = ap (λ r. take at old ++ r) e }
 
 module _ {at : ℕ} {old whole : List ℕ} {j : ℕ} {row : List ℕ} where
   -- one entry more
-  pub filling-put : {rest now : List ℕ} (x : ℕ) → j < length row → now ≡ x ∷ rest → Filling at old whole j row now
+  pub filling_put : {rest now : List ℕ} (x : ℕ) → j < length row → now ≡ x ∷ rest → Filling at old whole j row now
       → Filling at old whole (j + 1) (set row j x) rest
-  filling-put {rest} x h e f = record {
+  filling_put {rest} x h e f = record {
     long = length-set row j x ∙ f.long;
     front = rw (add-one, take-suc-set row j x h, append_assoc) (ap (λ r. take j row ++ r) (sym e) ∙ f.front);
   }
 
   -- nothing is to come
-  pub filling-done : {rest : List ℕ} (m : ℕ) → rest ≡ [] → m ≡ j → Filling at old whole j row rest → take m row ≡ take at old ++ whole
-  filling-done m e q f = ap (λ m. take m row) q ∙ sym (append-nil (take j row)) ∙ ap (λ r. take j row ++ r) (sym e) ∙ f.front
+  pub filling_done : {rest : List ℕ} (m : ℕ) → rest ≡ [] → m ≡ j → Filling at old whole j row rest → take m row ≡ take at old ++ whole
+  filling_done m e q f = ap (λ m. take m row) q ∙ sym (append-nil (take j row)) ∙ ap (λ r. take j row ++ r) (sym e) ∙ f.front
 
 -- nothing is put
-pub filling-none : (at m : ℕ) (row xs : List ℕ) → xs ≡ [] → m ≡ 0 → take (at + m) row ≡ take at row ++ xs
-filling-none at m row xs e q = rw (e, q, add-zero, append-nil)
+pub filling_none : (at m : ℕ) (row xs : List ℕ) → xs ≡ [] → m ≡ 0 → take (at + m) row ≡ take at row ++ xs
+filling_none at m row xs e q = rw (e, q, add-zero, append-nil)
 
 -- ---- starts and lengths of the names of a value, which stands at `base` of the text
 
 module _ (s : List ℕ) (a e : ℕ) (le : a ≤ length s) (found : e ≡ a + index 44 (drop a s)) where
   pub starts_more : (base : ℕ) → e < length s
-      → startsFrom (base + a) (splitOn 44 (drop a s)) ≡ (base + a) ∷ startsFrom (base + (e + 1)) (splitOn 44 (drop (e + 1) s))
-  unfolding startsFrom
+      → starts_from (base + a) (split_on 44 (drop a s)) ≡ (base + a) ∷ starts_from (base + (e + 1)) (split_on 44 (drop (e + 1) s))
+  unfolding starts_from
   starts_more base h =
-      let m : base + a + (e - a) + 1 ≡ base + (e + 1) = omega (arith, piece-from 44 s a e le found) in
-      ap (startsFrom (base + a)) (piece-more 44 s a e le found h) ∙ rw (length-piece 44 s a e le found, m)
+      let m : base + a + (e - a) + 1 ≡ base + (e + 1) = omega (arith, piece_from 44 s a e le found) in
+      ap (starts_from (base + a)) (piece_more 44 s a e le found h) ∙ rw (length_piece 44 s a e le found, m)
 
-  pub starts-last : (base : ℕ) → length s ≤ e → startsFrom (base + a) (splitOn 44 (drop a s)) ≡ (base + a) ∷ []
-  unfolding startsFrom
-  starts-last base h = ap (startsFrom (base + a)) (piece-last 44 s a e le found h)
+  pub starts-last : (base : ℕ) → length s ≤ e → starts_from (base + a) (split_on 44 (drop a s)) ≡ (base + a) ∷ []
+  unfolding starts_from
+  starts-last base h = ap (starts_from (base + a)) (piece_last 44 s a e le found h)
 
-  pub lengths-more : e < length s → nameLengths (splitOn 44 (drop a s)) ≡ (e - a) ∷ nameLengths (splitOn 44 (drop (e + 1) s))
-  unfolding nameLengths
-  lengths-more h = ap nameLengths (piece-more 44 s a e le found h) ∙ rw (length-piece 44 s a e le found)
+  pub lengths-more : e < length s → name_lengths (split_on 44 (drop a s)) ≡ (e - a) ∷ name_lengths (split_on 44 (drop (e + 1) s))
+  unfolding name_lengths
+  lengths-more h = ap name_lengths (piece_more 44 s a e le found h) ∙ rw (length_piece 44 s a e le found)
 
-  pub lengths-last : length s ≤ e → nameLengths (splitOn 44 (drop a s)) ≡ (e - a) ∷ []
-  unfolding nameLengths
-  lengths-last h = ap nameLengths (piece-last 44 s a e le found h) ∙ rw (length-piece 44 s a e le found)
+  pub lengths-last : length s ≤ e → name_lengths (split_on 44 (drop a s)) ≡ (e - a) ∷ []
+  unfolding name_lengths
+  lengths-last h = ap name_lengths (piece_last 44 s a e le found h) ∙ rw (length_piece 44 s a e le found)
 
-pub starts_none : (at : ℕ) → startsFrom at [] ≡ []
-unfolding startsFrom
+pub starts_none : (at : ℕ) → starts_from at [] ≡ []
+unfolding starts_from
 starts_none at = refl
 
-pub lengths_none : nameLengths [] ≡ []
-unfolding nameLengths
+pub lengths_none : name_lengths [] ≡ []
+unfolding name_lengths
 lengths_none = refl
 
 -- ---- two runs, and two entries
@@ -79,11 +79,11 @@ second_run t m k row row' xs ys e h q =
     q ∙ ap (λ w. w ++ ys) (ap (λ m. take m row) z ∙ h)
 
 -- two entries put one after the other
-pub two-put : (row : List ℕ) (at x y : ℕ) → at + 1 < length row → take (at + 2) (set (set row at x) (at + 1) y) ≡ take at row ++ (x ∷ y ∷ [])
-two-put row at x y h =
+pub two_put : (row : List ℕ) (at x y : ℕ) → at + 1 < length row → take (at + 2) (set (set row at x) (at + 1) y) ≡ take at row ++ (x ∷ y ∷ [])
+two_put row at x y h =
     let q : at + 2 ≡ at + 1 + 1 = omega arith in
-    filling-done (at + 2) refl q
-    (filling-put y (omega (arith, length-set row at x)) refl (filling-put x (omega arith) refl (filling-start {at = at} {old = row} {whole = x ∷ y ∷ []} refl)))
+    filling_done (at + 2) refl q
+    (filling_put y (omega (arith, length-set row at x)) refl (filling_put x (omega arith) refl (filling_start {at = at} {old = row} {whole = x ∷ y ∷ []} refl)))
 
 -- and the same where a run after them is there already
 pub run-before : (row row' : List ℕ) (at x y m : ℕ) (xs : List ℕ) → at + 1 < length row → length row' ≡ length row
@@ -96,7 +96,7 @@ run-before row row' at x y m xs h l q =
     ∙ set-append_left (take (at + 2) row) xs at x (omega (arith, n)))
     ∙ set-append_left (set (take (at + 2) row) at x) xs (at + 1) y (omega (arith, n, length-set (take (at + 2) row) at x))
     ∙ ap (λ w. w ++ xs) (ap (λ w. set w (at + 1) y) (sym (take-set-lt (at + 2) row at x (omega arith)))
-    ∙ sym (take-set-lt (at + 2) (set row at x) (at + 1) y (omega arith)) ∙ two-put row at x y h)
+    ∙ sym (take-set-lt (at + 2) (set row at x) (at + 1) y (omega arith)) ∙ two_put row at x y h)
     ∙ append_assoc (take at row) (x ∷ y ∷ []) xs
 
 -- ---- a row copied to the front of another
@@ -110,8 +110,8 @@ module _ (front old : List ℕ) (i : ℕ) (h : length front ≤ length old) wher
       ∙ sym (append_snoc (take i front) (get_or front i 0) (drop (suc i) old))
       ∙ rw add-one (ap (λ w. w ++ drop (suc i) old) (sym (take-suc front i 0 l)))
 
-  pub copy-all : length front ≤ i → i ≤ length front → take i front ++ drop i old ≡ over front old
+  pub copy_all : length front ≤ i → i ≤ length front → take i front ++ drop i old ≡ over front old
   unfolding over
-  copy-all l k =
+  copy_all l k =
       let m : i ≡ length front = omega arith in
       ap (λ i. take i front ++ drop i old) m ∙ ap (λ w. w ++ drop (length front) old) (take-length front)

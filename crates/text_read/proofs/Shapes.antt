@@ -11,108 +11,108 @@ use lib.Dec.{eqb}
 use lib.ListN.{length, take, drop, get_or}
 use Rattle.grammar.specs.Basics.{choose}
 use Rattle.grammar.specs.Grammar.{Rule}
-use Rattle.grammar.specs.Refusal.{Answer, refused, refuseUnless}
-use Rattle.grammar.proofs.Answers.{both-and}
-use Rattle.text.specs.Pieces.{onto, splitOn, ledBy, join}
-use Rattle.text.specs.Names.{all, isName}
-use Rattle.text.specs.Read.{refuseNone, Sides, body_of, sidesOf}
-use Rattle.text.proofs.Pieces.{other, join-split, split-free, led-free}
-use Rattle.text.proofs.Names.{names-free, no-colon}
+use Rattle.grammar.specs.Refusal.{Answer, refused, refuse_unless}
+use Rattle.grammar.proofs.Answers.{both_and}
+use Rattle.text.specs.Pieces.{onto, split_on, led_by, join}
+use Rattle.text.specs.Names.{all, is_name}
+use Rattle.text.specs.Read.{refuse_none, Sides, body_of, sides_of}
+use Rattle.text.proofs.Pieces.{other, join-split, split_free, led_free}
+use Rattle.text.proofs.Names.{names_free, no_colon}
 use Rattle.names.specs.Found.{index, part}
-use Rattle.names.proofs.Pieces.{piece-more, piece-last}
+use Rattle.names.proofs.Pieces.{piece_more, piece_last}
 use Rattle.text_read.specs.declared.Count.TheVariants.{Names, Malformed}
 use Rattle.text_read.specs.declared.Shape.{Shape}
 use Rattle.text_read.specs.declared.Shape.TheVariants as S
-use Rattle.text_read.specs.Values.{bodyCounted}
+use Rattle.text_read.specs.Values.{body_counted}
 use Rattle.text_read.specs.Lines.{shaped, ShapeAt, ShapeTold}
-use Rattle.text_read.proofs.Values.{count-bad, count-all}
+use Rattle.text_read.proofs.Values.{count_bad, count_all}
 
 -- what the shape's answer tells
 pub told-shape : (v : List ℕ) (r : Shape) (colon count : ℕ) → r ≡ S.Found colon count → ShapeTold v r → ShapeAt v colon count
 told-shape v r colon count e t = subst (λ (r : Shape). ShapeTold v r) e t
 
-pub told-shapeless : (v : List ℕ) (r : Shape) → r ≡ S.Malformed → ShapeTold v r
-    → (at : ℕ) (go : Sides → Answer Rule) → shaped at (sidesOf (splitOn 58 v)) go ≡ refused 16 at
-told-shapeless v r e t = subst (λ (r : Shape). ShapeTold v r) e t
+pub told_shapeless : (v : List ℕ) (r : Shape) → r ≡ S.Malformed → ShapeTold v r
+    → (at : ℕ) (go : Sides → Answer Rule) → shaped at (sides_of (split_on 58 v)) go ≡ refused 16 at
+told_shapeless v r e t = subst (λ (r : Shape). ShapeTold v r) e t
 
 module _ (at : ℕ) (go : Sides → Answer Rule) where
-  head-bad : (l : List ℕ) (ps : List (List ℕ)) → isName l ≡ false → shaped at (body_of l ps) go ≡ refused 16 at
-  unfolding shaped refuseNone refuseUnless body_of
-  head-bad l [] g = refl
-  head-bad l ([] ∷ names) g = rw g
-  head-bad l ((b ∷ p) ∷ names) g = refl
+  head_bad : (l : List ℕ) (ps : List (List ℕ)) → is_name l ≡ false → shaped at (body_of l ps) go ≡ refused 16 at
+  unfolding shaped refuse_none refuse_unless body_of
+  head_bad l [] g = refl
+  head_bad l ([] ∷ names) g = rw g
+  head_bad l ((b ∷ p) ∷ names) g = refl
 
-  sides_head : (l : List ℕ) (qs : List (List ℕ)) → isName l ≡ false → shaped at (sidesOf (l ∷ qs)) go ≡ refused 16 at
-  unfolding shaped refuseNone sidesOf
+  sides_head : (l : List ℕ) (qs : List (List ℕ)) → is_name l ≡ false → shaped at (sides_of (l ∷ qs)) go ≡ refused 16 at
+  unfolding shaped refuse_none sides_of
   sides_head l [] g = refl
-  sides_head l (r ∷ []) g = head-bad l (splitOn 32 r) g
+  sides_head l (r ∷ []) g = head_bad l (split_on 32 r) g
   sides_head l (r ∷ q ∷ qs) g = refl
 
-  body-bad : (l : List ℕ) (ps : List (List ℕ)) → isName l ≡ true → bodyCounted ps ≡ Malformed → shaped at (body_of l ps) go ≡ refused 16 at
-  unfolding shaped refuseNone refuseUnless body_of bodyCounted
-  body-bad l [] g h = refl
-  body-bad l ([] ∷ names) g h = rw (g, count-bad 0 names h)
-  body-bad l ((b ∷ p) ∷ names) g h = refl
+  body_bad : (l : List ℕ) (ps : List (List ℕ)) → is_name l ≡ true → body_counted ps ≡ Malformed → shaped at (body_of l ps) go ≡ refused 16 at
+  unfolding shaped refuse_none refuse_unless body_of body_counted
+  body_bad l [] g h = refl
+  body_bad l ([] ∷ names) g h = rw (g, count_bad 0 names h)
+  body_bad l ((b ∷ p) ∷ names) g h = refl
 
-  sides-body : (l r : List ℕ) (qs : List (List ℕ)) → isName l ≡ true → bodyCounted (splitOn 32 r) ≡ Malformed → join 58 qs ≡ r
-      → shaped at (sidesOf (l ∷ qs)) go ≡ refused 16 at
-  unfolding shaped refuseNone sidesOf join ledBy
+  sides-body : (l r : List ℕ) (qs : List (List ℕ)) → is_name l ≡ true → body_counted (split_on 32 r) ≡ Malformed → join 58 qs ≡ r
+      → shaped at (sides_of (l ∷ qs)) go ≡ refused 16 at
+  unfolding shaped refuse_none sides_of join led_by
   sides-body l r [] g h e = refl
   sides-body l r (p ∷ []) g h e =
-      body-bad l (splitOn 32 p) g (ap (λ w. bodyCounted (splitOn 32 w)) (sym (append-nil p) ∙ e) ∙ h)
+      body_bad l (split_on 32 p) g (ap (λ w. body_counted (split_on 32 w)) (sym (append-nil p) ∙ e) ∙ h)
   sides-body l r (p ∷ q ∷ qs) g h e = refl
 
-  sides-none : (v : List ℕ) → shaped at (sidesOf (v ∷ [])) go ≡ refused 16 at
-  unfolding shaped refuseNone sidesOf
+  sides-none : (v : List ℕ) → shaped at (sides_of (v ∷ [])) go ≡ refused 16 at
+  unfolding shaped refuse_none sides_of
   sides-none v = refl
 
-body-names : (ps : List (List ℕ)) (k : ℕ) → bodyCounted ps ≡ Names k
-    → (names : List (List ℕ)) × (ps ≡ [] ∷ names) × (all isName names ≡ true) × (k ≡ length names)
-unfolding bodyCounted
+body-names : (ps : List (List ℕ)) (k : ℕ) → body_counted ps ≡ Names k
+    → (names : List (List ℕ)) × (ps ≡ [] ∷ names) × (all is_name names ≡ true) × (k ≡ length names)
+unfolding body_counted
 body-names [] k h = absurd (let z : ◌≡◌ {A = ℕ} 0 1 = cc in omega arith)
-body-names ([] ∷ names) k h = let c = count-all k names h in (names, refl, c.0, c.1)
+body-names ([] ∷ names) k h = let c = count_all k names h in (names, refl, c.0, c.1)
 body-names ((b ∷ p) ∷ names) k h = absurd (let z : ◌≡◌ {A = ℕ} 0 1 = cc in omega arith)
 
 -- what follows the colon has none of its own where it is names after spaces
-body-free : (r : List ℕ) (names : List (List ℕ)) → splitOn 32 r ≡ [] ∷ names → all isName names ≡ true → all (other 58) r ≡ true
+body_free : (r : List ℕ) (names : List (List ℕ)) → split_on 32 r ≡ [] ∷ names → all is_name names ≡ true → all (other 58) r ≡ true
 unfolding join
-body-free r names e g =
-    let q : r ≡ ledBy 32 names = sym (join-split 32 r) ∙ ap (join 32) e in
-    ap (all (other 58)) q ∙ led-free 58 32 names refl (names-free 58 names no-colon g)
+body_free r names e g =
+    let q : r ≡ led_by 32 names = sym (join-split 32 r) ∙ ap (join 32) e in
+    ap (all (other 58)) q ∙ led_free 58 32 names refl (names_free 58 names no_colon g)
 
-sides-good : (l r : List ℕ) (names : List (List ℕ)) → splitOn 32 r ≡ [] ∷ names → all (other 58) r ≡ true
-    → sidesOf (l ∷ splitOn 58 r) ≡ some (record { head = l; body = names })
-unfolding sidesOf body_of
-sides-good l r names e f = rw (split-free 58 r f, e)
+sides_good : (l r : List ℕ) (names : List (List ℕ)) → split_on 32 r ≡ [] ∷ names → all (other 58) r ≡ true
+    → sides_of (l ∷ split_on 58 r) ≡ some (record { head = l; body = names })
+unfolding sides_of body_of
+sides_good l r names e f = rw (split_free 58 r f, e)
 
 module _ (v : List ℕ) (e : ℕ) (found : e ≡ 0 + index 58 (drop 0 v)) where
-  pub shape-none : length v ≤ e → (at : ℕ) (go : Sides → Answer Rule) → shaped at (sidesOf (splitOn 58 v)) go ≡ refused 16 at
+  pub shape-none : length v ≤ e → (at : ℕ) (go : Sides → Answer Rule) → shaped at (sides_of (split_on 58 v)) go ≡ refused 16 at
   shape-none h at go =
-      ap (λ ps. shaped at (sidesOf ps) go) (piece-last 58 v 0 e (omega arith) found h) ∙ sides-none at go (part 0 e v)
+      ap (λ ps. shaped at (sides_of ps) go) (piece_last 58 v 0 e (omega arith) found h) ∙ sides-none at go (part 0 e v)
 
   module _ (inside : e < length v) where
-    cut : splitOn 58 v ≡ part 0 e v ∷ splitOn 58 (drop (e + 1) v)
-    cut = piece-more 58 v 0 e (omega arith) found inside
+    cut : split_on 58 v ≡ part 0 e v ∷ split_on 58 (drop (e + 1) v)
+    cut = piece_more 58 v 0 e (omega arith) found inside
 
-    pub shape-head : isName (part 0 e v) ≡ false → (at : ℕ) (go : Sides → Answer Rule)
-        → shaped at (sidesOf (splitOn 58 v)) go ≡ refused 16 at
+    pub shape-head : is_name (part 0 e v) ≡ false → (at : ℕ) (go : Sides → Answer Rule)
+        → shaped at (sides_of (split_on 58 v)) go ≡ refused 16 at
     shape-head g at go =
-        ap (λ ps. shaped at (sidesOf ps) go) cut ∙ sides_head at go (part 0 e v) (splitOn 58 (drop (e + 1) v)) g
+        ap (λ ps. shaped at (sides_of ps) go) cut ∙ sides_head at go (part 0 e v) (split_on 58 (drop (e + 1) v)) g
 
-    pub shape-body : isName (part 0 e v) ≡ true → bodyCounted (splitOn 32 (drop (e + 1) v)) ≡ Malformed
-        → (at : ℕ) (go : Sides → Answer Rule) → shaped at (sidesOf (splitOn 58 v)) go ≡ refused 16 at
+    pub shape-body : is_name (part 0 e v) ≡ true → body_counted (split_on 32 (drop (e + 1) v)) ≡ Malformed
+        → (at : ℕ) (go : Sides → Answer Rule) → shaped at (sides_of (split_on 58 v)) go ≡ refused 16 at
     shape-body g h at go =
-        ap (λ ps. shaped at (sidesOf ps) go) cut
-        ∙ sides-body at go (part 0 e v) (drop (e + 1) v) (splitOn 58 (drop (e + 1) v)) g h (join-split 58 (drop (e + 1) v))
+        ap (λ ps. shaped at (sides_of ps) go) cut
+        ∙ sides-body at go (part 0 e v) (drop (e + 1) v) (split_on 58 (drop (e + 1) v)) g h (join-split 58 (drop (e + 1) v))
 
-    pub shape-found : (k : ℕ) → isName (part 0 e v) ≡ true → bodyCounted (splitOn 32 (drop (e + 1) v)) ≡ Names k → ShapeAt v e k
+    pub shape-found : (k : ℕ) → is_name (part 0 e v) ≡ true → body_counted (split_on 32 (drop (e + 1) v)) ≡ Names k → ShapeAt v e k
     shape-found k g h =
-        let b = body-names (splitOn 32 (drop (e + 1) v)) k h in
+        let b = body-names (split_on 32 (drop (e + 1) v)) k h in
         record {
           sides = record { head = part 0 e v; body = b.0 };
-          cut = ap sidesOf cut
-              ∙ sides-good (part 0 e v) (drop (e + 1) v) b.0 b.1 (body-free (drop (e + 1) v) b.0 b.1 b.2);
-          named = both-and (isName (part 0 e v)) (all isName b.0) g b.2;
+          cut = ap sides_of cut
+              ∙ sides_good (part 0 e v) (drop (e + 1) v) b.0 b.1 (body_free (drop (e + 1) v) b.0 b.1 b.2);
+          named = both_and (is_name (part 0 e v)) (all is_name b.0) g b.2;
           inside = inside;
           head = ap (λ m. take m v) (let q : e - 0 ≡ e = omega arith in q);
           body = b.1;
@@ -121,22 +121,22 @@ module _ (v : List ℕ) (e : ℕ) (found : e ≡ 0 + index 58 (drop 0 v)) where
 
 -- ---- the body's first space
 
-pub split-led : (c : ℕ) (r : List ℕ) → 0 < length r → get_or r 0 0 ≡ c → splitOn c r ≡ [] ∷ splitOn c (drop 1 r)
-unfolding splitOn
+pub split-led : (c : ℕ) (r : List ℕ) → 0 < length r → get_or r 0 0 ≡ c → split_on c r ≡ [] ∷ split_on c (drop 1 r)
+unfolding split_on
 split-led c [] h e = absurd (omega arith)
 split-led c (b ∷ r) h e = rw (eq-eqb b c e)
 
-pub led-first : (c : ℕ) (r : List ℕ) (names : List (List ℕ)) → splitOn c r ≡ [] ∷ names → 0 < length r → get_or r 0 0 ≡ c
-unfolding splitOn
+pub led-first : (c : ℕ) (r : List ℕ) (names : List (List ℕ)) → split_on c r ≡ [] ∷ names → 0 < length r → get_or r 0 0 ≡ c
+unfolding split_on
 led-first c [] names e h = absurd (omega arith)
-led-first c (b ∷ r) names e h = go (eqb b c) refl (splitOn c r) e
+led-first c (b ∷ r) names e h = go (eqb b c) refl (split_on c r) e
   where
-    go : (t : Bool) → eqb b c ≡ t → (ps : List (List ℕ)) → choose t ([] ∷ splitOn c r) (onto b ps) ≡ [] ∷ names → b ≡ c
+    go : (t : Bool) → eqb b c ≡ t → (ps : List (List ℕ)) → choose t ([] ∷ split_on c r) (onto b ps) ≡ [] ∷ names → b ≡ c
     go true q ps e = eqb-true b c q
     go false q [] e = absurd (let z : ◌≡◌ {A = ℕ} 0 1 = cc in omega arith)
     go false q (p ∷ ps) e = absurd (let z : ◌≡◌ {A = ℕ} 0 1 = cc in omega arith)
 
-pub empty-body : (c : ℕ) (r : List ℕ) → length r ≡ 0 → drop 1 (splitOn c r) ≡ []
-unfolding splitOn
+pub empty-body : (c : ℕ) (r : List ℕ) → length r ≡ 0 → drop 1 (split_on c r) ≡ []
+unfolding split_on
 empty-body c [] h = refl
 empty-body c (b ∷ r) h = absurd (omega arith)

@@ -13,17 +13,17 @@ use lib.Dec.{eqb, leb}
 use lib.ListN.{length, drop, get_or, drop_of_length-le, length-drop}
 use lib.Seq.{drop-cons, take_all}
 use Rattle.grammar.specs.Basics.{choose}
-use Rattle.grammar.specs.Refusal.{refused, done, refuseUnless}
-use Rattle.text.specs.Pieces.{onto, splitOn}
-use Rattle.text.specs.Names.{within, all, isName, hasDouble}
+use Rattle.grammar.specs.Refusal.{refused, done, refuse_unless}
+use Rattle.text.specs.Pieces.{onto, split_on}
+use Rattle.text.specs.Names.{within, all, is_name, has_double}
 use Rattle.text.specs.Keys.{key, value_of}
-use Rattle.text.specs.Read.{names_of, refuseNone, declaration}
+use Rattle.text.specs.Read.{names_of, refuse_none, declaration}
 use Rattle.text.proofs.Names.{both-within}
 use Rattle.names.specs.Found.{part}
 use Rattle.text_read.specs.declared.Split.{Split}
 use Rattle.text_read.specs.declared.Split.TheVariants.{Value, Malformed}
 use Rattle.text_read.specs.declared.Count.TheVariants.{Names as CountNames, Malformed as CountMalformed}
-use Rattle.text_read.specs.Values.{HasValue, SplitTold, counted, bodyCounted}
+use Rattle.text_read.specs.Values.{HasValue, SplitTold, counted, body_counted}
 
 -- ---- the key
 
@@ -51,15 +51,15 @@ module _ (k line : List ℕ) (i : ℕ) (in-key : i < length k) (in-line : i < le
   value-differ e = value-at ∙ rw (ne_eqb _ _ e)
 
 module _ (k line : List ℕ) (i : ℕ) (past-key : length k ≤ i) (in-line : i < length line) where
-  value-sign : value_of (drop i k) (drop i line) ≡ choose (eqb (get_or line i 0) 61) (some (drop (i + 1) line)) none
+  value_sign : value_of (drop i k) (drop i line) ≡ choose (eqb (get_or line i 0) 61) (some (drop (i + 1) line)) none
   unfolding value_of
-  value-sign = rw (add-one, drop_of_length-le k, drop-cons line i 0)
+  value_sign = rw (add-one, drop_of_length-le k, drop-cons line i 0)
 
   pub value-equals : get_or line i 0 ≡ 61 → value_of (drop i k) (drop i line) ≡ some (drop (i + 1) line)
-  value-equals e = value-sign ∙ rw (eq-eqb _ _ e)
+  value-equals e = value_sign ∙ rw (eq-eqb _ _ e)
 
   pub value-other : (get_or line i 0 ≡ 61 → ⊥) → value_of (drop i k) (drop i line) ≡ none
-  value-other e = value-sign ∙ rw (ne_eqb _ _ e)
+  value-other e = value_sign ∙ rw (ne_eqb _ _ e)
 
 -- a part up to the end
 pub tail-part : (v : List ℕ) (a : ℕ) → part a (length v) v ≡ drop a v
@@ -84,51 +84,51 @@ told_none k line r e t = subst (λ (r : Split). SplitTold k line r) e t
 
 -- ---- names counted
 
-pub counted-good : (k : ℕ) (p : List ℕ) (ps : List (List ℕ)) → isName p ≡ true → counted k (p ∷ ps) ≡ counted (k + 1) ps
+pub counted_good : (k : ℕ) (p : List ℕ) (ps : List (List ℕ)) → is_name p ≡ true → counted k (p ∷ ps) ≡ counted (k + 1) ps
 unfolding counted all
-counted-good k p ps e = let h : k + suc (length ps) ≡ k + 1 + length ps = omega arith in rw (e, h)
+counted_good k p ps e = let h : k + suc (length ps) ≡ k + 1 + length ps = omega arith in rw (e, h)
 
-pub counted-bad : (k : ℕ) (p : List ℕ) (ps : List (List ℕ)) → isName p ≡ false → counted k (p ∷ ps) ≡ CountMalformed
+pub counted_bad : (k : ℕ) (p : List ℕ) (ps : List (List ℕ)) → is_name p ≡ false → counted k (p ∷ ps) ≡ CountMalformed
 unfolding counted all
-counted-bad k p ps e = rw e
+counted_bad k p ps e = rw e
 
 pub counted-end : (k : ℕ) → counted k [] ≡ CountNames k
 unfolding counted all
 counted-end k = rw add-zero
 
 -- what the count's answer tells
-pub count-bad : (k : ℕ) (ns : List (List ℕ)) → counted k ns ≡ CountMalformed → all isName ns ≡ false
+pub count_bad : (k : ℕ) (ns : List (List ℕ)) → counted k ns ≡ CountMalformed → all is_name ns ≡ false
 unfolding counted
-count-bad k ns h = go (all isName ns) h
+count_bad k ns h = go (all is_name ns) h
   where
     go : (t : Bool) → choose t (CountNames (k + length ns)) CountMalformed ≡ CountMalformed → t ≡ false
     go true h = absurd (let z : ◌≡◌ {A = ℕ} 0 1 = cc in omega arith)
     go false h = refl
 
-pub count-all : (c : ℕ) (ns : List (List ℕ)) → counted 0 ns ≡ CountNames c → (all isName ns ≡ true) × (c ≡ length ns)
+pub count_all : (c : ℕ) (ns : List (List ℕ)) → counted 0 ns ≡ CountNames c → (all is_name ns ≡ true) × (c ≡ length ns)
 unfolding counted
-count-all c ns h = go (all isName ns) h
+count_all c ns h = go (all is_name ns) h
   where
     go : (t : Bool) → choose t (CountNames (0 + length ns)) CountMalformed ≡ CountNames c → (t ≡ true) × (c ≡ length ns)
     go true h = (refl, let e : 0 + length ns ≡ c = cc in omega arith)
     go false h = absurd (let z : ◌≡◌ {A = ℕ} 0 1 = cc in omega arith)
 
-pub body-none : (r : List ℕ) → length r ≡ 0 → bodyCounted (splitOn 32 r) ≡ CountNames 0
-unfolding splitOn bodyCounted
+pub body-none : (r : List ℕ) → length r ≡ 0 → body_counted (split_on 32 r) ≡ CountNames 0
+unfolding split_on body_counted
 body-none [] h = counted-end 0
 body-none (b ∷ r) h = absurd (omega arith)
 
-pub body-other : (r : List ℕ) → 0 < length r → (get_or r 0 0 ≡ 32 → ⊥) → bodyCounted (splitOn 32 r) ≡ CountMalformed
-unfolding splitOn bodyCounted
+pub body-other : (r : List ℕ) → 0 < length r → (get_or r 0 0 ≡ 32 → ⊥) → body_counted (split_on 32 r) ≡ CountMalformed
+unfolding split_on body_counted
 body-other [] h n = absurd (omega arith)
-body-other (b ∷ r) h n = rw (ne_eqb b 32 n) (go (splitOn 32 r))
+body-other (b ∷ r) h n = rw (ne_eqb b 32 n) (go (split_on 32 r))
   where
-    go : (ps : List (List ℕ)) → bodyCounted (onto b ps) ≡ CountMalformed
+    go : (ps : List (List ℕ)) → body_counted (onto b ps) ≡ CountMalformed
     go [] = refl
     go (p ∷ ps) = refl
 
-pub body-space : (r : List ℕ) → 0 < length r → get_or r 0 0 ≡ 32 → bodyCounted (splitOn 32 r) ≡ counted 0 (splitOn 32 (drop 1 r))
-unfolding splitOn bodyCounted
+pub body-space : (r : List ℕ) → 0 < length r → get_or r 0 0 ≡ 32 → body_counted (split_on 32 r) ≡ counted 0 (split_on 32 (drop 1 r))
+unfolding split_on body_counted
 body-space [] h e = absurd (omega arith)
 body-space (b ∷ r) h e = rw (eq-eqb b 32 e)
 
@@ -145,39 +145,39 @@ within-above lo hi n h = rw (lt-leb n hi h) (go (leb lo n))
     go false = refl
 
 module _ (at k lo hi : ℕ) (earlier : List (List ℕ)) (line : List ℕ) where
-  pub decl-none : value_of (key k) line ≡ none → declaration at k lo hi earlier line ≡ refused 16 at
-  unfolding declaration refuseNone
-  decl-none o = rw o
+  pub decl_none : value_of (key k) line ≡ none → declaration at k lo hi earlier line ≡ refused 16 at
+  unfolding declaration refuse_none
+  decl_none o = rw o
 
   module _ (v : List ℕ) (h : value_of (key k) line ≡ some v) where
-    pub decl-bad : all isName (names_of v) ≡ false → declaration at k lo hi earlier line ≡ refused 16 at
-    unfolding declaration refuseNone refuseUnless
-    decl-bad g = rw (h, g)
+    pub decl_bad : all is_name (names_of v) ≡ false → declaration at k lo hi earlier line ≡ refused 16 at
+    unfolding declaration refuse_none refuse_unless
+    decl_bad g = rw (h, g)
 
-    module _ (g : all isName (names_of v) ≡ true) where
-      pub decl-double : hasDouble (earlier ++ names_of v) ≡ true → declaration at k lo hi earlier line ≡ refused 18 at
-      unfolding declaration refuseNone refuseUnless
-      decl-double t = rw (h, g, t)
+    module _ (g : all is_name (names_of v) ≡ true) where
+      pub decl_double : has_double (earlier ++ names_of v) ≡ true → declaration at k lo hi earlier line ≡ refused 18 at
+      unfolding declaration refuse_none refuse_unless
+      decl_double t = rw (h, g, t)
 
-      decl-out : hasDouble (earlier ++ names_of v) ≡ false → within lo hi (length (names_of v)) ≡ false → declaration at k lo hi earlier line ≡ refused 1 at
-      unfolding declaration refuseNone refuseUnless
-      decl-out t w = rw (h, g, t, w)
+      decl_out : has_double (earlier ++ names_of v) ≡ false → within lo hi (length (names_of v)) ≡ false → declaration at k lo hi earlier line ≡ refused 1 at
+      unfolding declaration refuse_none refuse_unless
+      decl_out t w = rw (h, g, t, w)
 
-      pub decl-many : hi < length (names_of v) → declaration at k lo hi earlier line ≡ refused (choose (hasDouble (earlier ++ names_of v)) 18 1) at
-      decl-many l = go (hasDouble (earlier ++ names_of v)) refl
+      pub decl_many : hi < length (names_of v) → declaration at k lo hi earlier line ≡ refused (choose (has_double (earlier ++ names_of v)) 18 1) at
+      decl_many l = go (has_double (earlier ++ names_of v)) refl
         where
-          go : (t : Bool) → hasDouble (earlier ++ names_of v) ≡ t → declaration at k lo hi earlier line ≡ refused (choose t 18 1) at
-          go true t = decl-double t
-          go false t = decl-out t (within-above lo hi _ l)
+          go : (t : Bool) → has_double (earlier ++ names_of v) ≡ t → declaration at k lo hi earlier line ≡ refused (choose t 18 1) at
+          go true t = decl_double t
+          go false t = decl_out t (within-above lo hi _ l)
 
-      pub decl-few : length (names_of v) < lo → lo ≤ 1 → hasDouble earlier ≡ false → declaration at k lo hi earlier line ≡ refused 1 at
-      decl-few l m t = decl-out (ap hasDouble (no_more (names_of v) (omega arith)) ∙ t) (within-below lo hi _ l)
+      pub decl_few : length (names_of v) < lo → lo ≤ 1 → has_double earlier ≡ false → declaration at k lo hi earlier line ≡ refused 1 at
+      decl_few l m t = decl_out (ap has_double (no_more (names_of v) (omega arith)) ∙ t) (within-below lo hi _ l)
         where
           no_more : (ns : List (List ℕ)) → length ns ≡ 0 → earlier ++ ns ≡ earlier
           no_more [] e = append-nil earlier
           no_more (x ∷ ns) e = absurd (omega arith)
 
-      pub decl-done : hasDouble (earlier ++ names_of v) ≡ false → lo ≤ length (names_of v) → length (names_of v) ≤ hi
+      pub decl_done : has_double (earlier ++ names_of v) ≡ false → lo ≤ length (names_of v) → length (names_of v) ≤ hi
           → declaration at k lo hi earlier line ≡ done (names_of v)
-      unfolding declaration refuseNone refuseUnless
-      decl-done t l m = rw (h, g, t, both-within lo hi (length (names_of v)) l m)
+      unfolding declaration refuse_none refuse_unless
+      decl_done t l m = rw (h, g, t, both-within lo hi (length (names_of v)) l m)

@@ -6,10 +6,10 @@ use Rattle.std.proofs.Math.Option.{none, some}
 use Rattle.grammar.specs.Basics.{choose}
 use Rattle.grammar.specs.Limits.{limits}
 use Rattle.grammar.specs.Refusal.{done, refused}
-use Rattle.text.specs.Names.{all, isName}
+use Rattle.text.specs.Names.{all, is_name}
 use Rattle.text.specs.Keys.{key, value_of}
 use Rattle.text.specs.Read.{names_of, declaration}
-use Rattle.text.specs.Promise.{startsFrom, nameLengths}
+use Rattle.text.specs.Promise.{starts_from, name_lengths}
 use Rattle.text.specs.Spelled.{spelled}
 use Rattle.names.specs.Found.{part}
 use Rattle.lexicon.specs.Tree.{Lexicon}
@@ -22,8 +22,8 @@ use Rattle.text_read.specs.declared.Declared.{Declared}
 use Rattle.text_read.specs.declared.Declared.TheVariants.{Names, Fault}
 
 -- how many names there are at most
-abbrev pub allNames : ℕ
-allNames = limits.maxTerminals + limits.maxNonterminals
+abbrev pub all_names : ℕ
+all_names = limits.max_terminals + limits.max_nonterminals
 
 -- the smaller of two numbers
 unfoldable pub smaller : ℕ → ℕ → ℕ
@@ -31,7 +31,7 @@ smaller a b = choose (leb a b) a b
 
 -- rows for the names of a text of so many bytes, as many entries as bytes or as names at most, and two links for each entry
 pub record NameRows (bytes : ℕ) (starts lengths links : List ℕ) : Type 0 where
-  pub enough : smaller bytes allNames ≤ length starts
+  pub enough : smaller bytes all_names ≤ length starts
   pub lent : BlockRows starts lengths links
 
 -- the value of a line of key k stands from start to end
@@ -48,27 +48,27 @@ SplitTold k line (Value start end) = HasValue k line start end
 
 -- how many names there are besides k, or that one is malformed
 unfoldable pub counted : ℕ → List (List ℕ) → Count
-counted k ns = choose (all isName ns) (CountNames (k + length ns)) CountMalformed
+counted k ns = choose (all is_name ns) (CountNames (k + length ns)) CountMalformed
 
 -- what follows a rule's colon, cut at spaces: how many names, or that it is malformed
-unfoldable pub bodyCounted : List (List ℕ) → Count
-bodyCounted [] = CountMalformed
-bodyCounted ([] ∷ names) = counted 0 names
-bodyCounted ((b ∷ p) ∷ names) = CountMalformed
+unfoldable pub body_counted : List (List ℕ) → Count
+body_counted [] = CountMalformed
+body_counted ([] ∷ names) = counted 0 names
+body_counted ((b ∷ p) ∷ names) = CountMalformed
 
 -- the rows and the tree have the text's names before number `from`, and room for so many more
 pub record NamesReady (text : List ℕ) (from more : ℕ) (starts lengths links : List ℕ) : Type 0 where
   pub tree : Lexicon text (take from starts) (take from lengths) links
-  pub few : from + more ≤ allNames
+  pub few : from + more ≤ all_names
   pub starts-room : from + more ≤ length starts
   pub lengths-room : from + more ≤ length lengths
   pub links-room : 2 * (from + more) ≤ length links
-  pub short : length text ≤ limits.maxText
+  pub short : length text ≤ limits.max_text
 
 -- the rows have the places of so many names, whose value stands from b to f, from entry `from` on, and the tree has these names too
 pub record NamesHeld (text : List ℕ) (b f from : ℕ) (starts lengths starts' lengths' links' : List ℕ) (count : ℕ) : Type 0 where
-  pub starts-front : take (from + count) starts' ≡ take from starts ++ startsFrom b (names_of (part b f text))
-  pub lengths-front : take (from + count) lengths' ≡ take from lengths ++ nameLengths (names_of (part b f text))
+  pub starts-front : take (from + count) starts' ≡ take from starts ++ starts_from b (names_of (part b f text))
+  pub lengths-front : take (from + count) lengths' ≡ take from lengths ++ name_lengths (names_of (part b f text))
   pub tree : Lexicon text (take (from + count) starts') (take (from + count) lengths') links'
 
 -- before a line of key k, from a to e of the text: the rows and the tree have the names of the earlier value, which stands before it
@@ -78,11 +78,11 @@ pub record HeadReady (k lo hi : ℕ) (earlier text : List ℕ) (a e from : ℕ) 
   pub low : a ≤ e
   pub high : e ≤ length text
   pub behind : from ≤ a
-  pub few : from + hi ≤ allNames
+  pub few : from + hi ≤ all_names
   pub tree : Lexicon text (take from starts) (take from lengths) links
   pub spelt : spelled text (take from starts) (take from lengths) ≡ names_of earlier
   pub rows : NameRows (length text) starts lengths links
-  pub short : length text ≤ limits.maxText
+  pub short : length text ≤ limits.max_text
 
 -- a declaring line from a to e of the text is read: its value starts at b and has so many names
 pub record NamesAt (at k lo hi : ℕ) (earlier : List (List ℕ)) (text : List ℕ) (a e b count : ℕ) : Type 0 where

@@ -1,9 +1,9 @@
 // The lines of a text, whose rules and names are kept in rows, and the tests of what is kept.
 ghost use Rattle.std.specs.Prelude.{◌≡◌, ℕ, ◌*◌, ◌≤◌, length, take, get_or};
 ghost use Rattle.grammar.specs.Limits.{limits};
-ghost use Rattle.grammar.specs.TableCheck.{storedTable, checkTable};
-ghost use Rattle.text.specs.Read.{readText};
-ghost use Rattle.text_read.specs.Texts.{tableRead, Ready, Rows, LinesTold, NamesTold, KeptWithin, keptRead, moduleRead, ChecksText, ChecksModule};
+ghost use Rattle.grammar.specs.TableCheck.{stored_table, check_table};
+ghost use Rattle.text.specs.Read.{read_text};
+ghost use Rattle.text_read.specs.Texts.{table_read, Ready, Rows, LinesTold, NamesTold, KeptWithin, kept_read, module_read, ChecksText, ChecksModule};
 
 use super::declaring::check_heads;
 use super::rules::read_rules;
@@ -47,9 +47,9 @@ fn keep_lines(
     lengths: &mut [u32],
     links: &mut [u16],
 ) -> TextKept
-    requires { (length text.now ≤ limits.maxText) × (Rows (length text.now) row.old starts.old lengths.old) × (2 * length starts.old ≤ length links.old) × ((i : ℕ) → get_or links.old i 0 ≡ 0) }
+    requires { (length text.now ≤ limits.max_text) × (Rows (length text.now) row.old starts.old lengths.old) × (2 * length starts.old ≤ length links.old) × ((i : ℕ) → get_or links.old i 0 ≡ 0) }
     ensures told { LinesTold text.now row.new result }
-    ensures names { NamesTold (readText limits text.now) starts.new lengths.new }
+    ensures names { NamesTold (read_text limits text.now) starts.new lengths.new }
 {
     match check_heads(text, starts, lengths, links) {
         Heads::Fault(cause, at) => TextKept::Fault(cause, at),
@@ -76,7 +76,7 @@ fn keep_lines(
 pub fn keep_text(text: &[u8], row: &mut [u16], starts: &mut [u32], lengths: &mut [u32]) -> TextKept
     requires { Rows (length text.now) row.old starts.old lengths.old }
     ensures told { LinesTold text.now row.new result }
-    ensures names { NamesTold (readText limits text.now) starts.new lengths.new }
+    ensures names { NamesTold (read_text limits text.now) starts.new lengths.new }
 {
     if MAX_TEXT < text.len() {
         return TextKept::Fault(MALFORMED, 0);
@@ -88,7 +88,7 @@ pub fn keep_text(text: &[u8], row: &mut [u16], starts: &mut [u32], lengths: &mut
 // 7, 6, 8 rule by rule, and 19: the table check of the rules that are kept.
 pub fn last_tests(t: usize, n: usize, row: &[u16], end: usize) -> TextRead
     requires { end ≤ length row.now }
-    ensures { result ≡ tableRead t n end (checkTable limits t n (take end row.now)) }
+    ensures { result ≡ table_read t n end (check_table limits t n (take end row.now)) }
 {
     let checked = table_check::check_table(t, n, &row[..end]);
     let verdict = checked.verdict;
@@ -107,7 +107,7 @@ pub fn last_tests(t: usize, n: usize, row: &[u16], end: usize) -> TextRead
 // The answer but for 14, from what the lines give.
 pub fn check_kept(kept: TextKept, row: &[u16]) -> TextRead
     requires { KeptWithin kept row.now }
-    ensures { result ≡ keptRead kept row.now }
+    ensures { result ≡ kept_read kept row.now }
 {
     match kept {
         TextKept::Fault(cause, at) => TextRead::Refused(cause, at),
@@ -131,7 +131,7 @@ pub fn check_text(text: &[u8], row: &mut [u16], starts: &mut [u32], lengths: &mu
 // 7, 6, 8 rule by rule.
 fn rule_tests(t: usize, n: usize, row: &[u16], end: usize) -> TextRead
     requires { end ≤ length row.now }
-    ensures { result ≡ tableRead t n end (storedTable limits t n (take end row.now)) }
+    ensures { result ≡ table_read t n end (stored_table limits t n (take end row.now)) }
 {
     let checked = table_check::check_up_to(t, n, &row[..end], false);
     let verdict = checked.verdict;
@@ -150,7 +150,7 @@ fn rule_tests(t: usize, n: usize, row: &[u16], end: usize) -> TextRead
 // The answer for a module's text, from what the lines give.
 fn module_tests(kept: TextKept, row: &[u16]) -> TextRead
     requires { KeptWithin kept row.now }
-    ensures { result ≡ moduleRead kept row.now }
+    ensures { result ≡ module_read kept row.now }
 {
     match kept {
         TextKept::Fault(cause, at) => TextRead::Refused(cause, at),

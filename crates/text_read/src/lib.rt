@@ -9,7 +9,7 @@ mod value;
 ghost use Rattle.std.specs.Prelude.{◌≡◌, ◌≤◌, length};
 ghost use Rattle.grammar.specs.Basics.{over};
 ghost use Rattle.text.specs.Promise.{ReadsText};
-ghost use Rattle.text_read.specs.Texts.{smallText, TextIn};
+ghost use Rattle.text_read.specs.Texts.{small_text, TextIn};
 
 use grammar::{BUFFER_TOO_SHORT, MAX_LENGTH, MAX_NAMES, MAX_RULES};
 use keeping::{check_kept, keep_text};
@@ -144,7 +144,7 @@ fn read_in(
 }
 
 fn read_small(text: &[u8], table: &mut [u16], starts: &mut [u32], lengths: &mut [u32]) -> TextRead
-    requires { length text.now ≤ smallText }
+    requires { length text.now ≤ small_text }
     ensures { ReadsText text.now table.old starts.old lengths.old result table.new starts.new lengths.new }
 {
     let mut row = [0u16; SMALL_TEXT];

@@ -1,10 +1,10 @@
 // Rule lines: each is tested, and its entries are put into a row.
 ghost use Rattle.std.specs.Prelude.{◌≡◌, ◌+◌, ◌≤◌, length, drop, set};
 ghost use Rattle.grammar.specs.Limits.{limits};
-ghost use Rattle.text.specs.Pieces.{splitOn};
-ghost use Rattle.text.specs.Read.{ruleLine, ruleLines};
+ghost use Rattle.text.specs.Pieces.{split_on};
+ghost use Rattle.text.specs.Read.{rule_line, rule_lines};
 ghost use Rattle.text.specs.Spelled.{spelled};
-ghost use Rattle.text_read.specs.Lines.{ruleValue, ShapeAt, CodesFit, CodesTaken, LineReady, KeptTold, RulesReady, RulesTold};
+ghost use Rattle.text_read.specs.Lines.{rule_value, ShapeAt, CodesFit, CodesTaken, LineReady, KeptTold, RulesReady, RulesTold};
 
 use super::symbols::code_of;
 use super::value::{key_split, rule_shape};
@@ -38,7 +38,7 @@ fn take_codes(
     at: usize,
 ) -> bool
     requires { CodesFit r.now text.now starts.now lengths.now links.now t row.old at }
-    ensures { CodesTaken t (spelled text.now starts.now lengths.now) (drop 1 (splitOn 32 r.now)) at row.old row.new result }
+    ensures { CodesTaken t (spelled text.now starts.now lengths.now) (drop 1 (split_on 32 r.now)) at row.old row.new result }
 {
     let n = r.len();
     if n == 0 {
@@ -78,7 +78,7 @@ fn take_rule(
     end: usize,
 ) -> Kept
     requires { (ShapeAt v.now colon count) × (LineReady text.now starts.now lengths.now links.now t row.old k end (length v.now + 1)) }
-    ensures { KeptTold (ruleValue at t (spelled text.now starts.now lengths.now) v.now) k end (length v.now + 1) row.old row.new result }
+    ensures { KeptTold (rule_value at t (spelled text.now starts.now lengths.now) v.now) k end (length v.now + 1) row.old row.new result }
 {
     let left = lexicon::find(text, starts, lengths, links, &v[0..colon]);
     if left < t {
@@ -117,7 +117,7 @@ fn rule_line(
     end: usize,
 ) -> Kept
     requires { LineReady text.now starts.now lengths.now links.now t row.old k end (length line.now) }
-    ensures { KeptTold (ruleLine limits at t (spelled text.now starts.now lengths.now) line.now) k end (length line.now) row.old row.new result }
+    ensures { KeptTold (rule_line limits at t (spelled text.now starts.now lengths.now) line.now) k end (length line.now) row.old row.new result }
 {
     let Split::Value { start, end: stop } = key_split(line, RULE) else {
         return Kept::Fault(MALFORMED, at);
@@ -142,7 +142,7 @@ pub fn read_rules(
     row: &mut [u16],
 ) -> Kept
     requires { (RulesReady text.now starts.now lengths.now links.now t row.old) × (from ≤ length text.now) }
-    ensures { RulesTold (ruleLines limits 3 t (spelled text.now starts.now lengths.now) (splitOn 10 (drop from text.now))) row.new result }
+    ensures { RulesTold (rule_lines limits 3 t (spelled text.now starts.now lengths.now) (split_on 10 (drop from text.now))) row.new result }
 {
     let n = text.len();
     let mut a = from;

@@ -7,7 +7,7 @@ use grammar::NONTERMINAL_BASE;
 
 // The code of symbol number i, of t terminals.
 pub fn code_of(t: usize, i: usize) -> u16
-    requires { (t ≤ limits.maxTerminals) × (i < t + limits.maxNonterminals) }
+    requires { (t ≤ limits.max_terminals) × (i < t + limits.max_nonterminals) }
     ensures { result ≡ code_of limits t i }
 {
     if i < t {

@@ -8,7 +8,7 @@ use native.Mathlib.Omega.{arith}
 use native.Mathlib.Numerals.{add-one}
 use lib.ListN.{length, take, drop, set, length-set, length-append, take-append-drop, length-drop}
 use lib.Seq.{take-suc-set, drop-set-lt, length-take-le, drop-drop, take_at, drop_at}
-use Rattle.text_write.specs.Contracts.{Wrote}
+use Rattle.text_write.specs.Clauses.{Wrote}
 
 pub record Filling (at : ℕ) (out text : List ℕ) (j : ℕ) (now rest : List ℕ) : Type 0 where
   pub long : length now ≡ length out
@@ -18,23 +18,23 @@ pub record Filling (at : ℕ) (out text : List ℕ) (j : ℕ) (now rest : List �
   pub back : drop j now ≡ drop j out
 
 -- nothing is written yet
-pub filling-start : (at : ℕ) (out text : List ℕ) → at + length text ≤ length out → Filling at out text at out text
-filling-start at out text h = record { long = refl; place = refl; room = h; front = refl; back = refl }
+pub filling_start : (at : ℕ) (out text : List ℕ) → at + length text ≤ length out → Filling at out text at out text
+filling_start at out text h = record { long = refl; place = refl; room = h; front = refl; back = refl }
 
 -- the next place in other words
-pub filling-at : {at : ℕ} {out text : List ℕ} (j j' : ℕ) {now rest : List ℕ} → j ≡ j' → Filling at out text j now rest
+pub filling_at : {at : ℕ} {out text : List ℕ} (j j' : ℕ) {now rest : List ℕ} → j ≡ j' → Filling at out text j now rest
     → Filling at out text j' now rest
-filling-at {at} {out} {text} j j' {now} {rest} e f = subst (λ j. Filling at out text j now rest) e f
+filling_at {at} {out} {text} j j' {now} {rest} e f = subst (λ j. Filling at out text j now rest) e f
 
 module _ {at : ℕ} {out text : List ℕ} {j : ℕ} {now whole : List ℕ} where
   -- what comes next has room
-  pub filling-room : (xs rest : List ℕ) → whole ≡ xs ++ rest → Filling at out text j now whole → j + length xs ≤ length now
-  filling-room xs rest e f = omega (arith, f.long, f.place, f.room, ap length e, length-append xs rest)
+  pub filling_room : (xs rest : List ℕ) → whole ≡ xs ++ rest → Filling at out text j now whole → j + length xs ≤ length now
+  filling_room xs rest e f = omega (arith, f.long, f.place, f.room, ap length e, length-append xs rest)
 
   -- one byte is written
-  pub filling-put : (x : ℕ) (rest : List ℕ) → whole ≡ x ∷ rest → Filling at out text j now whole
+  pub filling_put : (x : ℕ) (rest : List ℕ) → whole ≡ x ∷ rest → Filling at out text j now whole
       → Filling at out text (j + 1) (set now j x) rest
-  filling-put x rest e f =
+  filling_put x rest e f =
       let h : j < length now = omega (arith, f.long, f.place, f.room, ap length e) in
       let tails : drop (suc j) now ≡ drop (suc j) out
       = rw (← add-one) (sym (drop-drop 1 j now) ∙ ap (drop 1) f.back ∙ drop-drop 1 j out) in
@@ -47,10 +47,10 @@ module _ {at : ℕ} {out text : List ℕ} {j : ℕ} {now whole : List ℕ} where
       }
 
   -- a run of bytes is written
-  pub filling-ran : (xs rest : List ℕ) {j' : ℕ} {now' : List ℕ} → whole ≡ xs ++ rest → Wrote j xs now j' now'
+  pub filling_ran : (xs rest : List ℕ) {j' : ℕ} {now' : List ℕ} → whole ≡ xs ++ rest → Wrote j xs now j' now'
       → Filling at out text j now whole → Filling at out text j' now' rest
-  filling-ran xs rest {j'} {now'} e w f =
-      let r = filling-room xs rest e f in
+  filling_ran xs rest {j'} {now'} e w f =
+      let r = filling_room xs rest e f in
       let i = j + length xs in
       let head : length (take j now ++ xs) ≡ i
       = length-append (take j now) xs ∙ ap (λ n. n + length xs) (length-take-le j now (omega arith)) in
@@ -66,8 +66,8 @@ module _ {at : ℕ} {out text : List ℕ} {j : ℕ} {now whole : List ℕ} where
       })
 
   -- all is written
-  pub filling-done : whole ≡ [] → Filling at out text j now whole → Wrote at text out j now
-  filling-done e f =
+  pub filling_done : whole ≡ [] → Filling at out text j now whole → Wrote at text out j now
+  filling_done e f =
       let n : length whole ≡ 0 = ap length e in
       let q : j ≡ at + length text = omega (arith, f.place) in
       let front : take j now ≡ take at out ++ text
@@ -79,18 +79,18 @@ module _ {at : ℕ} {out text : List ℕ} {j : ℕ} {now whole : List ℕ} where
       }
 
 -- the last run is written
-pub filling-last : {at : ℕ} {out text : List ℕ} {j : ℕ} {now rest : List ℕ} {j' : ℕ} {now' : List ℕ} → Wrote j rest now j' now'
+pub filling_last : {at : ℕ} {out text : List ℕ} {j : ℕ} {now rest : List ℕ} {j' : ℕ} {now' : List ℕ} → Wrote j rest now j' now'
     → Filling at out text j now rest → Wrote at text out j' now'
-filling-last {rest = rest} w f = filling-done refl (filling-ran rest [] (sym (append-nil rest)) w f)
+filling_last {rest = rest} w f = filling_done refl (filling_ran rest [] (sym (append-nil rest)) w f)
 
 -- what is still to come has room
-pub filling-all : {at : ℕ} {out text : List ℕ} {j : ℕ} {now rest : List ℕ} → Filling at out text j now rest
+pub filling_all : {at : ℕ} {out text : List ℕ} {j : ℕ} {now rest : List ℕ} → Filling at out text j now rest
     → j + length rest ≤ length now
-filling-all {rest = rest} f = filling-room rest [] (sym (append-nil rest)) f
+filling_all {rest = rest} f = filling_room rest [] (sym (append-nil rest)) f
 
 -- nothing to write
 pub wrote_none : (at : ℕ) (text out : List ℕ) → text ≡ [] → at + length text ≤ length out → Wrote at text out at out
-wrote_none at text out e h = filling-done e (filling-start at out text h)
+wrote_none at text out e h = filling_done e (filling_start at out text h)
 
 -- the same text in other words
 pub wrote_as : {at : ℕ} {text text' out : List ℕ} {n : ℕ} {out' : List ℕ} → text ≡ text' → Wrote at text out n out'

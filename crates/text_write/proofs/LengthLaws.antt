@@ -1,4 +1,4 @@
--- The length of a printed text is `textLength`; the sums that give it, entry by entry.
+-- The length of a printed text is `text_length`; the sums that give it, entry by entry.
 -- Assumes nothing.
 use Prim.Native.Nat.{ℕ, zero, suc, ◌+◌, ◌-◌, ◌≤◌, ◌<◌}
 use mathlib.Core.Path.{◌≡◌, refl, ap, ap₂, ◌∙◌}
@@ -10,168 +10,168 @@ use lib.ListN.{length, take, drop, get_or, length-append, take-append-drop, drop
 use lib.Seq.{drop-cons, slice, slice-cons, slice_empty, take_all, length-take-le}
 use Rattle.grammar.specs.Limits.{limits}
 use Rattle.grammar.specs.Grammar.{Rule}
-use Rattle.text.specs.Pieces.{ledBy, join, endedBy}
+use Rattle.text.specs.Pieces.{led_by, join, ended_by}
 use Rattle.text.specs.Read.{symbol_of}
-use Rattle.text.specs.Print.{printLine, name_of, printRule, printed}
-use Rattle.text.specs.Promise.{nameLengths}
-use Rattle.text.proofs.Sizes.{line-size, key-sizes}
-use Rattle.text_write.specs.Length.{ledLength, joinLength, codeLength, ruleLength, rulesLength, textLength}
-use Rattle.text_write.specs.Contracts.{text_of}
+use Rattle.text.specs.Print.{print_line, name_of, print_rule, printed}
+use Rattle.text.specs.Promise.{name_lengths}
+use Rattle.text.proofs.Sizes.{line-size, key_sizes}
+use Rattle.text_write.specs.Length.{led_length, join_length, code_length, rule_length, rules_length, text_length}
+use Rattle.text_write.specs.Clauses.{text_of}
 
 -- ---- the symbol number of a code
 
-pub symbol_low : (t code : ℕ) → code < limits.nonterminalBase → symbol_of limits t code ≡ code - 1
+pub symbol_low : (t code : ℕ) → code < limits.nonterminal_base → symbol_of limits t code ≡ code - 1
 unfolding symbol_of
-symbol_low t code h = rw (lt-ltb code limits.nonterminalBase h)
+symbol_low t code h = rw (lt-ltb code limits.nonterminal_base h)
 
-pub symbol_high : (t code : ℕ) → limits.nonterminalBase ≤ code → symbol_of limits t code ≡ t + (code - limits.nonterminalBase)
+pub symbol_high : (t code : ℕ) → limits.nonterminal_base ≤ code → symbol_of limits t code ≡ t + (code - limits.nonterminal_base)
 unfolding symbol_of
-symbol_high t code h = rw (le-ltb code limits.nonterminalBase h)
+symbol_high t code h = rw (le-ltb code limits.nonterminal_base h)
 
 -- ---- the sums
 
 module _ (ls : List ℕ) (i to : ℕ) where
-  pub led-more : i < to → to ≤ length ls → ledLength (slice i to ls) ≡ get_or ls i 0 + 1 + ledLength (slice (i + 1) to ls)
-  unfolding ledLength
-  led-more h k = ap ledLength (slice-cons i to ls 0 h k) ∙ rw (add-one i)
+  pub led-more : i < to → to ≤ length ls → led_length (slice i to ls) ≡ get_or ls i 0 + 1 + led_length (slice (i + 1) to ls)
+  unfolding led_length
+  led-more h k = ap led_length (slice-cons i to ls 0 h k) ∙ rw (add-one i)
 
-  pub join_more : i < to → to ≤ length ls → joinLength (slice i to ls) ≡ get_or ls i 0 + ledLength (slice (i + 1) to ls)
-  unfolding joinLength
-  join_more h k = ap joinLength (slice-cons i to ls 0 h k) ∙ rw (add-one i)
+  pub join_more : i < to → to ≤ length ls → join_length (slice i to ls) ≡ get_or ls i 0 + led_length (slice (i + 1) to ls)
+  unfolding join_length
+  join_more h k = ap join_length (slice-cons i to ls 0 h k) ∙ rw (add-one i)
 
 -- a slice that ends where it begins is empty
 pub slice-none : {A : Type 0} (xs : List A) (i to : ℕ) → i ≤ to → to ≤ i → slice i to xs ≡ []
 slice-none xs i to h k = let q : to ≡ i = omega arith in ap (λ j. slice i j xs) q ∙ slice_empty i xs
 
-pub led-none : (ls : List ℕ) (i to : ℕ) → i ≤ to → to ≤ i → ledLength (slice i to ls) ≡ 0
-unfolding ledLength
-led-none ls i to h k = ap ledLength (slice-none ls i to h k)
+pub led-none : (ls : List ℕ) (i to : ℕ) → i ≤ to → to ≤ i → led_length (slice i to ls) ≡ 0
+unfolding led_length
+led-none ls i to h k = ap led_length (slice-none ls i to h k)
 
-pub join-none : (ls : List ℕ) (i to : ℕ) → i ≤ to → to ≤ i → joinLength (slice i to ls) ≡ 0
-unfolding joinLength
-join-none ls i to h k = ap joinLength (slice-none ls i to h k)
+pub join-none : (ls : List ℕ) (i to : ℕ) → i ≤ to → to ≤ i → join_length (slice i to ls) ≡ 0
+unfolding join_length
+join-none ls i to h k = ap join_length (slice-none ls i to h k)
 
 module _ (t : ℕ) (lengths codes : List ℕ) (i : ℕ) where
-  pub codes-more : i < length codes → ledLength (map (codeLength limits t lengths) (drop i codes))
-      ≡ get_or lengths (symbol_of limits t (get_or codes i 0)) 0 + 1 + ledLength (map (codeLength limits t lengths) (drop (i + 1) codes))
-  unfolding ledLength codeLength
-  codes-more h = ap (λ xs. ledLength (map (codeLength limits t lengths) xs)) (drop-cons codes i 0 h) ∙ rw (add-one i)
+  pub codes-more : i < length codes → led_length (map (code_length limits t lengths) (drop i codes))
+      ≡ get_or lengths (symbol_of limits t (get_or codes i 0)) 0 + 1 + led_length (map (code_length limits t lengths) (drop (i + 1) codes))
+  unfolding led_length code_length
+  codes-more h = ap (λ xs. led_length (map (code_length limits t lengths) xs)) (drop-cons codes i 0 h) ∙ rw (add-one i)
 
-  pub codes-none : length codes ≤ i → ledLength (map (codeLength limits t lengths) (drop i codes)) ≡ 0
-  unfolding ledLength
-  codes-none h = ap (λ xs. ledLength (map (codeLength limits t lengths) xs)) (drop_of_length-le codes h)
+  pub codes-none : length codes ≤ i → led_length (map (code_length limits t lengths) (drop i codes)) ≡ 0
+  unfolding led_length
+  codes-none h = ap (λ xs. led_length (map (code_length limits t lengths) xs)) (drop_of_length-le codes h)
 
 module _ (t : ℕ) (lengths : List ℕ) where
-  pub rules-more : (rules : List Rule) (r : Rule) (rs : List Rule) → rules ≡ r ∷ rs → rulesLength limits t lengths rules
-      ≡ 7 + get_or lengths (symbol_of limits t r.left) 0 + ledLength (map (codeLength limits t lengths) r.right) + rulesLength limits t lengths rs
-  unfolding rulesLength ruleLength codeLength
-  rules-more rules r rs e = ap (rulesLength limits t lengths) e
+  pub rules-more : (rules : List Rule) (r : Rule) (rs : List Rule) → rules ≡ r ∷ rs → rules_length limits t lengths rules
+      ≡ 7 + get_or lengths (symbol_of limits t r.left) 0 + led_length (map (code_length limits t lengths) r.right) + rules_length limits t lengths rs
+  unfolding rules_length rule_length code_length
+  rules-more rules r rs e = ap (rules_length limits t lengths) e
 
-  pub rules-none : (rules : List Rule) → rules ≡ [] → rulesLength limits t lengths rules ≡ 0
-  unfolding rulesLength
-  rules-none rules e = ap (rulesLength limits t lengths) e
+  pub rules-none : (rules : List Rule) → rules ≡ [] → rules_length limits t lengths rules ≡ 0
+  unfolding rules_length
+  rules-none rules e = ap (rules_length limits t lengths) e
 
-  pub text-sum : (rules : List Rule) → textLength limits t lengths rules
-      ≡ 25 + joinLength (slice 0 t lengths) + joinLength (slice t (length lengths) lengths) + rulesLength limits t lengths rules
-  unfolding textLength
+  pub text-sum : (rules : List Rule) → text_length limits t lengths rules
+      ≡ 25 + join_length (slice 0 t lengths) + join_length (slice t (length lengths) lengths) + rules_length limits t lengths rules
+  unfolding text_length
   text-sum rules = let q : length lengths ≤ length lengths = omega arith in rw (take_all (length lengths) lengths q)
 
 -- ---- the printed text
 
-length-led : (c : ℕ) (ps : List (List ℕ)) → length (ledBy c ps) ≡ ledLength (nameLengths ps)
-unfolding ledBy ledLength nameLengths
+length-led : (c : ℕ) (ps : List (List ℕ)) → length (led_by c ps) ≡ led_length (name_lengths ps)
+unfolding led_by led_length name_lengths
 length-led c [] = refl
-length-led c (p ∷ ps) = omega (arith, length-append p (ledBy c ps), length-led c ps)
+length-led c (p ∷ ps) = omega (arith, length-append p (led_by c ps), length-led c ps)
 
-length-join : (c : ℕ) (ps : List (List ℕ)) → length (join c ps) ≡ joinLength (nameLengths ps)
-unfolding join joinLength nameLengths
+length-join : (c : ℕ) (ps : List (List ℕ)) → length (join c ps) ≡ join_length (name_lengths ps)
+unfolding join join_length name_lengths
 length-join c [] = refl
-length-join c (p ∷ ps) = omega (arith, length-append p (ledBy c ps), length-led c ps)
+length-join c (p ∷ ps) = omega (arith, length-append p (led_by c ps), length-led c ps)
 
-lengths-take : (ps : List (List ℕ)) (i : ℕ) → nameLengths (take i ps) ≡ take i (nameLengths ps)
-unfolding nameLengths
+lengths-take : (ps : List (List ℕ)) (i : ℕ) → name_lengths (take i ps) ≡ take i (name_lengths ps)
+unfolding name_lengths
 lengths-take ps zero = refl
 lengths-take [] (suc i) = refl
 lengths-take (p ∷ ps) (suc i) = ap (λ xs. length p ∷ xs) (lengths-take ps i)
 
-lengths-drop : (ps : List (List ℕ)) (i : ℕ) → nameLengths (drop i ps) ≡ drop i (nameLengths ps)
-unfolding nameLengths
+lengths-drop : (ps : List (List ℕ)) (i : ℕ) → name_lengths (drop i ps) ≡ drop i (name_lengths ps)
+unfolding name_lengths
 lengths-drop ps zero = refl
 lengths-drop [] (suc i) = refl
 lengths-drop (p ∷ ps) (suc i) = lengths-drop ps i
 
-lengths-at : (ps : List (List ℕ)) (i : ℕ) → length (get_or ps i []) ≡ get_or (nameLengths ps) i 0
-unfolding nameLengths
+lengths-at : (ps : List (List ℕ)) (i : ℕ) → length (get_or ps i []) ≡ get_or (name_lengths ps) i 0
+unfolding name_lengths
 lengths-at [] i = refl
 lengths-at (p ∷ ps) zero = refl
 lengths-at (p ∷ ps) (suc i) = lengths-at ps i
 
 module _ (t : ℕ) (names : List (List ℕ)) where
-  code-size : (code : ℕ) → length (name_of limits t names code) ≡ codeLength limits t (nameLengths names) code
-  unfolding name_of codeLength
+  code-size : (code : ℕ) → length (name_of limits t names code) ≡ code_length limits t (name_lengths names) code
+  unfolding name_of code_length
   code-size code = lengths-at names (symbol_of limits t code)
 
-  codes-size : (codes : List ℕ) → nameLengths (map (name_of limits t names) codes)
-      ≡ map (codeLength limits t (nameLengths names)) codes
-  unfolding nameLengths
+  codes-size : (codes : List ℕ) → name_lengths (map (name_of limits t names) codes)
+      ≡ map (code_length limits t (name_lengths names)) codes
+  unfolding name_lengths
   codes-size [] = refl
   codes-size (x ∷ xs) = ap₂ (λ (y : ℕ) (ys : List ℕ). y ∷ ys) (code-size x) (codes-size xs)
 
-  rule-size : (r : Rule) → length (printRule limits t names r) + 1 ≡ ruleLength limits t (nameLengths names) r
-  unfolding printRule ruleLength
+  rule-size : (r : Rule) → length (print_rule limits t names r) + 1 ≡ rule_length limits t (name_lengths names) r
+  unfolding print_rule rule_length
   rule-size r =
       let x = name_of limits t names r.left in
       let ps = map (name_of limits t names) r.right in
-      let b : length (ledBy 32 ps) ≡ ledLength (map (codeLength limits t (nameLengths names)) r.right)
-      = length-led 32 ps ∙ ap ledLength (codes-size r.right) in
-      omega (arith, line-size 2 (x ++ 58 ∷ ledBy 32 ps), key-sizes.2, length-append x (58 ∷ ledBy 32 ps), code-size r.left, b)
+      let b : length (led_by 32 ps) ≡ led_length (map (code_length limits t (name_lengths names)) r.right)
+      = length-led 32 ps ∙ ap led_length (codes-size r.right) in
+      omega (arith, line-size 2 (x ++ 58 ∷ led_by 32 ps), key_sizes.2, length-append x (58 ∷ led_by 32 ps), code-size r.left, b)
 
-  rules-size : (rules : List Rule) → length (endedBy 10 (map (printRule limits t names) rules))
-      ≡ rulesLength limits t (nameLengths names) rules
-  unfolding endedBy rulesLength
+  rules-size : (rules : List Rule) → length (ended_by 10 (map (print_rule limits t names) rules))
+      ≡ rules_length limits t (name_lengths names) rules
+  unfolding ended_by rules_length
   rules-size [] = refl
   rules-size (r ∷ rs) =
       omega (
         arith,
-        length-append (printRule limits t names r) (10 ∷ endedBy 10 (map (printRule limits t names) rs)),
+        length-append (print_rule limits t names r) (10 ∷ ended_by 10 (map (print_rule limits t names) rs)),
         rule-size r,
         rules-size rs,
       )
 
   lines-size : (u : ℕ) (xs ys : List (List ℕ)) (rules : List Rule)
-      → length (endedBy 10 (printLine 0 (join 44 xs) ∷ printLine 1 (join 44 ys) ∷ map (printRule limits u names) rules))
-      ≡ 25 + length (join 44 xs) + length (join 44 ys) + length (endedBy 10 (map (printRule limits u names) rules))
-  unfolding endedBy
+      → length (ended_by 10 (print_line 0 (join 44 xs) ∷ print_line 1 (join 44 ys) ∷ map (print_rule limits u names) rules))
+      ≡ 25 + length (join 44 xs) + length (join 44 ys) + length (ended_by 10 (map (print_rule limits u names) rules))
+  unfolding ended_by
   lines-size u xs ys rules =
-      let a = printLine 0 (join 44 xs) in
-      let b = printLine 1 (join 44 ys) in
-      let more = endedBy 10 (map (printRule limits u names) rules) in
+      let a = print_line 0 (join 44 xs) in
+      let b = print_line 1 (join 44 ys) in
+      let more = ended_by 10 (map (print_rule limits u names) rules) in
       omega (
         arith,
         length-append a (10 ∷ (b ++ 10 ∷ more)),
         length-append b (10 ∷ more),
         line-size 0 (join 44 xs),
         line-size 1 (join 44 ys),
-        key-sizes.0,
-        key-sizes.1,
+        key_sizes.0,
+        key_sizes.1,
       )
 
   -- the text of names, of which t are terminals, line by line
   pub text-lines : (rules : List Rule) → t ≤ length names → text_of t names rules
-      ≡ endedBy 10 (printLine 0 (join 44 (take t names)) ∷ printLine 1 (join 44 (drop t names)) ∷ map (printRule limits t names) rules)
+      ≡ ended_by 10 (print_line 0 (join 44 (take t names)) ∷ print_line 1 (join 44 (drop t names)) ∷ map (print_rule limits t names) rules)
   unfolding printed
   text-lines rules h =
       ap₂ (λ (u : ℕ) (all : List (List ℕ)).
-      endedBy 10 (printLine 0 (join 44 (take t names)) ∷ printLine 1 (join 44 (drop t names)) ∷ map (printRule limits u all) rules))
+      ended_by 10 (print_line 0 (join 44 (take t names)) ∷ print_line 1 (join 44 (drop t names)) ∷ map (print_rule limits u all) rules))
       (length-take-le t names h) (take-append-drop t names)
 
   -- the length of a printed text is the sum
   pub printed-length : (rules : List Rule) → t ≤ length names → length (text_of t names rules)
-      ≡ textLength limits t (nameLengths names) rules
-  unfolding textLength
+      ≡ text_length limits t (name_lengths names) rules
+  unfolding text_length
   printed-length rules h =
-      let a : length (join 44 (take t names)) ≡ joinLength (take t (nameLengths names))
-      = length-join 44 (take t names) ∙ ap joinLength (lengths-take names t) in
-      let b : length (join 44 (drop t names)) ≡ joinLength (drop t (nameLengths names))
-      = length-join 44 (drop t names) ∙ ap joinLength (lengths-drop names t) in
+      let a : length (join 44 (take t names)) ≡ join_length (take t (name_lengths names))
+      = length-join 44 (take t names) ∙ ap join_length (lengths-take names t) in
+      let b : length (join 44 (drop t names)) ≡ join_length (drop t (name_lengths names))
+      = length-join 44 (drop t names) ∙ ap join_length (lengths-drop names t) in
       omega (arith, ap length (text-lines rules h), lines-size t (take t names) (drop t names) rules, a, b, rules-size rules)

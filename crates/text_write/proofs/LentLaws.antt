@@ -12,17 +12,17 @@ use lib.Dec.{ltb, leb}
 use lib.ListN.{length, take, drop, get_or, length-drop}
 use lib.Seq.{get_or-take, length-take-le, ext_get_or}
 use Rattle.grammar.specs.Basics.{choose}
-use Rattle.grammar.specs.Refusal.{Answer, done, refused, refuseUnless, and_then}
+use Rattle.grammar.specs.Refusal.{Answer, done, refused, refuse_unless, and_then}
 use Rattle.grammar.proofs.Answers.{no_answer, no_bool, and_both, refused_as}
-use Rattle.text.specs.Names.{all, isName}
-use Rattle.text.specs.Read.{refuseNone}
+use Rattle.text.specs.Names.{all, is_name}
+use Rattle.text.specs.Read.{refuse_none}
 use Rattle.text.specs.Print.{name_at, gather}
-use Rattle.text.specs.Promise.{nameLengths}
+use Rattle.text.specs.Promise.{name_lengths}
 use Rattle.text.proofs.Names.{no_value, some_inj}
 use Rattle.text.specs.Spelled.{spelled}
 use Rattle.text.proofs.Spans.{length-spelled, spelled_at}
 use Rattle.text.proofs.Gather.{name-at, gathered}
-use Rattle.text_write.specs.Contracts.{isWell, stopsAt, Rows}
+use Rattle.text_write.specs.Clauses.{is_well, stops_at, Rows}
 
 -- ---- the names of rows
 
@@ -40,14 +40,14 @@ pub name-taken : {bytes starts lengths : List ℕ} (i a n : ℕ) → Rows bytes 
 name-taken {bytes} i a n r l p q = ap₂ (λ a n. take (a + n - a) (drop a bytes)) p q ∙ sym (name-part i r l)
 
 -- there are as many as the rows have entries
-pub names-count : {bytes starts lengths : List ℕ} → Rows bytes starts lengths → length (spelled bytes starts lengths)
+pub names_count : {bytes starts lengths : List ℕ} → Rows bytes starts lengths → length (spelled bytes starts lengths)
     ≡ length starts
-names-count {bytes} {starts} {lengths} r = length-spelled bytes starts lengths r.paired
+names_count {bytes} {starts} {lengths} r = length-spelled bytes starts lengths r.paired
 
 -- the lengths of the names are the row of lengths
 pub lengths-spelled : (bytes starts lengths : List ℕ) → Rows bytes starts lengths
-    → nameLengths (spelled bytes starts lengths) ≡ lengths
-unfolding spelled nameLengths
+    → name_lengths (spelled bytes starts lengths) ≡ lengths
+unfolding spelled name_lengths
 lengths-spelled bytes [] [] r = refl
 lengths-spelled bytes [] (l ∷ ls) r = absurd (omega (arith, r.paired))
 lengths-spelled bytes (s ∷ ss) [] r = absurd (omega (arith, r.paired))
@@ -60,16 +60,16 @@ lengths-spelled bytes (s ∷ ss) (l ∷ ls) r =
 -- ---- one name
 
 module _ (bytes starts lengths : List ℕ) (i : ℕ) where
-  pub no_start : length starts ≤ i → isWell (name_at bytes starts lengths i) ≡ false
+  pub no_start : length starts ≤ i → is_well (name_at bytes starts lengths i) ≡ false
   unfolding name_at
   no_start h = rw (le-ltb i (length starts) h)
 
-  pub no_length : i < length starts → length lengths ≤ i → isWell (name_at bytes starts lengths i) ≡ false
+  pub no_length : i < length starts → length lengths ≤ i → is_well (name_at bytes starts lengths i) ≡ false
   unfolding name_at
   no_length g h = rw (lt-ltb i (length starts) g, le-ltb i (length lengths) h)
 
   pub not-inside : i < length starts → i < length lengths → length bytes < get_or starts i 0 + get_or lengths i 0
-      → isWell (name_at bytes starts lengths i) ≡ false
+      → is_well (name_at bytes starts lengths i) ≡ false
   unfolding name_at
   not-inside g h k =
       rw (
@@ -79,25 +79,25 @@ module _ (bytes starts lengths : List ℕ) (i : ℕ) where
       )
 
   pub whole-name : i < length starts → i < length lengths → get_or starts i 0 + get_or lengths i 0 ≤ length bytes
-      → isWell (name_at bytes starts lengths i)
-      ≡ isName (take (get_or starts i 0 + get_or lengths i 0 - get_or starts i 0) (drop (get_or starts i 0) bytes))
+      → is_well (name_at bytes starts lengths i)
+      ≡ is_name (take (get_or starts i 0 + get_or lengths i 0 - get_or starts i 0) (drop (get_or starts i 0) bytes))
   whole-name g h k =
       let q : get_or lengths i 0 ≡ get_or starts i 0 + get_or lengths i 0 - get_or starts i 0 = omega arith in
-      ap isWell (name-at bytes starts lengths i g h k) ∙ ap (λ w. isName (take w (drop (get_or starts i 0) bytes))) q
+      ap is_well (name-at bytes starts lengths i g h k) ∙ ap (λ w. is_name (take w (drop (get_or starts i 0) bytes))) q
 
 -- ---- gathering
 
 -- what one name decides
-gather-by : (m i : ℕ) (name : Option (List ℕ)) (b : Bool) (o : Answer (List (List ℕ))) → isWell name ≡ b
-    → stopsAt m (refuseNone 16 i name (λ x. refuseUnless 16 i (isName x) (and_then o (λ xs. done (x ∷ xs)))))
-    ≡ choose b (stopsAt m o) i
-unfolding refuseNone refuseUnless and_then
+gather-by : (m i : ℕ) (name : Option (List ℕ)) (b : Bool) (o : Answer (List (List ℕ))) → is_well name ≡ b
+    → stops_at m (refuse_none 16 i name (λ x. refuse_unless 16 i (is_name x) (and_then o (λ xs. done (x ∷ xs)))))
+    ≡ choose b (stops_at m o) i
+unfolding refuse_none refuse_unless and_then
 gather-by m i none true o e = no_bool (sym e)
 gather-by m i none false o e = refl
-gather-by m i (some x) b o e = go (isName x) b e o
+gather-by m i (some x) b o e = go (is_name x) b e o
   where
     go : (c b : Bool) → c ≡ b → (o : Answer (List (List ℕ)))
-        → stopsAt m (refuseUnless 16 i c (and_then o (λ xs. done (x ∷ xs)))) ≡ choose b (stopsAt m o) i
+        → stops_at m (refuse_unless 16 i c (and_then o (λ xs. done (x ∷ xs)))) ≡ choose b (stops_at m o) i
     go true true e (done xs) = refl
     go true true e (refused c p) = refl
     go true false e o = no_bool e
@@ -105,33 +105,33 @@ gather-by m i (some x) b o e = go (isName x) b e o
     go false false e o = refl
 
 module _ (bytes starts lengths : List ℕ) (m i : ℕ) where
-  gather-turn : (b : Bool) → i < m → isWell (name_at bytes starts lengths i) ≡ b
-      → stopsAt m (gather bytes starts lengths i (m - i))
-      ≡ choose b (stopsAt m (gather bytes starts lengths (i + 1) (m - (i + 1)))) i
+  gather-turn : (b : Bool) → i < m → is_well (name_at bytes starts lengths i) ≡ b
+      → stops_at m (gather bytes starts lengths i (m - i))
+      ≡ choose b (stops_at m (gather bytes starts lengths (i + 1) (m - (i + 1)))) i
   unfolding gather
   gather-turn b h e =
       let q : m - i ≡ suc (m - (i + 1)) = omega arith in
       rw (q, add-one) (gather-by m i (name_at bytes starts lengths i) b (gather bytes starts lengths (suc i) (m - suc i)) e)
 
   -- a name is taken
-  pub gather-more : i < m → isWell (name_at bytes starts lengths i) ≡ true
-      → stopsAt m (gather bytes starts lengths i (m - i)) ≡ stopsAt m (gather bytes starts lengths (i + 1) (m - (i + 1)))
+  pub gather-more : i < m → is_well (name_at bytes starts lengths i) ≡ true
+      → stops_at m (gather bytes starts lengths i (m - i)) ≡ stops_at m (gather bytes starts lengths (i + 1) (m - (i + 1)))
   gather-more h e = gather-turn true h e
 
   -- or stops the gathering
-  pub gather-stops : i < m → isWell (name_at bytes starts lengths i) ≡ false
-      → stopsAt m (gather bytes starts lengths i (m - i)) ≡ i
-  gather-stops h e = gather-turn false h e
+  pub gather_stops : i < m → is_well (name_at bytes starts lengths i) ≡ false
+      → stops_at m (gather bytes starts lengths i (m - i)) ≡ i
+  gather_stops h e = gather-turn false h e
 
   -- all are taken
-  pub gather-ends : m ≤ i → stopsAt m (gather bytes starts lengths i (m - i)) ≡ m
+  pub gather-ends : m ≤ i → stops_at m (gather bytes starts lengths i (m - i)) ≡ m
   unfolding gather
   gather-ends h = let q : m - i ≡ 0 = omega arith in rw q
 
 -- a refusal is 16 at one of the names
 pub gather-refused : (bytes starts lengths : List ℕ) (i m c p : ℕ) → gather bytes starts lengths i m ≡ refused c p
     → (c ≡ 16) × (p < i + m)
-unfolding gather refuseNone refuseUnless and_then
+unfolding gather refuse_none refuse_unless and_then
 gather-refused bytes starts lengths i zero c p e = no_answer (sym e)
 gather-refused bytes starts lengths i (suc m) c p e =
     go (name_at bytes starts lengths i) (gather bytes starts lengths (suc i) m) e (λ h. gather-refused bytes starts lengths (suc i) m c p h)
@@ -144,17 +144,17 @@ gather-refused bytes starts lengths i (suc m) c p e =
     further x (done xs) e again = no_answer (sym e)
     further x (refused d q) e again = let r = again (refused_as e) in (r.0, omega (arith, r.1))
 
-    tested : (b : Bool) (x : List ℕ) (o : Answer (List (List ℕ))) → refuseUnless 16 i b (and_then o (λ xs. done (x ∷ xs)))
+    tested : (b : Bool) (x : List ℕ) (o : Answer (List (List ℕ))) → refuse_unless 16 i b (and_then o (λ xs. done (x ∷ xs)))
         ≡ refused c p
         → (o ≡ refused c p → (c ≡ 16) × (p < suc i + m)) → (c ≡ 16) × (p < i + suc m)
     tested true x o e again = further x o e again
     tested false x o e again = first e
 
     go : (name : Option (List ℕ)) (o : Answer (List (List ℕ)))
-        → refuseNone 16 i name (λ x. refuseUnless 16 i (isName x) (and_then o (λ xs. done (x ∷ xs)))) ≡ refused c p
+        → refuse_none 16 i name (λ x. refuse_unless 16 i (is_name x) (and_then o (λ xs. done (x ∷ xs)))) ≡ refused c p
         → (o ≡ refused c p → (c ≡ 16) × (p < suc i + m)) → (c ≡ 16) × (p < i + suc m)
     go none o e again = first e
-    go (some x) o e again = tested (isName x) x o e again
+    go (some x) o e again = tested (is_name x) x o e again
 
 -- an entry that gives a name
 record Entry (bytes starts lengths : List ℕ) (i : ℕ) (x : List ℕ) : Type 0 where
@@ -198,7 +198,7 @@ pub record Cut (bytes starts lengths : List ℕ) (m : ℕ) (names : List (List �
   pub lengths-most : m ≤ length lengths
   pub rows : Rows bytes (take m starts) (take m lengths)
   pub spells : names ≡ spelled bytes (take m starts) (take m lengths)
-  pub named : all isName names ≡ true
+  pub named : all is_name names ≡ true
   pub count : length names ≡ m
 
 module _ (bytes starts lengths : List ℕ) (m : ℕ) (names : List (List ℕ)) (e : gather bytes starts lengths 0 m ≡ done names) where

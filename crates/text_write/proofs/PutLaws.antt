@@ -10,26 +10,26 @@ use lib.Seq.{slice, slice-cons, take_all}
 use Rattle.grammar.specs.Limits.{limits}
 use Rattle.grammar.specs.Grammar.{Rule}
 use Rattle.grammar.proofs.Lists.{drop-next}
-use Rattle.text.specs.Pieces.{ledBy, join, endedBy}
+use Rattle.text.specs.Pieces.{led_by, join, ended_by}
 use Rattle.text.specs.Keys.{key}
 use Rattle.text.specs.Read.{symbol_of}
-use Rattle.text.specs.Print.{printLine, name_of, printRule}
-use Rattle.text_write.specs.Contracts.{lineText, codesText, ruleText, text_of}
+use Rattle.text.specs.Print.{print_line, name_of, print_rule}
+use Rattle.text_write.specs.Clauses.{line_text, codes_text, rule_text, text_of}
 use Rattle.text_write.proofs.LengthLaws.{slice-none, text-lines}
 
 -- ---- names in a list
 
 module _ (names : List (List ℕ)) (i to : ℕ) where
   pub led-turn : i < to → to ≤ length names
-      → ledBy 44 (slice i to names) ≡ (44 ∷ []) ++ (get_or names i [] ++ ledBy 44 (slice (i + 1) to names))
-  unfolding ledBy
-  led-turn h k = ap (ledBy 44) (slice-cons i to names [] h k) ∙ rw (add-one i)
+      → led_by 44 (slice i to names) ≡ (44 ∷ []) ++ (get_or names i [] ++ led_by 44 (slice (i + 1) to names))
+  unfolding led_by
+  led-turn h k = ap (led_by 44) (slice-cons i to names [] h k) ∙ rw (add-one i)
 
-  pub led-end : i ≤ to → to ≤ i → ledBy 44 (slice i to names) ≡ []
-  unfolding ledBy
-  led-end h k = ap (ledBy 44) (slice-none names i to h k)
+  pub led-end : i ≤ to → to ≤ i → led_by 44 (slice i to names) ≡ []
+  unfolding led_by
+  led-end h k = ap (led_by 44) (slice-none names i to h k)
 
-  pub join-turn : i < to → to ≤ length names → join 44 (slice i to names) ≡ get_or names i [] ++ ledBy 44 (slice (i + 1) to names)
+  pub join-turn : i < to → to ≤ length names → join 44 (slice i to names) ≡ get_or names i [] ++ led_by 44 (slice (i + 1) to names)
   unfolding join
   join-turn h k = ap (join 44) (slice-cons i to names [] h k) ∙ rw (add-one i)
 
@@ -38,56 +38,56 @@ module _ (names : List (List ℕ)) (i to : ℕ) where
   join-end h k = ap (join 44) (slice-none names i to h k)
 
 -- a line
-pub line-parts : (k : ℕ) (v : List ℕ) → lineText k v ≡ (key k ++ (61 ∷ [])) ++ (v ++ (10 ∷ []))
-unfolding printLine
+pub line-parts : (k : ℕ) (v : List ℕ) → line_text k v ≡ (key k ++ (61 ∷ [])) ++ (v ++ (10 ∷ []))
+unfolding print_line
 line-parts k v = append_assoc (key k) (61 ∷ v) (10 ∷ []) ∙ sym (append_assoc (key k) (61 ∷ []) (v ++ (10 ∷ [])))
 
 -- ---- rules
 
 module _ (t : ℕ) (names : List (List ℕ)) where
   pub codes-turn : (codes : List ℕ) (i s : ℕ) → i < length codes → s ≡ symbol_of limits t (get_or codes i 0)
-      → codesText t names (drop i codes) ≡ (32 ∷ []) ++ (get_or names s [] ++ codesText t names (drop (i + 1) codes))
-  unfolding ledBy name_of
+      → codes_text t names (drop i codes) ≡ (32 ∷ []) ++ (get_or names s [] ++ codes_text t names (drop (i + 1) codes))
+  unfolding led_by name_of
   codes-turn codes i s h e =
-      ap (codesText t names) (drop-next codes i h)
-      ∙ ap (λ s. (32 ∷ []) ++ (get_or names s [] ++ codesText t names (drop (i + 1) codes))) (sym e)
+      ap (codes_text t names) (drop-next codes i h)
+      ∙ ap (λ s. (32 ∷ []) ++ (get_or names s [] ++ codes_text t names (drop (i + 1) codes))) (sym e)
 
-  pub codes-end : (codes : List ℕ) (i : ℕ) → length codes ≤ i → codesText t names (drop i codes) ≡ []
-  unfolding ledBy
-  codes-end codes i h = ap (codesText t names) (drop_of_length-le codes h)
+  pub codes-end : (codes : List ℕ) (i : ℕ) → length codes ≤ i → codes_text t names (drop i codes) ≡ []
+  unfolding led_by
+  codes-end codes i h = ap (codes_text t names) (drop_of_length-le codes h)
 
   pub rule-parts : (left s : ℕ) (codes : List ℕ) → s ≡ symbol_of limits t left
-      → ruleText t names (record { left = left; right = codes })
-      ≡ (key 2 ++ (61 ∷ [])) ++ (get_or names s [] ++ ((58 ∷ []) ++ (codesText t names codes ++ (10 ∷ []))))
-  unfolding printRule name_of
+      → rule_text t names (record { left = left; right = codes })
+      ≡ (key 2 ++ (61 ∷ [])) ++ (get_or names s [] ++ ((58 ∷ []) ++ (codes_text t names codes ++ (10 ∷ []))))
+  unfolding print_rule name_of
   rule-parts left s codes e =
       let x = get_or names (symbol_of limits t left) [] in
-      let w = codesText t names codes in
+      let w = codes_text t names codes in
       line-parts 2 (x ++ 58 ∷ w) ∙ ap (λ v. (key 2 ++ (61 ∷ [])) ++ v) (append_assoc x (58 ∷ w) (10 ∷ []))
       ∙ ap (λ s. (key 2 ++ (61 ∷ [])) ++ (get_or names s [] ++ ((58 ∷ []) ++ (w ++ (10 ∷ []))))) (sym e)
 
   pub rules-turn : (rules : List Rule) (r : Rule) (rs : List Rule) → rules ≡ r ∷ rs
-      → endedBy 10 (map (printRule limits t names) rules)
-      ≡ ruleText t names r ++ endedBy 10 (map (printRule limits t names) rs)
-  unfolding endedBy
+      → ended_by 10 (map (print_rule limits t names) rules)
+      ≡ rule_text t names r ++ ended_by 10 (map (print_rule limits t names) rs)
+  unfolding ended_by
   rules-turn rules r rs e =
-      ap (λ rules. endedBy 10 (map (printRule limits t names) rules)) e
-      ∙ sym (append_assoc (printRule limits t names r) (10 ∷ []) (endedBy 10 (map (printRule limits t names) rs)))
+      ap (λ rules. ended_by 10 (map (print_rule limits t names) rules)) e
+      ∙ sym (append_assoc (print_rule limits t names r) (10 ∷ []) (ended_by 10 (map (print_rule limits t names) rs)))
 
-  pub rules-end : (rules : List Rule) → rules ≡ [] → endedBy 10 (map (printRule limits t names) rules) ≡ []
-  unfolding endedBy
-  rules-end rules e = ap (λ rules. endedBy 10 (map (printRule limits t names) rules)) e
+  pub rules-end : (rules : List Rule) → rules ≡ [] → ended_by 10 (map (print_rule limits t names) rules) ≡ []
+  unfolding ended_by
+  rules-end rules e = ap (λ rules. ended_by 10 (map (print_rule limits t names) rules)) e
 
   -- the whole text
   pub text-parts : (m : ℕ) (rules : List Rule) → length names ≡ m → t ≤ m → text_of t names rules
-      ≡ lineText 0 (join 44 (slice 0 t names))
-      ++ (lineText 1 (join 44 (slice t m names)) ++ endedBy 10 (map (printRule limits t names) rules))
-  unfolding endedBy
+      ≡ line_text 0 (join 44 (slice 0 t names))
+      ++ (line_text 1 (join 44 (slice t m names)) ++ ended_by 10 (map (print_rule limits t names) rules))
+  unfolding ended_by
   text-parts m rules e h =
-      let a = printLine 0 (join 44 (take t names)) in
-      let b = printLine 1 (join 44 (drop t names)) in
-      let more = endedBy 10 (map (printRule limits t names) rules) in
+      let a = print_line 0 (join 44 (take t names)) in
+      let b = print_line 1 (join 44 (drop t names)) in
+      let more = ended_by 10 (map (print_rule limits t names) rules) in
       let q : take m names ≡ names = take_all m names (omega arith) in
       text-lines t names rules (omega arith) ∙ sym (append_assoc a (10 ∷ []) (b ++ 10 ∷ more))
-      ∙ ap (λ w. lineText 0 (join 44 (take t names)) ++ w) (sym (append_assoc b (10 ∷ []) more)
-      ∙ ap (λ xs. lineText 1 (join 44 (drop t xs)) ++ more) (sym q))
+      ∙ ap (λ w. line_text 0 (join 44 (take t names)) ++ w) (sym (append_assoc b (10 ∷ []) more)
+      ∙ ap (λ xs. line_text 1 (join 44 (drop t xs)) ++ more) (sym q))

@@ -6,27 +6,27 @@ use Rattle.grammar.specs.Grammar.{Rule}
 use Rattle.text.specs.Read.{symbol_of}
 
 -- pieces of these lengths with one byte before each, and with one byte between them
-unfoldable pub ledLength : List ℕ → ℕ
-ledLength [] = 0
-ledLength (l ∷ ls) = l + 1 + ledLength ls
+unfoldable pub led_length : List ℕ → ℕ
+led_length [] = 0
+led_length (l ∷ ls) = l + 1 + led_length ls
 
-unfoldable pub joinLength : List ℕ → ℕ
-joinLength [] = 0
-joinLength (l ∷ ls) = l + ledLength ls
+unfoldable pub join_length : List ℕ → ℕ
+join_length [] = 0
+join_length (l ∷ ls) = l + led_length ls
 
 module _ (L : Limits) (t : ℕ) (lengths : List ℕ) where
   -- the name of a code
-  unfoldable pub codeLength : ℕ → ℕ
-  codeLength code = get_or lengths (symbol_of L t code) 0
+  unfoldable pub code_length : ℕ → ℕ
+  code_length code = get_or lengths (symbol_of L t code) 0
 
   -- a rule's line: 4 bytes are its key, 3 the equals sign, the colon and the line's end
-  unfoldable pub ruleLength : Rule → ℕ
-  ruleLength r = 7 + codeLength r.left + ledLength (map codeLength r.right)
+  unfoldable pub rule_length : Rule → ℕ
+  rule_length r = 7 + code_length r.left + led_length (map code_length r.right)
 
-  unfoldable pub rulesLength : List Rule → ℕ
-  rulesLength [] = 0
-  rulesLength (r ∷ rs) = ruleLength r + rulesLength rs
+  unfoldable pub rules_length : List Rule → ℕ
+  rules_length [] = 0
+  rules_length (r ∷ rs) = rule_length r + rules_length rs
 
   -- the text: 21 bytes are the keys of the first two lines, 4 their equals signs and ends
-  unfoldable pub textLength : List Rule → ℕ
-  textLength rules = 25 + joinLength (take t lengths) + joinLength (drop t lengths) + rulesLength rules
+  unfoldable pub text_length : List Rule → ℕ
+  text_length rules = 25 + join_length (take t lengths) + join_length (drop t lengths) + rules_length rules

@@ -1,9 +1,9 @@
 // The names that a caller lends: which are lent whole and well formed, and which stands again.
 ghost use Rattle.std.specs.Prelude.{◌≡◌, [], ◌+◌, ◌^◌, ◌≤◌, ◌<◌, length};
 ghost use Rattle.grammar.specs.Limits.{limits};
-ghost use Rattle.text.specs.Print.{name_at, gather, firstDouble};
+ghost use Rattle.text.specs.Print.{name_at, gather, first_double};
 ghost use Rattle.text.specs.Spelled.{spelled};
-ghost use Rattle.text_write.specs.Contracts.{isWell, stopsAt, Rows};
+ghost use Rattle.text_write.specs.Clauses.{is_well, stops_at, Rows};
 
 use grammar::MAX_NAMES;
 
@@ -16,7 +16,7 @@ pub fn wide(x: u32) -> usize
 
 // Is the name of symbol i lent whole, and well formed?
 fn is_lent(bytes: &[u8], starts: &[u32], lengths: &[u32], i: usize) -> bool
-    ensures { result ≡ isWell (name_at bytes.now starts.now lengths.now i) }
+    ensures { result ≡ is_well (name_at bytes.now starts.now lengths.now i) }
 {
     if starts.len() <= i {
         return false;
@@ -34,7 +34,7 @@ fn is_lent(bytes: &[u8], starts: &[u32], lengths: &[u32], i: usize) -> bool
 
 // The lowest of m symbols whose name is not so, or m.
 pub fn first_bad(m: usize, bytes: &[u8], starts: &[u32], lengths: &[u32]) -> usize
-    ensures { result ≡ stopsAt m (gather bytes.now starts.now lengths.now 0 m) }
+    ensures { result ≡ stops_at m (gather bytes.now starts.now lengths.now 0 m) }
 {
     let mut i = 0;
     while i < m {
@@ -48,8 +48,8 @@ pub fn first_bad(m: usize, bytes: &[u8], starts: &[u32], lengths: &[u32]) -> usi
 
 // The lowest symbol whose name an earlier one has, or how many there are: the names are planted until one stands already.
 pub fn first_double(bytes: &[u8], starts: &[u32], lengths: &[u32]) -> usize
-    requires { Rows bytes.now starts.now lengths.now × (length starts.now ≤ limits.maxTerminals + limits.maxNonterminals) }
-    ensures { result ≡ firstDouble [] (spelled bytes.now starts.now lengths.now) }
+    requires { Rows bytes.now starts.now lengths.now × (length starts.now ≤ limits.max_terminals + limits.max_nonterminals) }
+    ensures { result ≡ first_double [] (spelled bytes.now starts.now lengths.now) }
 {
     let mut links = [0u16; 2 * MAX_NAMES];
     lexicon::plant(bytes, starts, lengths, &mut links)

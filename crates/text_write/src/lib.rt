@@ -8,7 +8,7 @@ mod size;
 ghost use Rattle.grammar.specs.Table.{decode};
 ghost use Rattle.text.specs.Promise.{WritesText, LengthAnswer};
 ghost use Rattle.text.specs.Spelled.{spelled};
-ghost use Rattle.text_write.specs.Contracts.{Checked, Ready, NamedAnswer};
+ghost use Rattle.text_write.specs.Clauses.{Checked, Ready, NamedAnswer};
 
 use grammar::{BUFFER_TOO_SHORT, MALFORMED, NAME_REPEATED, TableVerdict};
 pub use put::{put_byte, put_bytes, put_name};

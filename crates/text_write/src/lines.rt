@@ -4,7 +4,7 @@ ghost use Rattle.std.proofs.Math.Seq.{slice};
 ghost use Rattle.grammar.specs.Table.{decode};
 ghost use Rattle.text.specs.Pieces.{comma, join};
 ghost use Rattle.text.specs.Spelled.{spelled};
-ghost use Rattle.text_write.specs.Contracts.{Rows, Known, Coded, Wrote, lineText, codesText, ruleText, rulesText, text_of};
+ghost use Rattle.text_write.specs.Clauses.{Rows, Known, Coded, Wrote, line_text, codes_text, rule_text, rules_text, text_of};
 
 use super::put::{put_byte, put_key, put_name, put_names};
 use super::size::{symbol, wide_entry};
@@ -22,10 +22,10 @@ fn put_line(
     to: usize,
 ) -> usize
     requires { Rows bytes.now starts.now lengths.now × (from ≤ to) × (to ≤ length starts.now) × (k < 3)
-        × (at + length (lineText k (join comma (slice from to (spelled bytes.now starts.now lengths.now))))
+        × (at + length (line_text k (join comma (slice from to (spelled bytes.now starts.now lengths.now))))
         ≤ length out.old) }
     ensures { Wrote at
-        (lineText k (join comma (slice from to (spelled bytes.now starts.now lengths.now))))
+        (line_text k (join comma (slice from to (spelled bytes.now starts.now lengths.now))))
         out.old result out.new }
 {
     let i = put_key(out, at, k);
@@ -44,9 +44,9 @@ fn put_codes(
     lengths: &[u32],
 ) -> usize
     requires { Rows bytes.now starts.now lengths.now × Known t (length starts.now) codes.now
-        × (at + length (codesText t (spelled bytes.now starts.now lengths.now) codes.now) ≤ length out.old) }
+        × (at + length (codes_text t (spelled bytes.now starts.now lengths.now) codes.now) ≤ length out.old) }
     ensures { Wrote at
-        (codesText t (spelled bytes.now starts.now lengths.now) codes.now)
+        (codes_text t (spelled bytes.now starts.now lengths.now) codes.now)
         out.old result out.new }
 {
     let mut j = at;
@@ -72,10 +72,10 @@ fn put_rule(
     lengths: &[u32],
 ) -> usize
     requires { Rows bytes.now starts.now lengths.now × Known t (length starts.now) (left ∷ codes.now)
-        × (at + length (ruleText t (spelled bytes.now starts.now lengths.now) (record { left = left; right = codes.now }))
+        × (at + length (rule_text t (spelled bytes.now starts.now lengths.now) (record { left = left; right = codes.now }))
         ≤ length out.old) }
     ensures { Wrote at
-        (ruleText t (spelled bytes.now starts.now lengths.now)
+        (rule_text t (spelled bytes.now starts.now lengths.now)
         (record { left = left; right = codes.now }))
         out.old result out.new }
 {
@@ -98,9 +98,9 @@ fn put_rules(
     lengths: &[u32],
 ) -> usize
     requires { Rows bytes.now starts.now lengths.now × Coded t (length starts.now) table.now
-        × (at + length (rulesText t (spelled bytes.now starts.now lengths.now) table.now) ≤ length out.old) }
+        × (at + length (rules_text t (spelled bytes.now starts.now lengths.now) table.now) ≤ length out.old) }
     ensures { Wrote at
-        (rulesText t (spelled bytes.now starts.now lengths.now) table.now)
+        (rules_text t (spelled bytes.now starts.now lengths.now) table.now)
         out.old result out.new }
 {
     let mut j = at;

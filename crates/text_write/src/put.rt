@@ -1,10 +1,10 @@
 // Bytes, keys and names. The put functions write into the output from a place on, and return the place after what they wrote.
 ghost use Rattle.std.specs.Prelude.{[], ◌∷◌, ◌++◌, ◌+◌, ◌≤◌, ◌<◌, length, get_or};
 ghost use Rattle.std.proofs.Math.Seq.{slice};
-ghost use Rattle.text.specs.Pieces.{comma, equals, ledBy, join};
+ghost use Rattle.text.specs.Pieces.{comma, equals, led_by, join};
 ghost use Rattle.text.specs.Keys.{key};
 ghost use Rattle.text.specs.Spelled.{spelled};
-ghost use Rattle.text_write.specs.Contracts.{Rows, Wrote};
+ghost use Rattle.text_write.specs.Clauses.{Rows, Wrote};
 
 use super::lent::wide;
 use names::{COMMA, EQUALS};
@@ -84,9 +84,9 @@ fn put_led(
     to: usize,
 ) -> usize
     requires { Rows bytes.now starts.now lengths.now × (from ≤ to) × (to ≤ length starts.now)
-        × (at + length (ledBy comma (slice from to (spelled bytes.now starts.now lengths.now))) ≤ length out.old) }
+        × (at + length (led_by comma (slice from to (spelled bytes.now starts.now lengths.now))) ≤ length out.old) }
     ensures { Wrote at
-        (ledBy comma (slice from to (spelled bytes.now starts.now lengths.now)))
+        (led_by comma (slice from to (spelled bytes.now starts.now lengths.now)))
         out.old result out.new }
 {
     let mut j = at;

@@ -4,8 +4,8 @@ ghost use Rattle.std.proofs.Math.Seq.{slice};
 ghost use Rattle.grammar.specs.Limits.{limits};
 ghost use Rattle.grammar.specs.Table.{decode};
 ghost use Rattle.text.specs.Read.{symbol_of};
-ghost use Rattle.text_write.specs.Length.{ledLength, joinLength, codeLength, rulesLength, textLength};
-ghost use Rattle.text_write.specs.Contracts.{Known, Coded};
+ghost use Rattle.text_write.specs.Length.{led_length, join_length, code_length, rules_length, text_length};
+ghost use Rattle.text_write.specs.Clauses.{Known, Coded};
 
 use super::lent::wide;
 use grammar::NONTERMINAL_BASE;
@@ -19,7 +19,7 @@ pub fn wide_entry(x: u16) -> usize
 
 // The symbol number of a code, where there are t terminals.
 pub fn symbol(t: usize, code: u16) -> usize
-    requires { (1 ≤ code) × (t ≤ limits.maxTerminals) }
+    requires { (1 ≤ code) × (t ≤ limits.max_terminals) }
     ensures { result ≡ symbol_of limits t code }
 {
     if code < NONTERMINAL_BASE {
@@ -30,8 +30,8 @@ pub fn symbol(t: usize, code: u16) -> usize
 
 // Names from one symbol up to another, with a byte before each.
 fn led_length(lengths: &[u32], from: usize, to: usize) -> usize
-    requires { (from ≤ to) × (to ≤ length lengths.now) × (ledLength (slice from to lengths.now) ≤ limits.maxText) }
-    ensures { result ≡ ledLength (slice from to lengths.now) }
+    requires { (from ≤ to) × (to ≤ length lengths.now) × (led_length (slice from to lengths.now) ≤ limits.max_text) }
+    ensures { result ≡ led_length (slice from to lengths.now) }
 {
     let mut total = 0;
     let mut i = from;
@@ -44,8 +44,8 @@ fn led_length(lengths: &[u32], from: usize, to: usize) -> usize
 
 // The same with a byte between them.
 fn join_length(lengths: &[u32], from: usize, to: usize) -> usize
-    requires { (from ≤ to) × (to ≤ length lengths.now) × (joinLength (slice from to lengths.now) ≤ limits.maxText) }
-    ensures { result ≡ joinLength (slice from to lengths.now) }
+    requires { (from ≤ to) × (to ≤ length lengths.now) × (join_length (slice from to lengths.now) ≤ limits.max_text) }
+    ensures { result ≡ join_length (slice from to lengths.now) }
 {
     if to <= from {
         return 0;
@@ -56,8 +56,8 @@ fn join_length(lengths: &[u32], from: usize, to: usize) -> usize
 // The names of codes, with a byte before each.
 fn codes_length(codes: &[u16], t: usize, lengths: &[u32]) -> usize
     requires { Known t (length lengths.now) codes.now
-        × (ledLength (map (codeLength limits t lengths.now) codes.now) ≤ limits.maxText) }
-    ensures { result ≡ ledLength (map (codeLength limits t lengths.now) codes.now) }
+        × (led_length (map (code_length limits t lengths.now) codes.now) ≤ limits.max_text) }
+    ensures { result ≡ led_length (map (code_length limits t lengths.now) codes.now) }
 {
     let mut total = 0;
     let mut i = 0;
@@ -72,8 +72,8 @@ fn codes_length(codes: &[u16], t: usize, lengths: &[u32]) -> usize
 // The lines of all rules.
 fn rules_length(table: &[u16], t: usize, lengths: &[u32]) -> usize
     requires { Coded t (length lengths.now) table.now
-        × (rulesLength limits t lengths.now (decode table.now) ≤ limits.maxText) }
-    ensures { result ≡ rulesLength limits t lengths.now (decode table.now) }
+        × (rules_length limits t lengths.now (decode table.now) ≤ limits.max_text) }
+    ensures { result ≡ rules_length limits t lengths.now (decode table.now) }
 {
     let mut total = 0;
     let mut o = 0;
@@ -91,8 +91,8 @@ fn rules_length(table: &[u16], t: usize, lengths: &[u32]) -> usize
 // The whole text.
 pub fn text_length(table: &[u16], t: usize, lengths: &[u32]) -> usize
     requires { Coded t (length lengths.now) table.now × (t ≤ length lengths.now)
-        × (textLength limits t lengths.now (decode table.now) ≤ limits.maxText) }
-    ensures { result ≡ textLength limits t lengths.now (decode table.now) }
+        × (text_length limits t lengths.now (decode table.now) ≤ limits.max_text) }
+    ensures { result ≡ text_length limits t lengths.now (decode table.now) }
 {
     let n = lengths.len();
     let x = join_length(lengths, 0, t);

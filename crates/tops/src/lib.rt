@@ -1,8 +1,8 @@
 // Bits in the top bytes of a row of 32-bit entries, whose lower 24 bits hold places.
 ghost use Rattle.std.specs.Prelude.{◌≡◌, ◌+◌, ◌*◌, ◌<◌, length, get_or, set};
-ghost use Rattle.triples.specs.Certificate.{isSet};
-ghost use Rattle.bits.specs.Bits.{withBit};
-ghost use Rattle.tops.specs.Tops.{placeUnit, top, tops, lows};
+ghost use Rattle.triples.specs.Certificate.{is_set};
+ghost use Rattle.bits.specs.Bits.{with_bit};
+ghost use Rattle.tops.specs.Tops.{place_unit, top, tops, lows};
 
 // Places are below this.
 const PLACES: u32 = 16777216;
@@ -10,7 +10,7 @@ const PLACES: u32 = 16777216;
 // Is the bit 1?
 pub fn is_marked(row: &[u32], i: usize) -> bool
     requires { i < 8 * length row.now }
-    ensures { result ≡ isSet (tops row.now) i }
+    ensures { result ≡ is_set (tops row.now) i }
 {
     (row[i / 8] >> 24 >> (i % 8)) % 2 == 1
 }
@@ -18,7 +18,7 @@ pub fn is_marked(row: &[u32], i: usize) -> bool
 // Makes the bit 1.
 pub fn mark(row: &mut [u32], i: usize)
     requires { i < 8 * length row.old }
-    ensures bits { tops row.new ≡ withBit (tops row.old) i }
+    ensures bits { tops row.new ≡ with_bit (tops row.old) i }
     ensures places { lows row.new ≡ lows row.old }
 {
     let b = i / 8;
@@ -34,15 +34,15 @@ pub fn top_of(x: u32) -> u8
 
 // An entry's top byte with another place.
 fn with_place(x: u32, place: usize) -> u32
-    requires { place < placeUnit }
-    ensures { result ≡ top x * placeUnit + place }
+    requires { place < place_unit }
+    ensures { result ≡ top x * place_unit + place }
 {
     x / PLACES * PLACES + place as u32
 }
 
 // Writes a place.
 pub fn put_place(row: &mut [u32], k: usize, place: usize)
-    requires { (k < length row.old) × (place < placeUnit) }
+    requires { (k < length row.old) × (place < place_unit) }
     ensures bits { tops row.new ≡ tops row.old }
     ensures places { lows row.new ≡ set (lows row.old) k place }
 {

@@ -4,11 +4,11 @@ use mathlib.Core.Path.{◌≡◌, refl, sym, ap, ◌∙◌}
 use native.Mathlib.Omega.{arith}
 use Rattle.tree_laws.specs.Chart.{cap}
 
-pub cap-le : (n : ℕ) → cap n ≤ n
+pub cap_le : (n : ℕ) → cap n ≤ n
 unfolding cap
-cap-le zero = omega arith
-cap-le (suc zero) = omega arith
-cap-le (suc (suc n)) = omega arith
+cap_le zero = omega arith
+cap_le (suc zero) = omega arith
+cap_le (suc (suc n)) = omega arith
 
 pub cap-one : (n : ℕ) → 1 ≤ n → 1 ≤ cap n
 unfolding cap
@@ -29,11 +29,11 @@ cap-same (suc zero) h = refl
 cap-same (suc (suc zero)) h = refl
 cap-same (suc (suc (suc n))) h = absurd (omega arith)
 
-pub cap-many : (n : ℕ) → 2 ≤ n → cap n ≡ 2
+pub cap_many : (n : ℕ) → 2 ≤ n → cap n ≡ 2
 unfolding cap
-cap-many zero h = absurd (omega arith)
-cap-many (suc zero) h = absurd (omega arith)
-cap-many (suc (suc n)) h = refl
+cap_many zero h = absurd (omega arith)
+cap_many (suc zero) h = absurd (omega arith)
+cap_many (suc (suc n)) h = refl
 
 pub cap-most : (n : ℕ) → cap n ≤ 2
 unfolding cap
@@ -42,14 +42,14 @@ cap-most (suc zero) = omega arith
 cap-most (suc (suc n)) = omega arith
 
 -- capping early changes nothing
-pub cap-early : (n m : ℕ) → cap (cap n + m) ≡ cap (n + m)
+pub cap_early : (n m : ℕ) → cap (cap n + m) ≡ cap (n + m)
 unfolding cap
-cap-early zero m = refl
-cap-early (suc zero) m = refl
-cap-early (suc (suc n)) m = cap-many (2 + m) (omega arith) ∙ sym (cap-many (suc (suc n) + m) (omega arith))
+cap_early zero m = refl
+cap_early (suc zero) m = refl
+cap_early (suc (suc n)) m = cap_many (2 + m) (omega arith) ∙ sym (cap_many (suc (suc n) + m) (omega arith))
 
-pub cap-late : (a n m : ℕ) → cap (a + cap n + m) ≡ cap (a + n + m)
-cap-late a n m =
+pub cap_late : (a n m : ℕ) → cap (a + cap n + m) ≡ cap (a + n + m)
+cap_late a n m =
     let p : a + cap n + m ≡ cap n + (a + m) = omega arith in
     let q : n + (a + m) ≡ a + n + m = omega arith in
-    ap cap p ∙ cap-early n (a + m) ∙ ap cap q
+    ap cap p ∙ cap_early n (a + m) ∙ ap cap q

@@ -9,28 +9,28 @@ use native.Mathlib.Decide.{ℕ_discrete}
 use Rattle.grammar.specs.Limits.{Limits}
 use Rattle.grammar.specs.Grammar.{Grammar}
 use Rattle.tree_laws.specs.Chart.{cap, Places, Chart, made, Settled}
-use Rattle.tree_laws.specs.Filling.{itemRaised, wholeRaised, Done, Past, Column, Looking}
-use Rattle.tree_laws.proofs.Fill.{raised-same, raised-other, raised-whole, risen-other, risen-item}
+use Rattle.tree_laws.specs.Filling.{item_raised, whole_raised, Done, Past, Column, Looking}
+use Rattle.tree_laws.proofs.Fill.{raised_same, raised_other, raised_whole, risen-other, risen_item}
 use Rattle.tree_laws.proofs.Settled.{made-same, none_made}
 
 module _ (L : Limits) (G : Grammar) (w : List ℕ) (P : Places L G) (Q : ℕ) where
   -- counts outside the span (i, j) as they were: what is done stays done
-  past-keeps : (C D : Chart) (i j : ℕ) → ((p k l : ℕ) → (k ≡ i → l ≡ j → ⊥) → D.item p k l ≡ C.item p k l)
+  past_keeps : (C D : Chart) (i j : ℕ) → ((p k l : ℕ) → (k ≡ i → l ≡ j → ⊥) → D.item p k l ≡ C.item p k l)
       → ((b k l : ℕ) → (k ≡ i → l ≡ j → ⊥) → D.whole b k l ≡ C.whole b k l) → Past L G w P Q C (suc i) j → Past L G w P Q D (suc i) j
-  past-keeps C D i j a b y = record {
+  past_keeps C D i j a b y = record {
     settled = λ p x k l α e g n d.
-        subst (λ z. cap z ≤ D.item p k l) (sym (made-same L G w C D x p k l g (λ h u v. a (suc p) h l (off-item h k l u d)) (λ h u v. b x k h (off-whole h k l v d))))
-        (subst (λ z. cap (made L G w C x p k l) ≤ z) (sym (a p k l (off-item k k l (omega arith) d))) (y.settled p x k l α e g n d));
+        subst (λ z. cap z ≤ D.item p k l) (sym (made-same L G w C D x p k l g (λ h u v. a (suc p) h l (off_item h k l u d)) (λ h u v. b x k h (off_whole h k l v d))))
+        (subst (λ z. cap (made L G w C x p k l) ≤ z) (sym (a p k l (off_item k k l (omega arith) d))) (y.settled p x k l α e g n d));
     fresh = λ p x k l α e h. a p k l (λ u v. omega arith) ∙ y.fresh p x k l α e h;
   }
     where
-      off-item : (h k l : ℕ) → k ≤ h → Done k l (suc i) j → h ≡ i → l ≡ j → ⊥
-      off-item h k l u (inl d) e f = omega arith
-      off-item h k l u (inr d) e f = omega arith
+      off_item : (h k l : ℕ) → k ≤ h → Done k l (suc i) j → h ≡ i → l ≡ j → ⊥
+      off_item h k l u (inl d) e f = omega arith
+      off_item h k l u (inr d) e f = omega arith
 
-      off-whole : (h k l : ℕ) → h ≤ l → Done k l (suc i) j → k ≡ i → h ≡ j → ⊥
-      off-whole h k l v (inl d) e f = omega arith
-      off-whole h k l v (inr d) e f = omega arith
+      off_whole : (h k l : ℕ) → h ≤ l → Done k l (suc i) j → k ≡ i → h ≡ j → ⊥
+      off_whole h k l v (inl d) e f = omega arith
+      off_whole h k l v (inr d) e f = omega arith
 
   -- nothing rises: one flag less
   pub look-stays : (C : Chart) (A F F' : ℕ → ℕ) (q i j : ℕ) → Looking L G w P Q C A F (suc q) i j → ((h : ℕ) → F' h ≡ 0 → (h ≡ q) ⊎ (F h ≡ 0))
@@ -44,57 +44,57 @@ module _ (L : Limits) (G : Grammar) (w : List ℕ) (P : Places L G) (Q : ℕ) wh
   }
 
   -- an item rises to what is made of it: a place that has it next is no place, or is flagged
-  pub look-item : (C : Chart) (A A' F F' : ℕ → ℕ) (p x v q r i j : ℕ) (α : List ℕ) → Looking L G w P Q C A F (suc q) i j → q ≡ suc p → i ≤ j → P.rest p ≡ x ∷ α
+  pub look_item : (C : Chart) (A A' F F' : ℕ → ℕ) (p x v q r i j : ℕ) (α : List ℕ) → Looking L G w P Q C A F (suc q) i j → q ≡ suc p → i ≤ j → P.rest p ≡ x ∷ α
       → cap (made L G w C x p i j) ≤ v
       → ((h : ℕ) → A' h ≡ 0 → (A h ≡ 0) × (h ≡ p → ⊥))
       → ((h : ℕ) → F' h ≡ 0 → (h ≡ q) ⊎ (F h ≡ 0))
       → ((s y : ℕ) (β : List ℕ) → P.rest s ≡ y ∷ β → F' (suc s) ≡ 0 → suc s ≡ p → ⊥)
       → ((h : ℕ) → r ≤ h → h < Q → F' h ≡ 0)
-      → Looking L G w P Q (itemRaised C p i j v) A' F' r i j
-  look-item C A A' F F' p x v q r i j α y d n e c a f m g = record {
-    past = past-keeps C (itemRaised C p i j v) i j (λ s k l h. raised-other C p i j v s k l (λ u v w. h v w)) (λ b k l h. raised-whole C p i j v b k l) y.past;
+      → Looking L G w P Q (item_raised C p i j v) A' F' r i j
+  look_item C A A' F F' p x v q r i j α y d n e c a f m g = record {
+    past = past_keeps C (item_raised C p i j v) i j (λ s k l h. raised_other C p i j v s k l (λ u v w. h v w)) (λ b k l h. raised_whole C p i j v b k l) y.past;
     column = record {
-      idle = λ s z k β u t. let o = a s t in raised-other C p i j v s k j (λ u v w. o.1 u) ∙ y.column.idle s z k β u o.0;
+      idle = λ s z k β u t. let o = a s t in raised_other C p i j v s k j (λ u v w. o.1 u) ∙ y.column.idle s z k β u o.0;
       ends = λ s u h t. y.column.ends s u h (a s t).0;
     };
     quiet = λ s z β u t.
-        let o : made L G w (itemRaised C p i j v) z s i j ≡ made L G w C z s i j =
-        made-same L G w C (itemRaised C p i j v) z s i j n (λ h b b'. raised-other C p i j v (suc s) h j (λ b c d. m s z β u t b)) (λ h b b'. raised-whole C p i j v z i h) in
-        subst (λ k. cap k ≤ (itemRaised C p i j v).item s i j) (sym o) (elim (f (suc s) t) [
+        let o : made L G w (item_raised C p i j v) z s i j ≡ made L G w C z s i j =
+        made-same L G w C (item_raised C p i j v) z s i j n (λ h b b'. raised_other C p i j v (suc s) h j (λ b c d. m s z β u t b)) (λ h b b'. raised_whole C p i j v z i h) in
+        subst (λ k. cap k ≤ (item_raised C p i j v).item s i j) (sym o) (elim (f (suc s) t) [
           | inl h ↦ here s z β u (omega arith)
           | inr h ↦ other s z β u (y.quiet s z β u h) (elim (ℕ_discrete s p) [ yes b ↦ inl b | no b ↦ inr b ])
         ]);
     high = g;
   }
     where
-      here : (s z : ℕ) (β : List ℕ) → P.rest s ≡ z ∷ β → s ≡ p → cap (made L G w C z s i j) ≤ (itemRaised C p i j v).item s i j
+      here : (s z : ℕ) (β : List ℕ) → P.rest s ≡ z ∷ β → s ≡ p → cap (made L G w C z s i j) ≤ (item_raised C p i j v).item s i j
       here s z β u h =
           let k : z ∷ β ≡ x ∷ α = sym u ∙ ap P.rest h ∙ e in
           let z' : z ≡ x = cc k in
-          subst (λ k. cap (made L G w C z k i j) ≤ (itemRaised C p i j v).item k i j) (sym h) (subst (λ k. cap (made L G w C k p i j) ≤ (itemRaised C p i j v).item p i j) (sym z') (omega (arith, raised-same C p i j v)))
+          subst (λ k. cap (made L G w C z k i j) ≤ (item_raised C p i j v).item k i j) (sym h) (subst (λ k. cap (made L G w C k p i j) ≤ (item_raised C p i j v).item p i j) (sym z') (omega (arith, raised_same C p i j v)))
 
-      other : (s z : ℕ) (β : List ℕ) → P.rest s ≡ z ∷ β → cap (made L G w C z s i j) ≤ C.item s i j → (s ≡ p) ⊎ (s ≡ p → ⊥) → cap (made L G w C z s i j) ≤ (itemRaised C p i j v).item s i j
+      other : (s z : ℕ) (β : List ℕ) → P.rest s ≡ z ∷ β → cap (made L G w C z s i j) ≤ C.item s i j → (s ≡ p) ⊎ (s ≡ p → ⊥) → cap (made L G w C z s i j) ≤ (item_raised C p i j v).item s i j
       other s z β u h (inl b) = here s z β u b
-      other s z β u h (inr b) = omega (arith, h, raised-other C p i j v s i j (λ u v w. b u))
+      other s z β u h (inr b) = omega (arith, h, raised_other C p i j v s i j (λ u v w. b u))
 
   -- a nonterminal rises: every place before it is flagged
   pub look-whole : (C : Chart) (A F F' : ℕ → ℕ) (b v q r i j : ℕ) → Looking L G w P Q C A F q i j → i ≤ j
       → ((h : ℕ) → F' h ≡ 0 → F h ≡ 0)
       → ((s : ℕ) (β : List ℕ) → P.rest s ≡ b ∷ β → F' (suc s) ≡ 0 → ⊥)
       → ((h : ℕ) → r ≤ h → h < Q → F' h ≡ 0)
-      → Looking L G w P Q (wholeRaised C b i j v) A F' r i j
+      → Looking L G w P Q (whole_raised C b i j v) A F' r i j
   look-whole C A F F' b v q r i j y n f m g = record {
-    past = past-keeps C (wholeRaised C b i j v) i j (λ s k l h. risen-item C b i j v s k l) (λ a k l h. risen-other C b i j v a k l (λ u v w. h v w)) y.past;
+    past = past_keeps C (whole_raised C b i j v) i j (λ s k l h. risen_item C b i j v s k l) (λ a k l h. risen-other C b i j v a k l (λ u v w. h v w)) y.past;
     column = record {
-      idle = λ s z k β u t. risen-item C b i j v s k j ∙ y.column.idle s z k β u t;
+      idle = λ s z k β u t. risen_item C b i j v s k j ∙ y.column.idle s z k β u t;
       ends = y.column.ends;
     };
     quiet = λ s z β u t.
-        let o : made L G w (wholeRaised C b i j v) z s i j ≡ made L G w C z s i j =
-        made-same L G w C (wholeRaised C b i j v) z s i j n (λ h c c'. risen-item C b i j v (suc s) h j)
+        let o : made L G w (whole_raised C b i j v) z s i j ≡ made L G w C z s i j =
+        made-same L G w C (whole_raised C b i j v) z s i j n (λ h c c'. risen_item C b i j v (suc s) h j)
         (λ h c c'. risen-other C b i j v z i h (λ e c d. m s β (u ∙ ap (λ k. k ∷ β) e) t)) in
-        subst (λ k. cap k ≤ (wholeRaised C b i j v).item s i j) (sym o)
-        (subst (λ k. cap (made L G w C z s i j) ≤ k) (sym (risen-item C b i j v s i j)) (y.quiet s z β u (f (suc s) t)));
+        subst (λ k. cap k ≤ (whole_raised C b i j v).item s i j) (sym o)
+        (subst (λ k. cap (made L G w C z s i j) ≤ k) (sym (risen_item C b i j v s i j)) (y.quiet s z β u (f (suc s) t)));
     high = g;
   }
 
@@ -127,8 +127,8 @@ module _ (L : Limits) (G : Grammar) (w : List ℕ) (P : Places L G) (Q : ℕ) wh
   }
 
   -- a new column, with marks at the ends alone
-  pub column-begins : (C : Chart) (A : ℕ → ℕ) (j : ℕ) → ((p : ℕ) → P.rest p ≡ [] → p < Q → A p ≡ 0 → ⊥) → Past L G w P Q C 0 j → Past L G w P Q C (suc (suc j)) (suc j) × Column L G w P Q C A (suc j)
-  column-begins C A j a y = (
+  pub column_begins : (C : Chart) (A : ℕ → ℕ) (j : ℕ) → ((p : ℕ) → P.rest p ≡ [] → p < Q → A p ≡ 0 → ⊥) → Past L G w P Q C 0 j → Past L G w P Q C (suc (suc j)) (suc j) × Column L G w P Q C A (suc j)
+  column_begins C A j a y = (
     record {
       settled = λ p x k l α e g h d. elim d [
         | inl b ↦ y.settled p x k l α e g h (elim (ℕ_discrete l j) [ yes c ↦ inr (c, omega arith) | no c ↦ inl (omega arith) ])

@@ -54,10 +54,10 @@ module _ (L : Limits) (G : Grammar) (w : List ℕ) where
 
   module _ (P : Places L G) (low : (a : ℕ) → Terminal G.terminals a → a < start L) (high : (b r : ℕ) → AppliesRuleOf L G b r → start L ≤ b) where
     -- all settled, ends counted once, sums as they are: stable
-    pub settled-stable : (C : Chart) → Sums L G w P C → ((p i : ℕ) → P.rest p ≡ [] → i ≤ length w → 1 ≤ C.item p i i)
+    pub settled_stable : (C : Chart) → Sums L G w P C → ((p i : ℕ) → P.rest p ≡ [] → i ≤ length w → 1 ≤ C.item p i i)
         → ((p x i j : ℕ) (α : List ℕ) → P.rest p ≡ x ∷ α → i ≤ j → j ≤ length w → Settled L G w C x p i j) → Stable L G w P C
     unfolding made
-    settled-stable C s e t = record {
+    settled_stable C s e t = record {
       at-end = e;
       at_leaf = λ p a i j α q k h g f.
           subst (λ z. cap z ≤ C.item p i j) (leaf-made p a i j k h f) (t p a i j α q (omega arith) g);

@@ -14,8 +14,8 @@ use Rattle.grammar.specs.Grammar.{Terminal, Grammar, IsRule, rule}
 use Rattle.grammar.specs.Tree.{Trees, AppliesRuleOf}
 use Rattle.tree_laws.specs.Spans.{tree, AtLeast, depth, max_of, Spans, node}
 use Rattle.tree_laws.specs.Chart.{Places, Chart, splits, kin}
-use Rattle.tree_laws.proofs.AtLeast.{least_zero, least-in, least-map, least-add, least-mul, max-left, max-both}
-use Rattle.tree_laws.proofs.Spans.{spans-end}
+use Rattle.tree_laws.proofs.AtLeast.{least_zero, least_in, least_map, least_add, least_mul, max_left, max_both}
+use Rattle.tree_laws.proofs.Spans.{spans_end}
 
 -- the first tree of one forest before another forest
 unfoldable beside : Trees → Trees → Trees
@@ -52,19 +52,19 @@ module _ (L : Limits) (G : Grammar) (w : List ℕ) where
     pub upto : place < i + m
     pub split : SplitAt b α i j place h
 
-  beside-apart : (b i k m : ℕ) (f g f' g' : Trees) → RootTo b i k m f → RootTo b i k m f' → beside f g ≡ beside f' g' → (f ≡ f') × (g ≡ g')
+  beside_apart : (b i k m : ℕ) (f g f' g' : Trees) → RootTo b i k m f → RootTo b i k m f' → beside f g ≡ beside f' g' → (f ≡ f') × (g ≡ g')
   unfolding beside
-  beside-apart b i k m f g f' g' x y e =
+  beside_apart b i k m f g f' g' x y e =
       let q : tree x.number x.root.below g ≡ tree y.number y.root.below g' =
       sym (ap (λ z. beside z g) x.root.shape) ∙ e ∙ ap (λ z. beside z g') y.root.shape in
       (x.root.shape ∙ ap₂ (λ r d. tree r d Trees.none) (cc q) (cc q) ∙ sym y.root.shape, cc q)
 
-  beside-deep : (b i k m d : ℕ) (f g : Trees) → RootTo b i k m f → depth f ≤ suc d → depth g ≤ d → depth (beside f g) ≤ suc d
+  beside_deep : (b i k m d : ℕ) (f g : Trees) → RootTo b i k m f → depth f ≤ suc d → depth g ≤ d → depth (beside f g) ≤ suc d
   unfolding beside depth
-  beside-deep b i k m d f g x q l =
+  beside_deep b i k m d f g x q l =
       let o : depth (tree x.number x.root.below Trees.none) ≤ suc d = subst (λ z. depth z ≤ suc d) x.root.shape q in
-      let u : suc (depth x.root.below) ≤ suc d = omega (arith, o, max-left (suc (depth x.root.below)) 0) in
-      subst (λ z. depth (beside z g) ≤ suc d) (sym x.root.shape) (max-both (suc (depth x.root.below)) (depth g) (suc d) u (omega arith))
+      let u : suc (depth x.root.below) ≤ suc d = omega (arith, o, max_left (suc (depth x.root.below)) 0) in
+      subst (λ z. depth (beside z g) ≤ suc d) (sym x.root.shape) (max_both (suc (depth x.root.below)) (depth g) (suc d) u (omega arith))
 
   module _ (P : Places L G) (C : Chart) where
     rule-counts : (d b i j r : ℕ) → IsRule G r → (t : Bool) → eqb (rule L G r).left b ≡ t
@@ -72,9 +72,9 @@ module _ (L : Limits) (G : Grammar) (w : List ℕ) where
         → AtLeast (suc d) (choose t (C.item (P.first r) i j) 0) (RootAt b i j r)
     unfolding depth max_of
     rule-counts d b i j r s true e a =
-        least-map d (suc d) (C.item (P.first r) i j) (λ f. tree r f Trees.none) (λ f g q. cc q)
+        least_map d (suc d) (C.item (P.first r) i j) (λ f. tree r f Trees.none) (λ f g q. cc q)
         (λ f x. record { below = f; shape = refl; applies = (s, eqb-true (rule L G r).left b e); spans = x })
-        (λ f q. max-both (suc (depth f)) 0 (suc d) (omega arith) (omega arith)) a
+        (λ f q. max_both (suc (depth f)) 0 (suc d) (omega arith) (omega arith)) a
     rule-counts d b i j r s false e a = least_zero (suc d) 0 (omega arith)
 
     -- the sum over the first m rules
@@ -84,7 +84,7 @@ module _ (L : Limits) (G : Grammar) (w : List ℕ) where
     unfolding kin
     kin-counts d b i j zero h a = least_zero (suc d) 0 (omega arith)
     kin-counts d b i j (suc m) h a =
-        least-add {X = RootTo b i j m} {Y = RootAt b i j (suc m)} (suc d) (kin L G P C b i j m) (choose (eqb (rule L G (suc m)).left b) (C.item (P.first (suc m)) i j) 0)
+        least_add {X = RootTo b i j m} {Y = RootAt b i j (suc m)} (suc d) (kin L G P C b i j m) (choose (eqb (rule L G (suc m)).left b) (C.item (P.first (suc m)) i j) 0)
         (λ f x. record { number = x.number; upto = omega (arith, x.upto); root = x.root })
         (λ f y. record { number = suc m; upto = omega arith; root = y })
         (λ f x y. let q : tree x.number x.root.below Trees.none ≡ tree (suc m) y.below Trees.none = sym x.root.shape ∙ y.shape in
@@ -99,7 +99,7 @@ module _ (L : Limits) (G : Grammar) (w : List ℕ) where
           let q : tree x.number x.below x.after ≡ tree y.number y.below y.after = sym x.shape ∙ y.shape in
           let n : x.number ≡ y.number = cc q in
           let d : x.below ≡ y.below = cc q in
-          spans-end L G w apart (subst (λ z. Spans L G w (rule L G z).right y.below i k) n (subst (λ z. Spans L G w (rule L G x.number).right z i k) d x.left)) y.left
+          spans_end L G w apart (subst (λ z. Spans L G w (rule L G z).right y.below i k) n (subst (λ z. Spans L G w (rule L G x.number).right z i k) d x.left)) y.left
 
       -- the sum over the first m splits
       pub splits-counts : (d b p i j m : ℕ) (α : List ℕ) → i + m ≤ suc j
@@ -109,15 +109,15 @@ module _ (L : Limits) (G : Grammar) (w : List ℕ) where
       unfolding splits beside
       splits-counts d b p i j zero α h a c = least_zero (suc d) 0 (omega arith)
       splits-counts d b p i j (suc m) α h a c =
-          least-add {X = SplitTo b α i j m} {Y = SplitAt b α i j (i + m)} (suc d) (splits C b p i j m) (C.whole b i (i + m) * C.item p (i + m) j)
+          least_add {X = SplitTo b α i j m} {Y = SplitAt b α i j (i + m)} (suc d) (splits C b p i j m) (C.whole b i (i + m) * C.item p (i + m) j)
           (λ f x. record { place = x.place; upto = omega (arith, x.upto); split = x.split })
           (λ f y. record { place = i + m; upto = omega arith; split = y })
           (λ f x y. let q : x.place ≡ i + m = same_place b i j x.place (i + m) α f x.split y in omega (arith, x.upto))
           (splits-counts d b p i j m α (omega arith) a c)
-          (least-mul (suc d) d (suc d) (C.whole b i (i + m)) (C.item p (i + m) j) beside
-          (λ f g f' g' x y e. beside-apart b i (i + m) (length G.rules) f g f' g' x y e)
+          (least_mul (suc d) d (suc d) (C.whole b i (i + m)) (C.item p (i + m) j) beside
+          (λ f g f' g' x y e. beside_apart b i (i + m) (length G.rules) f g f' g' x y e)
           (λ f g x y. record { number = x.number; below = x.root.below; after = g; shape = ap (λ z. beside z g) x.root.shape; applies = x.root.applies; left = x.root.spans; right = y })
-          (λ f g x q l. beside-deep b i (i + m) (length G.rules) d f g x q l)
+          (λ f g x q l. beside_deep b i (i + m) (length G.rules) d f g x q l)
           (a (i + m) (omega arith) (omega arith)) (c (i + m) (omega arith) (omega arith)))
 
       -- all splits: the forests of b, then α
@@ -126,6 +126,6 @@ module _ (L : Limits) (G : Grammar) (w : List ℕ) where
           → ((k : ℕ) → i ≤ k → k ≤ j → AtLeast d (C.item p k j) (λ f. Spans L G w α f k j))
           → AtLeast (suc d) (splits C b p i j (suc (j - i))) (λ f. Spans L G w (b ∷ α) f i j)
       node_counts d b p i j α h a c =
-          least-in (suc d) (splits C b p i j (suc (j - i)))
+          least_in (suc d) (splits C b p i j (suc (j - i)))
           (λ f x. subst (λ z. Spans L G w (b ∷ α) z i j) (sym x.split.shape) (node x.split.applies x.split.left x.split.right))
           (splits-counts d b p i j (suc (j - i)) α (omega arith) a c)

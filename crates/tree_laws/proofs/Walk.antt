@@ -9,14 +9,14 @@ use lib.ListN.{length, get_or}
 use Rattle.grammar.specs.Limits.{Limits}
 use Rattle.grammar.specs.Grammar.{Terminal, Grammar}
 use Rattle.grammar.specs.Tree.{Trees, AppliesRuleOf}
-use Rattle.trees.specs.Trees.{rulesOf, rulesBelow}
+use Rattle.trees.specs.Trees.{rules_of, rules_below}
 use Rattle.tree_laws.specs.Spans.{tree, AtLeast, depth, Spans, end, leaf, node}
 use Rattle.tree_laws.specs.Chart.{Places, Chart, splits, kin, Stable}
 use Rattle.tree_laws.specs.Walk.{Frame, Pending, Waiting, none-waits, waits, Walk}
-use Rattle.tree_laws.proofs.AtLeast.{max-left, max-right}
-use Rattle.tree_laws.proofs.Spans.{spans-rise, spans-within}
+use Rattle.tree_laws.proofs.AtLeast.{max_left, max_right}
+use Rattle.tree_laws.proofs.Spans.{spans_rise, spans_within}
 use Rattle.tree_laws.proofs.Cap.{cap-small}
-use Rattle.tree_laws.proofs.Chart.{some, some-whole, unique, split_at, one-kin}
+use Rattle.tree_laws.proofs.Chart.{some, some-whole, unique, split_at_lem, one-kin}
 
 module _ (L : Limits) (G : Grammar) (w : List ℕ) (P : Places L G) (C : Chart) where
   module _ (S : Stable L G w P C) (apart : (b r : ℕ) → AppliesRuleOf L G b r → Terminal G.terminals b → ⊥) where
@@ -40,7 +40,7 @@ module _ (L : Limits) (G : Grammar) (w : List ℕ) (P : Places L G) (C : Chart) 
           let y = some-whole L G w P C S apart b r x.from k a h (omega arith) u in
           let z : splits C b (suc x.place) x.from x.to (suc (x.to - x.from)) ≤ 1 =
           cap-small _ (omega (arith, S.at-node x.place b r x.from x.to α e a (omega arith) l, p.few)) in
-          let m = split_at C b (suc x.place) x.from x.to k h g in
+          let m = split_at_lem C b (suc x.place) x.from x.to k h g in
           let c : C.whole b x.from k ≤ 1 = omega (arith, z, m, mul-le-mul (le_refl (C.whole b x.from k)) v) in
           let n : kin L G P C b x.from k (length G.rules) ≤ 1 = cap-small _ (omega (arith, S.at-whole b r x.from k a h (omega arith), c)) in
           record {
@@ -56,22 +56,22 @@ module _ (L : Limits) (G : Grammar) (w : List ℕ) (P : Places L G) (C : Chart) 
           → P.rest x.place ≡ b ∷ α → AppliesRuleOf L G b r → x.from ≤ k → k ≤ x.to → x.to ≤ length w
           → 1 ≤ C.item (P.first r) x.from k → 1 ≤ C.item (suc x.place) k x.to
           → (length stack < room) × Walk L G w P C room all (out ++ (r ∷ [])) (record { place = P.first r; from = x.from; to = k }) (record { place = suc x.place; from = k; to = x.to } ∷ stack)
-      unfolding depth rulesOf
+      unfolding depth rules_of
       walk-node room all out x stack b α r k W e a h g l u v =
           let o = opened x W.now b α r k W.pending e a h g l u v in
           let d : length stack + depth (tree r o.below o.after) ≤ room = subst (λ z. length stack + depth z ≤ room) o.shape W.fits in
-          let m = max-left (suc (depth o.below)) (depth o.after) in
-          let n = max-right (suc (depth o.below)) (depth o.after) in
-          let q : out ++ ((r ∷ (rulesBelow o.below ++ rulesBelow o.after)) ++ W.rest) ≡ all = subst (λ z. out ++ (rulesBelow z ++ W.rest) ≡ all) o.shape W.written in (
+          let m = max_left (suc (depth o.below)) (depth o.after) in
+          let n = max_right (suc (depth o.below)) (depth o.after) in
+          let q : out ++ ((r ∷ (rules_below o.below ++ rules_below o.after)) ++ W.rest) ≡ all = subst (λ z. out ++ (rules_below z ++ W.rest) ≡ all) o.shape W.written in (
             omega arith,
             record {
               now = o.below;
-              rest = rulesBelow o.after ++ W.rest;
+              rest = rules_below o.after ++ W.rest;
               pending = o.inside;
               fits = omega arith;
               waiting = waits {stack = stack} o.onward (omega arith) W.waiting;
-              written = append_assoc out (r ∷ []) (rulesBelow o.below ++ (rulesBelow o.after ++ W.rest))
-                  ∙ ap (λ z. out ++ (r ∷ z)) (sym (append_assoc (rulesBelow o.below) (rulesBelow o.after) W.rest)) ∙ q;
+              written = append_assoc out (r ∷ []) (rules_below o.below ++ (rules_below o.after ++ W.rest))
+                  ∙ ap (λ z. out ++ (r ∷ z)) (sym (append_assoc (rules_below o.below) (rules_below o.after) W.rest)) ∙ q;
             },
           )
 
@@ -86,7 +86,7 @@ module _ (L : Limits) (G : Grammar) (w : List ℕ) (P : Places L G) (C : Chart) 
             rest = W.rest;
             pending = record {
               spans = subst (λ z. Spans L G w z W.now (suc x.from) x.to) (sym (P.on x.place a α e)) y.1;
-              few = cap-small _ (omega (arith, W.pending.few, S.at_leaf x.place a x.from x.to α e t (spans-rise L G w y.1) (spans-within L G w s) y.0));
+              few = cap-small _ (omega (arith, W.pending.few, S.at_leaf x.place a x.from x.to α e t (spans_rise L G w y.1) (spans_within L G w s) y.0));
             };
             fits = W.fits;
             waiting = W.waiting;
@@ -99,39 +99,39 @@ module _ (L : Limits) (G : Grammar) (w : List ℕ) (P : Places L G) (C : Chart) 
 
       -- at an end: back to what waits last, or all is written
       pub walk-back : (room : ℕ) (all out : List ℕ) (x y : Frame) (stack : List Frame) → Walk L G w P C room all out x (y ∷ stack) → P.rest x.place ≡ [] → Walk L G w P C room all out y stack
-      unfolding rulesOf
+      unfolding rules_of
       walk-back room all out x y stack W e = pop W.waiting (at_none W.now (subst (λ z. Spans L G w z W.now x.from x.to) e W.pending.spans)) W.written
         where
           at_none : {i j : ℕ} (f : Trees) → Spans L G w [] f i j → f ≡ Trees.none
           at_none f (end h) = refl
 
-          pop : {f : Trees} {rest : List ℕ} → Waiting L G w P C room (y ∷ stack) rest → f ≡ Trees.none → out ++ (rulesBelow f ++ rest) ≡ all → Walk L G w P C room all out y stack
+          pop : {f : Trees} {rest : List ℕ} → Waiting L G w P C room (y ∷ stack) rest → f ≡ Trees.none → out ++ (rules_below f ++ rest) ≡ all → Walk L G w P C room all out y stack
           pop (waits {f = g} {rest = rest} p h ws) q o = record {
             now = g;
             rest = rest;
             pending = p;
             fits = h;
             waiting = ws;
-            written = subst (λ z. out ++ (rulesBelow z ++ (rulesBelow g ++ rest)) ≡ all) q o;
+            written = subst (λ z. out ++ (rules_below z ++ (rules_below g ++ rest)) ≡ all) q o;
           }
 
       pub walk-done : (room : ℕ) (all out : List ℕ) (x : Frame) → Walk L G w P C room all out x [] → P.rest x.place ≡ [] → out ≡ all
-      unfolding rulesOf
+      unfolding rules_of
       walk-done room all out x W e = fin W.waiting (at_none W.now (subst (λ z. Spans L G w z W.now x.from x.to) e W.pending.spans)) W.written
         where
           at_none : {i j : ℕ} (f : Trees) → Spans L G w [] f i j → f ≡ Trees.none
           at_none f (end h) = refl
 
-          fin : {f : Trees} {rest : List ℕ} → Waiting L G w P C room [] rest → f ≡ Trees.none → out ++ (rulesBelow f ++ rest) ≡ all → out ≡ all
-          fin none-waits q o = sym (append-nil out) ∙ subst (λ z. out ++ (rulesBelow z ++ []) ≡ all) q o
+          fin : {f : Trees} {rest : List ℕ} → Waiting L G w P C room [] rest → f ≡ Trees.none → out ++ (rules_below f ++ rest) ≡ all → out ≡ all
+          fin none-waits q o = sym (append-nil out) ∙ subst (λ z. out ++ (rules_below z ++ []) ≡ all) q o
 
       -- the chart shows a split and a rule wherever the walk is at a nonterminal
-      pub walk-finds : (x : Frame) (f : Trees) (b : ℕ) (α : List ℕ) → Pending L G w P C x f → P.rest x.place ≡ b ∷ α → (Terminal G.terminals b → ⊥)
+      pub walk_finds : (x : Frame) (f : Trees) (b : ℕ) (α : List ℕ) → Pending L G w P C x f → P.rest x.place ≡ b ∷ α → (Terminal G.terminals b → ⊥)
           → (r : ℕ) × ((k : ℕ) × (AppliesRuleOf L G b r × (x.from ≤ k) × (k ≤ x.to) × (1 ≤ C.item (P.first r) x.from k) × (1 ≤ C.item (suc x.place) k x.to)))
-      walk-finds x f b α p e n = look (subst (λ z. Spans L G w z f x.from x.to) e p.spans)
+      walk_finds x f b α p e n = look (subst (λ z. Spans L G w z f x.from x.to) e p.spans)
         where
           look : {g : Trees} → Spans L G w (b ∷ α) g x.from x.to
               → (r : ℕ) × ((k : ℕ) × (AppliesRuleOf L G b r × (x.from ≤ k) × (k ≤ x.to) × (1 ≤ C.item (P.first r) x.from k) × (1 ≤ C.item (suc x.place) k x.to)))
           look (leaf t h q s) = absurd (n t)
           look (node {r} {k = k} a s u) =
-              (r, (k, (a, spans-rise L G w s, spans-rise L G w u, some L G w P C S apart s (P.first r) (P.begins r a.0), some L G w P C S apart u (suc x.place) (P.on x.place b α e))))
+              (r, (k, (a, spans_rise L G w s, spans_rise L G w u, some L G w P C S apart s (P.first r) (P.begins r a.0), some L G w P C S apart u (suc x.place) (P.on x.place b α e))))

@@ -7,15 +7,15 @@ use Rattle.grammar.specs.Grammar.{Grammar}
 use Rattle.tree_laws.specs.Chart.{Places, Chart, Settled}
 
 -- the cell (p, i, j) is the cell (q, k, l)
-abbrev pub sameCell : ℕ → ℕ → ℕ → ℕ → ℕ → ℕ → Bool
-sameCell p i j q k l = eqb q p && (eqb k i && eqb l j)
+abbrev pub same_cell : ℕ → ℕ → ℕ → ℕ → ℕ → ℕ → Bool
+same_cell p i j q k l = eqb q p && (eqb k i && eqb l j)
 
 -- a chart in which one count, of a place or of a nonterminal, is another
-unfoldable pub itemRaised : Chart → ℕ → ℕ → ℕ → ℕ → Chart
-itemRaised C p i j v = record { item = λ q k l. choose (sameCell p i j q k l) v (C.item q k l); whole = C.whole }
+unfoldable pub item_raised : Chart → ℕ → ℕ → ℕ → ℕ → Chart
+item_raised C p i j v = record { item = λ q k l. choose (same_cell p i j q k l) v (C.item q k l); whole = C.whole }
 
-unfoldable pub wholeRaised : Chart → ℕ → ℕ → ℕ → ℕ → Chart
-wholeRaised C b i j v = record { item = C.item; whole = λ a k l. choose (sameCell b i j a k l) v (C.whole a k l) }
+unfoldable pub whole_raised : Chart → ℕ → ℕ → ℕ → ℕ → Chart
+whole_raised C b i j v = record { item = C.item; whole = λ a k l. choose (same_cell b i j a k l) v (C.whole a k l) }
 
 -- the span from k to l is done, where all spans that end before j are, and those that end there and begin at i or later
 abbrev pub Done : ℕ → ℕ → ℕ → ℕ → Type 0

@@ -4,7 +4,7 @@ use Rattle.std.specs.Prelude.{ℕ, ◌+◌, ◌≤◌, ◌≡◌, List, [], ◌�
 use Rattle.grammar.specs.Limits.{Limits}
 use Rattle.grammar.specs.Grammar.{Grammar}
 use Rattle.grammar.specs.Tree.{Trees}
-use Rattle.trees.specs.Trees.{rulesBelow}
+use Rattle.trees.specs.Trees.{rules_below}
 use Rattle.tree_laws.specs.Spans.{Spans, depth}
 use Rattle.tree_laws.specs.Chart.{Places, Chart}
 
@@ -24,7 +24,7 @@ module _ (L : Limits) (G : Grammar) (w : List ℕ) (P : Places L G) (C : Chart) 
   pub data Waiting (room : ℕ) : List Frame → List ℕ → Type 0 where
     none-waits : Waiting room [] []
     waits : {x : Frame} {f : Trees} {stack : List Frame} {rest : List ℕ} → Pending x f → length stack + depth f ≤ room
-        → Waiting room stack rest → Waiting room (x ∷ stack) (rulesBelow f ++ rest)
+        → Waiting room stack rest → Waiting room (x ∷ stack) (rules_below f ++ rest)
 
   -- a walk: what is written, the frame at hand with its forest, and what waits, give all the rules
   pub record Walk (room : ℕ) (all out : List ℕ) (x : Frame) (stack : List Frame) : Type 0 where
@@ -33,4 +33,4 @@ module _ (L : Limits) (G : Grammar) (w : List ℕ) (P : Places L G) (C : Chart) 
     pub pending : Pending x now
     pub fits : length stack + depth now ≤ room
     pub waiting : Waiting room stack rest
-    pub written : out ++ (rulesBelow now ++ rest) ≡ all
+    pub written : out ++ (rules_below now ++ rest) ≡ all

@@ -12,27 +12,27 @@ use Rattle.grammar.specs.Grammar.{Grammar, rule, start, Terminal}
 use Rattle.grammar.specs.Tree.{AppliesRuleOf}
 use Rattle.grammar.proofs.Derives.{apart, rule-listed}
 use Rattle.tree_laws.specs.Chart.{Places, Chart, kin, Stable}
-use Rattle.tree_laws.proofs.Settled.{settled-stable}
+use Rattle.tree_laws.proofs.Settled.{settled_stable}
 use Rattle.counts.proofs.View.{read-end}
 use Rattle.chart.specs.Rows.{home_of}
-use Rattle.chart.specs.Filling.{code_of, chartOf}
+use Rattle.chart.specs.Filling.{code_of, chart_of}
 use Rattle.chart.proofs.Reading.{outer}
 use Rattle.tree_walk.specs.Charted.{Rows, width, Charted}
 
 module _ (G : Grammar) (P : Places limits G) (R : Rows) (counts : List ℕ) (X : Charted G P R counts) where
   abbrev C : Chart
-  C = chartOf G P R.states R.home R.sentence counts
+  C = chart_of G P R.states R.home R.sentence counts
 
   -- left sides are no terminals
   pub kinds : (b r : ℕ) → AppliesRuleOf limits G b r → Terminal G.terminals b → ⊥
-  kinds b r a t = apart limits G X.sheet.wellFormed (omega arith) a t
+  kinds b r a t = apart limits G X.sheet.well_formed (omega arith) a t
 
   high : (b r : ℕ) → AppliesRuleOf limits G b r → start limits ≤ b
-  high b r a = omega (arith, (X.sheet.wellFormed.lefts (rule limits G r) (rule-listed limits G r a.0)).0, a.1)
+  high b r a = omega (arith, (X.sheet.well_formed.lefts (rule limits G r) (rule-listed limits G r a.0)).0, a.1)
 
   pub stable : Stable limits G R.sentence P C
   stable =
-      settled-stable limits G R.sentence P (λ a t. omega (arith, t.1, X.sheet.wellFormed.terminals)) high C X.complete.counted.sums
+      settled_stable limits G R.sentence P (λ a t. omega (arith, t.1, X.sheet.well_formed.terminals)) high C X.complete.counted.sums
       (λ p i e h. omega (arith, one p i e)) X.complete.settled
     where
       one : (p i : ℕ) → P.rest p ≡ [] → C.item p i i ≡ 1

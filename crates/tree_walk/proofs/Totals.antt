@@ -8,9 +8,9 @@ use native.Mathlib.Decide.{ℕ_discrete}
 use lib.ListN.{length, set, length-append}
 use Rattle.grammar.specs.Basics.{over}
 use Rattle.grammar.specs.Limits.{limits}
-use Rattle.trees.specs.Trees.{rulesBelow}
+use Rattle.trees.specs.Trees.{rules_below}
 use Rattle.tree_walk.specs.Charted.{Rows}
-use Rattle.tree_walk.specs.Walking.{Course, Low, WalkAt, Begun, Progress, at-work, ended, Turned, same, more, Walks, Turns, Total}
+use Rattle.tree_walk.specs.Walking.{Course, Low, WalkAt, Begun, Progress, at_work, ended, Turned, same, more, Walks, Turns, Total}
 use Rattle.tree_walk.specs.declared.Walker.{Walker}
 use Rattle.tree_walk.proofs.Turns.{at_same}
 
@@ -30,13 +30,13 @@ pub record Listing (R : Rows) (c : Course) (list row list' : List ℕ) (r : Walk
 -- the measure: rules to come, places that wait, states to come, and one step more for the last turn
 abbrev pub measure : ℕ → ℕ → Walker → ℕ → ℕ
 measure limit out w going =
-    (limit + 1 - out) * (2 * (limits.maxStates + 1)) + w.depth * (limits.maxStates + 1) + (limits.maxStates - w.p) + going * (limits.maxStates + 1)
+    (limit + 1 - out) * (2 * (limits.max_states + 1)) + w.depth * (limits.max_states + 1) + (limits.max_states - w.p) + going * (limits.max_states + 1)
 
 -- a turn takes from it
-pub turn-less : (limit out f going : ℕ) (w r : Walker) → out + f ≤ limit → f ≡ r.fresh → r.depth ≤ w.depth + r.fresh → r.fresh ≤ 1 → r.going ≤ 1 → 1 ≤ going
-    → (r.fresh ≡ 0 → r.going ≡ 1 → r.depth * (limits.maxStates + 1) + (limits.maxStates - r.p) < w.depth * (limits.maxStates + 1) + (limits.maxStates - w.p))
+pub turn_less : (limit out f going : ℕ) (w r : Walker) → out + f ≤ limit → f ≡ r.fresh → r.depth ≤ w.depth + r.fresh → r.fresh ≤ 1 → r.going ≤ 1 → 1 ≤ going
+    → (r.fresh ≡ 0 → r.going ≡ 1 → r.depth * (limits.max_states + 1) + (limits.max_states - r.p) < w.depth * (limits.max_states + 1) + (limits.max_states - w.p))
     → measure limit (out + f) r r.going < measure limit out w going
-turn-less limit out f going w r a q b d e h l = elim (ℕ_discrete r.fresh 0) [
+turn_less limit out f going w r a q b d e h l = elim (ℕ_discrete r.fresh 0) [
   | yes z ↦ elim (ℕ_discrete r.going 1) [
     | yes y ↦ omega (arith, l z y)
     | no y ↦ omega arith
@@ -59,35 +59,35 @@ over_none list = refl
 module _ (R : Rows) (c : Course) where
   -- the walk that goes on is at a place
   walking : (row : List ℕ) (r : Walker) (o : List ℕ) (going : ℕ) → 1 ≤ going → Progress R c row r o going → WalkAt R c o row r.p r.i r.j r.depth
-  walking row r o going h (at-work e W) = W
+  walking row r o going h (at_work e W) = W
   walking row r o going h (ended e q l) = absurd (omega arith)
 
   -- no more than all is written, and the counts stay
   written-most : (row : List ℕ) (r : Walker) (o : List ℕ) (going : ℕ) → Progress R c row r o going → length o ≤ length c.all
-  written-most row r o going (at-work e W) = omega (arith, ap length W.walk.written, length-append o (rulesBelow W.walk.now ++ W.walk.rest))
+  written-most row r o going (at_work e W) = omega (arith, ap length W.walk.written, length-append o (rules_below W.walk.now ++ W.walk.rest))
   written-most row r o going (ended e q l) = omega (arith, ap length q)
 
   low_of : (row : List ℕ) (r : Walker) (o : List ℕ) (going : ℕ) → Progress R c row r o going → Low c.counts row
-  low_of row r o going (at-work e W) = W.low
+  low_of row r o going (at_work e W) = W.low
   low_of row r o going (ended e q l) = l
 
   all-written : (row : List ℕ) (r : Walker) (o : List ℕ) (going : ℕ) → going < 1 → Progress R c row r o going → o ≡ c.all
-  all-written row r o going h (at-work e W) = absurd (omega arith)
+  all-written row r o going h (at_work e W) = absurd (omega arith)
   all-written row r o going h (ended e q l) = q
 
   -- at the root nothing is written
   abbrev Root : Walker → Type 0
   Root r = (r.p ≡ 2) × (r.i ≡ 0) × (r.j ≡ length R.sentence) × (r.depth ≡ 0) × (r.going ≡ 1)
 
-  pub counting-start : (row : List ℕ) (r : Walker) → Root r → Begun R c row → Counting R c row r 0 1
-  counting-start row r (a, b, d, e, g) W = record { written = []; number = refl; progress = at-work refl (at_same R c [] row a b d e W) }
+  pub counting_start : (row : List ℕ) (r : Walker) → Root r → Begun R c row → Counting R c row r 0 1
+  counting_start row r (a, b, d, e, g) W = record { written = []; number = refl; progress = at_work refl (at_same R c [] row a b d e W) }
 
-  pub counting-walks : (row : List ℕ) (r : Walker) (out going : ℕ) → 1 ≤ going → Counting R c row r out going → Walks R row r.p r.i r.j r.depth
-  counting-walks row r out going h k = record { course = c; out = k.written; at = walking row r k.written going h k.progress }
+  pub counting_walks : (row : List ℕ) (r : Walker) (out going : ℕ) → 1 ≤ going → Counting R c row r out going → Walks R row r.p r.i r.j r.depth
+  counting_walks row r out going h k = record { course = c; out = k.written; at = walking row r k.written going h k.progress }
 
-  pub counting-turn : (row row' : List ℕ) (r s : Walker) (out going : ℕ) → 1 ≤ going → Turns R row row' r.p r.i r.j r.depth s
+  pub counting_turn : (row row' : List ℕ) (r s : Walker) (out going : ℕ) → 1 ≤ going → Turns R row row' r.p r.i r.j r.depth s
       → Counting R c row r out going → Counting R c row' s (out + s.fresh) s.going
-  counting-turn row row' r s out going h t k = go (t c k.written (walking row r k.written going h k.progress))
+  counting_turn row row' r s out going h t k = go (t c k.written (walking row r k.written going h k.progress))
     where
       go : Turned R c k.written row' s → Counting R c row' s (out + s.fresh) s.going
       go (same f p) = record { written = k.written; number = omega (arith, f, k.number); progress = p }
@@ -98,27 +98,27 @@ module _ (R : Rows) (c : Course) where
       }
 
   -- past the limit, or at the end
-  pub counting-over : (row : List ℕ) (r : Walker) (out going limit : ℕ) → limit < out → out ≤ limit + 1 → Counting R c row r out going
+  pub counting_over : (row : List ℕ) (r : Walker) (out going limit : ℕ) → limit < out → out ≤ limit + 1 → Counting R c row r out going
       → Total c.all limit out × Low c.counts row
-  counting-over row r out going limit h g k = (
+  counting_over row r out going limit h g k = (
     inr (omega arith, omega (arith, k.number, written-most row r k.written going k.progress)),
     low_of row r k.written going k.progress,
   )
 
-  pub counting-end : (row : List ℕ) (r : Walker) (out going limit : ℕ) → going < 1 → out ≤ limit → Counting R c row r out going
+  pub counting_end : (row : List ℕ) (r : Walker) (out going limit : ℕ) → going < 1 → out ≤ limit → Counting R c row r out going
       → Total c.all limit out × Low c.counts row
-  counting-end row r out going limit h g k = (
+  counting_end row r out going limit h g k = (
     inl (sym k.number ∙ ap length (all-written row r k.written going h k.progress), g),
     low_of row r k.written going k.progress,
   )
 
   module _ (list : List ℕ) where
     pub listing_start : (row : List ℕ) (r : Walker) → Root r → Begun R c row → Listing R c list row list r 0 1
-    listing_start row r (a, b, d, e, g) W = record { written = []; number = refl; front = over_none list; progress = at-work refl (at_same R c [] row a b d e W) }
+    listing_start row r (a, b, d, e, g) W = record { written = []; number = refl; front = over_none list; progress = at_work refl (at_same R c [] row a b d e W) }
 
-    pub listing-walks : (row list' : List ℕ) (r : Walker) (out going : ℕ) → 1 ≤ going → Listing R c list row list' r out going
+    pub listing_walks : (row list' : List ℕ) (r : Walker) (out going : ℕ) → 1 ≤ going → Listing R c list row list' r out going
         → Walks R row r.p r.i r.j r.depth
-    listing-walks row list' r out going h k = record { course = c; out = k.written; at = walking row r k.written going h k.progress }
+    listing_walks row list' r out going h k = record { course = c; out = k.written; at = walking row r k.written going h k.progress }
 
     module _ (row row' list' : List ℕ) (r s : Walker) (out going : ℕ) (h : 1 ≤ going) (t : Turns R row row' r.p r.i r.j r.depth s)
         (k : Listing R c list row list' r out going) where
@@ -126,24 +126,24 @@ module _ (R : Rows) (c : Course) where
       turned = t c k.written (walking row r k.written going h k.progress)
 
       -- nothing opened
-      pub listing-on : s.fresh < 1 → Listing R c list row' list' s out s.going
-      listing-on f = go turned
+      pub listing_on : s.fresh < 1 → Listing R c list row' list' s out s.going
+      listing_on f = go turned
         where
           go : Turned R c k.written row' s → Listing R c list row' list' s out s.going
           go (same e p) = record { written = k.written; number = k.number; front = k.front; progress = p }
           go (more e p) = absurd (omega arith)
 
       -- a rule opened: there is room for it
-      pub listing-room : length c.all ≤ length list → 1 ≤ s.fresh → out < length list
-      listing-room fit f = go turned
+      pub listing_room : length c.all ≤ length list → 1 ≤ s.fresh → out < length list
+      listing_room fit f = go turned
         where
           go : Turned R c k.written row' s → out < length list
           go (same e p) = absurd (omega arith)
           go (more e p) =
               omega (arith, fit, k.number, length-append k.written (s.rule ∷ []), written-most row' s (k.written ++ (s.rule ∷ [])) s.going p)
 
-      pub listing-more : out < length list → 1 ≤ s.fresh → Listing R c list row' (set list' out s.rule) s (out + 1) s.going
-      listing-more room f = go turned
+      pub listing_more : out < length list → 1 ≤ s.fresh → Listing R c list row' (set list' out s.rule) s (out + 1) s.going
+      listing_more room f = go turned
         where
           go : Turned R c k.written row' s → Listing R c list row' (set list' out s.rule) s (out + 1) s.going
           go (same e p) = absurd (omega arith)
@@ -154,5 +154,5 @@ module _ (R : Rows) (c : Course) where
             progress = p;
           }
 
-    pub listing-end : (row list' : List ℕ) (r : Walker) (out going : ℕ) → going < 1 → Listing R c list row list' r out going → list' ≡ over c.all list
-    listing-end row list' r out going h k = k.front ∙ ap (λ o. over o list) (all-written row r k.written going h k.progress)
+    pub listing_end : (row list' : List ℕ) (r : Walker) (out going : ℕ) → going < 1 → Listing R c list row list' r out going → list' ≡ over c.all list
+    listing_end row list' r out going h k = k.front ∙ ap (λ o. over o list) (all-written row r k.written going h k.progress)

@@ -9,13 +9,13 @@ use Rattle.grammar.specs.Limits.{limits}
 use Rattle.grammar.specs.Grammar.{Grammar, start}
 use Rattle.tree_laws.specs.Chart.{Places}
 use Rattle.tree_laws.specs.Walk.{Walk}
-use Rattle.tree_laws.proofs.Spans.{spans-rise, spans-within}
+use Rattle.tree_laws.proofs.Spans.{spans_rise, spans_within}
 use Rattle.tree_laws.proofs.Walk.{walk-leaf, walk-back, walk-done}
 use Rattle.chart.specs.Filling.{Sheet}
 use Rattle.chart.proofs.Reading.{either, some-code, end-code, no_code}
 use Rattle.tree_walk.specs.Charted.{Rows, width}
 use Rattle.tree_walk.specs.Walking.{frame, decode, stack_of, Course, chart, WalkAt}
-use Rattle.tree_walk.proofs.Stack.{stack-length, stack-last, stack-none}
+use Rattle.tree_walk.proofs.Stack.{stack_length, stack_last, stack_none}
 use Rattle.tree_walk.proofs.Stable.{kinds, stable}
 
 module _ (R : Rows) (c : Course) (out row : List ℕ) (p i j depth : ℕ) (W : WalkAt R c out row p i j depth) where
@@ -34,12 +34,12 @@ module _ (R : Rows) (c : Course) (out row : List ℕ) (p i j depth : ℕ) (W : W
   pub inside : (i ≤ j) × (j < width R)
   inside =
       let s = W.walk.pending.spans in
-      let a = spans-rise limits G w s in
-      let b = spans-within limits G w s in
+      let a = spans_rise limits G w s in
+      let b = spans_within limits G w s in
       (a, omega arith)
 
   pub deep : depth ≤ length row
-  deep = omega (arith, W.walk.fits, stack-length (width R) row depth, W.rooms)
+  deep = omega (arith, W.walk.fits, stack_length (width R) row depth, W.rooms)
 
   -- the code ahead tells what stands after the dot
   at-end : get_or R.ahead p 0 ≡ 0 → P.rest p ≡ []
@@ -58,7 +58,7 @@ module _ (R : Rows) (c : Course) (out row : List ℕ) (p i j depth : ℕ) (W : W
   turn-done e d =
       walk-done limits G w P (chart R c) (stable G P R c.counts W.charted) (kinds G P R c.counts W.charted)
       W.charted.complete.counted.depth W.charted.complete.counted.sound c.room c.all out (frame p i j)
-      (subst (Walk limits G w P (chart R c) c.room c.all out (frame p i j)) (ap (stack_of (width R) row) d ∙ stack-none (width R) row) W.walk) (at-end e)
+      (subst (Walk limits G w P (chart R c) c.room c.all out (frame p i j)) (ap (stack_of (width R) row) d ∙ stack_none (width R) row) W.walk) (at-end e)
 
   pub turn-back : get_or R.ahead p 0 ≡ 0 → 1 ≤ depth
       → let f = get_or row (depth - 1) 0 / 4 in WalkAt R c out row (f / width R / width R) (f % width R) (f / width R % width R) (depth - 1)
@@ -72,7 +72,7 @@ module _ (R : Rows) (c : Course) (out row : List ℕ) (p i j depth : ℕ) (W : W
         walk-back limits G w P (chart R c) (stable G P R c.counts W.charted) (kinds G P R c.counts W.charted)
         W.charted.complete.counted.depth W.charted.complete.counted.sound c.room c.all out (frame p i j)
         (decode (width R) (get_or row (depth - 1) 0 / 4)) (stack_of (width R) row (depth - 1))
-        (subst (Walk limits G w P (chart R c) c.room c.all out (frame p i j)) (stack-last (width R) row depth d) W.walk) (at-end e);
+        (subst (Walk limits G w P (chart R c) c.room c.all out (frame p i j)) (stack_last (width R) row depth d) W.walk) (at-end e);
   }
 
   -- at a terminal: on

@@ -2,10 +2,10 @@
 use Rattle.std.specs.Prelude.{ℕ, ◌+◌, ◌*◌, ◌%◌, ◌≤◌, ◌≡◌, List, length, get_or}
 use Rattle.grammar.specs.Limits.{limits}
 use Rattle.grammar.specs.Grammar.{Grammar, IsRule}
-use Rattle.trees.specs.Trees.{maxRow}
+use Rattle.trees.specs.Trees.{max_row}
 use Rattle.tree_laws.specs.Chart.{Places}
-use Rattle.counts.specs.Counts.{itemCell, wholeCell}
-use Rattle.chart.specs.Rows.{planeOf, Ready}
+use Rattle.counts.specs.Counts.{item_cell, whole_cell}
+use Rattle.chart.specs.Rows.{plane_of, Ready}
 use Rattle.chart.specs.Filling.{Sheet, Complete}
 
 -- the rows of a grammar that the walk reads, and the row of terminals
@@ -27,17 +27,17 @@ width R = length R.sentence + 1
 -- the work row has so many entries squared for each state, and there are no more terminals than may be
 pub record Roomy (R : Rows) (row : List ℕ) : Type 0 where
   pub cells : R.states * width R * width R ≤ length row
-  pub small : length R.sentence ≤ maxRow
+  pub small : length R.sentence ≤ max_row
 
 -- the counts of a nonterminal from i to k and of what follows from k to j are not 0
 pub record Both (row : List ℕ) (m h z i k j : ℕ) : Type 0 where
-  pub whole : 1 ≤ get_or row (wholeCell m h i k) 0 % 4
-  pub rest : 1 ≤ get_or row (itemCell m z k j) 0 % 4
+  pub whole : 1 ≤ get_or row (whole_cell m h i k) 0 % 4
+  pub rest : 1 ≤ get_or row (item_cell m z k j) 0 % 4
 
 -- state s begins a rule of b whose count from i to k is not 0
 pub record Begins (row ahead lead : List ℕ) (m b i k s : ℕ) : Type 0 where
   pub left : get_or lead s 0 ≡ b
-  pub count : 1 ≤ get_or row (itemCell m (planeOf ahead s) i k) 0 % 4
+  pub count : 1 ≤ get_or row (item_cell m (plane_of ahead s) i k) 0 % 4
 
 -- the rows show a grammar with a complete chart, and the numbers of its rules
 pub record Charted (G : Grammar) (P : Places limits G) (R : Rows) (counts : List ℕ) : Type 0 where

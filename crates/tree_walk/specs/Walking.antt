@@ -6,7 +6,7 @@ use Rattle.grammar.specs.Limits.{limits}
 use Rattle.grammar.specs.Grammar.{Grammar}
 use Rattle.tree_laws.specs.Chart.{Places, Chart}
 use Rattle.tree_laws.specs.Walk.{Frame, Walk}
-use Rattle.chart.specs.Filling.{chartOf}
+use Rattle.chart.specs.Filling.{chart_of}
 use Rattle.tree_walk.specs.Charted.{Rows, width, Charted}
 use Rattle.tree_walk.specs.declared.Walker.{Walker}
 
@@ -31,7 +31,7 @@ pub record Course : Type 0 where
   pub all : List ℕ
 
 abbrev pub chart : Rows → Course → Chart
-chart R c = chartOf c.grammar c.places R.states R.home R.sentence c.counts
+chart R c = chart_of c.grammar c.places R.states R.home R.sentence c.counts
 
 -- the counts are the lower bits
 abbrev pub Low : List ℕ → List ℕ → Type 0
@@ -52,7 +52,7 @@ Begun R c row = WalkAt R c [] row 2 0 (length R.sentence) 0
 
 -- these rules are written, and the walk goes on or is at its end
 pub data Progress (R : Rows) (c : Course) (row : List ℕ) (r : Walker) (out : List ℕ) (going : ℕ) : Type 0 where
-  at-work : going ≡ 1 → WalkAt R c out row r.p r.i r.j r.depth → Progress R c row r out going
+  at_work : going ≡ 1 → WalkAt R c out row r.p r.i r.j r.depth → Progress R c row r out going
   ended : going ≡ 0 → out ≡ c.all → Low c.counts row → Progress R c row r out going
 
 -- after a turn: no rule more, or one

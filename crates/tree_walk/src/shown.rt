@@ -29,7 +29,7 @@ fn both(
     j: usize,
 ) -> bool
     requires span { Span work.now states m i j }
-    requires states_le_max_states { (states ≤ limits.maxStates) × (h < states) × (z < states) × (i ≤ k) × (k ≤ j) }
+    requires states_le_max_states { (states ≤ limits.max_states) × (h < states) × (z < states) × (i ≤ k) × (k ≤ j) }
     ensures both { result ≡ true → Both work.now m h z i k j }
     ensures fact { result ≡ false → Both work.now m h z i k j → ⊥ }
 {
@@ -42,7 +42,7 @@ fn both(
 // The end of a nonterminal's part that the counts show.
 pub fn split(work: &[u32], m: usize, states: usize, h: usize, z: usize, i: usize, j: usize) -> usize
     requires span { Span work.now states m i j }
-    requires states_le_max_states { (states ≤ limits.maxStates) × (h < states) × (z < states) }
+    requires states_le_max_states { (states ≤ limits.max_states) × (h < states) × (z < states) }
     ensures lower_bound { (i ≤ result) × (result ≤ j) }
     ensures by_index { (k : ℕ) → i ≤ k → k ≤ j → Both work.now m h z i k j → Both work.now m h z i result j }
 {
@@ -69,7 +69,7 @@ fn begins<'a>(
     s: usize,
 ) -> bool
     requires span { Span work.now states m i k }
-    requires states_le_max_states { (states ≤ limits.maxStates) × (4 ≤ states) × (s < states) }
+    requires states_le_max_states { (states ≤ limits.max_states) × (4 ≤ states) × (s < states) }
     ensures begins { result ≡ true → Begins work.now ahead.now lead.now m b i k s }
     ensures fact { result ≡ false → Begins work.now ahead.now lead.now m b i k s → ⊥ }
 {
@@ -92,7 +92,7 @@ pub fn first_of<'a>(
     last: usize,
 ) -> usize
     requires span { Span work.now states m i k }
-    requires states_le_max_states { (states ≤ limits.maxStates) × (4 ≤ states) }
+    requires states_le_max_states { (states ≤ limits.max_states) × (4 ≤ states) }
     ensures upper_bound { result < states }
     ensures by_index { (s : ℕ) → s < states → Begins work.now ahead.now lead.now m b i k s → Begins work.now ahead.now lead.now m b i k result }
 {

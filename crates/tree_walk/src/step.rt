@@ -20,7 +20,7 @@ fn wider(x: u32) -> usize
 }
 
 fn narrow(f: usize) -> u32
-    requires { f < places * places * limits.maxStates }
+    requires { f < places * places * limits.max_states }
     ensures { result ≡ f }
 {
     f as u32
@@ -46,7 +46,7 @@ fn back(work: &[u32], m: usize, d: usize) -> Walker
 
 // Has a place wait in entry d, above its count.
 fn wait(work: &mut [u32], d: usize, f: usize)
-    requires { (d < length work.old) × (f < places * places * limits.maxStates) }
+    requires { (d < length work.old) × (f < places * places * limits.max_states) }
     ensures { work.new ≡ set work.old d (get_or work.old d 0 % 4 + 4 * f) }
 {
     work[d] = work[d] % 4 + 4 * narrow(f);
@@ -71,7 +71,7 @@ fn open<'a>(
     requires walks { Walks (rows states ahead.now lead.now number.now home.now row.now) work.old p i j depth }
     requires roomy { Roomy (rows states ahead.now lead.now number.now home.now row.now) work.old }
     requires limits_bound { start limits ≤ get_or ahead.now p 0 }
-    requires max_nonterminals_in_bounds { limits.maxNonterminals ≤ length found.old }
+    requires max_nonterminals_in_bounds { limits.max_nonterminals ≤ length found.old }
     ensures opens { Opens (rows states ahead.now lead.now number.now home.now row.now)
         work.old work.new p i j depth result }
     ensures depth_value { (result.depth ≡ depth + 1) × (result.fresh ≡ 1) × (result.going ≡ 1) }
@@ -112,11 +112,11 @@ pub fn turn<'a>(
 ) -> Walker
     requires walks { Walks (rows states ahead.now lead.now number.now home.now row.now) work.old w.p w.i w.j w.depth }
     requires roomy { Roomy (rows states ahead.now lead.now number.now home.now row.now) work.old }
-    requires max_nonterminals_in_bounds { limits.maxNonterminals ≤ length found.old }
+    requires max_nonterminals_in_bounds { limits.max_nonterminals ≤ length found.old }
     ensures turns { Turns (rows states ahead.now lead.now number.now home.now row.now)
         work.old work.new w.p w.i w.j w.depth result }
     ensures depth_bound { (result.depth ≤ w.depth + result.fresh) × (result.fresh ≤ 1) × (result.going ≤ 1) }
-    ensures p_bound { result.fresh ≡ 0 → result.going ≡ 1 → result.depth * (limits.maxStates + 1) + (limits.maxStates - result.p) < w.depth * (limits.maxStates + 1) + (limits.maxStates - w.p) }
+    ensures p_bound { result.fresh ≡ 0 → result.going ≡ 1 → result.depth * (limits.max_states + 1) + (limits.max_states - result.p) < w.depth * (limits.max_states + 1) + (limits.max_states - w.p) }
 {
     let p = w.p;
     let i = w.i;

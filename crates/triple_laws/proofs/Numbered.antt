@@ -10,13 +10,13 @@ use Rattle.grammar.specs.Basics.{Mem}
 use Rattle.automaton.specs.Automaton.{Automaton}
 use Rattle.automaton.specs.Moves.{Moves, listed, Regular, Lists}
 use Rattle.triples.specs.Index.{index}
-use Rattle.triples.specs.Successor.{BeforeTerminal, StepTo, Successor, open-left, open-right, shift-both, part-both, part_left, part_right, close-left, close-right, read-both}
+use Rattle.triples.specs.Successor.{BeforeTerminal, StepTo, Successor, open_left, open_right, shift_both, part-both, part_left, part_right, close-left, close-right, read-both}
 use Rattle.triples.specs.Successor.{Reached, origin, next}
 use Rattle.triples.specs.Certificate.{Holds, Certificate, AcceptableCertificate, SmallestCertificate}
 use Rattle.triples.specs.Witness.{LeadsOn, ends, goes, Witness, begins}
 use Rattle.triples.specs.declared.Move.{Move}
 use Rattle.triples.specs.declared.Move.TheVariants.{Opening, Closing, Still}
-use Rattle.triple_laws.proofs.Records.{steps-in-range}
+use Rattle.triple_laws.proofs.Records.{steps_in_range}
 
 module _ (A : Automaton) (M : Moves) (R : Regular M) (N : Lists A M) where
   -- the number of a state
@@ -29,9 +29,9 @@ module _ (A : Automaton) (M : Moves) (R : Regular M) (N : Lists A M) where
 
   -- a step of the automaton is one of the lists
   pub step-to : {f g : ℕ} {p q p' q' : A.State} {l r : Move} → StepTo A f p q g p' q' l r → StepTo (listed M) f (n p) (n q) g (n p') (n q') l r
-  step-to (open-left {i = i} {p = p} {p' = p'} o) = open-left ((N.opens i p p').0 o)
-  step-to (open-right {i = i} {q = q} {q' = q'} o) = open-right ((N.opens i q q').0 o)
-  step-to (shift-both {x = x} {p} {q} {p'} {q'} u v) = shift-both ((N.shifts x p p').0 u) ((N.shifts x q q').0 v)
+  step-to (open_left {i = i} {p = p} {p' = p'} o) = open_left ((N.opens i p p').0 o)
+  step-to (open_right {i = i} {q = q} {q' = q'} o) = open_right ((N.opens i q q').0 o)
+  step-to (shift_both {x = x} {p} {q} {p'} {q'} u v) = shift_both ((N.shifts x p p').0 u) ((N.shifts x q q').0 v)
   step-to (part-both {i = i} {j} {p} {q} {p'} {q'} d c e) = part-both d ((N.closes i p p').0 c) ((N.closes j q q').0 e)
   step-to (part_left {i = i} {p = p} {p' = p'} c b) = part_left ((N.closes i p p').0 c) (before-to b)
   step-to (part_right {i = i} {q = q} {q' = q'} c b) = part_right ((N.closes i q q').0 c) (before-to b)
@@ -52,14 +52,14 @@ module _ (A : Automaton) (M : Moves) (R : Regular M) (N : Lists A M) where
   -- a step of the lists between numbers of states is one of the automaton
   pub step_from : {f g a b a' b' : ℕ} {l r : Move} → StepTo (listed M) f a b g a' b' l r
       → (p q p' q' : A.State) → n p ≡ a → n q ≡ b → n p' ≡ a' → n q' ≡ b' → n p < A.states → n q < A.states → StepTo A f p q g p' q' l r
-  step_from {f} (open-left {i = i} o) p q p' q' e u e' u' h k =
+  step_from {f} (open_left {i = i} o) p q p' q' e u e' u' h k =
       subst (λ z. StepTo A f p q f p' z (Opening i) Still) (N.one q q' k (u ∙ sym u'))
-      (open-left ((N.opens i p p').1 (subst₂ (λ a b. Mem {A = ℕ × ℕ} (i, b) (M.openings a)) (sym e) (sym e') o)))
-  step_from {f} (open-right {i = i} o) p q p' q' e u e' u' h k =
+      (open_left ((N.opens i p p').1 (subst₂ (λ a b. Mem {A = ℕ × ℕ} (i, b) (M.openings a)) (sym e) (sym e') o)))
+  step_from {f} (open_right {i = i} o) p q p' q' e u e' u' h k =
       subst (λ z. StepTo A f p q f z q' Still (Opening i)) (N.one p p' h (e ∙ sym e'))
-      (open-right ((N.opens i q q').1 (subst₂ (λ a b. Mem {A = ℕ × ℕ} (i, b) (M.openings a)) (sym u) (sym u') o)))
-  step_from (shift-both {x = x} s t) p q p' q' e u e' u' h k =
-      shift-both ((N.shifts x p p').1 (ap M.ahead e ∙ s.0, s.1, e' ∙ s.2 ∙ ap M.after (sym e)))
+      (open_right ((N.opens i q q').1 (subst₂ (λ a b. Mem {A = ℕ × ℕ} (i, b) (M.openings a)) (sym u) (sym u') o)))
+  step_from (shift_both {x = x} s t) p q p' q' e u e' u' h k =
+      shift_both ((N.shifts x p p').1 (ap M.ahead e ∙ s.0, s.1, e' ∙ s.2 ∙ ap M.after (sym e)))
       ((N.shifts x q q').1 (ap M.ahead u ∙ t.0, t.1, u' ∙ t.2 ∙ ap M.after (sym u)))
   step_from (part-both {i = i} {j = j} d c c') p q p' q' e u e' u' h k =
       part-both d ((N.closes i p p').1 (subst₂ (λ a b. Mem {A = ℕ × ℕ} (i, b) (M.closings a)) (sym e) (sym e') c))
@@ -95,18 +95,18 @@ module _ (A : Automaton) (M : Moves) (R : Regular M) (N : Lists A M) where
 
   onward : {f g a b : ℕ} (p q : A.State) → f < 2 → n p < A.states → n q < A.states → Successor (listed M) f (n p) (n q) g a b → Onward f g a b p q
   onward p q hf h k (l, r, s) =
-      let i = steps-in-range M R hf (omega (arith, N.states)) (omega (arith, N.states)) (l, r, s) in
+      let i = steps_in_range M R hf (omega (arith, N.states)) (omega (arith, N.states)) (l, r, s) in
       let u = state _ i.1 in
       let v = state _ i.2 in
       record { p' = u.0; q' = v.0; left = u.1; right = v.1; successor = (l, r, step_from s p q u.0 v.0 refl refl u.1 v.1 h k) }
 
-  pub successor-to : {f g : ℕ} {p q p' q' : A.State} → Successor A f p q g p' q' → Successor (listed M) f (n p) (n q) g (n p') (n q')
-  successor-to (l, r, s) = (l, r, step-to s)
+  pub successor_to : {f g : ℕ} {p q p' q' : A.State} → Successor A f p q g p' q' → Successor (listed M) f (n p) (n q) g (n p') (n q')
+  successor_to (l, r, s) = (l, r, step-to s)
 
   -- what is reached
   pub reached-to : {f : ℕ} {p q : A.State} → Reached A f p q → Reached (listed M) f (n p) (n q)
   reached-to origin = subst₂ (Reached (listed M) 0) (sym N.first) (sym N.first) origin
-  reached-to (next r s) = next (reached-to r) (successor-to s)
+  reached-to (next r s) = next (reached-to r) (successor_to s)
 
   -- reached states with these numbers
   pub record Found (f a b : ℕ) : Type 0 where
@@ -134,7 +134,7 @@ module _ (A : Automaton) (M : Moves) (R : Regular M) (N : Lists A M) where
       let o = found r in
       let z = subst₂ (λ x y. Successor (listed M) f x y g a' b') (sym o.left) (sym o.right) s in
       let w = onward o.p o.q o.layer o.left_below o.right-below z in
-      let i = steps-in-range M R o.layer (omega (arith, N.states, o.left_below)) (omega (arith, N.states, o.right-below)) z in
+      let i = steps_in_range M R o.layer (omega (arith, N.states, o.left_below)) (omega (arith, N.states, o.right-below)) z in
       record {
         p = w.p';
         q = w.q';
@@ -156,8 +156,8 @@ module _ (A : Automaton) (M : Moves) (R : Regular M) (N : Lists A M) where
           subst₂ (Reached A f) (N.one o.p p o.left_below o.left) (N.one o.q q o.right-below o.right) o.reached
 
   -- acceptable certificates
-  pub acceptable-same : (bytes : List ℕ) → AcceptableCertificate A bytes ↔ AcceptableCertificate (listed M) bytes
-  acceptable-same bytes = (to, from)
+  pub acceptable_same : (bytes : List ℕ) → AcceptableCertificate A bytes ↔ AcceptableCertificate (listed M) bytes
+  acceptable_same bytes = (to, from)
     where
       Q : A.states ≡ M.states
       Q = N.states
@@ -191,7 +191,7 @@ module _ (A : Automaton) (M : Moves) (R : Regular M) (N : Lists A M) where
             holds = subst₂ (Holds A.states bytes 0) (sym N.first) (sym N.first) (subst (λ Q. Holds Q bytes 0 0 0) (sym Q) c.acceptable.closed.holds);
             step = λ {f} {g} {p} {q} {p'} {q'} h s.
                 subst (λ Q. Holds Q bytes g (n p') (n q')) (sym Q)
-                (c.acceptable.closed.step (subst (λ Q. Holds Q bytes f (n p) (n q)) Q h) (successor-to s));
+                (c.acceptable.closed.step (subst (λ Q. Holds Q bytes f (n p) (n q)) Q h) (successor_to s));
           };
           lacks = λ h. c.acceptable.lacks (subst₂ (Holds M.states bytes 1) N.last N.last (subst (λ Q. Holds Q bytes 1 (n A.last) (n A.last)) Q h));
         };
@@ -200,36 +200,36 @@ module _ (A : Automaton) (M : Moves) (R : Regular M) (N : Lists A M) where
   -- and the smallest
   pub smallest-same : (bytes : List ℕ) → SmallestCertificate (listed M) bytes → SmallestCertificate A bytes
   smallest-same bytes c = record {
-    acceptable = (acceptable-same bytes).1 c.acceptable;
+    acceptable = (acceptable_same bytes).1 c.acceptable;
     least = λ other k f p q h. subst (λ Q. Holds Q other f p q) (sym N.states)
-        (c.least other ((acceptable-same other).0 k) f p q (subst (λ Q. Holds Q bytes f p q) N.states h));
+        (c.least other ((acceptable_same other).0 k) f p q (subst (λ Q. Holds Q bytes f p q) N.states h));
   }
 
   -- witnesses
-  leads-to : {f : ℕ} {p q : A.State} {is : List ℕ} → LeadsOn A f p q is → LeadsOn (listed M) f (n p) (n q) is
-  leads-to ends = subst₂ (λ x y. LeadsOn (listed M) 1 x y []) (sym N.last) (sym N.last) ends
-  leads-to (goes {g = g} {p' = p'} {q' = q'} s e l) = goes (successor-to s) (e ∙ ap (λ Q. index Q g (n p') (n q')) N.states) (leads-to l)
+  leads_to_lem : {f : ℕ} {p q : A.State} {is : List ℕ} → LeadsOn A f p q is → LeadsOn (listed M) f (n p) (n q) is
+  leads_to_lem ends = subst₂ (λ x y. LeadsOn (listed M) 1 x y []) (sym N.last) (sym N.last) ends
+  leads_to_lem (goes {g = g} {p' = p'} {q' = q'} s e l) = goes (successor_to s) (e ∙ ap (λ Q. index Q g (n p') (n q')) N.states) (leads_to_lem l)
 
-  leads-from : {f a b : ℕ} {is : List ℕ} → LeadsOn (listed M) f a b is → (p q : A.State) → n p ≡ a → n q ≡ b → f < 2 → n p < A.states → n q < A.states
+  leads_from : {f a b : ℕ} {is : List ℕ} → LeadsOn (listed M) f a b is → (p q : A.State) → n p ≡ a → n q ≡ b → f < 2 → n p < A.states → n q < A.states
       → LeadsOn A f p q is
-  leads-from ends p q e u hf h k =
+  leads_from ends p q e u hf h k =
       subst₂ (λ x y. LeadsOn A 1 x y []) (sym (N.one p A.last h (e ∙ sym N.last))) (sym (N.one q A.last k (u ∙ sym N.last))) ends
-  leads-from (goes {f = f} {g = g} {p' = a'} {q' = b'} s w l) p q e u hf h k =
+  leads_from (goes {f = f} {g = g} {p' = a'} {q' = b'} s w l) p q e u hf h k =
       let z = subst₂ (λ x y. Successor (listed M) f x y g a' b') (sym e) (sym u) s in
       let o = onward p q hf h k z in
-      let i = steps-in-range M R hf (omega (arith, N.states)) (omega (arith, N.states)) z in
+      let i = steps_in_range M R hf (omega (arith, N.states)) (omega (arith, N.states)) z in
       goes o.successor (w ∙ ap (λ Q. index Q g a' b') (sym N.states) ∙ cc (sym o.left, sym o.right))
-      (leads-from l o.p' o.q' o.left o.right i.0 (omega (arith, o.left, i.1, N.states)) (omega (arith, o.right, i.2, N.states)))
+      (leads_from l o.p' o.q' o.left o.right i.0 (omega (arith, o.left, i.1, N.states)) (omega (arith, o.right, i.2, N.states)))
 
-  pub witness-same : (row : List ℕ) → Witness A row ↔ Witness (listed M) row
-  witness-same row = (to, from)
+  pub witness_same : (row : List ℕ) → Witness A row ↔ Witness (listed M) row
+  witness_same row = (to, from)
     where
       to : {row : List ℕ} → Witness A row → Witness (listed M) row
       to (begins {is = is} e l) =
           begins (e ∙ ap (λ Q. index Q 0 (n A.first) (n A.first)) N.states ∙ cc N.first)
-          (subst₂ (λ x y. LeadsOn (listed M) 0 x y is) N.first N.first (leads-to l))
+          (subst₂ (λ x y. LeadsOn (listed M) 0 x y is) N.first N.first (leads_to_lem l))
 
       from : {row : List ℕ} → Witness (listed M) row → Witness A row
       from (begins e l) =
           begins (e ∙ ap (λ Q. index Q 0 0 0) (sym N.states) ∙ cc (sym N.first))
-          (leads-from l A.first A.first N.first N.first (omega arith) (omega (arith, N.first, N.states, R.four)) (omega (arith, N.first, N.states, R.four)))
+          (leads_from l A.first A.first N.first N.first (omega arith) (omega (arith, N.first, N.states, R.four)) (omega (arith, N.first, N.states, R.four)))

@@ -12,9 +12,9 @@ use Rattle.triples.specs.Successor.{StepTo, Reached}
 use Rattle.triples.specs.Smallest.{smallest}
 use Rattle.triples.specs.Numbers.{StepAt, ReachedAt}
 use Rattle.triples.specs.declared.Move.{Move}
-use Rattle.triple_laws.proofs.Records.{steps-in-range}
+use Rattle.triple_laws.proofs.Records.{steps_in_range}
 use Rattle.triple_laws.proofs.Numbered.{state, step-to, step_from, reached-to, found}
-use Rattle.triple_laws.proofs.Laws.{reached-exactly}
+use Rattle.triple_laws.proofs.Laws.{reached_exactly}
 
 module _ (A : Automaton) (M : Moves) (R : Regular M) (N : Lists A M) where
   -- the steps between states with these numbers are those of the lists
@@ -25,7 +25,7 @@ module _ (A : Automaton) (M : Moves) (R : Regular M) (N : Lists A M) where
         subst₂ (λ (p q : ℕ). StepTo (listed M) f p q g p' q' l r) a b
         (subst₂ (λ (p' q' : ℕ). StepTo (listed M) f (A.number s) (A.number t) g p' q' l r) c d (step-to A M R N x)),
     λ x.
-        let i = steps-in-range M R hf hp hq (l, r, x) in
+        let i = steps_in_range M R hf hp hq (l, r, x) in
         let s = state A M R N p hp in
         let t = state A M R N q hq in
         let s' = state A M R N p' i.1 in
@@ -53,5 +53,5 @@ module _ (A : Automaton) (M : Moves) (R : Regular M) (N : Lists A M) where
   pub reached-listed : (f p q : ℕ) → f < 2 → p < M.states → q < M.states → ReachedAt A f p q ↔ Mem (index M.states f p q) (smallest M)
   reached-listed f p q hf hp hq =
       let a = reached-numbers f p q in
-      let b = reached-exactly M R f p q hf hp hq in
+      let b = reached_exactly M R f p q hf hp hq in
       (λ r. b.0 (a.0 r), λ m. a.1 (b.1 m))

@@ -14,11 +14,11 @@ use borrow.Author.Tests.{eqb-true, eq-eqb}
 use Rattle.grammar.specs.Basics.{choose, when, Mem}
 use Rattle.grammar.specs.Limits.{Limits}
 use Rattle.grammar.specs.Grammar.{Rule, Grammar, rule}
-use Rattle.grammar.proofs.Answers.{and_both, both-and}
+use Rattle.grammar.proofs.Answers.{and_both, both_and}
 use Rattle.automaton.specs.Items.{length_of, base}
-use Rattle.automaton.proofs.Items.{base-apart}
-use Rattle.automaton.specs.PositionMoves.{shown, aheads, rulesOf, completed, past}
-use Rattle.triple_laws.proofs.Members.{no-element, only_one, one_only, mem-left, mem-right, mem-either, under-test}
+use Rattle.automaton.proofs.Items.{base_apart}
+use Rattle.automaton.specs.PositionMoves.{shown, aheads, rules_of, completed, past}
+use Rattle.triple_laws.proofs.Members.{no_element, only_one, one_only, mem_left, mem_right, mem_either, under-test}
 
 -- the element past the one in the middle
 beyond : {A : Type 0} (xs : List A) (x : A) (ys : List A) (d : A) (k : ℕ)
@@ -90,31 +90,31 @@ module _ (L : Limits) (G : Grammar) (taken : ℕ → Bool) where
   base-next n = ap (base L G) (let q : n + 1 ≡ suc n = omega arith in q)
 
   -- the length of a rule of a run
-  pub length-as : (r : Rule) (n : ℕ) → r ≡ rule L G n → length r.right ≡ length_of L G n
-  length-as r n e = ap (λ (r : Rule). length r.right) e
+  pub length_as : (r : Rule) (n : ℕ) → r ≡ rule L G n → length r.right ≡ length_of L G n
+  length_as r n e = ap (λ (r : Rule). length r.right) e
 
   -- the code ahead of an item stands in the row of codes ahead, of the rules from rule n on
-  pub item-ahead : (n : ℕ) (l : List Rule) → Run n l → (i d k : ℕ) → n ≤ i → i < n + length l → d < length_of L G i
+  pub item_ahead : (n : ℕ) (l : List Rule) → Run n l → (i d k : ℕ) → n ≤ i → i < n + length l → d < length_of L G i
       → base L G n + k ≡ base L G i + d → taken i ≡ true → get_or (aheads taken n l) k 0 ≡ get_or (rule L G i).right d 0
   unfolding aheads
-  item-ahead n [] e i d k h u t q y = absurd (omega arith)
-  item-ahead n (r ∷ l) e i d k h u t q y = elim (ℕ_discrete i n) [
+  item_ahead n [] e i d k h u t q y = absurd (omega arith)
+  item_ahead n (r ∷ l) e i d k h u t q y = elim (ℕ_discrete i n) [
     | yes s ↦
         let z = ap (base L G) s in
         let w : k ≡ d = omega arith in
         let v = ap (length_of L G) s in
-        let m = length-as r n e.0 in
+        let m = length_as r n e.0 in
         let c : taken n ≡ true = subst (λ i. taken i ≡ true) s y in
         get_or-append (shown taken n r) (0 ∷ aheads taken (n + 1) l) 0 k (omega (arith, shown-length taken n r))
         ∙ ap (λ l. get_or l k 0) (shown-taken taken n r c) ∙ ap (λ j. get_or r.right j 0) w
         ∙ ap (λ (r : Rule). get_or r.right d 0) (e.0 ∙ ap (rule L G) (sym s))
     | no s ↦
-        let b = base-apart L G n i (omega arith) in
-        let m = length-as r n e.0 in
+        let b = base_apart L G n i (omega arith) in
+        let m = length_as r n e.0 in
         let o = k - suc (length r.right) in
         let w : k ≡ length (shown taken n r) + suc o = omega (arith, shown-length taken n r) in
         ap (λ j. get_or (shown taken n r ++ (0 ∷ aheads taken (n + 1) l)) j 0) w ∙ beyond (shown taken n r) 0 (aheads taken (n + 1) l) 0 o
-        ∙ item-ahead (n + 1) l e.1 i d o (omega arith) (omega arith) t (omega (arith, base-next n)) y
+        ∙ item_ahead (n + 1) l e.1 i d o (omega arith) (omega arith) t (omega (arith, base-next n)) y
   ]
 
   -- the item of rule n or a later one with k states before it stands before x
@@ -129,12 +129,12 @@ module _ (L : Limits) (G : Grammar) (taken : ℕ → Bool) where
     pub shows : taken number ≡ true
 
   -- a code in the row, not 0, is that ahead of an item
-  pub ahead-item : (n : ℕ) (l : List Rule) → Run n l → (k x : ℕ) → 1 ≤ x → get_or (aheads taken n l) k 0 ≡ x → Stands n k x l
+  pub ahead_item : (n : ℕ) (l : List Rule) → Run n l → (k x : ℕ) → 1 ≤ x → get_or (aheads taken n l) k 0 ≡ x → Stands n k x l
   unfolding aheads
-  ahead-item n [] e k x h q = absurd (omega arith)
-  ahead-item n (r ∷ l) e k x h q = elim (dec_lt k (length r.right)) [
+  ahead_item n [] e k x h q = absurd (omega arith)
+  ahead_item n (r ∷ l) e k x h q = elim (dec_lt k (length r.right)) [
     | yes s ↦
-        let m = length-as r n e.0 in
+        let m = length_as r n e.0 in
         let z = sym (get_or-append (shown taken n r) (0 ∷ aheads taken (n + 1) l) 0 k (omega (arith, shown-length taken n r))) ∙ q in
         let c = shown-code taken n r k (omega (arith, z)) in
         record {
@@ -153,12 +153,12 @@ module _ (L : Limits) (G : Grammar) (taken : ℕ → Bool) where
           let y = ap (λ j. get_or (shown taken n r ++ (0 ∷ aheads taken (n + 1) l)) j 0) (t ∙ sym (shown-length taken n r)) in
           absurd (omega (arith, z, y, q))
       | no t ↦
-          let m = length-as r n e.0 in
+          let m = length_as r n e.0 in
           let o = k - suc (length r.right) in
           let w : length (shown taken n r) + suc o ≡ k = omega (arith, shown-length taken n r) in
           let y = sym (beyond (shown taken n r) 0 (aheads taken (n + 1) l) 0 o)
           ∙ ap (λ j. get_or (shown taken n r ++ (0 ∷ aheads taken (n + 1) l)) j 0) w ∙ q in
-          let a = ahead-item (n + 1) l e.1 o x h y in
+          let a = ahead_item (n + 1) l e.1 o x h y in
           record {
             number = a.number;
             place = a.place;
@@ -173,12 +173,12 @@ module _ (L : Limits) (G : Grammar) (taken : ℕ → Bool) where
   ]
 
   -- what stands in the row of the rules of b, from rule n on
-  pub rules-out : (b n p : ℕ) (l : List Rule) → Run n l → p ≡ base L G n → (i q : ℕ) → Mem {A = ℕ × ℕ} (i, q) (rulesOf taken b n p l)
+  pub rules-out : (b n p : ℕ) (l : List Rule) → Run n l → p ≡ base L G n → (i q : ℕ) → Mem {A = ℕ × ℕ} (i, q) (rules_of taken b n p l)
       → (n ≤ i) × (i < n + length l) × ((rule L G i).left ≡ b) × (q ≡ base L G i) × (taken i ≡ true)
-  unfolding rulesOf
-  rules-out b n p [] e z i q m = absurd (no-element m)
+  unfolding rules_of
+  rules-out b n p [] e z i q m = absurd (no_element m)
   rules-out b n p (r ∷ l) e z i q m =
-      elim (mem-either (when (taken n && eqb r.left b) ((n, p) ∷ [])) (rulesOf taken b (n + 1) (p + length r.right + 1) l) m) [
+      elim (mem_either (when (taken n && eqb r.left b) ((n, p) ∷ [])) (rules_of taken b (n + 1) (p + length r.right + 1) l) m) [
         | inl k ↦
             let u = (under-test {A = ℕ × ℕ} (taken n && eqb r.left b) ((n, p) ∷ [])).0 k in
             let v = only_one u.1 in
@@ -188,77 +188,77 @@ module _ (L : Limits) (G : Grammar) (taken : ℕ → Bool) where
             let a = and_both (taken n) (eqb r.left b) u.0 in
             (omega arith, omega arith, y ∙ eqb-true r.left b a.1, t ∙ z ∙ ap (base L G) (sym s), subst (λ i. taken i ≡ true) (sym s) a.0)
         | inr k ↦
-            let w = length-as r n e.0 in
+            let w = length_as r n e.0 in
             let o = rules-out b (n + 1) (p + length r.right + 1) l e.1 (omega (arith, base-next n)) i q k in
             (omega arith, omega arith, o.2, o.3, o.4)
       ]
 
   -- every rule of b stands in its row
-  pub rules-in : (b n p : ℕ) (l : List Rule) → Run n l → p ≡ base L G n → (i q : ℕ) → n ≤ i → i < n + length l
-      → (rule L G i).left ≡ b → q ≡ base L G i → taken i ≡ true → Mem {A = ℕ × ℕ} (i, q) (rulesOf taken b n p l)
-  unfolding rulesOf
-  rules-in b n p [] e z i q h u s t k = absurd (omega arith)
-  rules-in b n p (r ∷ l) e z i q h u s t k = elim (ℕ_discrete i n) [
+  pub rules_in_lem : (b n p : ℕ) (l : List Rule) → Run n l → p ≡ base L G n → (i q : ℕ) → n ≤ i → i < n + length l
+      → (rule L G i).left ≡ b → q ≡ base L G i → taken i ≡ true → Mem {A = ℕ × ℕ} (i, q) (rules_of taken b n p l)
+  unfolding rules_of
+  rules_in_lem b n p [] e z i q h u s t k = absurd (omega arith)
+  rules_in_lem b n p (r ∷ l) e z i q h u s t k = elim (ℕ_discrete i n) [
     | yes y ↦
         let x : r.left ≡ b = ap (λ (r : Rule). r.left) (e.0 ∙ ap (rule L G) (sym y)) ∙ s in
         let v : ◌≡◌ {A = ℕ × ℕ} (i, q) (n, p) = cc (ap (base L G) y) in
-        mem-left (rulesOf taken b (n + 1) (p + length r.right + 1) l)
-        ((under-test (taken n && eqb r.left b) ((n, p) ∷ [])).1 (both-and (taken n) (eqb r.left b) (subst (λ i. taken i ≡ true) y k) (eq-eqb r.left b x), one_only v))
+        mem_left (rules_of taken b (n + 1) (p + length r.right + 1) l)
+        ((under-test (taken n && eqb r.left b) ((n, p) ∷ [])).1 (both_and (taken n) (eqb r.left b) (subst (λ i. taken i ≡ true) y k) (eq-eqb r.left b x), one_only v))
     | no y ↦
-        let w = length-as r n e.0 in
-        mem-right (when (taken n && eqb r.left b) ((n, p) ∷ []))
-        (rules-in b (n + 1) (p + length r.right + 1) l e.1 (omega (arith, base-next n)) i q (omega arith) (omega arith) s t k)
+        let w = length_as r n e.0 in
+        mem_right (when (taken n && eqb r.left b) ((n, p) ∷ []))
+        (rules_in_lem b (n + 1) (p + length r.right + 1) l e.1 (omega (arith, base-next n)) i q (omega arith) (omega arith) s t k)
   ]
 
   -- what stands in the row of the rule that ends in state c
   pub ends-out : (c n p : ℕ) (l : List Rule) → Run n l → p ≡ base L G n → (i b : ℕ) → Mem {A = ℕ × ℕ} (i, b) (completed taken c n p l)
       → (n ≤ i) × (i < n + length l) × (c ≡ base L G i + length_of L G i) × (b ≡ (rule L G i).left) × (taken i ≡ true)
   unfolding completed
-  ends-out c n p [] e z i b m = absurd (no-element m)
+  ends-out c n p [] e z i b m = absurd (no_element m)
   ends-out c n p (r ∷ l) e z i b m =
-      elim (mem-either (when (taken n && eqb (p + length r.right) c) ((n, r.left) ∷ []))
+      elim (mem_either (when (taken n && eqb (p + length r.right) c) ((n, r.left) ∷ []))
       (completed taken c (n + 1) (p + length r.right + 1) l) m) [
         | inl k ↦
             let u = (under-test {A = ℕ × ℕ} (taken n && eqb (p + length r.right) c) ((n, r.left) ∷ [])).0 k in
             let v = only_one u.1 in
             let s : i ≡ n = ap (λ (c : ℕ × ℕ). c.0) v in
             let t : b ≡ r.left = ap (λ (c : ℕ × ℕ). c.1) v in
-            let w = length-as r n e.0 in
+            let w = length_as r n e.0 in
             let a = and_both (taken n) (eqb (p + length r.right) c) u.0 in
             let x = eqb-true (p + length r.right) c a.1 in
             let y = ap (λ i. base L G i + length_of L G i) s in
             (omega arith, omega arith, omega arith, t ∙ ap (λ (r : Rule). r.left) (e.0 ∙ ap (rule L G) (sym s)), subst (λ i. taken i ≡ true) (sym s) a.0)
         | inr k ↦
-            let w = length-as r n e.0 in
+            let w = length_as r n e.0 in
             let o = ends-out c (n + 1) (p + length r.right + 1) l e.1 (omega (arith, base-next n)) i b k in
             (omega arith, omega arith, o.2, o.3, o.4)
       ]
 
   -- the rule that ends in state c stands in its row
-  pub ends-in : (c n p : ℕ) (l : List Rule) → Run n l → p ≡ base L G n → (i : ℕ) → n ≤ i → i < n + length l
+  pub ends_in : (c n p : ℕ) (l : List Rule) → Run n l → p ≡ base L G n → (i : ℕ) → n ≤ i → i < n + length l
       → c ≡ base L G i + length_of L G i → taken i ≡ true → Mem {A = ℕ × ℕ} (i, (rule L G i).left) (completed taken c n p l)
   unfolding completed
-  ends-in c n p [] e z i h u s k = absurd (omega arith)
-  ends-in c n p (r ∷ l) e z i h u s k = elim (ℕ_discrete i n) [
+  ends_in c n p [] e z i h u s k = absurd (omega arith)
+  ends_in c n p (r ∷ l) e z i h u s k = elim (ℕ_discrete i n) [
     | yes y ↦
-        let w = length-as r n e.0 in
+        let w = length_as r n e.0 in
         let x = ap (λ i. base L G i + length_of L G i) y in
         let t : (rule L G i).left ≡ r.left = ap (λ (r : Rule). r.left) (ap (rule L G) y ∙ sym e.0) in
         let v : ◌≡◌ {A = ℕ × ℕ} (i, (rule L G i).left) (n, r.left) = cc (y, t) in
-        mem-left (completed taken c (n + 1) (p + length r.right + 1) l)
+        mem_left (completed taken c (n + 1) (p + length r.right + 1) l)
         ((under-test (taken n && eqb (p + length r.right) c) ((n, r.left) ∷ [])).1
-        (both-and (taken n) (eqb (p + length r.right) c) (subst (λ i. taken i ≡ true) y k) (eq-eqb (p + length r.right) c (omega arith)), one_only v))
+        (both_and (taken n) (eqb (p + length r.right) c) (subst (λ i. taken i ≡ true) y k) (eq-eqb (p + length r.right) c (omega arith)), one_only v))
     | no y ↦
-        let w = length-as r n e.0 in
-        mem-right (when (taken n && eqb (p + length r.right) c) ((n, r.left) ∷ []))
-        (ends-in c (n + 1) (p + length r.right + 1) l e.1 (omega (arith, base-next n)) i (omega arith) (omega arith) s k)
+        let w = length_as r n e.0 in
+        mem_right (when (taken n && eqb (p + length r.right) c) ((n, r.left) ∷ []))
+        (ends_in c (n + 1) (p + length r.right + 1) l e.1 (omega (arith, base-next n)) i (omega arith) (omega arith) s k)
   ]
 
 -- what stands in the row of the states just past a b
 pub past-out : (b p : ℕ) (xs : List ℕ) (q : ℕ) → Mem q (past b p xs) → (k : ℕ) × (get_or xs k 0 ≡ b) × (q ≡ suc (p + k))
 unfolding past
-past-out b p [] q m = absurd (no-element m)
-past-out b p (x ∷ xs) q m = elim (mem-either (when (eqb x b) ((p + 1) ∷ [])) (past b (p + 1) xs) m) [
+past-out b p [] q m = absurd (no_element m)
+past-out b p (x ∷ xs) q m = elim (mem_either (when (eqb x b) ((p + 1) ∷ [])) (past b (p + 1) xs) m) [
   | inl k ↦
       let u = (under-test (eqb x b) ((p + 1) ∷ [])).0 k in
       let v = only_one u.1 in
@@ -267,15 +267,15 @@ past-out b p (x ∷ xs) q m = elim (mem-either (when (eqb x b) ((p + 1) ∷ []))
 ]
 
 -- every state just past a b stands in its row
-pub past-in : (b p : ℕ) (xs : List ℕ) (k : ℕ) → 1 ≤ b → get_or xs k 0 ≡ b → Mem (suc (p + k)) (past b p xs)
+pub past_in : (b p : ℕ) (xs : List ℕ) (k : ℕ) → 1 ≤ b → get_or xs k 0 ≡ b → Mem (suc (p + k)) (past b p xs)
 unfolding past
-past-in b p [] k h e = absurd (omega arith)
-past-in b p (x ∷ xs) zero h e =
-    mem-left (past b (p + 1) xs) ((under-test (eqb x b) ((p + 1) ∷ [])).1 (eq-eqb x b e, one_only (omega arith)))
-past-in b p (x ∷ xs) (suc k) h e =
-    mem-right (when (eqb x b) ((p + 1) ∷ []))
+past_in b p [] k h e = absurd (omega arith)
+past_in b p (x ∷ xs) zero h e =
+    mem_left (past b (p + 1) xs) ((under-test (eqb x b) ((p + 1) ∷ [])).1 (eq-eqb x b e, one_only (omega arith)))
+past_in b p (x ∷ xs) (suc k) h e =
+    mem_right (when (eqb x b) ((p + 1) ∷ []))
     (subst (λ q. Mem q (past b (p + 1) xs)) (let z : suc (p + 1 + k) ≡ suc (p + suc k) = omega arith in z)
-    (past-in b (p + 1) xs k h e))
+    (past_in b (p + 1) xs k h e))
 
 -- the closings by a rule with a left code, along the row of codes ahead
 abbrev pub pasts : List ℕ → ℕ × ℕ → List (ℕ × ℕ)

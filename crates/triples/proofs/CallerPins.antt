@@ -8,18 +8,18 @@ use lib.ListN.{length}
 use Rattle.grammar.specs.Limits.{limits}
 use Rattle.grammar.specs.Grammar.{Grammar}
 use Rattle.automaton.specs.Callers.{place_of, spots}
-use Rattle.automaton.specs.CallerMoves.{spotAhead, spotAfter, liveRules, spotOpenings, returns, spotClosings, movesAt}
-use Rattle.automaton.proofs.CallerPins.{of, small, biology, commands, statesOf}
+use Rattle.automaton.specs.CallerMoves.{spot_ahead, spot_after, live_rules, spot_openings, returns, spot_closings, moves_at}
+use Rattle.automaton.proofs.CallerPins.{of, small, biology, commands, states_of}
 use Rattle.triples.specs.Index.{index}
-use Rattle.triples.specs.Records.{leftAlone, rightAlone, bothShift, bothClose, choices, insert, ordered, records}
-use Rattle.triples.specs.Smallest.{isElement, push, pushAll, explore, successors, smallest}
+use Rattle.triples.specs.Records.{left_alone, right_alone, both_shift, both_close, choices, insert, ordered, records}
+use Rattle.triples.specs.Smallest.{is_element, push, push_all, explore, successors, smallest}
 
 figures : Grammar → ℕ → ℕ × ℕ × Bool
-unfolding statesOf place_of spotAhead spotAfter liveRules spotOpenings returns spotClosings leftAlone rightAlone bothShift bothClose choices insert ordered records isElement push pushAll explore successors smallest
+unfolding states_of place_of spot_ahead spot_after live_rules spot_openings returns spot_closings left_alone right_alone both_shift both_close choices insert ordered records is_element push push_all explore successors smallest
 figures G m =
     let Q = length (spots limits G m) in
-    let l = smallest (movesAt limits G m) in
-    (Q, length l, isElement (index Q 1 1 1) l)
+    let l = smallest (moves_at limits G m) in
+    (Q, length l, is_element (index Q 1 1 1) l)
 
 -- S → a; S → A; A → A; B → b; S → C b; C → : rules that no sentence uses have numbers at m = 0 only
 abbrev partly : Grammar
@@ -29,12 +29,12 @@ partly = record {
   rules = of 32768 (1 ∷ []) ∷ of 32768 (32769 ∷ []) ∷ of 32769 (32769 ∷ []) ∷ of 32770 (2 ∷ []) ∷ of 32768 (32771 ∷ 2 ∷ []) ∷ of 32771 [] ∷ [];
 }
 
-all-figures : (figures small 0 ≡ (10, 43, true)) × (figures small 1 ≡ (11, 36, false))
+all_figures : (figures small 0 ≡ (10, 43, true)) × (figures small 1 ≡ (11, 36, false))
     × (figures biology 0 ≡ (17, 72, true)) × (figures biology 1 ≡ (19, 58, false)) × (figures biology 2 ≡ (19, 58, false))
     × (figures partly 0 ≡ (16, 31, false)) × (figures partly 1 ≡ (10, 31, false)) × (figures partly 2 ≡ (10, 31, false))
 unfolding figures
-all-figures = (refl, refl, refl, refl, refl, refl, refl, refl)
+all_figures = (refl, refl, refl, refl, refl, refl, refl, refl)
 
-command-figures : figures commands 0 ≡ (27, 90, false)
+command_figures : figures commands 0 ≡ (27, 90, false)
 unfolding figures
-command-figures = refl
+command_figures = refl

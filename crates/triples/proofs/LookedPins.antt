@@ -4,40 +4,40 @@
 use mathlib.Core.Path.{◌≡◌, refl}
 use mathlib.Core.List.{List, [], ◌∷◌}
 use Prim.Native.Nat.{ℕ, ◌+◌}
-use Rattle.grammar.specs.Grammar.{stateCount}
-use Rattle.automaton.specs.AllMoves.{numbers, leaving, allMoves}
+use Rattle.grammar.specs.Grammar.{state_count}
+use Rattle.automaton.specs.AllMoves.{numbers, leaving, all_moves}
 use Rattle.automaton.proofs.AllMovePins.{moves, live}
-use Rattle.triples.specs.Records.{leftAlone, rightAlone, bothShift, bothClose, choices, insert, ordered, records}
-use Rattle.triples.specs.Smallest.{isElement, push, pushAll, explore, successors, smallest}
-use Rattle.triples.specs.Looked.{total, lookedAt, lookedLimit}
+use Rattle.triples.specs.Records.{left_alone, right_alone, both_shift, both_close, choices, insert, ordered, records}
+use Rattle.triples.specs.Smallest.{is_element, push, push_all, explore, successors, smallest}
+use Rattle.triples.specs.Looked.{total, looked_at, looked_limit}
 
 -- each element counts, as often as it stands there
-total-two : total (λ i. i + 1) (3 ∷ 3 ∷ []) ≡ 8
+total_two : total (λ i. i + 1) (3 ∷ 3 ∷ []) ≡ 8
 unfolding total
-total-two = refl
+total_two = refl
 
 -- to unfold these is to unfold all that they use
 looked : ℕ → ℕ → List ℕ → ℕ
-unfolding live stateCount leftAlone rightAlone bothShift bothClose choices insert ordered records isElement push pushAll explore successors smallest total lookedAt
-looked t n table = lookedAt (moves t n table)
+unfolding live state_count left_alone right_alone both_shift both_close choices insert ordered records is_element push push_all explore successors smallest total looked_at
+looked t n table = looked_at (moves t n table)
 
 limit : ℕ → ℕ → List ℕ → ℕ
-unfolding live stateCount numbers leaving allMoves
-limit t n table = lookedLimit (moves t n table)
+unfolding live state_count numbers leaving all_moves
+limit t n table = looked_limit (moves t n table)
 
 -- S→a: 6 moves of 6 states, so no more than 6 × 6 + 2 × 6 × 6
 one-looked : looked 1 1 (128 ∷ 1 ∷ 1 ∷ []) ≡ 14
 unfolding looked
 one-looked = refl
 
-one-limit : limit 1 1 (128 ∷ 1 ∷ 1 ∷ []) ≡ 108
+one_limit : limit 1 1 (128 ∷ 1 ∷ 1 ∷ []) ≡ 108
 unfolding limit
-one-limit = refl
+one_limit = refl
 
 -- S→S | a
-unit-or-a-looked : looked 1 1 (128 ∷ 1 ∷ 128 ∷ 128 ∷ 1 ∷ 1 ∷ []) ≡ 55
+unit_or_a-looked : looked 1 1 (128 ∷ 1 ∷ 128 ∷ 128 ∷ 1 ∷ 1 ∷ []) ≡ 55
 unfolding looked
-unit-or-a-looked = refl
+unit_or_a-looked = refl
 
 -- S→aSa | a
 palindromes-looked : looked 1 1 (128 ∷ 3 ∷ 1 ∷ 128 ∷ 1 ∷ 128 ∷ 1 ∷ 1 ∷ []) ≡ 140
@@ -50,9 +50,9 @@ unfolding looked
 twice-looked = refl
 
 -- S→A | B, A→, B→
-two-empty-looked : looked 0 3 (128 ∷ 1 ∷ 129 ∷ 128 ∷ 1 ∷ 130 ∷ 129 ∷ 0 ∷ 130 ∷ 0 ∷ []) ≡ 85
+two_empty-looked : looked 0 3 (128 ∷ 1 ∷ 129 ∷ 128 ∷ 1 ∷ 130 ∷ 129 ∷ 0 ∷ 130 ∷ 0 ∷ []) ≡ 85
 unfolding looked
-two-empty-looked = refl
+two_empty-looked = refl
 
 -- P→ | P K, K→take L vol | give L vol | repeat num P close, L→ch | L sep ch
 commands-looked : looked 8 3 (128 ∷ 0 ∷ 128 ∷ 2 ∷ 128 ∷ 129 ∷ 129 ∷ 3 ∷ 1 ∷ 130 ∷ 2 ∷ 129 ∷ 3 ∷ 3 ∷ 130 ∷ 2 ∷ 129 ∷ 4 ∷ 4 ∷ 5 ∷ 128 ∷ 6 ∷ 130 ∷ 1 ∷ 7 ∷ 130 ∷ 3 ∷ 130 ∷ 8 ∷ 7 ∷ []) ≡ 163

@@ -7,25 +7,25 @@ use mathlib.Core.Bool.{Bool, true, false}
 use mathlib.Core.List.{List, [], ◌∷◌, ◌++◌}
 use Prim.Native.Nat.{ℕ}
 use lib.ListN.{length, replicate}
-use Rattle.grammar.specs.Limits.{byteLimits}
-use Rattle.grammar.specs.Grammar.{Grammar, rule, stateCount}
-use Rattle.grammar.specs.Table.{decodeUpTo, decode}
-use Rattle.grammar.specs.Refusal.{Answer, done, refused, refuseUnless, and_then}
-use Rattle.grammar.specs.TableCheck.{sameCodes, isAmong, declaredFront, readRule, nextRule, checkFrom, storedTable, checkTable}
+use Rattle.grammar.specs.Limits.{byte_limits}
+use Rattle.grammar.specs.Grammar.{Grammar, rule, state_count}
+use Rattle.grammar.specs.Table.{decode_up_to, decode}
+use Rattle.grammar.specs.Refusal.{Answer, done, refused, refuse_unless, and_then}
+use Rattle.grammar.specs.TableCheck.{same_codes, is_among, declared_front, read_rule, next_rule, check_from, stored_table, check_table}
 use Rattle.grammar.specs.Basics.{each}
-use Rattle.grammar.specs.Live.{has, hasAll, concluded, waiting, rounds, nonterminalsOf, productive, usable, reachable, hasSentence, isLive}
+use Rattle.grammar.specs.Live.{has, has_all, concluded, waiting, rounds, nonterminals_of, productive, usable, reachable, has_sentence, is_live}
 use Rattle.automaton.specs.Items.{states}
-use Rattle.automaton.specs.PositionMoves.{moves_of, shown, aheads, rulesOf, completed, past, aheadRow, openings, closings}
-use Rattle.automaton.specs.Callers.{up_to, itemsFrom, items, spots, checkCallers, checkWith}
+use Rattle.automaton.specs.PositionMoves.{moves_of, shown, aheads, rules_of, completed, past, ahead_row, openings, closings}
+use Rattle.automaton.specs.Callers.{up_to, items_from, items, spots, check_callers, check_with}
 use Rattle.triples.specs.declared.Move.TheVariants.{Opening, Closing, Symbol, Still}
 use Rattle.triples.specs.declared.Step.{Step}
-use Rattle.triples.specs.Index.{index, tripleCount, layerOf, left_of, rightOf}
+use Rattle.triples.specs.Index.{index, triple_count, layer_of, left_of, right_of}
 use Rattle.triples.specs.Records.{step}
-use Rattle.triples.specs.Records.{leftAlone, rightAlone, bothShift, bothClose, choices, insert, ordered, records}
-use Rattle.triples.specs.Smallest.{isElement, push, pushAll, explore, successors, smallest}
-use Rattle.triples.specs.Certificate.{byte_count, bit, bitsFrom, bytesFrom, certificateOf}
-use Rattle.triples.specs.Certificate.{lowest, areSet, checkBytes, checkCertificate}
-use Rattle.triples.specs.Witness.{checkOn, checkRow, checkWitness, entry_of, checkWitnessRecords}
+use Rattle.triples.specs.Records.{left_alone, right_alone, both_shift, both_close, choices, insert, ordered, records}
+use Rattle.triples.specs.Smallest.{is_element, push, push_all, explore, successors, smallest}
+use Rattle.triples.specs.Certificate.{byte_count, bit, bits_from, bytes_from, certificate_of}
+use Rattle.triples.specs.Certificate.{lowest, are_set, check_bytes, check_certificate}
+use Rattle.triples.specs.Witness.{check_on, check_row, check_witness, entry_of, check_witness_records}
 
 -- t, n and a table; its grammar
 record Tables : Type 0 where
@@ -41,24 +41,24 @@ grammar s = record { terminals = s.terminals; nonterminals = s.nonterminals; rul
 
 -- to unfold one of these is to unfold all that it uses
 lived : Tables → ℕ → Bool
-unfolding decodeUpTo rule each has hasAll concluded waiting rounds nonterminalsOf productive usable reachable hasSentence isLive
-lived s i = isLive byteLimits (grammar s) i
+unfolding decode_up_to rule each has has_all concluded waiting rounds nonterminals_of productive usable reachable has_sentence is_live
+lived s i = is_live byte_limits (grammar s) i
 
 opened : Tables → ℕ → List (ℕ × ℕ)
-unfolding lived shown aheads rulesOf aheadRow openings
-opened s p = openings byteLimits (grammar s) (isLive byteLimits (grammar s)) p
+unfolding lived shown aheads rules_of ahead_row openings
+opened s p = openings byte_limits (grammar s) (is_live byte_limits (grammar s)) p
 
 closed : Tables → ℕ → List (ℕ × ℕ)
-unfolding lived shown aheads completed past aheadRow closings
-closed s p = closings byteLimits (grammar s) (isLive byteLimits (grammar s)) p
+unfolding lived shown aheads completed past ahead_row closings
+closed s p = closings byte_limits (grammar s) (is_live byte_limits (grammar s)) p
 
 steps : Tables → ℕ → ℕ → ℕ → List Step
-unfolding opened closed stateCount leftAlone rightAlone bothShift bothClose choices insert ordered records
-steps s f p q = records (moves_of byteLimits (grammar s)) f p q
+unfolding opened closed state_count left_alone right_alone both_shift both_close choices insert ordered records
+steps s f p q = records (moves_of byte_limits (grammar s)) f p q
 
 reached : Tables → List ℕ
-unfolding steps isElement push pushAll explore successors smallest
-reached s = smallest (moves_of byteLimits (grammar s))
+unfolding steps is_element push push_all explore successors smallest
+reached s = smallest (moves_of byte_limits (grammar s))
 
 -- Q, the size, and whether (1,1,1) is reached
 figures : Tables → ℕ × ℕ × Bool
@@ -66,29 +66,29 @@ unfolding reached
 figures s =
     let Q = states (grammar s) in
     let l = reached s in
-    (Q, length l, isElement (index Q 1 1 1) l)
+    (Q, length l, is_element (index Q 1 1 1) l)
 
 certificate : Tables → List ℕ
-unfolding reached bitsFrom bytesFrom
-certificate s = certificateOf (states (grammar s)) (reached s)
+unfolding reached bits_from bytes_from
+certificate s = certificate_of (states (grammar s)) (reached s)
 
 -- the table check, and the certificate check and the witness check without callers
-checkRules : Tables → Answer Grammar
-unfolding decodeUpTo stateCount sameCodes isAmong declaredFront readRule nextRule checkFrom storedTable checkTable refuseUnless and_then
-    has hasAll concluded waiting rounds nonterminalsOf productive hasSentence
-checkRules s = checkTable byteLimits s.terminals s.nonterminals s.table
+check_rules : Tables → Answer Grammar
+unfolding decode_up_to state_count same_codes is_among declared_front read_rule next_rule check_from stored_table check_table refuse_unless and_then
+    has has_all concluded waiting rounds nonterminals_of productive has_sentence
+check_rules s = check_table byte_limits s.terminals s.nonterminals s.table
 
-checkBits : Tables → List ℕ → Answer Unit
-unfolding checkRules certificate up_to itemsFrom items spots checkCallers checkWith lowest areSet checkBytes checkCertificate
-checkBits s bytes = checkCertificate byteLimits s.terminals s.nonterminals s.table 0 bytes
+check_bits : Tables → List ℕ → Answer Unit
+unfolding check_rules certificate up_to items_from items spots check_callers check_with lowest are_set check_bytes check_certificate
+check_bits s bytes = check_certificate byte_limits s.terminals s.nonterminals s.table 0 bytes
 
-checkPath : Tables → List ℕ → Answer Unit
-unfolding checkBits checkOn checkRow checkWitness
-checkPath s row = checkWitness byteLimits s.terminals s.nonterminals s.table 0 row
+check_path : Tables → List ℕ → Answer Unit
+unfolding check_bits check_on check_row check_witness
+check_path s row = check_witness byte_limits s.terminals s.nonterminals s.table 0 row
 
-checkEntries : Tables → List (ℕ × ℕ × ℕ) → Answer Unit
-unfolding checkPath checkWitnessRecords
-checkEntries s entries = checkWitnessRecords byteLimits s.terminals s.nonterminals s.table 0 entries
+check_entries : Tables → List (ℕ × ℕ × ℕ) → Answer Unit
+unfolding check_path check_witness_records
+check_entries s entries = check_witness_records byte_limits s.terminals s.nonterminals s.table 0 entries
 
 -- no rule
 abbrev bare : Tables
@@ -167,17 +167,17 @@ abbrev barren : Tables
 barren = tables 1 3 (128 ∷ 1 ∷ 1 ∷ 128 ∷ 2 ∷ 129 ∷ 130 ∷ 129 ∷ 1 ∷ 1 ∷ 130 ∷ 1 ∷ 130 ∷ [])
 
 -- all with a sentence pass the table check, with the grammar that is taken here; the two without are 19 at 0
-all_pass : (checkRules bare ≡ refused 19 0) × (checkRules empty ≡ done (grammar empty))
-    × (checkRules single ≡ done (grammar single)) × (checkRules leftward ≡ done (grammar leftward))
-    × (checkRules nested ≡ done (grammar nested)) × (checkRules circle ≡ refused 19 0)
-    × (checkRules looped ≡ done (grammar looped)) × (checkRules circular ≡ done (grammar circular))
-    × (checkRules palindromes ≡ done (grammar palindromes)) × (checkRules twice ≡ done (grammar twice))
-    × (checkRules counted ≡ done (grammar counted)) × (checkRules spreading ≡ done (grammar spreading))
-    × (checkRules ended ≡ done (grammar ended)) × (checkRules framed ≡ done (grammar framed))
-    × (checkRules squared ≡ done (grammar squared)) × (checkRules pairs ≡ done (grammar pairs))
-    × (checkRules either ≡ done (grammar either)) × (checkRules course ≡ done (grammar course))
-    × (checkRules barren ≡ done (grammar barren))
-unfolding checkRules
+all_pass : (check_rules bare ≡ refused 19 0) × (check_rules empty ≡ done (grammar empty))
+    × (check_rules single ≡ done (grammar single)) × (check_rules leftward ≡ done (grammar leftward))
+    × (check_rules nested ≡ done (grammar nested)) × (check_rules circle ≡ refused 19 0)
+    × (check_rules looped ≡ done (grammar looped)) × (check_rules circular ≡ done (grammar circular))
+    × (check_rules palindromes ≡ done (grammar palindromes)) × (check_rules twice ≡ done (grammar twice))
+    × (check_rules counted ≡ done (grammar counted)) × (check_rules spreading ≡ done (grammar spreading))
+    × (check_rules ended ≡ done (grammar ended)) × (check_rules framed ≡ done (grammar framed))
+    × (check_rules squared ≡ done (grammar squared)) × (check_rules pairs ≡ done (grammar pairs))
+    × (check_rules either ≡ done (grammar either)) × (check_rules course ≡ done (grammar course))
+    × (check_rules barren ≡ done (grammar barren))
+unfolding check_rules
 all_pass = (refl, refl, refl, refl, refl, refl, refl, refl, refl, refl, refl, refl, refl, refl, refl, refl, refl, refl, refl)
 
 -- a state opens each rule of the nonterminal ahead; a rule's end closes to every item past its nonterminal
@@ -200,7 +200,7 @@ moves = (refl, refl, refl, refl, refl, refl, refl, refl, refl, refl, refl, refl,
 
 -- items of rules that are not live have no moves, and no move leads to them: of S → a; S → A; A → A state 2 opens only S → a, which
 -- closes; S → ·A opens nothing, and the ends of the other rules do not close
-dead-moves : (opened course 0 ≡ (0, 2) ∷ [])
+dead_moves : (opened course 0 ≡ (0, 2) ∷ [])
     × (opened course 2 ≡ (1, 4) ∷ [])
     × (opened course 6 ≡ [])
     × (opened course 8 ≡ [])
@@ -210,7 +210,7 @@ dead-moves : (opened course 0 ≡ (0, 2) ∷ [])
     × (closed course 9 ≡ [])
     × (steps course 0 6 6 ≡ [])
 unfolding steps
-dead-moves = (refl, refl, refl, refl, refl, refl, refl, refl, refl)
+dead_moves = (refl, refl, refl, refl, refl, refl, refl, refl, refl)
 
 -- of S → a; S → A B; A → a; B → B the rule A → a, which S reaches only through a rule that is in no tree, closes to no state and
 -- stands before no terminal; without a sentence states 0 and 3 do not move
@@ -232,9 +232,9 @@ unfolding steps
 ends = (refl, refl, refl)
 
 -- out of range: a state of Q, a layer above 1
-out_of_range : (steps looped 0 7 0 ≡ []) × (steps looped 0 0 7 ≡ []) × (steps looped 2 0 0 ≡ []) × (steps looped 2 5 4 ≡ [])
+out_of_range_lem : (steps looped 0 7 0 ≡ []) × (steps looped 0 0 7 ≡ []) × (steps looped 2 0 0 ≡ []) × (steps looped 2 5 4 ≡ [])
 unfolding steps
-out_of_range = (refl, refl, refl, refl)
+out_of_range_lem = (refl, refl, refl, refl)
 
 -- records that lead back come first, left before right: two openings; a closing and an opening; two closings
 back-first : (steps looped 0 4 4
@@ -322,9 +322,9 @@ other-rows = (refl, refl, refl, refl, refl, refl)
 
 -- indices, their number and their bytes
 indices : (index 6 1 1 1 ≡ 43) × (index 6 0 5 4 ≡ 34) × (index 256 1 255 255 ≡ 131071)
-    × (layerOf 6 43 ≡ 1) × (left_of 6 43 ≡ 1) × (rightOf 6 43 ≡ 1)
-    × (layerOf 6 34 ≡ 0) × (left_of 6 34 ≡ 5) × (rightOf 6 34 ≡ 4)
-    × (tripleCount 6 ≡ 72) × (tripleCount 9 ≡ 162) × (byte_count 6 ≡ 9) × (byte_count 9 ≡ 21) × (byte_count 10 ≡ 25)
+    × (layer_of 6 43 ≡ 1) × (left_of 6 43 ≡ 1) × (right_of 6 43 ≡ 1)
+    × (layer_of 6 34 ≡ 0) × (left_of 6 34 ≡ 5) × (right_of 6 34 ≡ 4)
+    × (triple_count 6 ≡ 72) × (triple_count 9 ≡ 162) × (byte_count 6 ≡ 9) × (byte_count 9 ≡ 21) × (byte_count 10 ≡ 25)
 indices = (refl, refl, refl, refl, refl, refl, refl, refl, refl, refl, refl, refl, refl, refl)
 
 -- bit 0 is the lowest of byte 0, bit 7 its highest, bit 8 the lowest of byte 1; a bit past the bytes is 0
@@ -334,8 +334,8 @@ bits : (bit (1 ∷ 0 ∷ []) 0 ≡ 1) × (bit (1 ∷ 0 ∷ []) 7 ≡ 0) × (bit 
 bits = (refl, refl, refl, refl, refl, refl, refl, refl, refl, refl, refl)
 
 -- the bytes of some indices
-bytes_of : (certificateOf 2 (0 ∷ 3 ∷ []) ≡ 9 ∷ []) × (certificateOf 3 (7 ∷ 8 ∷ 17 ∷ 17 ∷ []) ≡ 128 ∷ 1 ∷ 2 ∷ [])
-unfolding isElement bitsFrom bytesFrom
+bytes_of : (certificate_of 2 (0 ∷ 3 ∷ []) ≡ 9 ∷ []) × (certificate_of 3 (7 ∷ 8 ∷ 17 ∷ 17 ∷ []) ≡ 128 ∷ 1 ∷ 2 ∷ [])
+unfolding is_element bits_from bytes_from
 bytes_of = (refl, refl)
 
 abbrev single-bytes : List ℕ
@@ -352,85 +352,85 @@ unfolding certificate
 smallest-bytes = (refl, refl)
 
 -- of the other unambiguous rows the smallest certificate passes; of a potential one it has (1,1,1)
-smallest-cases : (checkBits empty (certificate empty) ≡ done tt)
-    × (checkBits nested (certificate nested) ≡ done tt)
-    × (checkBits counted (certificate counted) ≡ done tt)
-    × (checkBits course (certificate course) ≡ done tt)
-    × (checkBits looped (certificate looped) ≡ refused 12 57)
-    × (checkBits twice (certificate twice) ≡ refused 12 111)
-unfolding checkBits
-smallest-cases = (refl, refl, refl, refl, refl, refl)
+smallest_cases : (check_bits empty (certificate empty) ≡ done tt)
+    × (check_bits nested (certificate nested) ≡ done tt)
+    × (check_bits counted (certificate counted) ≡ done tt)
+    × (check_bits course (certificate course) ≡ done tt)
+    × (check_bits looped (certificate looped) ≡ refused 12 57)
+    × (check_bits twice (certificate twice) ≡ refused 12 111)
+unfolding check_bits
+smallest_cases = (refl, refl, refl, refl, refl, refl)
 
 -- without a sentence no certificate is looked at: neither that of the smallest set, nor one over all rules, nor one of a wrong length
-bare-cases : (checkBits bare (1 ∷ 0 ∷ 0 ∷ 0 ∷ []) ≡ refused 19 0)
-    × (checkBits bare (0x05 ∷ 0x85 ∷ 0 ∷ 0 ∷ []) ≡ refused 19 0)
-    × (checkBits bare [] ≡ refused 19 0)
-    × (checkBits circle (certificate circle) ≡ refused 19 0)
-unfolding checkBits
-bare-cases = (refl, refl, refl, refl)
+bare_cases : (check_bits bare (1 ∷ 0 ∷ 0 ∷ 0 ∷ []) ≡ refused 19 0)
+    × (check_bits bare (0x05 ∷ 0x85 ∷ 0 ∷ 0 ∷ []) ≡ refused 19 0)
+    × (check_bits bare [] ≡ refused 19 0)
+    × (check_bits circle (certificate circle) ≡ refused 19 0)
+unfolding check_bits
+bare_cases = (refl, refl, refl, refl)
 
 -- document 01's cases for S → a: the right one; its first eight bytes, one byte more, no byte; all 0; all 0xFF; only bit 0
-single-cases : (checkBits single single-bytes ≡ done tt)
-    × (checkBits single (0x15 ∷ 0x50 ∷ 0x21 ∷ 0x15 ∷ 0x08 ∷ 0 ∷ 0 ∷ 0 ∷ []) ≡ refused 9 0)
-    × (checkBits single (single-bytes ++ (0 ∷ [])) ≡ refused 9 0)
-    × (checkBits single [] ≡ refused 9 0)
-    × (checkBits single (replicate 9 0) ≡ refused 11 0)
-    × (checkBits single (replicate 9 0xff) ≡ refused 12 43)
-    × (checkBits single (1 ∷ replicate 8 0) ≡ refused 13 0)
-unfolding checkBits
-single-cases = (refl, refl, refl, refl, refl, refl, refl)
+single_cases : (check_bits single single-bytes ≡ done tt)
+    × (check_bits single (0x15 ∷ 0x50 ∷ 0x21 ∷ 0x15 ∷ 0x08 ∷ 0 ∷ 0 ∷ 0 ∷ []) ≡ refused 9 0)
+    × (check_bits single (single-bytes ++ (0 ∷ [])) ≡ refused 9 0)
+    × (check_bits single [] ≡ refused 9 0)
+    × (check_bits single (replicate 9 0) ≡ refused 11 0)
+    × (check_bits single (replicate 9 0xff) ≡ refused 12 43)
+    × (check_bits single (1 ∷ replicate 8 0) ≡ refused 13 0)
+unfolding check_bits
+single_cases = (refl, refl, refl, refl, refl, refl, refl)
 
 -- a larger one: with (1,1,4), which has no successor; with (1,3,4) and without its successor (1,1,4), at (1,3,4)
-larger-cases : (checkBits single (0x15 ∷ 0x50 ∷ 0x21 ∷ 0x15 ∷ 0x08 ∷ 0x40 ∷ 0 ∷ 0 ∷ 0 ∷ []) ≡ done tt)
-    × (checkBits single (0x15 ∷ 0x50 ∷ 0x21 ∷ 0x15 ∷ 0x08 ∷ 0 ∷ 0 ∷ 0x04 ∷ 0 ∷ []) ≡ refused 13 58)
-unfolding checkBits
-larger-cases = (refl, refl)
+larger_cases : (check_bits single (0x15 ∷ 0x50 ∷ 0x21 ∷ 0x15 ∷ 0x08 ∷ 0x40 ∷ 0 ∷ 0 ∷ 0 ∷ []) ≡ done tt)
+    × (check_bits single (0x15 ∷ 0x50 ∷ 0x21 ∷ 0x15 ∷ 0x08 ∷ 0 ∷ 0 ∷ 0x04 ∷ 0 ∷ []) ≡ refused 13 58)
+unfolding check_bits
+larger_cases = (refl, refl)
 
 -- a smaller one: without (0,4,4), at the lower of the two that lack it; without (0,5,5), at (0,4,4)
-smaller-cases : (checkBits single (0x15 ∷ 0x50 ∷ 0x21 ∷ 0x05 ∷ 0x08 ∷ 0 ∷ 0 ∷ 0 ∷ 0 ∷ []) ≡ refused 13 16)
-    × (checkBits single (0x15 ∷ 0x50 ∷ 0x21 ∷ 0x15 ∷ 0 ∷ 0 ∷ 0 ∷ 0 ∷ 0 ∷ []) ≡ refused 13 28)
-unfolding checkBits
-smaller-cases = (refl, refl)
+smaller_cases : (check_bits single (0x15 ∷ 0x50 ∷ 0x21 ∷ 0x05 ∷ 0x08 ∷ 0 ∷ 0 ∷ 0 ∷ 0 ∷ []) ≡ refused 13 16)
+    × (check_bits single (0x15 ∷ 0x50 ∷ 0x21 ∷ 0x15 ∷ 0 ∷ 0 ∷ 0 ∷ 0 ∷ 0 ∷ []) ≡ refused 13 28)
+unfolding check_bits
+smaller_cases = (refl, refl)
 
 -- Q of 9: the right one; bit 162, the last bit, the lower of two past 2Q²; bit 161 is a triple's
-spare-cases : (checkBits leftward (leftward-front ++ (0 ∷ [])) ≡ done tt)
-    × (checkBits leftward (leftward-front ++ (0x04 ∷ [])) ≡ refused 10 162)
-    × (checkBits leftward (leftward-front ++ (0x80 ∷ [])) ≡ refused 10 167)
-    × (checkBits leftward (leftward-front ++ (0x90 ∷ [])) ≡ refused 10 164)
-    × (checkBits leftward (leftward-front ++ (0x02 ∷ [])) ≡ refused 13 161)
-unfolding checkBits
-spare-cases = (refl, refl, refl, refl, refl)
+spare_cases : (check_bits leftward (leftward-front ++ (0 ∷ [])) ≡ done tt)
+    × (check_bits leftward (leftward-front ++ (0x04 ∷ [])) ≡ refused 10 162)
+    × (check_bits leftward (leftward-front ++ (0x80 ∷ [])) ≡ refused 10 167)
+    × (check_bits leftward (leftward-front ++ (0x90 ∷ [])) ≡ refused 10 164)
+    × (check_bits leftward (leftward-front ++ (0x02 ∷ [])) ≡ refused 13 161)
+unfolding check_bits
+spare_cases = (refl, refl, refl, refl, refl)
 
 -- the order, each refusal before the next: a table fault, 9, 10, 11, 12, 13
-certificate-order : (checkBits (tables 128 1 []) [] ≡ refused 1 0)
-    × (checkBits (tables 1 1 (128 ∷ [])) [] ≡ refused 2 0)
-    × (checkBits leftward (replicate 22 0xff) ≡ refused 9 0)
-    × (checkBits leftward (replicate 20 0 ++ (0x04 ∷ [])) ≡ refused 10 162)
-    × (checkBits single (0 ∷ 0 ∷ 0 ∷ 0 ∷ 0 ∷ 0x08 ∷ 0 ∷ 0 ∷ 0 ∷ []) ≡ refused 11 0)
-    × (checkBits single (1 ∷ 0 ∷ 0 ∷ 0 ∷ 0 ∷ 0x08 ∷ 0 ∷ 0 ∷ 0 ∷ []) ≡ refused 12 43)
-unfolding checkBits
-certificate-order = (refl, refl, refl, refl, refl, refl)
+certificate_order : (check_bits (tables 128 1 []) [] ≡ refused 1 0)
+    × (check_bits (tables 1 1 (128 ∷ [])) [] ≡ refused 2 0)
+    × (check_bits leftward (replicate 22 0xff) ≡ refused 9 0)
+    × (check_bits leftward (replicate 20 0 ++ (0x04 ∷ [])) ≡ refused 10 162)
+    × (check_bits single (0 ∷ 0 ∷ 0 ∷ 0 ∷ 0 ∷ 0x08 ∷ 0 ∷ 0 ∷ 0 ∷ []) ≡ refused 11 0)
+    × (check_bits single (1 ∷ 0 ∷ 0 ∷ 0 ∷ 0 ∷ 0x08 ∷ 0 ∷ 0 ∷ 0 ∷ []) ≡ refused 12 43)
+unfolding check_bits
+certificate_order = (refl, refl, refl, refl, refl, refl)
 
 -- of S → S; S → : (0,0,0), (0,2,0), (0,2,2), (0,4,2), (0,5,3), (1,3,1), (1,1,1); with (0,4,2) twice
-right-paths : (checkPath looped (0 ∷ 14 ∷ 16 ∷ 30 ∷ 38 ∷ 71 ∷ 57 ∷ []) ≡ done tt)
-    × (checkPath looped (0 ∷ 14 ∷ 16 ∷ 30 ∷ 30 ∷ 38 ∷ 71 ∷ 57 ∷ []) ≡ done tt)
-unfolding checkPath
-right-paths = (refl, refl)
+right_paths : (check_path looped (0 ∷ 14 ∷ 16 ∷ 30 ∷ 38 ∷ 71 ∷ 57 ∷ []) ≡ done tt)
+    × (check_path looped (0 ∷ 14 ∷ 16 ∷ 30 ∷ 30 ∷ 38 ∷ 71 ∷ 57 ∷ []) ≡ done tt)
+unfolding check_path
+right_paths = (refl, refl)
 
 -- no entry; another first entry, alone and before a right rest; another entry in the middle, one of 2Q²; the end cut off, all
 -- but the first cut off; an entry after (1,1,1); a table fault first; of S → S, which has no sentence, no row is looked at
-wrong-paths : (checkPath looped [] ≡ refused 15 0)
-    × (checkPath looped (57 ∷ []) ≡ refused 15 0)
-    × (checkPath looped (14 ∷ 16 ∷ 30 ∷ 38 ∷ 71 ∷ 57 ∷ []) ≡ refused 15 0)
-    × (checkPath looped (0 ∷ 14 ∷ 16 ∷ 38 ∷ 71 ∷ 57 ∷ []) ≡ refused 15 3)
-    × (checkPath looped (0 ∷ 14 ∷ 98 ∷ 30 ∷ 38 ∷ 71 ∷ 57 ∷ []) ≡ refused 15 2)
-    × (checkPath looped (0 ∷ 14 ∷ 16 ∷ 30 ∷ 38 ∷ 71 ∷ []) ≡ refused 15 6)
-    × (checkPath looped (0 ∷ []) ≡ refused 15 1)
-    × (checkPath looped (0 ∷ 14 ∷ 16 ∷ 30 ∷ 38 ∷ 71 ∷ 57 ∷ 57 ∷ []) ≡ refused 15 7)
-    × (checkPath (tables 0 0 []) [] ≡ refused 1 0)
-    × (checkPath circle (0 ∷ 12 ∷ 14 ∷ 26 ∷ 33 ∷ 55 ∷ 43 ∷ []) ≡ refused 19 0)
-unfolding checkPath
-wrong-paths = (refl, refl, refl, refl, refl, refl, refl, refl, refl, refl)
+wrong_paths : (check_path looped [] ≡ refused 15 0)
+    × (check_path looped (57 ∷ []) ≡ refused 15 0)
+    × (check_path looped (14 ∷ 16 ∷ 30 ∷ 38 ∷ 71 ∷ 57 ∷ []) ≡ refused 15 0)
+    × (check_path looped (0 ∷ 14 ∷ 16 ∷ 38 ∷ 71 ∷ 57 ∷ []) ≡ refused 15 3)
+    × (check_path looped (0 ∷ 14 ∷ 98 ∷ 30 ∷ 38 ∷ 71 ∷ 57 ∷ []) ≡ refused 15 2)
+    × (check_path looped (0 ∷ 14 ∷ 16 ∷ 30 ∷ 38 ∷ 71 ∷ []) ≡ refused 15 6)
+    × (check_path looped (0 ∷ []) ≡ refused 15 1)
+    × (check_path looped (0 ∷ 14 ∷ 16 ∷ 30 ∷ 38 ∷ 71 ∷ 57 ∷ 57 ∷ []) ≡ refused 15 7)
+    × (check_path (tables 0 0 []) [] ≡ refused 1 0)
+    × (check_path circle (0 ∷ 12 ∷ 14 ∷ 26 ∷ 33 ∷ 55 ∷ 43 ∷ []) ≡ refused 19 0)
+unfolding check_path
+wrong_paths = (refl, refl, refl, refl, refl, refl, refl, refl, refl, refl)
 
 -- a record's index; 72, that is 2Q², for a layer above 1 and a state of Q or more
 entries : (entry_of 6 (0, 5, 4) ≡ 34) × (entry_of 6 (1, 1, 1) ≡ 43)
@@ -438,11 +438,11 @@ entries : (entry_of 6 (0, 5, 4) ≡ 34) × (entry_of 6 (1, 1, 1) ≡ 43)
 entries = (refl, refl, refl, refl, refl, refl)
 
 -- the same of records: a right row; for (0,2,0) the record (0,1,7), for (1,1,1) the record (0,8,1), of equal index; a layer of 2
-record-paths :
-    (checkEntries looped ((0, 0, 0) ∷ (0, 2, 0) ∷ (0, 2, 2) ∷ (0, 4, 2) ∷ (0, 5, 3) ∷ (1, 3, 1) ∷ (1, 1, 1) ∷ []) ≡ done tt)
-    × (checkEntries looped ((0, 0, 0) ∷ (0, 1, 7) ∷ (0, 2, 2) ∷ (0, 4, 2) ∷ (0, 5, 3) ∷ (1, 3, 1) ∷ (1, 1, 1) ∷ []) ≡ refused 15 1)
-    × (checkEntries looped ((0, 0, 0) ∷ (0, 2, 0) ∷ (0, 2, 2) ∷ (0, 4, 2) ∷ (0, 5, 3) ∷ (1, 3, 1) ∷ (0, 8, 1) ∷ []) ≡ refused 15 6)
-    × (checkEntries looped ((0, 0, 0) ∷ (2, 2, 0) ∷ []) ≡ refused 15 1)
-    × (checkEntries looped [] ≡ refused 15 0)
-unfolding checkEntries
-record-paths = (refl, refl, refl, refl, refl)
+record_paths :
+    (check_entries looped ((0, 0, 0) ∷ (0, 2, 0) ∷ (0, 2, 2) ∷ (0, 4, 2) ∷ (0, 5, 3) ∷ (1, 3, 1) ∷ (1, 1, 1) ∷ []) ≡ done tt)
+    × (check_entries looped ((0, 0, 0) ∷ (0, 1, 7) ∷ (0, 2, 2) ∷ (0, 4, 2) ∷ (0, 5, 3) ∷ (1, 3, 1) ∷ (1, 1, 1) ∷ []) ≡ refused 15 1)
+    × (check_entries looped ((0, 0, 0) ∷ (0, 2, 0) ∷ (0, 2, 2) ∷ (0, 4, 2) ∷ (0, 5, 3) ∷ (1, 3, 1) ∷ (0, 8, 1) ∷ []) ≡ refused 15 6)
+    × (check_entries looped ((0, 0, 0) ∷ (2, 2, 0) ∷ []) ≡ refused 15 1)
+    × (check_entries looped [] ≡ refused 15 0)
+unfolding check_entries
+record_paths = (refl, refl, refl, refl, refl)

@@ -6,11 +6,11 @@ use mathlib.Core.Logic.{inl, inr}
 use mathlib.Core.List.{List, [], ◌∷◌}
 use Prim.Native.Nat.{ℕ}
 use native.Mathlib.Omega.{arith}
-use Rattle.grammar.specs.Grammar.{stateCount}
+use Rattle.grammar.specs.Grammar.{state_count}
 use Rattle.automaton.proofs.AllMovePins.{moves, live}
-use Rattle.triples.specs.Records.{leftAlone, rightAlone, bothShift, bothClose, choices, insert, ordered, records}
+use Rattle.triples.specs.Records.{left_alone, right_alone, both_shift, both_close, choices, insert, ordered, records}
 use Rattle.triples.specs.Smallest.{successors}
-use Rattle.triples.specs.Shortest.{ComesBefore, firstRow, row_of, fewest, shortest}
+use Rattle.triples.specs.Shortest.{ComesBefore, first_row, row_of, fewest, shortest}
 
 -- fewer entries come first, whatever they are
 fewer-first : ComesBefore (0 ∷ 9 ∷ []) (0 ∷ 1 ∷ 1 ∷ [])
@@ -31,7 +31,7 @@ not_itself h = elim h [
 
 -- to unfold this is to unfold all that it uses
 row : ℕ → ℕ → List ℕ → List ℕ
-unfolding live stateCount leftAlone rightAlone bothShift bothClose choices insert ordered records successors firstRow row_of fewest shortest
+unfolding live state_count left_alone right_alone both_shift both_close choices insert ordered records successors first_row row_of fewest shortest
 row t n table = shortest (moves t n table)
 
 -- S→S |
@@ -40,9 +40,9 @@ unfolding row
 unit_row = refl
 
 -- S→S | a
-unit-or-a-row : row 1 1 (128 ∷ 1 ∷ 128 ∷ 128 ∷ 1 ∷ 1 ∷ []) ≡ 0 ∷ 2 ∷ 4 ∷ 20 ∷ 29 ∷ 75 ∷ 73 ∷ []
+unit_or_a-row : row 1 1 (128 ∷ 1 ∷ 128 ∷ 128 ∷ 1 ∷ 1 ∷ []) ≡ 0 ∷ 2 ∷ 4 ∷ 20 ∷ 29 ∷ 75 ∷ 73 ∷ []
 unfolding row
-unit-or-a-row = refl
+unit_or_a-row = refl
 
 -- S→aSa | a
 palindromes-row : row 1 1 (128 ∷ 3 ∷ 1 ∷ 128 ∷ 1 ∷ 128 ∷ 1 ∷ 1 ∷ []) ≡ 0 ∷ 2 ∷ 4 ∷ 24 ∷ 84 ∷ 95 ∷ 98 ∷ 168 ∷ 179 ∷ 139 ∷ 119 ∷ 113 ∷ 111 ∷ []
@@ -50,6 +50,6 @@ unfolding row
 palindromes-row = refl
 
 -- S→A | B, A→, B→
-two-empty-row : row 0 3 (128 ∷ 1 ∷ 129 ∷ 128 ∷ 1 ∷ 130 ∷ 129 ∷ 0 ∷ 130 ∷ 0 ∷ []) ≡ 0 ∷ 2 ∷ 4 ∷ 8 ∷ 28 ∷ 68 ∷ 98 ∷ 175 ∷ 135 ∷ 115 ∷ 113 ∷ 111 ∷ []
+two_empty-row : row 0 3 (128 ∷ 1 ∷ 129 ∷ 128 ∷ 1 ∷ 130 ∷ 129 ∷ 0 ∷ 130 ∷ 0 ∷ []) ≡ 0 ∷ 2 ∷ 4 ∷ 8 ∷ 28 ∷ 68 ∷ 98 ∷ 175 ∷ 135 ∷ 115 ∷ 113 ∷ 111 ∷ []
 unfolding row
-two-empty-row = refl
+two_empty-row = refl

@@ -3,7 +3,7 @@
 -- reached"; "at most M² + 2×Q×M"). Assumes nothing.
 use Rattle.std.specs.Prelude.{ℕ, ◌+◌, ◌*◌, List, [], ◌∷◌, length}
 use Rattle.automaton.specs.Moves.{Moves}
-use Rattle.automaton.specs.AllMoves.{moveCount}
+use Rattle.automaton.specs.AllMoves.{move_count}
 use Rattle.triples.specs.Smallest.{successors, smallest}
 
 -- the sum of f over a list
@@ -13,9 +13,9 @@ total f (i ∷ is) = f i + total f is
 
 module _ (M : Moves) where
   -- the sum over the set reached of the number of successors, of which each choice of moves gives one
-  unfoldable pub lookedAt : ℕ
-  lookedAt = total (λ i. length (successors M i)) (smallest M)
+  unfoldable pub looked_at : ℕ
+  looked_at = total (λ i. length (successors M i)) (smallest M)
 
   -- M² + 2×Q×M
-  abbrev pub lookedLimit : ℕ
-  lookedLimit = moveCount M * moveCount M + 2 * (M.states * moveCount M)
+  abbrev pub looked_limit : ℕ
+  looked_limit = move_count M * move_count M + 2 * (M.states * move_count M)

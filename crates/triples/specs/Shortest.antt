@@ -6,7 +6,7 @@ use Rattle.std.proofs.Math.Option.{Option, none, some}
 use Rattle.grammar.specs.Basics.{choose}
 use Rattle.automaton.specs.Automaton.{Automaton}
 use Rattle.automaton.specs.Moves.{Moves}
-use Rattle.triples.specs.Index.{index, tripleCount}
+use Rattle.triples.specs.Index.{index, triple_count}
 use Rattle.triples.specs.Smallest.{successors}
 use Rattle.triples.specs.Witness.{Witness}
 
@@ -26,9 +26,9 @@ pub record ShortestWitness (A : Automaton) (row : List ℕ) : Type 0 where
   pub least : (other : List ℕ) → Witness A other → (row ≡ other) ⊎ ComesBefore row other
 
 -- the row with an index in front, if there is one
-abbrev pub inFront : ℕ → Option (List ℕ) → Option (List ℕ)
-inFront j none = none
-inFront j (some w) = some (j ∷ w)
+abbrev pub in_front : ℕ → Option (List ℕ) → Option (List ℕ)
+in_front j none = none
+in_front j (some w) = some (j ∷ w)
 
 -- the first row that there is
 abbrev pub or_else : Option (List ℕ) → Option (List ℕ) → Option (List ℕ)
@@ -36,15 +36,15 @@ or_else none b = b
 or_else (some w) b = some w
 
 -- the first row that f gives for an index of a list, with that index in front
-unfoldable pub firstRow : (ℕ → Option (List ℕ)) → List ℕ → Option (List ℕ)
-firstRow f [] = none
-firstRow f (j ∷ js) = or_else (inFront j (f j)) (firstRow f js)
+unfoldable pub first_row : (ℕ → Option (List ℕ)) → List ℕ → Option (List ℕ)
+first_row f [] = none
+first_row f (j ∷ js) = or_else (in_front j (f j)) (first_row f js)
 
 module _ (next : ℕ → List ℕ) (goal : ℕ) where
   -- m further indices from i to the goal, each of `next` of the one before: the first such row by the order of `next`
   unfoldable pub row_of : ℕ → ℕ → Option (List ℕ)
   row_of zero i = choose (eqb i goal) (some []) none
-  row_of (suc m) i = firstRow (row_of m) (next i)
+  row_of (suc m) i = first_row (row_of m) (next i)
 
   -- the same with as few indices as there can be, from m on, with `more` trials
   unfoldable pub fewest : ℕ → ℕ → ℕ → Option (List ℕ)
@@ -52,10 +52,10 @@ module _ (next : ℕ → List ℕ) (goal : ℕ) where
   fewest (suc more) m i = let later = fewest more (suc m) i in or_else (row_of m i) later
 
 -- a row, or nothing where there is none
-abbrev pub rowOrNone : Option (List ℕ) → List ℕ
-rowOrNone none = []
-rowOrNone (some w) = w
+abbrev pub row_or_none : Option (List ℕ) → List ℕ
+row_or_none none = []
+row_or_none (some w) = w
 
 -- the shortest witness, computed, where there is one
 unfoldable pub shortest : Moves → List ℕ
-shortest M = rowOrNone (inFront 0 (fewest (successors M) (index M.states 1 1 1) (tripleCount M.states) 0 0))
+shortest M = row_or_none (in_front 0 (fewest (successors M) (index M.states 1 1 1) (triple_count M.states) 0 0))

@@ -3,8 +3,8 @@ use Rattle.std.specs.Prelude.{ℕ, ◌≡◌, List, [], ◌∷◌, ◌++◌, eqb
 use Rattle.grammar.specs.Basics.{when, each}
 use Rattle.automaton.specs.Moves.{Moves}
 use Rattle.automaton.specs.Strings.{Letter, opening, closing, symbol}
-use Rattle.triples.specs.Index.{layerOf, left_of, rightOf}
-use Rattle.triples.specs.Records.{nextIndex, records}
+use Rattle.triples.specs.Index.{layer_of, left_of, right_of}
+use Rattle.triples.specs.Records.{next_index, records}
 use Rattle.triples.specs.declared.Move.{Move}
 use Rattle.triples.specs.declared.Move.TheVariants.{Opening, Closing, Symbol, Still}
 use Rattle.triples.specs.declared.Step.{Step}
@@ -18,24 +18,24 @@ letters Still = []
 
 module _ (M : Moves) where
   -- the step records of index i that lead to index j
-  unfoldable pub recordsTo : ℕ → ℕ → List Step
-  recordsTo i j =
-      each (records M (layerOf M.states i) (left_of M.states i) (rightOf M.states i)) (λ s. when (eqb (nextIndex M s) j) (s ∷ []))
+  unfoldable pub records_to : ℕ → ℕ → List Step
+  records_to i j =
+      each (records M (layer_of M.states i) (left_of M.states i) (right_of M.states i)) (λ s. when (eqb (next_index M s) j) (s ∷ []))
 
   -- the letters by which a side of a row moves, step by step; meant for rows with one record for each step (`OneEach`)
   unfoldable pub side_of : (Step → Move) → List ℕ → List Letter
   side_of side [] = []
   side_of side (i ∷ []) = []
-  side_of side (i ∷ j ∷ row) = each (recordsTo i j) (λ s. letters (side s)) ++ side_of side (j ∷ row)
+  side_of side (i ∷ j ∷ row) = each (records_to i j) (λ s. letters (side s)) ++ side_of side (j ∷ row)
 
   -- each index of a row but the last has just one step record that leads to the next
   abbrev pub OneEach : List ℕ → Type 0
   OneEach [] = Unit {0}
   OneEach (i ∷ []) = Unit {0}
-  OneEach (i ∷ j ∷ row) = ((s : Step) × (recordsTo i j ≡ s ∷ [])) × OneEach (j ∷ row)
+  OneEach (i ∷ j ∷ row) = ((s : Step) × (records_to i j ≡ s ∷ [])) × OneEach (j ∷ row)
 
-  abbrev pub leftSide : List ℕ → List Letter
-  leftSide row = side_of (λ s. s.on_left) row
+  abbrev pub left_side : List ℕ → List Letter
+  left_side row = side_of (λ s. s.on_left) row
 
-  abbrev pub rightSide : List ℕ → List Letter
-  rightSide row = side_of (λ s. s.on_right) row
+  abbrev pub right_side : List ℕ → List Letter
+  right_side row = side_of (λ s. s.on_right) row

@@ -3,14 +3,14 @@
 use Rattle.std.specs.Prelude.{ℕ, suc, ◌≡◌, ◌&&◌, List, [], ◌∷◌, map, eqb, ltb}
 use Rattle.grammar.specs.Basics.{choose}
 use Rattle.grammar.specs.Limits.{Limits}
-use Rattle.grammar.specs.Refusal.{Answer, done, refused, refuseUnless, and_then, witnessWrong}
+use Rattle.grammar.specs.Refusal.{Answer, done, refused, refuse_unless, and_then, witness_wrong}
 use Rattle.automaton.specs.Automaton.{Automaton}
 use Rattle.automaton.specs.Moves.{Moves}
-use Rattle.automaton.specs.Callers.{checkWith}
-use Rattle.automaton.specs.CallerMoves.{movesWith}
+use Rattle.automaton.specs.Callers.{check_with}
+use Rattle.automaton.specs.CallerMoves.{moves_with}
 use Rattle.triples.specs.Successor.{Successor}
-use Rattle.triples.specs.Index.{index, tripleCount}
-use Rattle.triples.specs.Smallest.{isElement, successors}
+use Rattle.triples.specs.Index.{index, triple_count}
+use Rattle.triples.specs.Smallest.{is_element, successors}
 
 module _ (A : Automaton) where
   -- the index of a triple of states
@@ -29,25 +29,25 @@ module _ (A : Automaton) where
 
 module _ (M : Moves) where
   -- 15 at the first entry that is no successor of the one before, which is i; at the row's length if only the end fails
-  unfoldable pub checkOn : ℕ → ℕ → List ℕ → Answer Unit
-  checkOn i place [] = refuseUnless witnessWrong place (eqb i (index M.states 1 1 1)) (done tt)
-  checkOn i place (j ∷ is) = refuseUnless witnessWrong place (isElement j (successors M i)) (checkOn j (suc place) is)
+  unfoldable pub check_on : ℕ → ℕ → List ℕ → Answer Unit
+  check_on i place [] = refuse_unless witness_wrong place (eqb i (index M.states 1 1 1)) (done tt)
+  check_on i place (j ∷ is) = refuse_unless witness_wrong place (is_element j (successors M i)) (check_on j (suc place) is)
 
   -- the first entry is (0,0,0); an empty row is wrong at 0
-  unfoldable pub checkRow : List ℕ → Answer Unit
-  checkRow [] = refused witnessWrong 0
-  checkRow (i ∷ is) = refuseUnless witnessWrong 0 (eqb i (index M.states 0 0 0)) (checkOn i 1 is)
+  unfoldable pub check_row : List ℕ → Answer Unit
+  check_row [] = refused witness_wrong 0
+  check_row (i ∷ is) = refuse_unless witness_wrong 0 (eqb i (index M.states 0 0 0)) (check_on i 1 is)
 
 -- the witness check with m callers: the refusals up to [11]'s 8 first
-unfoldable pub checkWitness : Limits → ℕ → ℕ → List ℕ → ℕ → List ℕ → Answer Unit
-checkWitness L t n table m row = and_then (checkWith L t n table m) (λ G. checkRow (movesWith L G m) row)
+unfoldable pub check_witness : Limits → ℕ → ℕ → List ℕ → ℕ → List ℕ → Answer Unit
+check_witness L t n table m row = and_then (check_with L t n table m) (λ G. check_row (moves_with L G m) row)
 
 -- a record (layer, left, right) of a lent list as an index: one with a layer above 1 or a state of Q or more is a wrong entry,
 -- as 2Q² is
 abbrev pub entry_of : ℕ → ℕ × ℕ × ℕ → ℕ
-entry_of Q e = choose (ltb e.0 2 && (ltb e.1 Q && ltb e.2 Q)) (index Q e.0 e.1 e.2) (tripleCount Q)
+entry_of Q e = choose (ltb e.0 2 && (ltb e.1 Q && ltb e.2 Q)) (index Q e.0 e.1 e.2) (triple_count Q)
 
 -- the witness check over such a list answers alike
-unfoldable pub checkWitnessRecords : Limits → ℕ → ℕ → List ℕ → ℕ → List (ℕ × ℕ × ℕ) → Answer Unit
-checkWitnessRecords L t n table m entries =
-    and_then (checkWith L t n table m) (λ G. checkRow (movesWith L G m) (map (entry_of (movesWith L G m).states) entries))
+unfoldable pub check_witness_records : Limits → ℕ → ℕ → List ℕ → ℕ → List (ℕ × ℕ × ℕ) → Answer Unit
+check_witness_records L t n table m entries =
+    and_then (check_with L t n table m) (λ G. check_row (moves_with L G m) (map (entry_of (moves_with L G m).states) entries))

@@ -14,7 +14,7 @@ use Rattle.triples.specs.declared.Move.TheVariants.{Closing}
 use Rattle.triples.specs.declared.Step.{Step}
 use Rattle.moves.specs.Tables.{segment}
 use Rattle.steps.specs.declared.Sides.{Sides}
-use Rattle.steps.specs.Plan.{inside, between, lefts, rights, above, fromShift, shifted, below, alone, grid, pairs, isRead, shared, readShared, sides, leftTo, rightTo, shift_of, planZero, planOne, plan_at, Rows, ahead_of, ends, targetsOf, planned}
+use Rattle.steps.specs.Plan.{inside, between, lefts, rights, above, from_shift, shifted, below, alone, grid, pairs, is_read, shared, read_shared, sides, left_to, right_to, shift_of, plan_zero, plan_one, plan_at, Rows, ahead_of, ends, targets_of, planned}
 
 -- a part, and what lies between bounds
 part-few : (a b : ℕ) (l : List ℕ) → length (take a (drop b l)) ≤ length l
@@ -31,21 +31,21 @@ between-few a b (x ∷ l) = go (inside a b x) (between-few a b l)
 
 module _ (number after ls rs : List ℕ) (s : Sides) (x : ℕ) where
   lefts-few : (a b : ℕ) → length (lefts number ls s a b) ≤ length ls
-  lefts-few a b = omega (arith, length-map (between a b ls) (leftTo number s), between-few a b ls)
+  lefts-few a b = omega (arith, length-map (between a b ls) (left_to number s), between-few a b ls)
 
   rights-few : (a b : ℕ) → length (rights number rs s a b) ≤ length rs
-  rights-few a b = omega (arith, length-map (between a b rs) (rightTo number s), between-few a b rs)
+  rights-few a b = omega (arith, length-map (between a b rs) (right_to number s), between-few a b rs)
 
   above-few : (a : ℕ) → length (above number ls s a) ≤ length ls
   unfolding above
-  above-few a = omega (arith, length-append (lefts number ls s a limits.maxStates) [], lefts-few a limits.maxStates)
+  above-few a = omega (arith, length-append (lefts number ls s a limits.max_states) [], lefts-few a limits.max_states)
 
   -- the state after the left one
   abbrev n : ℕ
   n = get_or after s.left 0
 
   shifted-few : length (shifted number after ls s x) ≤ 2 * length ls + 1
-  unfolding shifted fromShift
+  unfolding shifted from_shift
   shifted-few = go (leb 1 x)
     where
       go : (b : Bool) → length (choose b (lefts number ls s (s.left + 1) (n + 1) ++ (shift_of after s x ∷ above number ls s (n + 1))) (above number ls s (s.left + 1))) ≤ 2 * length ls + 1
@@ -65,12 +65,12 @@ module _ (number after ls rs : List ℕ) (s : Sides) (x : ℕ) where
     lefts-few s.left (s.left + 1),
     length-append (rights number rs s s.right (s.right + 1)) (below number after ls rs s x),
     rights-few s.right (s.right + 1),
-    length-append (lefts number ls s 0 s.left) (rights number rs s 0 s.right ++ (rights number rs s (s.right + 1) limits.maxStates ++ shifted number after ls s x)),
+    length-append (lefts number ls s 0 s.left) (rights number rs s 0 s.right ++ (rights number rs s (s.right + 1) limits.max_states ++ shifted number after ls s x)),
     lefts-few 0 s.left,
-    length-append (rights number rs s 0 s.right) (rights number rs s (s.right + 1) limits.maxStates ++ shifted number after ls s x),
+    length-append (rights number rs s 0 s.right) (rights number rs s (s.right + 1) limits.max_states ++ shifted number after ls s x),
     rights-few 0 s.right,
-    length-append (rights number rs s (s.right + 1) limits.maxStates) (shifted number after ls s x),
-    rights-few (s.right + 1) limits.maxStates,
+    length-append (rights number rs s (s.right + 1) limits.max_states) (shifted number after ls s x),
+    rights-few (s.right + 1) limits.max_states,
     shifted-few,
   )
 
@@ -84,7 +84,7 @@ grid-size i j (u ∷ ls) rs =
 
 -- a number of states, and its square
 abbrev most : ℕ
-most = limits.maxStates
+most = limits.max_states
 
 abbrev square : ℕ
 square = most * most
@@ -103,20 +103,20 @@ either-most true g l number after ls rs s x h i k = omega (arith, length-append 
 either-most false g l number after ls rs s x h i k = omega (arith, alone-few number after ls rs s x)
 
 zero-most : (number after : List ℕ) (t x y : ℕ) (lc rc : Bool) (p q : ℕ) (ls rs : List ℕ) → length ls ≤ most → length rs ≤ most
-    → length (planZero number after t x y lc rc p q ls rs) ≤ square
-unfolding planZero
+    → length (plan_zero number after t x y lc rc p q ls rs) ≤ square
+unfolding plan_zero
 zero-most number after t x y true true p q ls rs h k = pairs-most (get_or number p 0) (get_or number q 0) ls rs h k
 zero-most number after t x y true false p q ls rs h k =
-    either-most (isRead t y) (leftTo number (sides 1 p q true true)) ls number after [] rs (sides 0 p q false false) (shared x y) h (omega arith) k
+    either-most (is_read t y) (left_to number (sides 1 p q true true)) ls number after [] rs (sides 0 p q false false) (shared x y) h (omega arith) k
 zero-most number after t x y false true p q ls rs h k =
-    either-most (isRead t x) (rightTo number (sides 1 p q true true)) rs number after ls [] (sides 0 p q false false) (shared x y) k h (omega arith)
+    either-most (is_read t x) (right_to number (sides 1 p q true true)) rs number after ls [] (sides 0 p q false false) (shared x y) k h (omega arith)
 zero-most number after t x y false false p q ls rs h k = omega (arith, alone-few number after ls rs (sides 0 p q false false) (shared x y))
 
 at_most : (f : ℕ) (number after : List ℕ) (t x y : ℕ) (lc rc : Bool) (p q : ℕ) (ls rs : List ℕ) → length ls ≤ most → length rs ≤ most
     → length (plan_at f number after t x y lc rc p q ls rs) ≤ square
-unfolding plan_at planOne
+unfolding plan_at plan_one
 at_most zero number after t x y lc rc p q ls rs h k = zero-most number after t x y lc rc p q ls rs h k
-at_most (suc zero) number after t x y lc rc p q ls rs h k = omega (arith, alone-few number after ls rs (sides 1 p q lc rc) (readShared t x y))
+at_most (suc zero) number after t x y lc rc p q ls rs h k = omega (arith, alone-few number after ls rs (sides 1 p q lc rc) (read_shared t x y))
 at_most (suc (suc f)) number after t x y lc rc p q ls rs h k = omega arith
 
 segment-few : (first targets : List ℕ) (c : ℕ) → length (segment first targets c) ≤ length targets
@@ -124,9 +124,9 @@ unfolding segment
 segment-few first targets c = part-few (get_or first (c + 1) 0 - get_or first c 0) (get_or first c 0) targets
 
 -- the records of a triple, from rows whose targets are no more than states can be
-pub few-planned : (R : Rows) (f p q : ℕ) → length R.targets ≤ limits.maxStates
-    → length (planned R f p q) ≤ limits.maxStates * limits.maxStates
+pub few-planned : (R : Rows) (f p q : ℕ) → length R.targets ≤ limits.max_states
+    → length (planned R f p q) ≤ limits.max_states * limits.max_states
 few-planned R f p q h =
-    at_most f R.number R.after R.terminals (ahead_of R p) (ahead_of R q) (ends R p) (ends R q) p q (targetsOf R p) (targetsOf R q)
+    at_most f R.number R.after R.terminals (ahead_of R p) (ahead_of R q) (ends R p) (ends R q) p q (targets_of R p) (targets_of R q)
     (omega (arith, segment-few R.first R.targets (get_or R.member p 0)))
     (omega (arith, segment-few R.first R.targets (get_or R.member q 0)))

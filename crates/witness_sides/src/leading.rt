@@ -3,7 +3,7 @@ ghost use Rattle.std.specs.Prelude.{◌≡◌, ◌≤◌};
 ghost use Rattle.grammar.specs.Limits.{limits};
 ghost use Rattle.triples.specs.Index.{index};
 ghost use Rattle.steps.specs.Plan.{rows_of};
-ghost use Rattle.witness_sides.specs.Contracts.{noStep, stepFound, Searchable};
+ghost use Rattle.witness_sides.specs.Clauses.{no_step, step_found, Searchable};
 
 use grammar::MAX_STATES;
 use indices::index_of;
@@ -16,7 +16,7 @@ const MAX_RECORDS: usize = MAX_STATES * MAX_STATES;
 
 // The index of a step's next triple, among q states.
 fn next_index(s: Step, q: usize) -> usize
-    requires { q ≤ limits.maxStates }
+    requires { q ≤ limits.max_states }
     ensures { result ≡ index q s.layer s.left s.right }
 {
     index_of(q, s.layer as usize, s.left as usize, s.right as usize)
@@ -24,7 +24,7 @@ fn next_index(s: Step, q: usize) -> usize
 
 // A step that stays at index 0.
 fn no_step() -> Step
-    ensures { result ≡ noStep }
+    ensures { result ≡ no_step }
 {
     Step {
         layer: 0,
@@ -50,7 +50,7 @@ pub fn step_to<'a>(
     j: usize,
 ) -> Step
     requires { Searchable q member.now first.now targets.now }
-    ensures { result ≡ stepFound (rows_of ahead.now number.now member.now first.now after.now targets.now t m) q i j }
+    ensures { result ≡ step_found (rows_of ahead.now number.now member.now first.now after.now targets.now t m) q i j }
 {
     let layer = i / (q * q);
     let left = i / q % q;

@@ -1,13 +1,13 @@
 // Letters as entries of a row.
 ghost use Rattle.std.specs.Prelude.{◌≡◌, ◌+◌, ◌≤◌, ◌<◌, length};
-ghost use Rattle.witness_sides.specs.Contracts.{moveEntry, Appended};
+ghost use Rattle.witness_sides.specs.Clauses.{move_entry, Appended};
 
 use readings::{CLOSING, KIND_UNIT, OPENING, SYMBOL};
 use triples::Move;
 
 // The entry of a move's letter, or 0.
 fn move_entry(m: Move) -> u32
-    ensures { result ≡ moveEntry m }
+    ensures { result ≡ move_entry m }
 {
     match m {
         Move::Opening(rule) => OPENING * KIND_UNIT + rule as u32,

@@ -5,7 +5,7 @@ mod letter;
 ghost use Rattle.std.specs.Prelude.{◌≡◌, ◌≤◌, length};
 ghost use Rattle.steps.specs.Plan.{rows_of};
 ghost use Rattle.witness_sides.specs.Sides.{Walkable, Walks};
-ghost use Rattle.witness_sides.specs.Contracts.{Searchable, SidesStand};
+ghost use Rattle.witness_sides.specs.Clauses.{Searchable, SidesStand};
 
 use grammar::{MAX_STATES, TableVerdict};
 use leading::step_to;

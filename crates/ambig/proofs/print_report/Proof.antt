@@ -5,16 +5,16 @@ use mathlib.Core.Path.{sym}
 use Prim.Native.Nat.{ℕ, ◌≤◌}
 use lib.ListN.{replicate, length-replicate}
 use lib.Seq.{length-take-le}
-use Rattle.report.specs.Report.{reportSize}
-use Rattle.report.proofs.Written.{written-fits}
+use Rattle.report.specs.Report.{report_size}
+use Rattle.report.proofs.Written.{written_fits}
 use Rattle.ambig.proofs.print_report.Statement.{statement}
 use Rattle.ambig.proofs.print_report.Tie as tie
 
 -- what is written fits
-fits : (c : tie.After-known-told) → c.before.reported.given.0.0 ≤ reportSize
+fits : (c : tie.After-known-told) → c.before.reported.given.0.0 ≤ report_size
 fits c =
     let k = c.before.before.before.before.report in
-    omega (arith, written-fits c.before.before.before.before.before.before.before.args.text.now (replicate reportSize 0) k.result c.before.reported.given.0.0 k.new.1.0 k.ensures c.before.reported.given.1, length-replicate {A = ℕ} reportSize 0)
+    omega (arith, written_fits c.before.before.before.before.before.before.before.args.text.now (replicate report_size 0) k.result c.before.reported.given.0.0 k.new.1.0 k.ensures c.before.reported.given.1, length-replicate {A = ℕ} report_size 0)
 
 slice-aggregate-report : tie.Need-slice-aggregate-report
 slice-aggregate-report c = search rules
@@ -35,7 +35,7 @@ array-share-prefix-out : tie.Need-array-share-prefix-out
 array-share-prefix-out c = omega (arith, fits c)
 
 slice-aggregate-write-all : tie.Need-slice-aggregate-write-all
-slice-aggregate-write-all c = sym (length-take-le _ _ (omega (arith, fits c.before, c.before.before.before.before.before.report.auto.1.0, length-replicate {A = ℕ} reportSize 0)))
+slice-aggregate-write-all c = sym (length-take-le _ _ (omega (arith, fits c.before, c.before.before.before.before.before.report.auto.1.0, length-replicate {A = ℕ} report_size 0)))
 
 write-all-requires : tie.Need-write-all-requires
 write-all-requires c κs = search rules

@@ -47,7 +47,7 @@ use Rattle.witness_records.proofs.check_witness_records.Symbol as check-def
 use Rattle.witness_records.proofs.check_witness_records.Symbol.{name as #check}
 use Rattle.witness_records.proofs.check_witness_records.Met as check-thm
 use Rattle.ambiguity_c.specs.declared.CheckReply.{CheckReply}
-use Rattle.ambiguity_c.specs.Replies.{checkReply}
+use Rattle.ambiguity_c.specs.Replies.{check_reply}
 use Rattle.ambiguity_c.specs.Lent.{Replies}
 use Rattle.ambiguity_c.specs.contracts.CheckReply as R
 use Rattle.ambiguity_c.proofs.CheckReply.TheLaws as R'
@@ -75,11 +75,11 @@ module _ {M : Type 1} {𝓤 : Ura M} (𝓛 : Logic 𝓤) (mem : Memory → SProp
   abbrev to-tell : CheckVerdict → Val → Tell.Ghost
   to-tell r u = ((tt, tt, tt, (r, tt), (u ∷ [], tt)), tt)
 
-  goes-tell : (r : CheckVerdict) (u : Val) → ent 𝓤 (sem 𝓛 ((Y.the_row).own_val r (u ∷ []))) (Tell.pre (to-tell r u))
-  goes-tell r u = qed 𝓛 (‵ ((Y.the_row).own_val r (u ∷ [])) ∷ []) ∵ nothing ! $ move ! (1 ∷ 0 ∷ []) $ fjoin ! $ nothing ! $ join ! $ frame ! $ done !
+  goes_tell : (r : CheckVerdict) (u : Val) → ent 𝓤 (sem 𝓛 ((Y.the_row).own_val r (u ∷ []))) (Tell.pre (to-tell r u))
+  goes_tell r u = qed 𝓛 (‵ ((Y.the_row).own_val r (u ∷ [])) ∷ []) ∵ nothing ! $ move ! (1 ∷ 0 ∷ []) $ fjoin ! $ nothing ! $ join ! $ frame ! $ done !
 
-  told_of : (r : CheckVerdict) (a : CheckReply) → ent 𝓤 (ensured 𝓛 tell.ended (tell.clauses 𝓛 mem run) tt (r, tt) tt a) (fact 𝓤 (a ≡ checkReply r))
-  told_of r a = ex_e 𝓤 _ (λ ws. snd∗ 𝓤 (sem 𝓛 (lasts tell.ended tt (r, tt) ws)) (fact 𝓤 (a ≡ checkReply r)))
+  told_of : (r : CheckVerdict) (a : CheckReply) → ent 𝓤 (ensured 𝓛 tell.ended (tell.clauses 𝓛 mem run) tt (r, tt) tt a) (fact 𝓤 (a ≡ check_reply r))
+  told_of r a = ex_e 𝓤 _ (λ ws. snd∗ 𝓤 (sem 𝓛 (lasts tell.ended tt (r, tt) ws)) (fact 𝓤 (a ≡ check_reply r)))
 
 module _ {M : Type 1} {𝓤 : Ura M} (𝓛 : Logic 𝓤) (mem : Memory → SProp 𝓤) (run : Routine → Fun 𝓤) (κ κ' : Lft) (q q' : Share) (tv nv mv : ℕ) (ht : tv < 2 ^ 64) (hn : nv < 2 ^ 64) (hm : mv < 2 ^ 64)
     (s : Bor (List ℕ)) (b o : ℕ) (γ : GName) (ys : List TripleRecord) where
@@ -128,7 +128,7 @@ module _ {M : Type 1} {𝓤 : Ura M} (𝓛 : Logic 𝓤) (mem : Memory → SProp
   checked-of : (r : CheckVerdict) → ent 𝓤 (ensured 𝓛 check.ended (check.clauses 𝓛 mem run) (κ, (κ', tt)) x tt r) (fact 𝓤 (RecordsAnswer tv nv s.now mv ys r))
   checked-of r = ex_e 𝓤 _ (λ ws. snd∗ 𝓤 (sem 𝓛 (lasts check.ended (κ, (κ', tt)) x ws)) (fact 𝓤 (RecordsAnswer tv nv s.now mv ys r)))
 
-  exits : (a : CheckReply) (v : Val) → Replies (RecordsAnswer tv nv s.now mv ys) checkReply a
+  exits : (a : CheckReply) (v : Val) → Replies (RecordsAnswer tv nv s.now mv ys) check_reply a
       → ent 𝓤 (⋆ 𝓛 (‵ (flft κ q) ∷ ‵ (flft κ' q') ∷ ‵ OwnT ∷ ‵ OwnE ∷ ‵ ((R.the_row).own_val a (v ∷ [])) ∷ [])) (Post v)
   exits a v e =
       qed 𝓛 (‵ (flft κ q) ∷ ‵ (flft κ' q') ∷ ‵ OwnT ∷ ‵ OwnE ∷ ‵ ((R.the_row).own_val a (v ∷ [])) ∷ []) ∵
@@ -156,11 +156,11 @@ module _ {M : Type 1} {𝓤 : Ura M} (𝓛 : Logic 𝓤) (mem : Memory → SProp
       -- [the verdict; the tokens; the table and the records; room for _6; …]
       peeks ! Y.the_row (Is Y.the_row) (shows 𝓛 Y.the_row) r (u ∷ []) (λ is.
       land ! (from ! (stop !)) (init ! 3 refl ((EL.lawful Y.the_type Y'.the_laws 𝓛 tt).typed r _ is).0) $
-      use1 𝓛 (raw ((Tell 𝓛 mem run).pre (to-tell 𝓛 mem run r u))) (goes-tell 𝓛 mem run r u) $
+      use1 𝓛 (raw ((Tell 𝓛 mem run).pre (to-tell 𝓛 mem run r u))) (goes_tell 𝓛 mem run r u) $
       calls_at ! (fm_of 𝓤 H 𝓛.laws 𝓣) (Tell 𝓛 mem run) known-tell (to-tell 𝓛 mem run r u)
       (and_then ! (load ! (from ! (stop !)) (look ! 3 refl)) (no_more !)) (λ v.
       use1 𝓛 (later (some (λ (a : CheckReply). (‵ ftrue ⊛ ‵ ((R.the_row).own_val a (v ∷ []))) ⊛ raw (ensured 𝓛 tell.ended (tell.clauses 𝓛 mem run) tt (r, tt) tt a)))) (id⊢ 𝓤 _) $ await ! tt $ pick ! (λ a.
-      split ! $ move ! (1 ∷ []) $ use1 𝓛 (raw (fact 𝓤 (a ≡ checkReply r))) (told_of 𝓛 mem run r a) $ heard ! (a ≡ checkReply r) (λ told. split ! $ drop ! $
+      split ! $ move ! (1 ∷ []) $ use1 𝓛 (raw (fact 𝓤 (a ≡ check_reply r))) (told_of 𝓛 mem run r a) $ heard ! (a ≡ check_reply r) (λ told. split ! $ drop ! $
       -- [the reply; the tokens; the table and the records; _6; …]
       peeks ! R.the_row (Is R.the_row) (shows 𝓛 R.the_row) a (v ∷ []) (λ is'.
       land ! (from ! (stop !)) (init ! 15 refl ((LL.lawful R.the_type R'.the_laws 𝓛).typed a _ is').0) $

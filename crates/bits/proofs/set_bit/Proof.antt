@@ -5,8 +5,8 @@ use Prim.Native.Nat.{ℕ, ◌/◌, ◌%◌}
 use mathlib.Core.Path.{ap}
 use lib.Bits.{bit_or}
 use lib.ListN.{get_or, set}
-use Rattle.bits.specs.Bits.{withBit}
-use Rattle.bits.proofs.Laws.{mask-bit}
+use Rattle.bits.specs.Bits.{with_bit}
+use Rattle.bits.proofs.Laws.{mask_bit}
 use Rattle.bits.proofs.set_bit.Statement.{statement}
 use Rattle.bits.proofs.set_bit.Tie as tie
 use Rattle.bits.proofs.set_bit.Reads as reads
@@ -28,10 +28,10 @@ same_length : tie.Need-same-length
 same_length c = search rules
 
 returns : tie.Need-returns
-unfolding withBit
+unfolding with_bit
 returns c =
     let a = c.before.args in
-    ap (λ (m : ℕ). set a.bytes.now (a.i / 8) (bit_or (get_or a.bytes.now (a.i / 8) 0) m)) (mask-bit (a.i % 8) (omega arith))
+    ap (λ (m : ℕ). set a.bytes.now (a.i / 8) (bit_or (get_or a.bytes.now (a.i / 8) 0) m)) (mask_bit (a.i % 8) (omega arith))
 
 pub set-bit-spec : {M : Type 1} → statement M
 set-bit-spec = tie.close (tie.spec slice-read-bytes cast-bytes shl-bytes slice-write-bytes same_length returns)

@@ -4,7 +4,7 @@ use native.Mathlib.Omega.{arith}
 use Prim.Native.Nat.{◌-◌}
 use lib.ListN.{length}
 use Rattle.bits.specs.Windows.{ClearTo}
-use Rattle.bits.proofs.WindowLaws.{clear-start, clear-eight}
+use Rattle.bits.proofs.WindowLaws.{clear-start, clear_eight}
 use Rattle.bits.proofs.skip_zeros.Statement.{statement}
 use Rattle.bits.proofs.skip_zeros.Tie as tie
 use Rattle.bits.proofs.skip_zeros.Reads as reads
@@ -36,7 +36,7 @@ loop-less : tie.Need-loop-smaller invariant-loop decreases-loop
 loop-less c = search rules
 
 loop-again : tie.Need-loop-preserved invariant-loop decreases-loop
-loop-again c = let o = c.before in let l = o.before.before.loop in let a = o.before.before.before.before.args in clear-eight a.bytes.now a.from l.b o.eight-bytes.result l.invariant o.before.loop-test.true o.eight-bytes.ensures c.if1.false
+loop-again c = let o = c.before in let l = o.before.before.loop in let a = o.before.before.before.before.args in clear_eight a.bytes.now a.from l.b o.eight-bytes.result l.invariant o.before.loop-test.true o.eight-bytes.ensures c.if1.false
 
 returns-2 : tie.Need-returns-2 invariant-loop decreases-loop
 returns-2 c = c.before.loop.invariant

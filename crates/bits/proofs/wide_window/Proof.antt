@@ -3,7 +3,7 @@ use borrow.Author.Rules.{rules}
 use native.Mathlib.Omega.{arith}
 use Prim.Native.Nat.{◌-◌}
 use lib.ListN.{length}
-use Rattle.bits.proofs.WindowLaws.{columns-eight, columns-last}
+use Rattle.bits.proofs.WindowLaws.{columns_eight, columns-last}
 use Rattle.bits.proofs.wide_window.Statement.{statement}
 use Rattle.bits.proofs.wide_window.Tie as tie
 
@@ -17,7 +17,7 @@ shr-result : tie.Need-overflow-shr-result
 shr-result c = search rules
 
 returns : tie.Need-returns
-returns c = let a = c.before.before.before.args in columns-eight a.bytes.now a.i c.eight-bytes.result c.eight-bytes.ensures
+returns c = let a = c.before.before.before.args in columns_eight a.bytes.now a.i c.eight-bytes.result c.eight-bytes.ensures
 
 sub-last : tie.Need-overflow-sub-last
 sub-last c = search rules

@@ -2,7 +2,7 @@
 use borrow.Author.Rules.{rules}
 use Prim.Native.Nat.{◌/◌}
 use lib.ListN.{length}
-use Rattle.bits.proofs.WindowLaws.{word-one, window-eight, window-one}
+use Rattle.bits.proofs.WindowLaws.{word-one, window_eight, window_one}
 use Rattle.bits.proofs.window.Statement.{statement}
 use Rattle.bits.proofs.window.Tie as tie
 use Rattle.bits.proofs.window.Reads as reads
@@ -22,7 +22,7 @@ shr-result c = search rules
 returns : tie.Need-returns
 returns c =
     let a = c.before.before.before.args in
-    window-eight a.bytes.now (length a.bytes.now) a.i c.eight-bytes.result c.before.if1.true c.eight-bytes.ensures
+    window_eight a.bytes.now (length a.bytes.now) a.i c.eight-bytes.result c.before.if1.true c.eight-bytes.ensures
 
 shared-slice-read-wide : tie.Need-shared-slice-read-wide
 shared-slice-read-wide c = search rules
@@ -37,7 +37,7 @@ returns-2 : tie.Need-returns-2
 returns-2 c =
     let a = c.before.before.before.before.args in
     let w = c.wide.ensures in
-    window-one a.bytes.now (length a.bytes.now) a.i c.wide.result c.before.before.if1.false (word-one a.bytes.now (a.i / 8) c.wide.result w.0 w.1)
+    window_one a.bytes.now (length a.bytes.now) a.i c.wide.result c.before.before.if1.false (word-one a.bytes.now (a.i / 8) c.wide.result w.0 w.1)
 
 pub window-spec : {M : Type 1} → statement M
 window-spec =

@@ -4,8 +4,8 @@ use Prim.Native.Nat.{ℕ, suc, ◌-◌, ◌≤◌}
 use mathlib.Core.Path.{◌≡◌, ◌∙◌}
 use Rattle.grammar.specs.Grammar.{Grammar}
 use Rattle.moves.proofs.Built.{columns_of}
-use Rattle.caller_rows.specs.Levels.{writtenFrom, Sizable, Level, Stands}
-use Rattle.caller_rows.proofs.AddLaws.{record_of, level-zero}
+use Rattle.caller_rows.specs.Levels.{written_from, Sizable, Level, Stands}
+use Rattle.caller_rows.proofs.AddLaws.{record_of_lem, level_zero}
 use Rattle.caller_rows.proofs.BuiltLaws.{too_many, next-at, next-stands}
 use borrow.Author.Rules.{rules}
 use Rattle.caller_rows.proofs.add_levels.Statement.{statement}
@@ -14,8 +14,8 @@ use Rattle.caller_rows.proofs.add_levels.Tie as tie
 abbrev invariant-loop : tie.invariant-loop
 invariant-loop lefts lengths codes count n items m live ahead₀ number₀ member₀ target₀ after₀ below₀ ranks₀ kinds₀ q₀ l₀ ahead number member target after below ranks kinds q l =
     (l ≤ m)
-    × ((G : Grammar) → Sizable G 0 (writtenFrom G n count lefts lengths codes) live items ahead₀ → Level G l (writtenFrom G n count lefts lengths codes) live q ahead below ranks)
-    × ((G : Grammar) → Sizable G 0 (writtenFrom G n count lefts lengths codes) live items ahead₀ → (k : ℕ) → l ≡ suc k → Stands G k q kinds ahead number member target after)
+    × ((G : Grammar) → Sizable G 0 (written_from G n count lefts lengths codes) live items ahead₀ → Level G l (written_from G n count lefts lengths codes) live q ahead below ranks)
+    × ((G : Grammar) → Sizable G 0 (written_from G n count lefts lengths codes) live items ahead₀ → (k : ℕ) → l ≡ suc k → Stands G k q kinds ahead number member target after)
 
 abbrev decreases-loop : tie.decreases-loop
 decreases-loop lefts lengths codes count n items m live ahead₀ number₀ member₀ target₀ after₀ below₀ ranks₀ kinds₀ q₀ l₀ ahead number member target after below ranks kinds q l = m - l
@@ -31,7 +31,7 @@ turn c = c.before.before.before.before.before.before.before.before
 loop-holds : tie.Need-loop-init invariant-loop decreases-loop
 loop-holds c = (
   omega arith,
-  λ G S. level-zero G _ _ _ _ S (columns_of _ (record_of G 0 _ _ _ _ S)).few,
+  λ G S. level_zero G _ _ _ _ S (columns_of _ (record_of_lem G 0 _ _ _ _ S)).few,
   λ G S k e. absurd (omega (arith, e)),
 )
 
@@ -51,7 +51,7 @@ returns c G S =
     let A = c.before.add-level.ensures G l.l (l.inv.1 G S) in
     record {
       fits = λ h. absurd (omega (arith, h, c.if1.true));
-      many = λ h. too_many G S.wellFormed l.l _ _ A.count t.loop-test.taken h;
+      many = λ h. too_many G S.well_formed l.l _ _ A.count t.loop-test.taken h;
     }
 
 add-l : tie.Need-overflow-add-l invariant-loop decreases-loop

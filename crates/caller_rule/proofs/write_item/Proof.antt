@@ -5,7 +5,7 @@ use native.Mathlib.Omega.{arith}
 use lib.ListN.{length, get_or}
 use borrow.Author.Rules.{rules}
 use Rattle.grammar.specs.Limits.{limits}
-use Rattle.caller_rule.specs.RuleRows.{memberClass, targetClass, six, ItemWritten}
+use Rattle.caller_rule.specs.RuleRows.{member_class, target_class, six, ItemWritten}
 use Rattle.caller_rule.proofs.WroteLaws.{wrote_none, wrote-next}
 use Rattle.caller_rule.proofs.write_item.Statement.{statement}
 use Rattle.caller_rule.proofs.write_item.Tie as tie
@@ -26,8 +26,8 @@ start-of-loop c = c.before.before.before.before.before.before.before.before.befo
 abbrev start : tie.After-wide invariant-loop decreases-loop → tie.Start invariant-loop decreases-loop
 start c = c.before.before.before.before.before.before.before.before.before.before.before.before
 
-caller-small : (c : tie.After-wide invariant-loop decreases-loop) → c.wide.result < limits.maxStates
-caller-small c =
+caller_small : (c : tie.After-wide invariant-loop decreases-loop) → c.wide.result < limits.max_states
+caller_small c =
     let l = c.before.before.before.loop in
     let h = (start c).requires.0.below l.r (omega (arith, c.before.before.loop-test.true, l.invariant.1)) in
     omega (arith, h, c.wide.ensures)
@@ -56,10 +56,10 @@ wide-requires : tie.Need-wide-requires invariant-loop decreases-loop
 wide-requires c κs = search rules
 
 mul-k : tie.Need-overflow-mul-k invariant-loop decreases-loop
-mul-k c = let z = caller-small c in omega (arith, z)
+mul-k c = let z = caller_small c in omega (arith, z)
 
 shared-slice-read-k : tie.Need-shared-slice-read-k invariant-loop decreases-loop
-shared-slice-read-k c = let z = caller-small c.before in let e = start c.before in omega (arith, z, e.pre.0.ranked)
+shared-slice-read-k c = let z = caller_small c.before in let e = start c.before in omega (arith, z, e.pre.0.ranked)
 
 add-ahead : tie.Need-overflow-add-ahead invariant-loop decreases-loop
 add-ahead c = search rules
@@ -125,10 +125,10 @@ slice-write-member : tie.Need-slice-write-member invariant-loop decreases-loop
 slice-write-member c = search rules
 
 add-target-class : tie.Need-overflow-add-target-class invariant-loop decreases-loop
-add-target-class c = let e = start c.before.before in omega (arith, e.pre.0.behind-few, e.pre.0.little c.before.before.wide.result)
+add-target-class c = let e = start c.before.before in omega (arith, e.pre.0.behind_few, e.pre.0.little c.before.before.wide.result)
 
 target-class-requires : tie.Need-target-class-requires invariant-loop decreases-loop
-target-class-requires c κs = let e = start c.before.before in let z = caller-small c.before.before in (e.pre.0.kinds, omega (arith, z, c.before.before.wide.ensures))
+target-class-requires c κs = let e = start c.before.before in let z = caller_small c.before.before in (e.pre.0.kinds, omega (arith, z, c.before.before.wide.ensures))
 
 add-target : tie.Need-overflow-add-target invariant-loop decreases-loop
 add-target c = search rules
@@ -161,9 +161,9 @@ loop-again c =
         ahead = wrote-next a.ahead.now l.ahead a.at l.r _ _ i.ahead (omega (arith, h, e.pre.1.ahead)) refl;
         number = wrote-next a.number.now l.number a.at l.r _ _ i.number (omega (arith, h, e.pre.1.number)) refl;
         member = wrote-next a.member.now l.member a.at l.r _ _ i.member (omega (arith, h, e.pre.1.member))
-            (c.before.member-class.ensures ∙ ap (λ (n : ℕ). memberClass a.ends a.x a.kinds (get_or a.callers.now l.r 0) (a.low + n)) k);
+            (c.before.member-class.ensures ∙ ap (λ (n : ℕ). member_class a.ends a.x a.kinds (get_or a.callers.now l.r 0) (a.low + n)) k);
         target = wrote-next a.target.now l.target a.at l.r _ _ i.target (omega (arith, h, e.pre.1.target))
-            (c.target-class.ensures ∙ ap (λ (n : ℕ). targetClass a.begins a.y a.kinds (get_or a.callers.now l.r 0) (a.behind + n)) k);
+            (c.target-class.ensures ∙ ap (λ (n : ℕ). target_class a.begins a.y a.kinds (get_or a.callers.now l.r 0) (a.behind + n)) k);
         after = wrote-next a.after.now l.after a.at l.r _ _ i.after (omega (arith, h, e.pre.1.after)) refl;
         down = wrote-next a.down.now l.down a.at l.r _ _ i.down (omega (arith, h, e.pre.1.down)) (ap (λ (n : ℕ). a.low + n) k);
       },

@@ -3,11 +3,11 @@ use borrow.Author.Rules.{rules}
 use native.Mathlib.Omega.{arith}
 use mathlib.Core.Path.{ap, sym, ◌∙◌}
 use Rattle.grammar.specs.Limits.{limits}
-use Rattle.grammar.proofs.Answers.{then-goes, then-stops}
-use Rattle.automaton.specs.CallerMoves.{movesWith}
-use Rattle.triples.specs.Certificate.{checkBytes, checkCertificate}
-use Rattle.triples.specs.Verdict.{checkVerdict}
-use Rattle.plans.proofs.PlannedLaws.{verified-of}
+use Rattle.grammar.proofs.Answers.{then-goes, then_stops}
+use Rattle.automaton.specs.CallerMoves.{moves_with}
+use Rattle.triples.specs.Certificate.{check_bytes, check_certificate}
+use Rattle.triples.specs.Verdict.{check_verdict}
+use Rattle.plans.proofs.PlannedLaws.{verified_of}
 use Rattle.plans.proofs.Planned.{planned-of}
 use Rattle.certificate_check.proofs.check_certificate.Statement.{statement}
 use Rattle.certificate_check.proofs.check_certificate.Tie as tie
@@ -29,11 +29,11 @@ enum-known-verdict : tie.Need-enum-known-verdict
 enum-known-verdict c = search rules
 
 returns : tie.Need-returns
-unfolding checkCertificate
+unfolding check_certificate
 returns c =
     let w = c.before.before.before in
     let v = c.before.verdict.given in
-    ap checkVerdict (sym (then-stops _ (λ G. checkBytes (movesWith limits G (start w).args.callers) (start w).args.bytes.now) v.0.0 v.0.1.0
+    ap check_verdict (sym (then_stops _ (λ G. check_bytes (moves_with limits G (start w).args.callers) (start w).args.bytes.now) v.0.0 v.0.1.0
     (w.prepare.ensures.refused_as v.0.0 v.0.1.0 v.1)))
 
 enum_told : tie.Need-enum-told
@@ -42,18 +42,18 @@ enum_told c = search rules
 check-bits-requires : tie.Need-check-bits-requires
 check-bits-requires c κs =
     let w = rows_at (passed_at c) in
-    let p = w.prepare.ensures.passed-as (passed_at c).enum_told.given.1 in
+    let p = w.prepare.ensures.passed_as (passed_at c).enum_told.given.1 in
     let r = p.2 in
-    verified-of (movesWith limits p.0 (start w).args.callers) r.regular _ _ _ r.size _ r.shows (omega (arith, r.long))
+    verified_of (moves_with limits p.0 (start w).args.callers) r.regular _ _ _ r.size _ r.shows (omega (arith, r.long))
 
 returns-2 : tie.Need-returns-2
-unfolding checkCertificate
+unfolding check_certificate
 returns-2 c =
     let w = rows_at (passed_at c.before) in
-    let p = w.prepare.ensures.passed-as (passed_at c.before).enum_told.given.1 in
+    let p = w.prepare.ensures.passed_as (passed_at c.before).enum_told.given.1 in
     let r = p.2 in
-    c.check-bits.ensures _ (planned-of (movesWith limits p.0 (start w).args.callers) r.regular _ _ _ r.size _ r.shows (omega (arith, r.long)))
-    ∙ ap checkVerdict (sym (then-goes _ (λ G. checkBytes (movesWith limits G (start w).args.callers) (start w).args.bytes.now) p.0 p.1))
+    c.check-bits.ensures _ (planned-of (moves_with limits p.0 (start w).args.callers) r.regular _ _ _ r.size _ r.shows (omega (arith, r.long)))
+    ∙ ap check_verdict (sym (then-goes _ (λ G. check_bytes (moves_with limits G (start w).args.callers) (start w).args.bytes.now) p.0 p.1))
 
 pub check-certificate-spec : {M : Type 1} → statement M
 check-certificate-spec =

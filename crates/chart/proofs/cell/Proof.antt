@@ -2,7 +2,7 @@
 use native.Mathlib.Omega.{arith}
 use borrow.Author.Rules.{rules}
 use Rattle.counts.proofs.Laws.{few-cells}
-use Rattle.chart.proofs.Cells.{few-runs}
+use Rattle.chart.proofs.Cells.{few_runs}
 use Rattle.chart.proofs.cell.Statement.{statement}
 use Rattle.chart.proofs.cell.Tie as tie
 
@@ -13,10 +13,10 @@ add-result : tie.Need-overflow-add-result
 add-result c = let a = c.args in omega (arith, few-cells a.p a.m (omega (arith, c.requires.1)) c.requires.0)
 
 mul-result-2 : tie.Need-overflow-mul-result-2
-mul-result-2 c = let a = c.args in omega (arith, few-runs a.p a.m a.j (omega (arith, c.requires.1)) c.requires.0 c.requires.3)
+mul-result-2 c = let a = c.args in omega (arith, few_runs a.p a.m a.j (omega (arith, c.requires.1)) c.requires.0 c.requires.3)
 
 add-result-2 : tie.Need-overflow-add-result-2
-add-result-2 c = let a = c.args in omega (arith, few-runs a.p a.m a.j (omega (arith, c.requires.1)) c.requires.0 c.requires.3)
+add-result-2 c = let a = c.args in omega (arith, few_runs a.p a.m a.j (omega (arith, c.requires.1)) c.requires.0 c.requires.3)
 
 returns : tie.Need-returns
 returns c = search rules

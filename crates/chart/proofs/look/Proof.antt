@@ -7,16 +7,16 @@ use borrow.Author.Rules.{rules}
 use Rattle.grammar.specs.Limits.{limits}
 use Rattle.grammar.specs.Grammar.{Grammar}
 use Rattle.tree_laws.specs.Chart.{Places}
-use Rattle.counts.specs.Counts.{itemCell}
+use Rattle.counts.specs.Counts.{item_cell}
 use Rattle.chart.specs.Rows.{Covered}
 use Rattle.chart.specs.Filling.{Sheet, Working}
-use Rattle.chart.proofs.Cells.{cell-fits}
-use Rattle.chart.proofs.MadeLaws.{home-in, span-at}
-use Rattle.chart.proofs.Covers.{cover-drop, cover-set}
-use Rattle.chart.proofs.Slack.{settles-slack, settles-keeps, raise-slack}
-use Rattle.chart.proofs.Staying.{LookAt, looks-end, looks-none}
-use Rattle.chart.proofs.Rising.{rises-item}
-use Rattle.chart.proofs.Leading.{rises-whole}
+use Rattle.chart.proofs.Cells.{cell_fits}
+use Rattle.chart.proofs.MadeLaws.{home_in, span_at}
+use Rattle.chart.proofs.Covers.{cover_drop, cover_set}
+use Rattle.chart.proofs.Slack.{settles_slack, settles_keeps, raise_slack}
+use Rattle.chart.proofs.Staying.{LookAt, looks_end, looks_none}
+use Rattle.chart.proofs.Rising.{rises_item}
+use Rattle.chart.proofs.Leading.{rises_whole}
 use Rattle.chart.proofs.look.Statement.{statement}
 use Rattle.chart.proofs.look.Tie as tie
 
@@ -46,15 +46,15 @@ look_at e G P S K = record {
 }
 
 -- the state's cell is within the row
-fits : (e : tie.Start) → itemCell (length e.args.row.now + 1) (e.args.q - 1) e.args.i e.args.j < length e.args.work.now
+fits : (e : tie.Start) → item_cell (length e.args.row.now + 1) (e.args.q - 1) e.args.i e.args.j < length e.args.work.now
 fits e =
     let a = e.args in
-    cell-fits (length a.row.now + 1) a.states (a.q - 1) a.i a.j (length a.work.now) (omega (arith, e.requires.1.1.0))
+    cell_fits (length a.row.now + 1) a.states (a.q - 1) a.i a.j (length a.work.now) (omega (arith, e.requires.1.1.0))
     (omega (arith, e.requires.1.0.rises, e.requires.1.0.inside)) e.requires.1.0.inside e.requires.1.0.cells
 
 -- the blocks' bytes where the flag is dropped
 dropped : (e : tie.Start) → let a = e.args in Covered a.states a.flags.now a.blocks.now → Covered a.states (set a.flags.now a.q 0) a.blocks.now
-dropped e C = cover-drop e.args.q (omega (arith, e.requires.1.1.0, e.requires.1.1.1)) C
+dropped e C = cover_drop e.args.q (omega (arith, e.requires.1.1.0, e.requires.1.1.1)) C
 
 sub-p : tie.Need-overflow-sub-p
 sub-p c = search rules
@@ -72,7 +72,7 @@ same_length : tie.Need-same-length
 same_length c = search rules
 
 returns : tie.Need-returns
-returns c = let e = tested-start c.before in (λ G P S K. looks-end (look_at e G P S K) c.if1.true, ((omega (arith, e.pre.1.1.0), omega arith), dropped e))
+returns c = let e = tested-start c.before in (λ G P S K. looks_end (look_at e G P S K) c.if1.true, ((omega (arith, e.pre.1.1.0), omega arith), dropped e))
 
 settle-requires : tie.Need-settle-requires
 settle-requires c κs = search rules
@@ -87,8 +87,8 @@ returns-2 : tie.Need-returns-2
 returns-2 c =
     let s = c.before.before.before in
     let e = settled-start s in (
-      λ G P S K. looks-none (look_at e G P S K) s.settle.new.0 s.settle.result s.settle.ensures c.if2.true,
-      ((omega (arith, e.pre.1.1.0), omega (arith, settles-keeps s.settle.ensures)), dropped e),
+      λ G P S K. looks_none (look_at e G P S K) s.settle.new.0 s.settle.result s.settle.ensures c.if2.true,
+      ((omega (arith, e.pre.1.1.0), omega (arith, settles_keeps s.settle.ensures)), dropped e),
     )
 
 slice-write-active : tie.Need-slice-write-active
@@ -127,10 +127,10 @@ returns-3 c =
     let s = c.before.before.before.before.before in
     let e = settled-start s in
     let rose = c.before.before.if2.false in (
-      λ G P S K. rises-item (look_at e G P S K) s.settle.new.0 s.settle.result s.settle.ensures (omega (arith, rose)) s.before.before.if1.false c.if3.true,
+      λ G P S K. rises_item (look_at e G P S K) s.settle.new.0 s.settle.result s.settle.ensures (omega (arith, rose)) s.before.before.if1.false c.if3.true,
       (
-        (omega (arith, e.pre.1.1.0), omega (arith, settles-slack s.settle.ensures (fits e) (omega (arith, rose)))),
-        λ C. cover-set (e.args.q - 1) (omega (arith, e.pre.1.1.0, e.pre.1.1.1)) (dropped e C),
+        (omega (arith, e.pre.1.1.0), omega (arith, settles_slack s.settle.ensures (fits e) (omega (arith, rose)))),
+        λ C. cover_set (e.args.q - 1) (omega (arith, e.pre.1.1.0, e.pre.1.1.1)) (dropped e C),
       ),
     )
 
@@ -149,10 +149,10 @@ raise-requires c κs =
     let s = led-settled c.before.before in
     let e = settled-start s in
     let a = e.args in (
-      span-at e.pre.1.0 s.settle.kept.0 e.pre.1.0.rises e.pre.1.0.inside,
+      span_at e.pre.1.0 s.settle.kept.0 e.pre.1.0.rises e.pre.1.0.inside,
       (
         e.pre.0.ready.few,
-        omega (arith, c.before.home-of.ensures, home-in a.home.now (get_or a.lead.now (a.q - 1) 0) a.states e.pre.0.ready.homes (omega (arith, e.pre.0.ready.four))),
+        omega (arith, c.before.home-of.ensures, home_in a.home.now (get_or a.lead.now (a.q - 1) 0) a.states e.pre.0.ready.homes (omega (arith, e.pre.0.ready.four))),
       ),
     )
 
@@ -199,7 +199,7 @@ returns-4 c =
     let s = raised-settled r in
     let e = settled-start s in
     let rose = h.before.before.before.if2.false in (
-      λ G P S K. rises-whole (look_at e G P S K) s.settle.last.0 r.raise.new.0 s.settle.result h.home-of.result s.settle.ensures (omega (arith, rose))
+      λ G P S K. rises_whole (look_at e G P S K) s.settle.last.0 r.raise.new.0 s.settle.result h.home-of.result s.settle.ensures (omega (arith, rose))
           s.before.before.if1.left h.before.if3.false h.home-of.ensures r.raise.ensures w.mention.new.0 w.before.before.wide.result _ w.mention.result
           w.before.before.wide.ensures w.mention.ensures.0 w.mention.ensures.1.0.0 w.mention.ensures.1.0.1,
       (
@@ -207,8 +207,8 @@ returns-4 c =
           w.mention.ensures.1.0.2,
           omega (
             arith,
-            settles-slack s.settle.ensures (fits e) (omega (arith, rose)),
-            raise-slack s.settle.last.0 _ s.settle.result r.raise.ensures,
+            settles_slack s.settle.ensures (fits e) (omega (arith, rose)),
+            raise_slack s.settle.last.0 _ s.settle.result r.raise.ensures,
             w.mention.ensures.1.0.2,
             e.pre.0.ready.few,
           ),

@@ -5,7 +5,7 @@ use native.Mathlib.Omega.{arith}
 use lib.ListN.{length, get_or}
 use borrow.Author.Rules.{rules}
 use Rattle.tree_laws.specs.Chart.{cap}
-use Rattle.chart.proofs.MadeLaws.{plane-in, home-in, span_of, made-leaf, made-node}
+use Rattle.chart.proofs.MadeLaws.{plane_in, home_in, span_of, made-leaf, made-node}
 use Rattle.chart.proofs.made.Statement.{statement}
 use Rattle.chart.proofs.made.Tie as tie
 
@@ -25,7 +25,7 @@ made-of-terminal-requires : tie.Need-made-of-terminal-requires
 made-of-terminal-requires c κs =
     let e = c.before.before.before.before.before in
     let a = e.args in
-    (e.requires.1.0, (e.requires.0.few, omega (arith, c.before.plane.ensures, plane-in a.ahead.now a.q a.states e.requires.1.1.1 e.requires.0.four)))
+    (e.requires.1.0, (e.requires.0.few, omega (arith, c.before.plane.ensures, plane_in a.ahead.now a.q a.states e.requires.1.1.1 e.requires.0.four)))
 
 returns : tie.Need-returns
 returns c =
@@ -46,8 +46,8 @@ ways-requires c κs =
     let e = p.before.before.before.before in
     let a = e.args in
     span_of a.work.now a.states (length a.row.now + 1) c.home-of.result p.plane.result a.i a.j e.requires.1.0 e.requires.0.few
-    (omega (arith, c.home-of.ensures, home-in a.home.now (get_or a.ahead.now (a.q - 1) 0) a.states e.requires.0.homes (omega (arith, e.requires.0.four))))
-    (omega (arith, p.plane.ensures, plane-in a.ahead.now a.q a.states e.requires.1.1.1 e.requires.0.four))
+    (omega (arith, c.home-of.ensures, home_in a.home.now (get_or a.ahead.now (a.q - 1) 0) a.states e.requires.0.homes (omega (arith, e.requires.0.four))))
+    (omega (arith, p.plane.ensures, plane_in a.ahead.now a.q a.states e.requires.1.1.1 e.requires.0.four))
 
 returns-2 : tie.Need-returns-2
 returns-2 c =

@@ -7,7 +7,7 @@ use lib.ListN.{length, get_or}
 use borrow.Author.Tests.{lt-ltb, le-ltb, eq-eqb, ne_eqb}
 use borrow.Author.Rules.{rules}
 use Rattle.tree_laws.specs.Chart.{cap}
-use Rattle.chart.proofs.Cells.{cell-fits, few-runs}
+use Rattle.chart.proofs.Cells.{cell_fits, few_runs}
 use Rattle.chart.proofs.made_of_terminal.Statement.{statement}
 use Rattle.chart.proofs.made_of_terminal.Tie as tie
 
@@ -42,7 +42,7 @@ mul-plus : tie.Need-overflow-mul-plus
 mul-plus c =
     let e = cell-start c in
     let a = e.args in
-    omega (arith, c.cell.ensures, few-runs a.z (length a.row.now + 1) a.j (omega (arith, e.pre.1)) e.pre.0.small e.pre.0.inside)
+    omega (arith, c.cell.ensures, few_runs a.z (length a.row.now + 1) a.j (omega (arith, e.pre.1)) e.pre.0.small e.pre.0.inside)
 
 shared-slice-read-plus : tie.Need-shared-slice-read-plus
 shared-slice-read-plus c =
@@ -52,7 +52,7 @@ shared-slice-read-plus c =
     omega (
       arith,
       k.cell.ensures,
-      cell-fits (length a.row.now + 1) a.states a.z (a.i + 1) a.j (length a.work.now) e.pre.1.1
+      cell_fits (length a.row.now + 1) a.states a.z (a.i + 1) a.j (length a.work.now) e.pre.1.1
           (omega (arith, e.pre.0.inside)) e.pre.0.inside e.pre.0.cells,
     )
 

@@ -5,8 +5,8 @@ use native.Mathlib.Omega.{arith}
 use lib.ListN.{length, get_or, length-set}
 use borrow.Author.Rules.{rules}
 use Rattle.chart.specs.Rows.{Mentioning, Flagged, block, Covered}
-use Rattle.chart.proofs.Links.{mention-start, mention-turn, mention-end}
-use Rattle.chart.proofs.Covers.{cover-set}
+use Rattle.chart.proofs.Links.{mention_start, mention_turn, mention_end}
+use Rattle.chart.proofs.Covers.{cover_set}
 use Rattle.chart.proofs.mention.Statement.{statement}
 use Rattle.chart.proofs.mention.Tie as tie
 
@@ -24,7 +24,7 @@ flagged l h =
     let t = l.before in
     let e = t.before.before.before.before in
     let a = e.args in
-    subst (λ n. Flagged a.ahead.now a.states a.c n a.flags.now l.loop.flags) t.wide.ensures (mention-end e.requires.0 l.loop.invariant.0 h)
+    subst (λ n. Flagged a.ahead.now a.states a.c n a.flags.now l.loop.flags) t.wide.ensures (mention_end e.requires.0 l.loop.invariant.0 h)
 
 mul_wide : tie.Need-overflow-mul-wide invariant-loop decreases-loop
 mul_wide c = search rules
@@ -38,7 +38,7 @@ wide-requires c κs = search rules
 loop-holds : tie.Need-loop-init invariant-loop decreases-loop
 loop-holds c =
     let e = c.before.before.before.before in
-    (mention-start e.requires.0 e.args.c e.args.flags.now c.wide.result c.wide.ensures, refl, λ C. C)
+    (mention_start e.requires.0 e.args.c e.args.flags.now c.wide.result c.wide.ensures, refl, λ C. C)
 
 add-flags : tie.Need-overflow-add-flags invariant-loop decreases-loop
 add-flags c = let e = c.before.before.before.before.before.before in omega (arith, c.before.loop.invariant.0.room, e.requires.0.few)
@@ -74,9 +74,9 @@ loop-again c =
     let l = c.before.before.before in
     let e = l.before.before.before.before.before in
     let k = l.loop in (
-      mention-turn e.requires.0 c.wide2.result k.invariant.0 e.requires.1.1.1.0 (omega arith) c.wide2.ensures,
+      mention_turn e.requires.0 c.wide2.result k.invariant.0 e.requires.1.1.1.0 (omega arith) c.wide2.ensures,
       length-set k.blocks ((k.p + 1) / block) 1 ∙ k.invariant.1,
-      λ C. cover-set (k.p + 1) (omega (arith, k.invariant.0.room, k.invariant.1, e.requires.1.1.1.1)) (k.invariant.2 C),
+      λ C. cover_set (k.p + 1) (omega (arith, k.invariant.0.room, k.invariant.1, e.requires.1.1.1.1)) (k.invariant.2 C),
     )
 
 add-if1 : tie.Need-overflow-add-if1 invariant-loop decreases-loop

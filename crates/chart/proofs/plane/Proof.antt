@@ -2,7 +2,7 @@
 use mathlib.Core.Path.{refl}
 use borrow.Author.Tests.{eq-eqb, ne_eqb}
 use borrow.Author.Rules.{rules}
-use Rattle.chart.specs.Rows.{planeOf}
+use Rattle.chart.specs.Rows.{plane_of}
 use Rattle.chart.proofs.plane.Statement.{statement}
 use Rattle.chart.proofs.plane.Tie as tie
 
@@ -13,11 +13,11 @@ element-copy-out-if1 : tie.Need-element-copy-out-if1
 element-copy-out-if1 c = search rules
 
 returns : tie.Need-returns
-unfolding planeOf
+unfolding plane_of
 returns c = simp (eq-eqb _ _ c.if1.true) refl
 
 returns-2 : tie.Need-returns-2
-unfolding planeOf
+unfolding plane_of
 returns-2 c = simp (ne_eqb _ _ c.if1.false) refl
 
 pub plane-spec : {M : Type 1} → statement M

@@ -7,21 +7,21 @@ use borrow.Author.Rules.{rules}
 use Rattle.grammar.specs.Limits.{limits}
 use Rattle.trees.specs.Trees.{places}
 use Rattle.tree_laws.specs.Chart.{cap}
-use Rattle.counts.specs.Counts.{wholeCell}
-use Rattle.chart.proofs.Cells.{cell-fits, few-runs}
+use Rattle.counts.specs.Counts.{whole_cell}
+use Rattle.chart.proofs.Cells.{cell_fits, few_runs}
 use Rattle.chart.proofs.raise.Statement.{statement}
 use Rattle.chart.proofs.raise.Tie as tie
 
 -- the nonterminal's cell is one of the work row, and small
-inside : (e : tie.Start) → wholeCell e.args.m e.args.h e.args.i e.args.j < length e.args.work.now
+inside : (e : tie.Start) → whole_cell e.args.m e.args.h e.args.i e.args.j < length e.args.work.now
 inside e =
     let a = e.args in
-    cell-fits a.m a.states a.h a.j a.i (length a.work.now) e.requires.1.1 e.requires.0.inside (omega (arith, e.requires.0.inside, e.requires.0.rises)) e.requires.0.cells
+    cell_fits a.m a.states a.h a.j a.i (length a.work.now) e.requires.1.1 e.requires.0.inside (omega (arith, e.requires.0.inside, e.requires.0.rises)) e.requires.0.cells
 
-few : (e : tie.Start) → wholeCell e.args.m e.args.h e.args.i e.args.j < places * places * limits.maxStates
+few : (e : tie.Start) → whole_cell e.args.m e.args.h e.args.i e.args.j < places * places * limits.max_states
 few e =
     let a = e.args in
-    omega (arith, few-runs a.h a.m a.i (omega (arith, e.requires.1)) e.requires.0.small (omega (arith, e.requires.0.inside, e.requires.0.rises)), e.requires.0.inside)
+    omega (arith, few_runs a.h a.m a.i (omega (arith, e.requires.1)) e.requires.0.small (omega (arith, e.requires.0.inside, e.requires.0.rises)), e.requires.0.inside)
 
 cell-requires : tie.Need-cell-requires
 cell-requires c κs = search rules

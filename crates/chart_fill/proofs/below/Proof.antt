@@ -4,7 +4,7 @@ use mathlib.Core.Path.{◌≡◌}
 use native.Mathlib.Omega.{arith}
 use lib.ListN.{get_or}
 use borrow.Author.Rules.{rules}
-use Rattle.chart_fill.proofs.Laws.{clear-more}
+use Rattle.chart_fill.proofs.Laws.{clear_more}
 use Rattle.chart_fill.proofs.below.Statement.{statement}
 use Rattle.chart_fill.proofs.below.Tie as tie
 
@@ -36,7 +36,7 @@ loop-again : tie.Need-loop-preserved invariant-loop decreases-loop
 loop-again c =
     let l = c.before.before.before in
     let k = l.loop in
-    (omega arith, omega arith, λ h a b. clear-more l.before.args.flags.now k.p l.before.args.q c.if1.false k.invariant.2 h a b)
+    (omega arith, omega arith, λ h a b. clear_more l.before.args.flags.now k.p l.before.args.q c.if1.false k.invariant.2 h a b)
 
 returns-2 : tie.Need-returns-2 invariant-loop decreases-loop
 returns-2 c = c.before.loop.invariant

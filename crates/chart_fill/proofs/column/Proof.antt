@@ -8,7 +8,7 @@ use Rattle.grammar.specs.Limits.{limits}
 use Rattle.grammar.specs.Grammar.{Grammar}
 use Rattle.tree_laws.specs.Chart.{Places}
 use Rattle.chart.specs.Filling.{Sheet, Filled}
-use Rattle.chart.proofs.MadeLaws.{span-at}
+use Rattle.chart.proofs.MadeLaws.{span_at}
 use Rattle.chart_fill.proofs.column.Statement.{statement}
 use Rattle.chart_fill.proofs.column.Tie as tie
 
@@ -36,7 +36,7 @@ span-requires : tie.Need-span-requires invariant-loop decreases-loop
 span-requires c κs =
     let l = c.before.before in
     let e = l.before.before.before in
-    (e.requires.0, span-at e.requires.1 l.loop.invariant.1 (omega (arith, l.loop.invariant.0)) e.requires.1.inside)
+    (e.requires.0, span_at e.requires.1 l.loop.invariant.1 (omega (arith, l.loop.invariant.0)) e.requires.1.inside)
 
 loop-less : tie.Need-loop-smaller invariant-loop decreases-loop
 loop-less c = search rules

@@ -10,10 +10,10 @@ use Rattle.chart_fill.proofs.ends.Statement.{statement}
 use Rattle.chart_fill.proofs.ends.Tie as tie
 
 abbrev invariant-loop : tie.invariant-loop
-invariant-loop ahead marks₀ p₀ marks p = (p ≤ limits.maxStates) × (length marks ≡ limits.maxStates) × ((s : ℕ) → s < p → get_or ahead s 0 ≡ 0 → get_or marks s 0 ≡ 1)
+invariant-loop ahead marks₀ p₀ marks p = (p ≤ limits.max_states) × (length marks ≡ limits.max_states) × ((s : ℕ) → s < p → get_or ahead s 0 ≡ 0 → get_or marks s 0 ≡ 1)
 
 abbrev decreases-loop : tie.decreases-loop
-decreases-loop ahead marks₀ p₀ marks p = limits.maxStates - p
+decreases-loop ahead marks₀ p₀ marks p = limits.max_states - p
 
 loop-holds : tie.Need-loop-init invariant-loop decreases-loop
 loop-holds c = (omega arith, refl, λ s h z. absurd (omega arith))

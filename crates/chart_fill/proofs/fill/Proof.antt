@@ -8,7 +8,7 @@ use Rattle.grammar.specs.Limits.{limits}
 use Rattle.grammar.specs.Grammar.{Grammar}
 use Rattle.tree_laws.specs.Chart.{Places}
 use Rattle.chart.specs.Filling.{Sheet, Filled, Begun}
-use Rattle.chart.proofs.MadeLaws.{span-at}
+use Rattle.chart.proofs.MadeLaws.{span_at}
 use Rattle.chart_fill.proofs.Laws.{fill_start, fill_more, fill_end}
 use Rattle.chart_fill.proofs.fill.Statement.{statement}
 use Rattle.chart_fill.proofs.fill.Tie as tie
@@ -34,7 +34,7 @@ column-requires : tie.Need-column-requires invariant-loop decreases-loop
 column-requires c κs =
     let l = c.before.before in
     let e = l.before.before.before.before in
-    (e.requires.0, span-at e.requires.1 l.loop.invariant.1 (omega arith) (omega arith))
+    (e.requires.0, span_at e.requires.1 l.loop.invariant.1 (omega arith) (omega arith))
 
 add-j : tie.Need-overflow-add-j invariant-loop decreases-loop
 add-j c =

@@ -6,7 +6,7 @@ use lib.ListN.{length, length-set}
 use borrow.Author.Rules.{rules}
 use Rattle.chart.specs.Rows.{block}
 use Rattle.chart_fill.specs.Scan.{Finds}
-use Rattle.chart_fill.proofs.Laws.{clear-from, block-passed, block-cleared}
+use Rattle.chart_fill.proofs.Laws.{clear_from, block-passed, block-cleared}
 use Rattle.chart_fill.proofs.find.Statement.{statement}
 use Rattle.chart_fill.proofs.find.Tie as tie
 
@@ -40,7 +40,7 @@ returns c =
     let l = w.before.before.before.before in
     let k = l.loop in (
       omega (arith, w.below.ensures, k.invariant.0),
-      λ d C. let y = k.invariant.2 d C in (clear-from l.before.before.args.flags.now w.below.result k.p w.below.ensures.2 y.0, y.1),
+      λ d C. let y = k.invariant.2 d C in (clear_from l.before.before.args.flags.now w.below.result k.p w.below.ensures.2 y.0, y.1),
     )
 
 slice-write-blocks : tie.Need-slice-write-blocks invariant-loop decreases-loop
@@ -59,7 +59,7 @@ loop-again c =
       omega (arith, k.invariant.0),
       length-set k.blocks b 0 ∙ k.invariant.1,
       λ d C. let y = k.invariant.2 d C in
-          let z = clear-from {Q = a.states} a.flags.now (b * block) k.p (λ h x g. w.below.ensures.2 h (omega (arith, c.if2.false)) g) y.0 in
+          let z = clear_from {Q = a.states} a.flags.now (b * block) k.p (λ h x g. w.below.ensures.2 h (omega (arith, c.if2.false)) g) y.0 in
           (z, block-cleared b y.1 z),
     )
 

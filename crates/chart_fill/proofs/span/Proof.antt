@@ -9,8 +9,8 @@ use Rattle.grammar.specs.Grammar.{Grammar}
 use Rattle.tree_laws.specs.Chart.{Places}
 use Rattle.chart.specs.Rows.{slack, block, Covered}
 use Rattle.chart.specs.Filling.{Sheet, Filled, Working}
-use Rattle.chart.proofs.MadeLaws.{span-at}
-use Rattle.chart_fill.proofs.Laws.{span-start, span-down, span-end, all-covered}
+use Rattle.chart.proofs.MadeLaws.{span_at}
+use Rattle.chart_fill.proofs.Laws.{span_start, span_down, span_end, all_covered}
 use Rattle.chart_fill.proofs.span.Statement.{statement}
 use Rattle.chart_fill.proofs.span.Tie as tie
 
@@ -20,12 +20,12 @@ invariant-loop work₀ ahead lead next head home row states i j seen₀ flags₀
     × (length work ≡ length work₀)
     × ((G : Grammar) (P : Places limits G) → Sheet G P states ahead lead home → Filled G P states home row work₀ seen₀ (suc i) j
     → Working G P states home row work seen flags q i j × Covered states flags blocks)
-    × (length seen ≡ limits.maxStates)
-    × (length flags ≡ limits.maxStates)
-    × (length blocks ≡ limits.maxStates / block)
+    × (length seen ≡ limits.max_states)
+    × (length flags ≡ limits.max_states)
+    × (length blocks ≡ limits.max_states / block)
 
 abbrev decreases-loop : tie.decreases-loop
-decreases-loop work₀ ahead lead next head home row states i j seen₀ flags₀ blocks₀ q₀ work seen flags blocks q = slack work * (limits.maxStates + 1) + q
+decreases-loop work₀ ahead lead next head home row states i j seen₀ flags₀ blocks₀ q₀ work seen flags blocks q = slack work * (limits.max_states + 1) + q
 
 -- from a place back to an earlier one
 abbrev look-loop : tie.After-look invariant-loop decreases-loop → tie.At-loop invariant-loop decreases-loop
@@ -34,7 +34,7 @@ look-loop w = w.before.before.before.before.before.before
 abbrev loop-start : tie.At-loop invariant-loop decreases-loop → tie.Start invariant-loop decreases-loop
 loop-start l = l.before.before.before.before.before.before.before
 
-long : (e : tie.Start invariant-loop decreases-loop) → length e.args.active ≡ limits.maxStates
+long : (e : tie.Start invariant-loop decreases-loop) → length e.args.active ≡ limits.max_states
 long e = search rules
 
 slice-aggregate-find : tie.Need-slice-aggregate-find invariant-loop decreases-loop
@@ -50,8 +50,8 @@ loop-holds c =
     let a = e.args in (
       f.find.ensures.0,
       refl,
-      λ G P S F. let y = f.find.ensures.1 (λ h x g. absurd (omega arith)) (all-covered a.states (limits.maxStates / block) a.active (omega (arith, e.requires.0.ready.few))) in
-          (span-down S f.find.result y.0 (span-start S e.requires.1.rises F), y.1),
+      λ G P S F. let y = f.find.ensures.1 (λ h x g. absurd (omega arith)) (all_covered a.states (limits.max_states / block) a.active (omega (arith, e.requires.0.ready.few))) in
+          (span_down S f.find.result y.0 (span_start S e.requires.1.rises F), y.1),
       long e,
       long e,
       f.find.auto.1.1.1.0,
@@ -76,7 +76,7 @@ look-requires c κs =
     let few = e.pre.0.ready.few in (
       e.pre.0,
       (
-        span-at e.pre.1 l.loop.invariant.1 e.pre.1.rises e.pre.1.inside,
+        span_at e.pre.1 l.loop.invariant.1 e.pre.1.rises e.pre.1.inside,
         (
           (omega arith, omega (arith, l.loop.invariant.0)),
           (omega (arith, few, l.loop.invariant.3), omega (arith, few, l.loop.invariant.4), omega (arith, few, l.loop.invariant.5)),
@@ -109,7 +109,7 @@ loop-again c =
           let W = w.look.ensures.0 G P S
           (subst (λ z. Working G P a.states a.home.now a.row.now k.work k.seen k.flags z a.i a.j) (let z : k.q ≡ suc (k.q - 1) = omega arith in z) x.0) in
           let y = f.find2.ensures.1 W.looking.high (w.look.ensures.1.1 x.1) in
-          (span-down S f.find2.result y.0 W, y.1),
+          (span_down S f.find2.result y.0 W, y.1),
       w.look.auto.1.1.1.1.1.1.1.0 ∙ k.inv.3,
       w.look.auto.1.1.1.1.1.1.1.1.0 ∙ k.inv.4,
       f.find2.auto.1.1.1.0 ∙ w.look.auto.1.1.1.1.1.1.1.1.1.1.1.1.1.0 ∙ k.inv.5,
@@ -119,7 +119,7 @@ same_length : tie.Need-same-length invariant-loop decreases-loop
 same_length c = search rules
 
 returns : tie.Need-returns invariant-loop decreases-loop
-returns c = let l = c.before.loop in λ G P S F. span-end S (omega arith) (l.invariant.2 G P S F).0
+returns c = let l = c.before.loop in λ G P S F. span_end S (omega arith) (l.invariant.2 G P S F).0
 
 pub span-spec : {M : Type 1} → statement M
 span-spec =

@@ -5,7 +5,7 @@ use mathlib.Core.Path.{◌≡◌, refl, subst, ◌∙◌}
 use Prim.Native.Nat.{◌-◌, ◌<◌}
 use lib.ListN.{length-set}
 use Rattle.chart_rows.specs.Wiring.{Leads, Links, Homes}
-use Rattle.chart_rows.proofs.Turns.{WiredTo, leads-more, links-start, links-turn, homes-start, homes-turn}
+use Rattle.chart_rows.proofs.Turns.{WiredTo, leads_more, links-start, links-turn, homes_start, homes_turn}
 use Rattle.chart_rows.proofs.wire.Statement.{statement}
 use Rattle.chart_rows.proofs.wire.Tie as tie
 
@@ -37,11 +37,11 @@ loop-holds c =
       within = omega arith;
       leads = λ s h. absurd (omega arith);
       links = links-start a.ahead.now a.next.now a.head.now e.requires.1.1.0 e.requires.1.1.1;
-      homes = homes-start a.member.now a.home.now a.n e.requires.1.1.2;
-      lead-long = refl;
+      homes = homes_start a.member.now a.home.now a.n e.requires.1.1.2;
+      lead_long = refl;
       next-long = refl;
       head-long = refl;
-      home-long = refl;
+      home_long = refl;
     }
 
 mul-lead-of : tie.Need-overflow-mul-lead-of invariant-loop decreases-loop
@@ -104,16 +104,16 @@ loop-again c =
     let h : l.p < a.states = i.loop-test.taken in
     record {
       within = omega (arith, h);
-      leads = leads-more a.target.now l.lead a.n l.p d.lead-of.result (omega (arith, h, l.inv.lead-long, e.pre.1.0.leads)) d.lead-of.ensures l.inv.leads;
+      leads = leads_more a.target.now l.lead a.n l.p d.lead-of.result (omega (arith, h, l.inv.lead_long, e.pre.1.0.leads)) d.lead-of.ensures l.inv.leads;
       links = links-turn a.ahead.now l.next l.head k.last.0 k.last.1.0 l.p _ refl e.pre.0.front
           (omega (arith, h, l.inv.next-long, e.pre.1.0.nexts)) (omega (arith, e.pre.0.codes l.p h, l.inv.head-long, e.pre.1.0.heads))
           k.ensures.0 k.ensures.1 l.inv.links;
-      homes = homes-turn a.member.now l.home o.new.0 a.n l.p _ refl e.pre.0.no_end
-          (omega (arith, l.inv.home-long, e.pre.1.0.homes, e.pre.0.nonterminals)) o.ensures.0 o.ensures.1 l.inv.homes;
-      lead-long = length-set l.lead l.p d.lead-of.result ∙ l.inv.lead-long;
+      homes = homes_turn a.member.now l.home o.new.0 a.n l.p _ refl e.pre.0.no_end
+          (omega (arith, l.inv.home_long, e.pre.1.0.homes, e.pre.0.nonterminals)) o.ensures.0 o.ensures.1 l.inv.homes;
+      lead_long = length-set l.lead l.p d.lead-of.result ∙ l.inv.lead_long;
       next-long = k.kept.0 ∙ l.inv.next-long;
       head-long = k.kept.1.0 ∙ l.inv.head-long;
-      home-long = o.auto.0 ∙ l.inv.home-long;
+      home_long = o.auto.0 ∙ l.inv.home_long;
     }
 
 same_length : tie.Need-same-length invariant-loop decreases-loop

@@ -6,10 +6,10 @@ use lib.ListN.{length, set}
 use borrow.Author.Rules.{rules}
 use Rattle.grammar.specs.Limits.{limits}
 use Rattle.trees.specs.Trees.{places}
-use Rattle.counts.specs.Counts.{itemCell}
-use Rattle.chart.proofs.Cells.{cell-fits, few-runs}
+use Rattle.counts.specs.Counts.{item_cell}
+use Rattle.chart.proofs.Cells.{cell_fits, few_runs}
 use Rattle.chart_start.specs.Sown.{Diagonal}
-use Rattle.chart_start.proofs.DiagonalLaws.{diagonal-start, diagonal-more}
+use Rattle.chart_start.proofs.DiagonalLaws.{diagonal_start, diagonal_more}
 use Rattle.chart_start.proofs.diagonal.Statement.{statement}
 use Rattle.chart_start.proofs.diagonal.Tie as tie
 
@@ -20,20 +20,20 @@ abbrev decreases-loop : tie.decreases-loop
 decreases-loop work₀ m states h i₀ work i = m - i
 
 -- the cell of the place at hand is one of the work row, and small
-inside : (l : tie.At-loop invariant-loop decreases-loop) → let a = l.before.before.args in l.loop.i < a.m → itemCell a.m a.h l.loop.i l.loop.i < length l.loop.work
+inside : (l : tie.At-loop invariant-loop decreases-loop) → let a = l.before.before.args in l.loop.i < a.m → item_cell a.m a.h l.loop.i l.loop.i < length l.loop.work
 inside l g =
     let e = l.before.before in
     let a = e.args in
-    omega (arith, cell-fits a.m a.states a.h l.loop.i l.loop.i (length a.work.now) e.requires.3 g g e.requires.0, l.loop.invariant.1.size)
+    omega (arith, cell_fits a.m a.states a.h l.loop.i l.loop.i (length a.work.now) e.requires.3 g g e.requires.0, l.loop.invariant.1.size)
 
-few : (l : tie.At-loop invariant-loop decreases-loop) → let a = l.before.before.args in l.loop.i < a.m → itemCell a.m a.h l.loop.i l.loop.i < places * places * limits.maxStates
+few : (l : tie.At-loop invariant-loop decreases-loop) → let a = l.before.before.args in l.loop.i < a.m → item_cell a.m a.h l.loop.i l.loop.i < places * places * limits.max_states
 few l g =
     let e = l.before.before in
     let a = e.args in
-    omega (arith, few-runs a.h a.m l.loop.i (omega (arith, e.requires)) e.requires.1 g)
+    omega (arith, few_runs a.h a.m l.loop.i (omega (arith, e.requires)) e.requires.1 g)
 
 loop-holds : tie.Need-loop-init invariant-loop decreases-loop
-loop-holds c = let x = c.before.args in (omega arith, diagonal-start x.m x.h x.work.now)
+loop-holds c = let x = c.before.args in (omega arith, diagonal_start x.m x.h x.work.now)
 
 cell-requires : tie.Need-cell-requires invariant-loop decreases-loop
 cell-requires c κs = search rules
@@ -66,7 +66,7 @@ loop-again c =
     let a = l.before.before.args in (
       omega arith,
       subst (λ v. Diagonal a.m a.h (l.loop.i + 1) a.work.now (set l.loop.work k.cell.result v)) (sym c.plus.ensures)
-          (diagonal-more a.m a.h l.loop.i a.work.now l.loop.work k.cell.result (omega arith) k.cell.ensures
+          (diagonal_more a.m a.h l.loop.i a.work.now l.loop.work k.cell.result (omega arith) k.cell.ensures
           (omega (arith, k.cell.ensures, inside l (omega arith))) l.loop.invariant.1),
     )
 

@@ -2,7 +2,7 @@
 use mathlib.Core.Path.{subst}
 use native.Mathlib.Omega.{arith}
 use borrow.Author.Rules.{rules}
-use Rattle.chart.proofs.MadeLaws.{home-in}
+use Rattle.chart.proofs.MadeLaws.{home_in}
 use Rattle.chart_start.specs.Sown.{Diagonal}
 use Rattle.chart_start.proofs.sow_rule.Statement.{statement}
 use Rattle.chart_start.proofs.sow_rule.Tie as tie
@@ -18,7 +18,7 @@ diagonal-requires c κs =
     let h = c.before in
     let e = h.before.before.before in
     let a = e.args in
-    (e.requires.0.0, e.requires.0.1, e.requires.0.2, omega (arith, h.home-of.ensures, home-in a.home.now a.b a.states e.requires.0.3 e.requires.0.4))
+    (e.requires.0.0, e.requires.0.1, e.requires.0.2, omega (arith, h.home-of.ensures, home_in a.home.now a.b a.states e.requires.0.3 e.requires.0.4))
 
 same_length : tie.Need-same-length
 same_length c = search rules

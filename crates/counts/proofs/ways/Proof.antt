@@ -74,7 +74,7 @@ returns : tie.Need-returns
 returns c =
     let s = c.before.before.before.before in
     let a = s.args in
-    c.products.ensures ∙ ap cap (parts_all a.row.now a.m a.home a.after a.i a.j s.requires.rises s.requires.inside s.requires.home-cells s.requires.state-cells)
+    c.products.ensures ∙ ap cap (parts_all a.row.now a.m a.home a.after a.i a.j s.requires.rises s.requires.inside s.requires.home_cells s.requires.state-cells)
 
 pub ways-spec : {M : Type 1} → statement M
 ways-spec =

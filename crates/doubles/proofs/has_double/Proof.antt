@@ -5,17 +5,17 @@ use Prim.Native.Nat.{ℕ, ◌+◌, ◌-◌, ◌<◌}
 use mathlib.Core.Path.{◌≡◌, refl, ap, sym, ◌∙◌}
 use mathlib.Core.List.{List, ◌++◌}
 use lib.ListN.{length}
-use Rattle.text.specs.Names.{hasDouble}
+use Rattle.text.specs.Names.{has_double}
 use Rattle.text.specs.Read.{names_of}
 use Rattle.names.proofs.Pieces.{names-none}
-use Rattle.doubles.specs.Blocks.{namesFrom}
+use Rattle.doubles.specs.Blocks.{names_from}
 use Rattle.doubles.proofs.Blocks.{names-past, names-all, told-twice, told-next, none_left}
 use Rattle.doubles.proofs.has_double.Statement.{statement}
 use Rattle.doubles.proofs.has_double.Tie as tie
 
 abbrev invariant-loop : tie.invariant-loop
 invariant-loop earlier v starts₀ lengths₀ links₀ n a₀ starts lengths links a =
-    (length starts ≡ length starts₀) × (length lengths ≡ length lengths₀) × (length links ≡ length links₀) × (hasDouble (names_of earlier ++ namesFrom v a) ≡ hasDouble (names_of earlier ++ names_of v))
+    (length starts ≡ length starts₀) × (length lengths ≡ length lengths₀) × (length links ≡ length links₀) × (has_double (names_of earlier ++ names_from v a) ≡ has_double (names_of earlier ++ names_of v))
 
 abbrev decreases-loop : tie.decreases-loop
 decreases-loop earlier v starts₀ lengths₀ links₀ n a₀ starts lengths links a = length v + 1 - a
@@ -40,7 +40,7 @@ returns c =
 loop-holds : tie.Need-loop-init invariant-loop decreases-loop
 loop-holds c =
     let e = start c in
-    (refl, refl, refl, ap (λ (w : List (List ℕ)). hasDouble (names_of e.args.earlier.now ++ w)) (sym (names-all e.args.v.now (omega (arith, c.if1.false)))))
+    (refl, refl, refl, ap (λ (w : List (List ℕ)). has_double (names_of e.args.earlier.now ++ w)) (sym (names-all e.args.v.now (omega (arith, c.if1.false)))))
 
 try-block-requires : tie.Need-try-block-requires invariant-loop decreases-loop
 try-block-requires c κs =
@@ -78,7 +78,7 @@ returns-2 c =
 
 -- where the next block starts, and what is left
 next : (c : tie.After-known-told invariant-loop decreases-loop) → let l = turn (tried c.before.before) in let a = (start l.before).args in let b = c.before.next.given.0.0 in
-    (l.loop.a < b) × (hasDouble (names_of a.earlier.now ++ namesFrom a.v.now l.loop.a) ≡ hasDouble (names_of a.earlier.now ++ namesFrom a.v.now b))
+    (l.loop.a < b) × (has_double (names_of a.earlier.now ++ names_from a.v.now l.loop.a) ≡ has_double (names_of a.earlier.now ++ names_from a.v.now b))
 next c =
     let r = tried c.before.before in let l = turn r in let a = (start l.before).args in
     let b = c.before.next.given in

@@ -5,13 +5,13 @@ use Prim.Native.Nat.{◌+◌, ◌-◌}
 use mathlib.Core.Path.{◌≡◌, refl, sym, ◌∙◌}
 use lib.ListN.{length}
 use Rattle.text.specs.Spelled.{spelled}
-use Rattle.doubles.specs.Blocks.{meet, namesFrom}
+use Rattle.doubles.specs.Blocks.{meet, names_from}
 use Rattle.doubles.proofs.Blocks.{meet-found, meet-on, meet-past}
 use Rattle.doubles.proofs.shared.Statement.{statement}
 use Rattle.doubles.proofs.shared.Tie as tie
 
 abbrev invariant-loop : tie.invariant-loop
-invariant-loop u a v starts lengths links n next₀ next = meet (namesFrom u next) (spelled v starts lengths) ≡ meet (namesFrom u a) (spelled v starts lengths)
+invariant-loop u a v starts lengths links n next₀ next = meet (names_from u next) (spelled v starts lengths) ≡ meet (names_from u a) (spelled v starts lengths)
 
 abbrev decreases-loop : tie.decreases-loop
 decreases-loop u a v starts lengths links n next₀ next = length u + 1 - next

@@ -7,7 +7,7 @@ use mathlib.Core.List.{List}
 use lib.ListN.{length}
 use lib.Seq.{length-take-le}
 use Rattle.text.specs.Read.{names_of}
-use Rattle.doubles.proofs.Blocks.{told-stand, told-on}
+use Rattle.doubles.proofs.Blocks.{told_stand, told-on}
 use Rattle.doubles.proofs.try_block.Statement.{statement}
 use Rattle.doubles.proofs.try_block.Tie as tie
 
@@ -76,7 +76,7 @@ same-length-3 c = search rules
 returns : tie.Need-returns
 returns c =
     let s = c.before.before.before in let k = tried s in let e = start k in
-    told-stand (names_of e.args.earlier.now) e.args.v.now e.args.a _ _ k.keep.result.next k.keep.ensures.1.1
+    told_stand (names_of e.args.earlier.now) e.args.v.now e.args.a _ _ k.keep.result.next k.keep.ensures.1.1
     (sym s.stand-twice.ensures ∙ c.if1.true)
 
 same-length-4 : tie.Need-same-length-4

@@ -4,12 +4,12 @@ use borrow.Author.Rules.{rules}
 use Prim.Native.Nat.{◌-◌}
 use mathlib.Core.Path.{◌≡◌, sym, ◌∙◌}
 use Rattle.grammar.specs.Refusal.{done}
-use Rattle.table_check.proofs.WalkLaws.{length-read, fault-read}
-use Rattle.drafts.specs.Edits.{openRow}
+use Rattle.table_check.proofs.WalkLaws.{length-read, fault_read}
+use Rattle.drafts.specs.Edits.{open_row}
 use Rattle.drafts.specs.Draft.{add}
 use Rattle.drafts.specs.Row.{stepped}
-use Rattle.drafts.proofs.Adds.{Added, add-fault, add_done}
-use Rattle.drafts.proofs.Opens.{opened-told, shut-told, shut-steps, leaves-refused, leaves-done}
+use Rattle.drafts.proofs.Adds.{Added, add_fault, add_done}
+use Rattle.drafts.proofs.Opens.{opened-told, shut-told, shut_steps, leaves_refused, leaves_done}
 use Rattle.drafts.proofs.add_rule.Statement.{statement}
 use Rattle.drafts.proofs.add_rule.Tie as tie
 use Rattle.drafts.proofs.add_rule.Reads as reads
@@ -25,8 +25,8 @@ abbrev start : tie.After-known-told2 → tie.Start
 start c = c.before.before.before.before.before.before.before
 
 -- the row holds a draft
-opened-at : (c : tie.After-known-told2) → openRow (start c).args.draft.now ≡ done c.before.opened2.given.0.0
-opened-at c = opened-told (openRow (start c).args.draft.now) c.before.opened2.given.0.0 (sym c.before.before.before.open-draft.ensures ∙ c.before.opened2.given.1)
+opened-at : (c : tie.After-known-told2) → open_row (start c).args.draft.now ≡ done c.before.opened2.given.0.0
+opened-at c = opened-told (open_row (start c).args.draft.now) c.before.opened2.given.0.0 (sym c.before.before.before.open-draft.ensures ∙ c.before.opened2.given.1)
 
 abbrev told : tie.After-known-told4 → tie.After-known-told2
 told c = c.before.before.before.before.before
@@ -51,8 +51,8 @@ returns : tie.Need-returns
 returns c =
     let a = (shut c).args in
     let g = c.before.opened.given in
-    leaves-refused (stepped a.draft.now (add a.entries.now)) a.draft.now g.0.0 g.0.1.0
-    (shut-steps a.draft.now (add a.entries.now) g.0.0 g.0.1.0 (shut-told (openRow a.draft.now) g.0.0 g.0.1.0 (sym c.before.before.before.open-draft.ensures ∙ g.1)))
+    leaves_refused (stepped a.draft.now (add a.entries.now)) a.draft.now g.0.0 g.0.1.0
+    (shut_steps a.draft.now (add a.entries.now) g.0.0 g.0.1.0 (shut-told (open_row a.draft.now) g.0.0 g.0.1.0 (sym c.before.before.before.open-draft.ensures ∙ g.1)))
 
 enum-known-opened-2 : tie.Need-enum-known-opened-2
 enum-known-opened-2 c = search rules
@@ -70,8 +70,8 @@ returns-2 : tie.Need-returns-2
 returns-2 c =
     let a = (start c.before.before.before.before.before).args in
     let g = c.before.read.given in
-    leaves-refused (stepped a.draft.now (add a.entries.now)) a.draft.now g.0.0 g.0.1.0
-    (add-fault a.draft.now _ a.entries.now g.0.0 g.0.1.0 (opened-at c.before.before.before.before.before) (fault-read _ g.0.0 g.0.1.0 (sym c.before.before.before.try-rule.ensures ∙ g.1)))
+    leaves_refused (stepped a.draft.now (add a.entries.now)) a.draft.now g.0.0 g.0.1.0
+    (add_fault a.draft.now _ a.entries.now g.0.0 g.0.1.0 (opened-at c.before.before.before.before.before) (fault_read _ g.0.0 g.0.1.0 (sym c.before.before.before.try-rule.ensures ∙ g.1)))
 
 enum-known-read-2 : tie.Need-enum-known-read-2
 enum-known-read-2 c = search rules
@@ -85,7 +85,7 @@ same-length-3 c = search rules
 returns-3 : tie.Need-returns-3
 returns-3 c =
     let a = (start (told c.before.before.before.before)).args in
-    leaves-done (stepped a.draft.now (add a.entries.now)) a.draft.now _ _ (added c.before.before.before.before).leads c.before.before.append.ensures
+    leaves_done (stepped a.draft.now (add a.entries.now)) a.draft.now _ _ (added c.before.before.before.before).leads c.before.before.append.ensures
 
 pub add-rule-spec : {M : Type 1} → statement M
 add-rule-spec =

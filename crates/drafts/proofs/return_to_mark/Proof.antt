@@ -5,12 +5,12 @@ use Prim.Native.Nat.{◌-◌}
 use mathlib.Core.Path.{◌≡◌, sym, ◌∙◌}
 use mathlib.Core.Logic.{inl, inr}
 use native.Mathlib.Omega.{arith}
-use Rattle.grammar.specs.Refusal.{done, notPresent}
-use Rattle.drafts.specs.Edits.{openRow}
+use Rattle.grammar.specs.Refusal.{done, not_present}
+use Rattle.drafts.specs.Edits.{open_row}
 use Rattle.drafts.specs.Draft.{return}
 use Rattle.drafts.specs.Row.{stepped}
-use Rattle.drafts.proofs.Opens.{opened-told, shut-told, shut-steps, leaves-refused, leaves-done}
-use Rattle.drafts.proofs.Marks.{return-unknown, return-nothing, return-done, return-apart, open-holds}
+use Rattle.drafts.proofs.Opens.{opened-told, shut-told, shut_steps, leaves_refused, leaves_done}
+use Rattle.drafts.proofs.Marks.{return_unknown, return-nothing, return-done, return_apart, open_holds}
 use Rattle.drafts.proofs.return_to_mark.Statement.{statement}
 use Rattle.drafts.proofs.return_to_mark.Tie as tie
 use Rattle.drafts.proofs.return_to_mark.Reads as reads
@@ -29,8 +29,8 @@ abbrev start : tie.After-known-told2 → tie.Start
 start c = c.before.before.before.before.before.before
 
 -- the row holds a draft
-opened-at : (c : tie.After-known-told2) → openRow (start c).args.draft.now ≡ done c.before.opened2.given.0.0
-opened-at c = opened-told (openRow (start c).args.draft.now) c.before.opened2.given.0.0 (sym c.before.before.before.open-draft.ensures ∙ c.before.opened2.given.1)
+opened-at : (c : tie.After-known-told2) → open_row (start c).args.draft.now ≡ done c.before.opened2.given.0.0
+opened-at c = opened-told (open_row (start c).args.draft.now) c.before.opened2.given.0.0 (sym c.before.before.before.open-draft.ensures ∙ c.before.opened2.given.1)
 
 open-draft-requires : tie.Need-open-draft-requires
 open-draft-requires c κs = search rules
@@ -45,8 +45,8 @@ returns : tie.Need-returns
 returns c =
     let a = (shut c).args in
     let g = c.before.opened.given in
-    leaves-refused (stepped a.draft.now (return a.number)) a.draft.now g.0.0 g.0.1.0
-    (shut-steps a.draft.now (return a.number) g.0.0 g.0.1.0 (shut-told (openRow a.draft.now) g.0.0 g.0.1.0 (sym c.before.before.before.open-draft.ensures ∙ g.1)))
+    leaves_refused (stepped a.draft.now (return a.number)) a.draft.now g.0.0 g.0.1.0
+    (shut_steps a.draft.now (return a.number) g.0.0 g.0.1.0 (shut-told (open_row a.draft.now) g.0.0 g.0.1.0 (sym c.before.before.before.open-draft.ensures ∙ g.1)))
 
 enum-known-opened-2 : tie.Need-enum-known-opened-2
 enum-known-opened-2 c = search rules
@@ -57,7 +57,7 @@ same-length-2 c = search rules
 returns-2 : tie.Need-returns-2
 returns-2 c =
     let a = (start c.before).args in
-    leaves-refused (stepped a.draft.now (return a.number)) a.draft.now notPresent a.number (return-unknown a.draft.now _ a.number (opened-at c.before) (inl c.if1.true))
+    leaves_refused (stepped a.draft.now (return a.number)) a.draft.now not_present a.number (return_unknown a.draft.now _ a.number (opened-at c.before) (inl c.if1.true))
 
 same-length-3 : tie.Need-same-length-3
 same-length-3 c = search rules
@@ -65,12 +65,12 @@ same-length-3 c = search rules
 returns-3 : tie.Need-returns-3
 returns-3 c =
     let a = (start c.before.before).args in
-    leaves-refused (stepped a.draft.now (return a.number)) a.draft.now notPresent a.number (return-unknown a.draft.now _ a.number (opened-at c.before.before) (inr c.if2.true))
+    leaves_refused (stepped a.draft.now (return a.number)) a.draft.now not_present a.number (return_unknown a.draft.now _ a.number (opened-at c.before.before) (inr c.if2.true))
 
 held-requires : tie.Need-held-requires
 held-requires c κs =
     let a = (start c.before.before.before).args in
-    open-holds a.draft.now _ a.number (opened-at c.before.before.before) (omega (arith, c.before.if2.false))
+    open_holds a.draft.now _ a.number (opened-at c.before.before.before) (omega (arith, c.before.if2.false))
 
 enum_told : tie.Need-enum-told
 enum_told c = search rules
@@ -85,7 +85,7 @@ returns-4 c =
     let o = two.before.before in
     let a = (start o).args in
     let row = a.draft.now in
-    leaves-refused (stepped row (return a.number)) row notPresent a.number
+    leaves_refused (stepped row (return a.number)) row not_present a.number
     (return-nothing row _ a.number (opened-at o) (omega (arith, two.before.if1.false)) (omega (arith, two.if2.false)) (sym h.held.ensures ∙ c.enum_told.given.1))
 
 enum-known-found : tie.Need-enum-known-found
@@ -104,7 +104,7 @@ copy-within-requires c κs =
     let o = two.before.before in
     let a = (start o).args in
     let g = c.before.before.found.given in
-    return-apart a.draft.now _ a.number g.0.0 (opened-at o) (omega (arith, two.if2.false)) (sym h.held.ensures ∙ g.1)
+    return_apart a.draft.now _ a.number g.0.0 (opened-at o) (omega (arith, two.if2.false)) (sym h.held.ensures ∙ g.1)
 
 same-length-5 : tie.Need-same-length-5
 same-length-5 c = search rules
@@ -117,7 +117,7 @@ returns-5 c =
     let a = (start o).args in
     let row = a.draft.now in
     let g = c.before.before.before.before.before.found.given in
-    leaves-done (stepped row (return a.number)) row _ _
+    leaves_done (stepped row (return a.number)) row _ _
     (return-done row _ a.number g.0.0 (opened-at o) (omega (arith, two.before.if1.left)) (omega (arith, two.if2.left)) (sym h.held.ensures ∙ g.1))
     c.before.before.copy_within.ensures
 

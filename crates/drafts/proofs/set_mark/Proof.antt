@@ -5,12 +5,12 @@ use Prim.Native.Nat.{◌-◌}
 use mathlib.Core.Path.{◌≡◌, sym, ◌∙◌}
 use mathlib.Core.Logic.{inl, inr}
 use native.Mathlib.Omega.{arith}
-use Rattle.grammar.specs.Refusal.{done, notPresent}
-use Rattle.drafts.specs.Edits.{openRow}
+use Rattle.grammar.specs.Refusal.{done, not_present}
+use Rattle.drafts.specs.Edits.{open_row}
 use Rattle.drafts.specs.Draft.{mark}
 use Rattle.drafts.specs.Row.{stepped}
-use Rattle.drafts.proofs.Opens.{opened-told, shut-told, shut-steps, leaves-refused, leaves-done}
-use Rattle.drafts.proofs.Marks.{mark-unknown, mark-done, mark-apart}
+use Rattle.drafts.proofs.Opens.{opened-told, shut-told, shut_steps, leaves_refused, leaves_done}
+use Rattle.drafts.proofs.Marks.{mark_unknown, mark-done, mark_apart}
 use Rattle.drafts.proofs.set_mark.Statement.{statement}
 use Rattle.drafts.proofs.set_mark.Tie as tie
 use Rattle.drafts.proofs.set_mark.Reads as reads
@@ -25,8 +25,8 @@ abbrev start : tie.After-known-told2 → tie.Start
 start c = c.before.before.before.before.before.before
 
 -- the row holds a draft
-opened-at : (c : tie.After-known-told2) → openRow (start c).args.draft.now ≡ done c.before.opened2.given.0.0
-opened-at c = opened-told (openRow (start c).args.draft.now) c.before.opened2.given.0.0 (sym c.before.before.before.open-draft.ensures ∙ c.before.opened2.given.1)
+opened-at : (c : tie.After-known-told2) → open_row (start c).args.draft.now ≡ done c.before.opened2.given.0.0
+opened-at c = opened-told (open_row (start c).args.draft.now) c.before.opened2.given.0.0 (sym c.before.before.before.open-draft.ensures ∙ c.before.opened2.given.1)
 
 open-draft-requires : tie.Need-open-draft-requires
 open-draft-requires c κs = search rules
@@ -41,8 +41,8 @@ returns : tie.Need-returns
 returns c =
     let a = (shut c).args in
     let g = c.before.opened.given in
-    leaves-refused (stepped a.draft.now (mark a.number)) a.draft.now g.0.0 g.0.1.0
-    (shut-steps a.draft.now (mark a.number) g.0.0 g.0.1.0 (shut-told (openRow a.draft.now) g.0.0 g.0.1.0 (sym c.before.before.before.open-draft.ensures ∙ g.1)))
+    leaves_refused (stepped a.draft.now (mark a.number)) a.draft.now g.0.0 g.0.1.0
+    (shut_steps a.draft.now (mark a.number) g.0.0 g.0.1.0 (shut-told (open_row a.draft.now) g.0.0 g.0.1.0 (sym c.before.before.before.open-draft.ensures ∙ g.1)))
 
 enum-known-opened-2 : tie.Need-enum-known-opened-2
 enum-known-opened-2 c = search rules
@@ -53,7 +53,7 @@ same-length-2 c = search rules
 returns-2 : tie.Need-returns-2
 returns-2 c =
     let a = (start c.before).args in
-    leaves-refused (stepped a.draft.now (mark a.number)) a.draft.now notPresent a.number (mark-unknown a.draft.now _ a.number (opened-at c.before) (inl c.if1.true))
+    leaves_refused (stepped a.draft.now (mark a.number)) a.draft.now not_present a.number (mark_unknown a.draft.now _ a.number (opened-at c.before) (inl c.if1.true))
 
 same-length-3 : tie.Need-same-length-3
 same-length-3 c = search rules
@@ -61,7 +61,7 @@ same-length-3 c = search rules
 returns-3 : tie.Need-returns-3
 returns-3 c =
     let a = (start c.before.before).args in
-    leaves-refused (stepped a.draft.now (mark a.number)) a.draft.now notPresent a.number (mark-unknown a.draft.now _ a.number (opened-at c.before.before) (inr c.if2.true))
+    leaves_refused (stepped a.draft.now (mark a.number)) a.draft.now not_present a.number (mark_unknown a.draft.now _ a.number (opened-at c.before.before) (inr c.if2.true))
 
 mul-to : tie.Need-overflow-mul-to
 mul-to c = search rules
@@ -73,7 +73,7 @@ copy-within-requires : tie.Need-copy-within-requires
 copy-within-requires c κs =
     let o = c.before.before.before in
     let a = (start o).args in
-    mark-apart a.draft.now _ a.number (opened-at o) (omega (arith, c.before.before.if1.false)) (omega (arith, c.before.if2.false))
+    mark_apart a.draft.now _ a.number (opened-at o) (omega (arith, c.before.before.if1.false)) (omega (arith, c.before.if2.false))
 
 same-length-4 : tie.Need-same-length-4
 same-length-4 c = search rules
@@ -84,7 +84,7 @@ returns-4 c =
     let o = two.before.before in
     let a = (start o).args in
     let row = a.draft.now in
-    leaves-done (stepped row (mark a.number)) row _ _
+    leaves_done (stepped row (mark a.number)) row _ _
     (mark-done row _ a.number (opened-at o) (omega (arith, two.before.if1.false)) (omega (arith, two.if2.false)))
     c.before.before.copy_within.ensures
 

@@ -6,13 +6,13 @@ use mathlib.Core.Path.{◌≡◌, sym, ◌∙◌}
 use mathlib.Core.Logic.{inl, inr}
 use native.Mathlib.Omega.{arith}
 use lib.ListN.{get_or}
-use Rattle.grammar.specs.Refusal.{done, notPresent}
-use Rattle.drafts.specs.Edits.{openRow}
+use Rattle.grammar.specs.Refusal.{done, not_present}
+use Rattle.drafts.specs.Edits.{open_row}
 use Rattle.drafts.specs.Draft.{withdraw}
 use Rattle.drafts.specs.Row.{stepped}
-use Rattle.drafts.proofs.Removals.{withdraw-unknown, withdraw-done, reaches, removable}
+use Rattle.drafts.proofs.Removals.{withdraw_unknown, withdraw-done, reaches, removable}
 use Rattle.drafts.proofs.Readouts.{table-room}
-use Rattle.drafts.proofs.Opens.{opened-told, shut-told, shut-steps, leaves-refused, leaves-done}
+use Rattle.drafts.proofs.Opens.{opened-told, shut-told, shut_steps, leaves_refused, leaves_done}
 use Rattle.drafts.proofs.withdraw_rule.Statement.{statement}
 use Rattle.drafts.proofs.withdraw_rule.Tie as tie
 use Rattle.drafts.proofs.withdraw_rule.Reads as reads
@@ -32,8 +32,8 @@ abbrev start : tie.After-known-told2 → tie.Start
 start c = c.before.before.before.before.before.before
 
 -- the row holds a draft
-opened-at : (c : tie.After-known-told2) → openRow (start c).args.draft.now ≡ done c.before.opened2.given.0.0
-opened-at c = opened-told (openRow (start c).args.draft.now) c.before.opened2.given.0.0 (sym c.before.before.before.open-draft.ensures ∙ c.before.opened2.given.1)
+opened-at : (c : tie.After-known-told2) → open_row (start c).args.draft.now ≡ done c.before.opened2.given.0.0
+opened-at c = opened-told (open_row (start c).args.draft.now) c.before.opened2.given.0.0 (sym c.before.before.before.open-draft.ensures ∙ c.before.opened2.given.1)
 
 -- the number is a rule's
 counted : (c : tie.Else2) → let a = (start c.before.before.before.before).args in (1 ≤ a.number) × (a.number < get_or a.draft.now 2 0)
@@ -56,8 +56,8 @@ returns : tie.Need-returns
 returns c =
     let a = (shut c).args in
     let g = c.before.opened.given in
-    leaves-refused (stepped a.draft.now (withdraw a.number)) a.draft.now g.0.0 g.0.1.0
-    (shut-steps a.draft.now (withdraw a.number) g.0.0 g.0.1.0 (shut-told (openRow a.draft.now) g.0.0 g.0.1.0 (sym c.before.before.before.open-draft.ensures ∙ g.1)))
+    leaves_refused (stepped a.draft.now (withdraw a.number)) a.draft.now g.0.0 g.0.1.0
+    (shut_steps a.draft.now (withdraw a.number) g.0.0 g.0.1.0 (shut-told (open_row a.draft.now) g.0.0 g.0.1.0 (sym c.before.before.before.open-draft.ensures ∙ g.1)))
 
 enum-known-opened-2 : tie.Need-enum-known-opened-2
 enum-known-opened-2 c = search rules
@@ -68,7 +68,7 @@ same-length-2 c = search rules
 returns-2 : tie.Need-returns-2
 returns-2 c =
     let a = (start c.before).args in
-    leaves-refused (stepped a.draft.now (withdraw a.number)) a.draft.now notPresent a.number (withdraw-unknown a.draft.now _ (opened-at c.before) a.number (inl c.if1.true))
+    leaves_refused (stepped a.draft.now (withdraw a.number)) a.draft.now not_present a.number (withdraw_unknown a.draft.now _ (opened-at c.before) a.number (inl c.if1.true))
 
 slice-read-wide : tie.Need-slice-read-wide
 slice-read-wide c = let r = table-room (start c.before.before).args.draft.now _ (opened-at c.before.before) in omega (arith, r.2)
@@ -84,7 +84,7 @@ returns-3 c =
     let a = (start c.before.before.before.before).args in
     let e = c.before.wide.ensures in
     let t = c.if2.true in
-    leaves-refused (stepped a.draft.now (withdraw a.number)) a.draft.now notPresent a.number (withdraw-unknown a.draft.now _ (opened-at c.before.before.before.before) a.number (inr (omega (arith, e, t))))
+    leaves_refused (stepped a.draft.now (withdraw a.number)) a.draft.now not_present a.number (withdraw_unknown a.draft.now _ (opened-at c.before.before.before.before) a.number (inr (omega (arith, e, t))))
 
 rule-place-requires : tie.Need-rule-place-requires
 rule-place-requires c κs =
@@ -121,7 +121,7 @@ returns-4 c =
     let a = (start o).args in
     let row = a.draft.now in
     let n = counted two in
-    leaves-done (stepped row (withdraw a.number)) row _ _
+    leaves_done (stepped row (withdraw a.number)) row _ _
     (withdraw-done row _ (opened-at o) a.number _ n.0 n.1 c.before.before.before.before.rule-place.ensures)
     c.before.before.remove.ensures
 

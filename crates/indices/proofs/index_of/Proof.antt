@@ -8,11 +8,11 @@ use Rattle.indices.proofs.index_of.Statement.{statement}
 use Rattle.indices.proofs.index_of.Tie as tie
 
 -- the products of a layer and a state
-products : (Q f p : ℕ) → Q ≤ limits.maxStates → f < 2 ^ 8 → p < 2 ^ 16
-    → (Q * Q ≤ limits.maxStates * limits.maxStates) × (f * (Q * Q) ≤ 2 ^ 8 * (limits.maxStates * limits.maxStates)) × (p * Q ≤ 2 ^ 16 * limits.maxStates)
+products : (Q f p : ℕ) → Q ≤ limits.max_states → f < 2 ^ 8 → p < 2 ^ 16
+    → (Q * Q ≤ limits.max_states * limits.max_states) × (f * (Q * Q) ≤ 2 ^ 8 * (limits.max_states * limits.max_states)) × (p * Q ≤ 2 ^ 16 * limits.max_states)
 products Q f p h l s =
-    let k : Q * Q ≤ limits.maxStates * limits.maxStates = mul-le-mul {n₂ = limits.maxStates} {m₂ = limits.maxStates} h h in
-    (k, mul-le-mul {n₂ = 2 ^ 8} {m₂ = limits.maxStates * limits.maxStates} (omega arith) k, mul-le-mul {n₂ = 2 ^ 16} {m₂ = limits.maxStates} (omega arith) h)
+    let k : Q * Q ≤ limits.max_states * limits.max_states = mul-le-mul {n₂ = limits.max_states} {m₂ = limits.max_states} h h in
+    (k, mul-le-mul {n₂ = 2 ^ 8} {m₂ = limits.max_states * limits.max_states} (omega arith) k, mul-le-mul {n₂ = 2 ^ 16} {m₂ = limits.max_states} (omega arith) h)
 
 mul-result : tie.Need-overflow-mul-result
 mul-result c = let a = c.args in omega (arith, products a.q a.f a.p c.requires.0 c.requires.1 c.requires.2)

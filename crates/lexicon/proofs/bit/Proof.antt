@@ -3,7 +3,7 @@ use borrow.Author.Rules.{rules}
 use native.Mathlib.Omega.{arith}
 use Prim.Native.Nat.{ℕ, ◌-◌, ◌/◌, ◌%◌, ◌^◌}
 use mathlib.Core.Path.{sym, ap, ◌∙◌}
-use Rattle.lexicon.specs.Tree.{keyBits}
+use Rattle.lexicon.specs.Tree.{key_bits}
 use Rattle.lexicon.proofs.Tree.{turn-key, turn-past, turn_byte}
 use Rattle.lexicon.proofs.bit.Statement.{statement}
 use Rattle.lexicon.proofs.bit.Tie as tie
@@ -41,7 +41,7 @@ wide-byte-requires c κs = search rules
 
 returns-3 : tie.Need-returns-3
 returns-3 c = let a = c.before.before.before.before.before.before.args in (
-  sym (turn_byte a.x.now a.d (omega arith) (omega arith) ∙ ap (λ (w : ℕ). w / 2 ^ ((a.d - keyBits) % 8) % 2) (sym c.before.fold.ensures)
+  sym (turn_byte a.x.now a.d (omega arith) (omega arith) ∙ ap (λ (w : ℕ). w / 2 ^ ((a.d - key_bits) % 8) % 2) (sym c.before.fold.ensures)
       ∙ sym c.wide-byte.ensures.0),
   omega arith,
 )

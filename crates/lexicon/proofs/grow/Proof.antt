@@ -9,17 +9,17 @@ use mathlib.Core.Logic.{⊎_elim}
 use borrow.Author.Tests.{eqb-true, eqb-false}
 use lib.Dec.{eqb}
 use lib.ListN.{length, length-set}
-use Rattle.text.specs.Names.{sameName}
+use Rattle.text.specs.Names.{same_name}
 use Rattle.lexicon.specs.Tree.{name_of, Grown, Gap}
 use Rattle.lexicon.proofs.Tree.{grow, told_same, told_free}
-use Rattle.lexicon.proofs.Numbers.{part-is, double-at}
+use Rattle.lexicon.proofs.Numbers.{part_is, double_at}
 use Rattle.lexicon.proofs.Growth.{Begun, begun-root, begun-later}
 use Rattle.lexicon.proofs.grow.Statement.{statement}
 use Rattle.lexicon.proofs.grow.Tie as tie
 
 -- the first names are apart
 abbrev Separate : (ℕ → List ℕ) → ℕ → Type 0
-Separate name k = (i j : ℕ) → i < j → j < k → sameName (name j) (name i) ≡ false
+Separate name k = (i j : ℕ) → i < j → j < k → same_name (name j) (name i) ≡ false
 
 abbrev invariant-loop : tie.invariant-loop
 invariant-loop text starts lengths links₀ from n k₀ links k =
@@ -54,29 +54,29 @@ inside c =
     omega (arith, c.before.before.wide.ensures, c.wide2.ensures, e.pre.spans.inside l.loop.k (omega (arith, (test c).loop-test.true)))
 
 -- a gap for the part is one for the name
-gap-for : (name : ℕ → List ℕ) (C : List ℕ) (k i : ℕ) (x y : List ℕ) → x ≡ y → Gap name C k x i → Gap name C k y i
-gap-for name C k i x y e g = subst (λ (w : List ℕ). Gap name C k w i) e g
+gap_for : (name : ℕ → List ℕ) (C : List ℕ) (k i : ℕ) (x y : List ℕ) → x ≡ y → Gap name C k x i → Gap name C k y i
+gap_for name C k i x y e g = subst (λ (w : List ℕ). Gap name C k w i) e g
 
 gap : (c : tie.After-known-told invariant-loop decreases-loop) → let l = turn (spelt c.before.before.before) in Gap (name (start l)) l.loop.links l.loop.k (name (start l) l.loop.k) c.before.i.given.0.0
 gap c =
     let s = c.before.before.before in let w = spelt s in let l = turn w in let e = start l in let a = e.args in
     let i = c.before.i.given in
-    gap-for (name e) l.loop.links l.loop.k i.0.0 _ (name e l.loop.k)
-    (part-is a.text.now a.starts.now a.lengths.now l.loop.k w.before.before.wide.result w.wide2.result w.before.before.wide.ensures w.wide2.ensures)
+    gap_for (name e) l.loop.links l.loop.k i.0.0 _ (name e l.loop.k)
+    (part_is a.text.now a.starts.now a.lengths.now l.loop.k w.before.before.wide.result w.wide2.result w.before.before.wide.ensures w.wide2.ensures)
     (told_free (name e) l.loop.links l.loop.k _ s.seek.result i.0.0 i.1 s.seek.ensures)
 
 -- one name more is apart
-separate-more : (f : ℕ → List ℕ) (k : ℕ) → Separate f k → ((i : ℕ) → i < k → sameName (f k) (f i) ≡ false) → Separate f (k + 1)
-separate-more f k old new i j h l = go (eqb j k) refl
+separate_more : (f : ℕ → List ℕ) (k : ℕ) → Separate f k → ((i : ℕ) → i < k → same_name (f k) (f i) ≡ false) → Separate f (k + 1)
+separate_more f k old new i j h l = go (eqb j k) refl
   where
-    go : (t : Bool) → eqb j k ≡ t → sameName (f j) (f i) ≡ false
-    go true e = ap (λ (w : ℕ). sameName (f w) (f i)) (eqb-true j k e) ∙ new i (omega (arith, eqb-true j k e))
+    go : (t : Bool) → eqb j k ≡ t → same_name (f j) (f i) ≡ false
+    go true e = ap (λ (w : ℕ). same_name (f w) (f i)) (eqb-true j k e) ∙ new i (omega (arith, eqb-true j k e))
     go false e = old i j h (omega (arith, eqb-false j k e))
 
 returns : tie.Need-returns invariant-loop decreases-loop
 returns c =
     let e = c.before.before.before.before.before in let a = e.args in (
-      sym (double-at a.text.now a.starts.now a.lengths.now e.requires.spans 0 (omega arith) (λ i j h l. absurd (omega arith)) (λ h. absurd (omega (arith, h, c.if1.true)))),
+      sym (double_at a.text.now a.starts.now a.lengths.now e.requires.spans 0 (omega arith) (λ i j h l. absurd (omega arith)) (λ h. absurd (omega (arith, h, c.if1.true)))),
       λ q. record {
         spans = e.requires.spans;
         few = e.requires.few;
@@ -149,9 +149,9 @@ returns-2 c =
     let s = c.before.before in let w = spelt s in let l = turn w in let e = start l in let a = e.args in
     let t = (test w).loop-test.taken in
     let h = told_same (name e) l.loop.links l.loop.k _ s.seek.result c.enum_told.given.0.0 c.enum_told.given.1 s.seek.ensures in
-    let p = part-is a.text.now a.starts.now a.lengths.now l.loop.k w.before.before.wide.result w.wide2.result w.before.before.wide.ensures w.wide2.ensures in (
-      sym (double-at a.text.now a.starts.now a.lengths.now e.pre.spans l.loop.k l.loop.inv.1 l.loop.inv.4
-          (λ q. (c.enum_told.given.0.0, h.inside, ap (λ (w : List ℕ). sameName w (name e c.enum_told.given.0.0)) (sym p) ∙ h.same))),
+    let p = part_is a.text.now a.starts.now a.lengths.now l.loop.k w.before.before.wide.result w.wide2.result w.before.before.wide.ensures w.wide2.ensures in (
+      sym (double_at a.text.now a.starts.now a.lengths.now e.pre.spans l.loop.k l.loop.inv.1 l.loop.inv.4
+          (λ q. (c.enum_told.given.0.0, h.inside, ap (λ (w : List ℕ). same_name w (name e c.enum_told.given.0.0)) (sym p) ∙ h.same))),
       λ q. absurd (omega (arith, q, t)),
     )
 
@@ -181,7 +181,7 @@ loop-again c =
       omega (arith, t),
       length-set l.loop.links c.before.i.given.0.0 l.loop.k ∙ l.loop.inv.2,
       grow (name e) l.loop.links l.loop.k c.before.i.given.0.0 l.loop.inv.3 g (omega (arith, g.near, l.loop.inv.1, l.loop.inv.2, e.pre.room)),
-      separate-more (name e) l.loop.k l.loop.inv.4 g.absent,
+      separate_more (name e) l.loop.k l.loop.inv.4 g.absent,
     )
 
 same-length-2 : tie.Need-same-length-2 invariant-loop decreases-loop
@@ -193,7 +193,7 @@ returns-3 c =
     let z : l.loop.k ≡ length a.starts.now = omega (arith, c.loop-test.false, l.loop.invariant.1) in
     let g = subst (λ (k : ℕ). Grown (name e) l.loop.links k) z l.loop.invariant.3 in
     let s = subst (λ (k : ℕ). Separate (name e) k) z l.loop.invariant.4 in (
-      sym (double-at a.text.now a.starts.now a.lengths.now e.pre.spans (length a.starts.now) (omega arith) s (λ h. absurd (omega (arith, h)))),
+      sym (double_at a.text.now a.starts.now a.lengths.now e.pre.spans (length a.starts.now) (omega arith) s (λ h. absurd (omega (arith, h)))),
       λ q. record { spans = e.pre.spans; few = e.pre.few; room = omega (arith, e.pre.room, l.loop.invariant.2); bare = λ z. absurd (omega (arith, z, l.loop.invariant.0)); grown = λ h. g; apart = s },
     )
 

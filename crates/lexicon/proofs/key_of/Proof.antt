@@ -4,13 +4,13 @@ use native.Mathlib.Omega.{arith}
 use Prim.Native.Nat.{◌-◌, ◌≤◌}
 use mathlib.Core.Path.{◌≡◌, sym, ◌∙◌}
 use lib.ListN.{length, drop}
-use Rattle.lexicon.specs.Tree.{foldedName, keyFrom, keyOf}
+use Rattle.lexicon.specs.Tree.{folded_name, key_from, key_of}
 use Rattle.lexicon.proofs.Tree.{key-start, key_more, key-end}
 use Rattle.lexicon.proofs.key_of.Statement.{statement}
 use Rattle.lexicon.proofs.key_of.Tie as tie
 
 abbrev invariant-loop : tie.invariant-loop
-invariant-loop x key₀ i₀ key i = (i ≤ length x) × (keyFrom key (foldedName (drop i x)) ≡ keyOf (foldedName x))
+invariant-loop x key₀ i₀ key i = (i ≤ length x) × (key_from key (folded_name (drop i x)) ≡ key_of (folded_name x))
 
 abbrev decreases-loop : tie.decreases-loop
 decreases-loop x key₀ i₀ key i = length x - i

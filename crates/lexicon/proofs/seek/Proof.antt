@@ -6,9 +6,9 @@ use mathlib.Core.Path.{◌≡◌, sym, ap, ◌∙◌}
 use mathlib.Core.Bool.{Bool, true, false}
 use mathlib.Core.List.{List}
 use lib.ListN.{length, get_or}
-use Rattle.text.specs.Names.{sameName}
+use Rattle.text.specs.Names.{same_name}
 use Rattle.lexicon.specs.Tree.{name_of}
-use Rattle.lexicon.proofs.Tree.{Still, Led, seek-start, seek-on, seek-gap}
+use Rattle.lexicon.proofs.Tree.{Still, Led, seek_start, seek_on, seek_gap}
 use Rattle.lexicon.proofs.Numbers.{compared}
 use Rattle.lexicon.proofs.seek.Statement.{statement}
 use Rattle.lexicon.proofs.seek.Tie as tie
@@ -43,7 +43,7 @@ inside c =
     omega (arith, c.before.before.wide.ensures, c.wide2.ensures, e.pre.0.0.inside l.loop.q (omega (arith, l.loop.inv.0, e.pre.0.1)))
 
 same : (c : tie.After-same-name invariant-loop decreases-loop) (t : Bool) → c.same_name.result ≡ t → let l = turn (spelt c) in let e = start l in
-    sameName e.args.x.now (name e l.loop.q) ≡ t
+    same_name e.args.x.now (name e l.loop.q) ≡ t
 same c t h =
     let w = spelt c in let l = turn w in let e = start l in let a = e.args in
     compared a.text.now a.starts.now a.lengths.now a.x.now l.loop.q w.before.before.wide.result w.wide2.result c.same_name.result t
@@ -55,7 +55,7 @@ key-of-requires c κs = search rules
 loop-holds : tie.Need-loop-init invariant-loop decreases-loop
 loop-holds c =
     let e = c.before.before.before.before.before.before in
-    let s = seek-start (name e) e.args.links.now e.args.count e.args.x.now e.requires.1 in
+    let s = seek_start (name e) e.args.links.now e.args.count e.args.x.now e.requires.1 in
     (e.requires.1.root, omega arith, s.0, s.1)
 
 mul_wide : tie.Need-overflow-mul-wide invariant-loop decreases-loop
@@ -117,7 +117,7 @@ returns-2 : tie.Need-returns-2 invariant-loop decreases-loop
 returns-2 c =
     let n = asked c.before in let l = turn (spelt n) in let e = start l in let a = e.args in
     let b = c.before.before.before.bit in
-    seek-gap (name e) a.links.now a.count a.x.now l.loop.q l.loop.d l.loop.inv.2 l.loop.inv.3 (same n false c.before.before.before.before.if1.false)
+    seek_gap (name e) a.links.now a.count a.x.now l.loop.q l.loop.d l.loop.inv.2 l.loop.inv.3 (same n false c.before.before.before.before.if1.false)
     _ (ap (λ (w : ℕ). 2 * l.loop.q + w) b.ensures.0) l.loop.inv.0 (sym c.before.wide-link.ensures ∙ c.if2.true)
 
 add-d : tie.Need-overflow-add-d invariant-loop decreases-loop
@@ -140,7 +140,7 @@ loop-again c =
     let n = asked c.before in let l = turn (spelt n) in let e = start l in let a = e.args in
     let b = c.before.before.before.bit in
     let w = later c in
-    let o = seek-on (name e) a.links.now a.count a.x.now l.loop.q l.loop.d l.loop.inv.2 l.loop.inv.3 (same n false c.before.before.before.before.if1.false)
+    let o = seek_on (name e) a.links.now a.count a.x.now l.loop.q l.loop.d l.loop.inv.2 l.loop.inv.3 (same n false c.before.before.before.before.if1.false)
     c.before.wide-link.result (c.before.wide-link.ensures ∙ ap (λ (w : ℕ). get_or a.links.now (2 * l.loop.q + w) 0) b.ensures.0) (omega (arith, w.0)) in
     (w.1, omega (arith, w.0, l.loop.inv.1), o.0, o.1)
 

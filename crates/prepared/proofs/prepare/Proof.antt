@@ -1,13 +1,13 @@
 -- prepare meets its contract: the table check answers first; its record stands for the definition's grammar, whose rows are prepared.
 use borrow.Author.Rules.{rules}
 use Rattle.table_check.proofs.Callers.{PassedTable, passed-table, refused-table}
-use Rattle.prepared.proofs.Rows.{stopped_by, prepares-of, checked-of}
+use Rattle.prepared.proofs.Rows.{stopped_by, prepares_of, checked-of}
 use Rattle.prepared.proofs.prepare.Statement.{statement}
 use Rattle.prepared.proofs.prepare.Tie as tie
 
 -- from the record back to the call of the table check, and from there to the function's entry
-abbrev checkedAt : tie.After-checked → tie.After-check-table
-checkedAt c = c.before.before.before
+abbrev checked_at : tie.After-checked → tie.After-check-table
+checked_at c = c.before.before.before
 
 abbrev entry : tie.After-check-table → tie.Start
 entry c = c.before.before
@@ -17,10 +17,10 @@ abbrev lent : tie.After-prepare-rows-arg10 → tie.After-checked
 lent c = c.before.before.before.before.before.before.before.before.before.before
 
 -- the table passes with the grammar of the record
-passed : (c : tie.After-checked) → let a = (entry (checkedAt c)).args in PassedTable a.t a.n a.table.now (checkedAt c).check-table.result.grammar
+passed : (c : tie.After-checked) → let a = (entry (checked_at c)).args in PassedTable a.t a.n a.table.now (checked_at c).check-table.result.grammar
 passed c =
-    let a = (entry (checkedAt c)).args in
-    let k = (checkedAt c).check-table in
+    let a = (entry (checked_at c)).args in
+    let k = (checked_at c).check-table in
     passed-table a.t a.n a.table.now k.result k.ensures c.before.enum_told.given.1
 
 check-table-requires : tie.Need-check-table-requires
@@ -51,9 +51,9 @@ prepare-rows-requires c κs =
 returns-2 : tie.Need-returns-2
 returns-2 c =
     let g = lent c.before in
-    let a = (entry (checkedAt g)).args in
+    let a = (entry (checked_at g)).args in
     let p = passed g in
-    prepares-of a.t a.n a.table.now a.callers _ _ p.grammar p.checked (c.prepare-rows.ensures p.grammar (checked-of _ _ _ _ p))
+    prepares_of a.t a.n a.table.now a.callers _ _ p.grammar p.checked (c.prepare-rows.ensures p.grammar (checked-of _ _ _ _ p))
 
 pub prepare-spec : {M : Type 1} → statement M
 prepare-spec =

@@ -3,12 +3,12 @@ use borrow.Author.Rules.{rules}
 use native.Mathlib.Omega.{arith}
 use lib.ListN.{length}
 use mathlib.Core.Path.{◌≡◌, refl}
-use Rattle.grammar.specs.Refusal.{tooManyCallers}
+use Rattle.grammar.specs.Refusal.{too_many_callers}
 use Rattle.grammar.specs.Limits.{limits}
-use Rattle.triple_laws.proofs.CallerChecks.{many-callers}
-use Rattle.live.proofs.ColumnLaws.{lent-record}
-use Rattle.moves.proofs.Built.{few-nonterminals, room_of}
-use Rattle.prepared.proofs.Rows.{stopped-for, begun-of, without}
+use Rattle.triple_laws.proofs.CallerChecks.{many_callers}
+use Rattle.live.proofs.ColumnLaws.{lent_record}
+use Rattle.moves.proofs.Built.{few-nonterminals, room_of_lem}
+use Rattle.prepared.proofs.Rows.{stopped_for, begun-of, without}
 use Rattle.prepared.proofs.prepare_rows.Statement.{statement}
 use Rattle.prepared.proofs.prepare_rows.Tie as tie
 
@@ -25,12 +25,12 @@ stopped-requires c κs = search rules
 returns : tie.Need-returns
 returns c =
     let t = c.before in
-    λ G k. stopped-for G t.before.args.callers _ _ tooManyCallers 0 (many-callers limits G t.before.args.callers t.if1.true) c.stopped.ensures
+    λ G k. stopped_for G t.before.args.callers _ _ too_many_callers 0 (many_callers limits G t.before.args.callers t.if1.true) c.stopped.ensures
 
 build-requires : tie.Need-build-requires
 build-requires c κs =
     let p = c.before.before.before.before.before.before.before.before.requires in
-    ((p.0, p.1.columns), room_of _ _ (lent-record p.1.columns) (search rules) (search rules) (search rules) (search rules) (search rules) (search rules) (search rules))
+    ((p.0, p.1.columns), room_of_lem _ _ (lent_record p.1.columns) (search rules) (search rules) (search rules) (search rules) (search rules) (search rules) (search rules))
 
 add-callers-requires : tie.Need-add-callers-requires
 add-callers-requires c κs =
@@ -50,14 +50,14 @@ returns-2 c =
 add-kinds : tie.Need-overflow-add-kinds
 add-kinds c =
     let p = (start (tested c.before)).requires in
-    omega (arith, few-nonterminals _ (lent-record p.1.columns))
+    omega (arith, few-nonterminals _ (lent_record p.1.columns))
 
 returns-3 : tie.Need-returns-3
 returns-3 c =
     let w = c.before in
     let e = start (tested w) in
     let z : e.args.callers ≡ 0 = omega (arith, c.if2.false) in
-    let long : length w.build.new.1.1.1.1.1.1.1.1.1.1.1.1.0 ≡ limits.maxStates
+    let long : length w.build.new.1.1.1.1.1.1.1.1.1.1.1.1.0 ≡ limits.max_states
     = omega (arith, w.build.auto.1.1.1.1.1.1.1.1.1.1.1.1.0, w.before.before.build-arg6.given) in
     λ G k. without _ _ _ _ _ _ _ _ _ k _ z _ _ _ (w.build.ensures G k.columns) refl refl refl refl long
 

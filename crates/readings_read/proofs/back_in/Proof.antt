@@ -43,7 +43,7 @@ slice-aggregate-read-planted : tie.Need-slice-aggregate-read-planted
 slice-aggregate-read-planted c = sym (length-take-le _ _ (within c.before).starts_fit)
 
 slice-aggregate-read-planted-2 : tie.Need-slice-aggregate-read-planted-2
-slice-aggregate-read-planted-2 c = sym (length-take-le _ _ (within c.before.before).lengths-fit)
+slice-aggregate-read-planted-2 c = sym (length-take-le _ _ (within c.before.before).lengths_fit)
 
 read-planted-requires : tie.Need-read-planted-requires
 read-planted-requires c κs = (within c.before.before.before.before).named

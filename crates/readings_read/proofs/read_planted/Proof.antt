@@ -7,14 +7,14 @@ use lib.ListN.{length-replicate}
 use Rattle.grammar.specs.Limits.{limits}
 use Rattle.text.specs.Spelled.{spelled}
 use Rattle.text.proofs.Spans.{length-spelled}
-use Rattle.text.proofs.Gather.{first-double}
-use Rattle.lexicon.proofs.Tree.{no-links}
+use Rattle.text.proofs.Gather.{first_double_lem}
+use Rattle.lexicon.proofs.Tree.{no_links}
 use Rattle.readings_read.proofs.read_planted.Statement.{statement}
 use Rattle.readings_read.proofs.read_planted.Tie as tie
 
 -- two links for each name of a grammar
 abbrev links : ℕ
-links = 2 * (limits.maxTerminals + limits.maxNonterminals)
+links = 2 * (limits.max_terminals + limits.max_nonterminals)
 
 -- from the rows lent, and from the planting, back to the start
 abbrev entry : tie.After-slice-known2 → tie.Start
@@ -30,7 +30,7 @@ plant-requires : tie.Need-plant-requires
 plant-requires c κs =
     let n = (entry c.before).requires in
     let m = length-replicate {A = ℕ} links 0 in
-    ((n.spans, omega (arith, n.few, n.most), omega (arith, n.few, n.most, m)), no-links links)
+    ((n.spans, omega (arith, n.few, n.most), omega (arith, n.few, n.most, m)), no_links links)
 
 slice-aggregate-read-lines : tie.Need-slice-aggregate-read-lines
 slice-aggregate-read-lines c = search rules
@@ -43,7 +43,7 @@ read-lines-requires c κs =
     let n = e.pre in record {
       named = n;
       lexicon = k.plant.ensures.1
-          (k.plant.ensures.0 ∙ (first-double (spelled a.text.now a.starts.now a.lengths.now)).1 n.once
+          (k.plant.ensures.0 ∙ (first_double_lem (spelled a.text.now a.starts.now a.lengths.now)).1 n.once
           ∙ length-spelled a.text.now a.starts.now a.lengths.now n.spans.paired);
     }
 

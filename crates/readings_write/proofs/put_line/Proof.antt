@@ -5,8 +5,8 @@ use mathlib.Core.List.{List, [], ◌∷◌, ◌++◌}
 use Prim.Native.Nat.{ℕ}
 use native.Mathlib.Omega.{arith}
 use Rattle.text.specs.Spelled.{spelled}
-use Rattle.text_write.proofs.Filling.{Filling, filling-start, filling-room, filling-ran, filling-last, filling-all}
-use Rattle.readings_write.specs.Contracts.{words_of, line_of}
+use Rattle.text_write.proofs.Filling.{Filling, filling_start, filling_room, filling_ran, filling_last, filling_all}
+use Rattle.readings_write.specs.Clauses.{words_of, line_of}
 use Rattle.readings_write.proofs.put_line.Statement.{statement}
 use Rattle.readings_write.proofs.put_line.Tie as tie
 
@@ -29,28 +29,28 @@ after-key : (c : tie.After-put-bytes) →
     Still s c.put-bytes.result c.put-bytes.new.0 (said s ++ (10 ∷ []))
 after-key c =
     let s = start c.before in
-    filling-ran s.args.key.now _ refl c.put-bytes.ensures (filling-start _ _ _ s.pre.1)
+    filling_ran s.args.key.now _ refl c.put-bytes.ensures (filling_start _ _ _ s.pre.1)
 
 after-words : (c : tie.After-put-words) →
     let s = start c.before.before.before.before.before in
     Still s c.put-words.result c.put-words.new.0 (10 ∷ [])
 after-words c =
     let k = c.before.before.before.before in
-    filling-ran (said (start k.before)) _ refl c.put-words.ensures (after-key k)
+    filling_ran (said (start k.before)) _ refl c.put-words.ensures (after-key k)
 
 put-bytes-requires : tie.Need-put-bytes-requires
 put-bytes-requires c κs =
     let s = start c in
-    filling-room s.args.key.now _ refl (filling-start s.args.at s.args.out.now _ s.pre.1)
+    filling_room s.args.key.now _ refl (filling_start s.args.at s.args.out.now _ s.pre.1)
 
 put-words-requires : tie.Need-put-words-requires
 put-words-requires c κs =
     let k = c.before.before.before in
     let s = start k.before in
-    (s.pre.0, filling-room (said s) _ refl (after-key k))
+    (s.pre.0, filling_room (said s) _ refl (after-key k))
 
 put-byte-requires : tie.Need-put-byte-requires
-put-byte-requires c κs = omega (arith, filling-all (after-words c.before.before.before))
+put-byte-requires c κs = omega (arith, filling_all (after-words c.before.before.before))
 
 same_length : tie.Need-same-length
 same_length c = search rules
@@ -58,7 +58,7 @@ same_length c = search rules
 returns : tie.Need-returns
 returns c =
     let e = c.before.before in
-    filling-last e.put_byte.ensures (after-words e.before.before.before.before)
+    filling_last e.put_byte.ensures (after-words e.before.before.before.before)
 
 pub put-line-spec : {M : Type 1} → statement M
 put-line-spec =

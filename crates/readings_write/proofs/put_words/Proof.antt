@@ -6,11 +6,11 @@ use Prim.Native.Nat.{ℕ}
 use lib.ListN.{drop, get_or}
 use Rattle.grammar.specs.Limits.{limits}
 use Rattle.text.specs.Spelled.{spelled}
-use Rattle.text_write.proofs.Filling.{Filling, filling-start, filling-room, filling-ran, filling-last, filling-all, wrote_none}
+use Rattle.text_write.proofs.Filling.{Filling, filling_start, filling_room, filling_ran, filling_last, filling_all, wrote_none}
 use Rattle.readings.specs.Readings.{word}
-use Rattle.readings.specs.Letters.{letterFrom}
-use Rattle.readings_write.specs.Contracts.{ledOf, words_of}
-use Rattle.readings_write.proofs.Words.{worded-at, words-none, words-turn}
+use Rattle.readings.specs.Letters.{letter_from}
+use Rattle.readings_write.specs.Clauses.{led_of, words_of}
+use Rattle.readings_write.proofs.Words.{worded_at, words-none, words-turn}
 use Rattle.readings_write.proofs.put_words.Statement.{statement}
 use Rattle.readings_write.proofs.put_words.Tie as tie
 
@@ -22,10 +22,10 @@ names s = spelled s.args.text.now s.args.starts.now s.args.lengths.now
 
 -- the first word, and the words after it
 abbrev first : tie.Start → List ℕ
-first s = word limits s.args.t (names s) (letterFrom (get_or s.args.letters.now 0 0))
+first s = word limits s.args.t (names s) (letter_from (get_or s.args.letters.now 0 0))
 
 abbrev others : tie.Start → List ℕ
-others s = ledOf s.args.t (names s) (drop 1 s.args.letters.now)
+others s = led_of s.args.t (names s) (drop 1 s.args.letters.now)
 
 turn : (c : tie.Else1) →
     let s = start c.before in
@@ -40,7 +40,7 @@ after_first : (c : tie.After-put-word) →
 after_first c =
     let e = c.before.before.before in
     let s = start e.before in
-    filling-ran (first s) _ (turn e) c.put_word.ensures (filling-start _ _ _ s.pre.1)
+    filling_ran (first s) _ (turn e) c.put_word.ensures (filling_start _ _ _ s.pre.1)
 
 returns : tie.Need-returns
 returns c =
@@ -54,13 +54,13 @@ put-word-requires : tie.Need-put-word-requires
 put-word-requires c κs =
     let e = c.before.before in
     let s = start e.before in
-    (worded-at 0 s.pre.0 e.if1.false, filling-room (first s) _ (turn e) (filling-start s.args.at s.args.out.now _ s.pre.1))
+    (worded_at 0 s.pre.0 e.if1.false, filling_room (first s) _ (turn e) (filling_start s.args.at s.args.out.now _ s.pre.1))
 
 put-led-requires : tie.Need-put-led-requires
 put-led-requires c κs =
     let w = c.before.before.before in
     let e = w.before.before.before in
-    ((start e.before).requires.0, e.if1.false, filling-all (after_first w))
+    ((start e.before).requires.0, e.if1.false, filling_all (after_first w))
 
 same_length : tie.Need-same-length
 same_length c = search rules
@@ -69,7 +69,7 @@ returns-2 : tie.Need-returns-2
 returns-2 c =
     let l = c.before.before in
     let w = l.before.before.before.before in
-    filling-last {rest = others (start w.before.before.before.before)} l.put-led.ensures (after_first w)
+    filling_last {rest = others (start w.before.before.before.before)} l.put-led.ensures (after_first w)
 
 pub put-words-spec : {M : Type 1} → statement M
 put-words-spec =

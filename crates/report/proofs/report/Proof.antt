@@ -5,39 +5,39 @@ use mathlib.Core.Path.{◌≡◌, sym}
 use Prim.Native.Nat.{ℕ, ◌≤◌}
 use lib.ListN.{length, take, length-replicate}
 use lib.Seq.{length-take-le}
-use Rattle.report.specs.Report.{reportSize, reportOf}
-use Rattle.report.proofs.Sizes.{never-short}
-use Rattle.report.proofs.Written.{front-written, report-short, report-all}
+use Rattle.report.specs.Report.{report_size, report_of}
+use Rattle.report.proofs.Sizes.{never_short}
+use Rattle.report.proofs.Written.{front-written, report_short, report_all}
 use Rattle.report.proofs.report.Statement.{statement}
 use Rattle.report.proofs.report.Tie as tie
 
 abbrev start : tie.After-put-report → tie.Start
 start k = k.before.before.before.before
 
-size : (k : tie.After-put-report) → k.put-report.result ≡ length (reportOf (start k).args.text.now)
+size : (k : tie.After-put-report) → k.put-report.result ≡ length (report_of (start k).args.text.now)
 size k = (front-written _ _ _ _ k.put-report.ensures).0
 
-front : (k : tie.After-put-report) → take k.put-report.result k.put-report.new.0 ≡ reportOf (start k).args.text.now
+front : (k : tie.After-put-report) → take k.put-report.result k.put-report.new.0 ≡ report_of (start k).args.text.now
 front k = (front-written _ _ _ _ k.put-report.ensures).1
 
 inside : (k : tie.After-put-report) → k.put-report.result ≤ length k.put-report.new.0
-inside k = omega (arith, size k, never-short (start k).args.text.now, k.put-report.auto.0, length-replicate {A = ℕ} reportSize 0)
+inside k = omega (arith, size k, never_short (start k).args.text.now, k.put-report.auto.0, length-replicate {A = ℕ} report_size 0)
 
 slice-aggregate-put-report : tie.Need-slice-aggregate-put-report
 slice-aggregate-put-report c = search rules
 
 put-report-requires : tie.Need-put-report-requires
-put-report-requires c κs = omega (arith, length-replicate {A = ℕ} reportSize 0)
+put-report-requires c κs = omega (arith, length-replicate {A = ℕ} report_size 0)
 
 returns : tie.Need-returns
 returns c =
     let k = c.before.before in
-    report-short (start k).args.text.now (start k).args.out.now k.put-report.result (size k) (omega (arith, c.if1.true))
+    report_short (start k).args.text.now (start k).args.out.now k.put-report.result (size k) (omega (arith, c.if1.true))
 
 array-share-prefix-lines : tie.Need-array-share-prefix-lines
 array-share-prefix-lines c =
     let k = c.before.before.before in
-    omega (arith, inside k, k.put-report.auto.0, length-replicate {A = ℕ} reportSize 0)
+    omega (arith, inside k, k.put-report.auto.0, length-replicate {A = ℕ} report_size 0)
 
 slice-aggregate-put-bytes : tie.Need-slice-aggregate-put-bytes
 slice-aggregate-put-bytes c = sym (length-take-le _ _ (inside c.before.before.before.before))
@@ -54,7 +54,7 @@ returns-2 : tie.Need-returns-2
 returns-2 c =
     let b = c.before.before in
     let k = b.before.before.before.before.before in
-    report-all (start k).args.text.now (start k).args.out.now k.put-report.result _ _ _ (size k) (front k) b.before.before.before.if1.false b.put-bytes.ensures
+    report_all (start k).args.text.now (start k).args.out.now k.put-report.result _ _ _ (size k) (front k) b.before.before.before.if1.false b.put-bytes.ensures
 
 pub report-spec : {M : Type 1} → statement M
 report-spec =

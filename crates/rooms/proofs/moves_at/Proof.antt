@@ -2,8 +2,8 @@
 use borrow.Author.Rules.{rules}
 use native.Mathlib.Omega.{arith}
 use mathlib.Core.Path.{sym}
-use Rattle.plans.proofs.PlanLaws.{span-le}
-use Rattle.rooms.proofs.CountLaws.{moves-without, moves-with}
+use Rattle.plans.proofs.PlanLaws.{span_le}
+use Rattle.rooms.proofs.CountLaws.{moves-without, moves_with_lem}
 use Rattle.rooms.proofs.moves_at.Statement.{statement}
 use Rattle.rooms.proofs.moves_at.Tie as tie
 
@@ -21,20 +21,20 @@ returns c =
     let s = c.before.before in let e = s.before in let a = e.args in
     let x = s.side-of in (
       sym (moves-without a.ahead.now a.member.now a.first.now a.p x.result x.ensures c.if1.true),
-      omega (arith, span-le a.member.now a.first.now a.p x.result e.requires x.ensures),
+      omega (arith, span_le a.member.now a.first.now a.p x.result e.requires x.ensures),
     )
 
 add-result : tie.Need-overflow-add-result
 add-result c =
     let s = c.before.before.before in let e = s.before in let a = e.args in
-    omega (arith, span-le a.member.now a.first.now a.p s.side-of.result e.requires s.side-of.ensures)
+    omega (arith, span_le a.member.now a.first.now a.p s.side-of.result e.requires s.side-of.ensures)
 
 returns-2 : tie.Need-returns-2
 returns-2 c =
     let s = c.before.before.before in let e = s.before in let a = e.args in
     let x = s.side-of in (
-      sym (moves-with a.ahead.now a.member.now a.first.now a.p x.result x.ensures c.before.if1.false),
-      omega (arith, span-le a.member.now a.first.now a.p x.result e.requires x.ensures),
+      sym (moves_with_lem a.ahead.now a.member.now a.first.now a.p x.result x.ensures c.before.if1.false),
+      omega (arith, span_le a.member.now a.first.now a.p x.result e.requires x.ensures),
     )
 
 pub moves-at-spec : {M : Type 1} → statement M

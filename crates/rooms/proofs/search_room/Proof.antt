@@ -5,12 +5,12 @@ use mathlib.Core.Path.{ap, sym, ◌∙◌}
 use Prim.Native.Nat.{◌*◌, ◌≤◌}
 use Rattle.grammar.specs.Limits.{limits}
 use Rattle.grammar.specs.Refusal.{done}
-use Rattle.grammar.proofs.Answers.{then-goes, then-stops}
-use Rattle.automaton.specs.CallerMoves.{movesWith}
+use Rattle.grammar.proofs.Answers.{then-goes, then_stops}
+use Rattle.automaton.specs.CallerMoves.{moves_with}
 use Rattle.plans.proofs.PlanLaws.{square-of}
-use Rattle.plans.proofs.PlannedLaws.{verified-of}
-use Rattle.rooms.specs.Room.{roomOf, searchRoom, roomTold}
-use Rattle.rooms.proofs.CountLaws.{room-is}
+use Rattle.plans.proofs.PlannedLaws.{verified_of}
+use Rattle.rooms.specs.Room.{room_of, search_room, room_told}
+use Rattle.rooms.proofs.CountLaws.{room_is}
 use Rattle.rooms.proofs.search_room.Statement.{statement}
 use Rattle.rooms.proofs.search_room.Tie as tie
 
@@ -25,7 +25,7 @@ abbrev rows_at : tie.After-enum-told → tie.After-prepare
 rows_at c = c.before.before
 
 -- Q² is small
-square-small : (c : tie.After-prepare) → c.prepare.result.states * c.prepare.result.states ≤ limits.maxStates * limits.maxStates
+square-small : (c : tie.After-prepare) → c.prepare.result.states * c.prepare.result.states ≤ limits.max_states * limits.max_states
 square-small c = let w = c.prepare in let s = w.ensures.sized in (square-of w.result.states s.least s.most).1
 
 prepare-requires : tie.Need-prepare-requires
@@ -35,11 +35,11 @@ enum-known-verdict : tie.Need-enum-known-verdict
 enum-known-verdict c = search rules
 
 returns : tie.Need-returns
-unfolding searchRoom
+unfolding search_room
 returns c =
     let w = c.before.before.before in
     let v = c.before.verdict.given in
-    ap roomTold (sym (then-stops _ (λ G. done (roomOf (movesWith limits G (start w).args.callers))) v.0.0 v.0.1.0
+    ap room_told (sym (then_stops _ (λ G. done (room_of (moves_with limits G (start w).args.callers))) v.0.0 v.0.1.0
     (w.prepare.ensures.refused_as v.0.0 v.0.1.0 v.1)))
 
 enum_told : tie.Need-enum-told
@@ -57,18 +57,18 @@ add-certificate c = omega (arith, square-small (rows_at c))
 count-moves-requires : tie.Need-count-moves-requires
 count-moves-requires c κs =
     let w = rows_at (passed_at c) in
-    let p = w.prepare.ensures.passed-as (passed_at c).enum_told.given.1 in
+    let p = w.prepare.ensures.passed_as (passed_at c).enum_told.given.1 in
     let r = p.2 in
-    (verified-of (movesWith limits p.0 (start w).args.callers) r.regular _ _ _ r.size _ r.shows (omega (arith, r.long))).fits
+    (verified_of (moves_with limits p.0 (start w).args.callers) r.regular _ _ _ r.size _ r.shows (omega (arith, r.long))).fits
 
 returns-2 : tie.Need-returns-2
-unfolding searchRoom
+unfolding search_room
 returns-2 c =
     let w = rows_at (passed_at c.before) in
-    let p = w.prepare.ensures.passed-as (passed_at c.before).enum_told.given.1 in
+    let p = w.prepare.ensures.passed_as (passed_at c.before).enum_told.given.1 in
     let r = p.2 in
-    room-is (movesWith limits p.0 (start w).args.callers) r.regular _ _ _ r.size _ r.shows (omega (arith, r.long)) c.count-moves.result c.count-moves.ensures
-    ∙ ap roomTold (sym (then-goes _ (λ G. done (roomOf (movesWith limits G (start w).args.callers))) p.0 p.1))
+    room_is (moves_with limits p.0 (start w).args.callers) r.regular _ _ _ r.size _ r.shows (omega (arith, r.long)) c.count-moves.result c.count-moves.ensures
+    ∙ ap room_told (sym (then-goes _ (λ G. done (room_of (moves_with limits G (start w).args.callers))) p.0 p.1))
 
 pub search-room-spec : {M : Type 1} → statement M
 search-room-spec =

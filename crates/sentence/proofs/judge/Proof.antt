@@ -4,9 +4,9 @@ use native.Mathlib.Omega.{arith}
 use mathlib.Core.Path.{◌≡◌}
 use Rattle.grammar.specs.Limits.{limits}
 use Rattle.grammar.specs.Grammar.{Grammar, WellFormed}
-use Rattle.grammar.specs.Record.{recordOf}
+use Rattle.grammar.specs.Record.{record_of}
 use Rattle.tree_walk.specs.Charted.{Rows, rows, Charted}
-use Rattle.sentence.proofs.Judged.{zeros, sow-asks, charted-of}
+use Rattle.sentence.proofs.Judged.{zeros, sow_asks, charted_of}
 use Rattle.sentence.proofs.judge.Statement.{statement}
 use Rattle.sentence.proofs.judge.Tie as tie
 
@@ -33,20 +33,20 @@ answered c = c.before.before.before.before
 abbrev rows_of : tie.After-prepare → Rows
 rows_of c = let r = c.prepare.new.1 in let a = (entry c.before).args in rows a.t1.states r.0 r.1.1.0 r.1.0 r.1.1.1.1.1.0 a.row.now
 
-charted : (c : tie.After-fill) (G : Grammar) (W : WellFormed limits G) → let p = begun c in (s : (entry p.before).args.t1 ≡ recordOf G)
+charted : (c : tie.After-fill) (G : Grammar) (W : WellFormed limits G) → let p = begun c in (s : (entry p.before).args.t1 ≡ record_of G)
     → Charted G (p.prepare.ensures G W s).places (rows_of p) c.fill.new.0
 charted c G W s =
     let o = sown c.before in
     let p = begun c in
     let r = p.prepare.last.1 in
     let e = entry p.before in
-    charted-of G e.args.t1 r.0 r.1.0 r.1.1.0 r.1.1.1.0 r.1.1.1.1.0 r.1.1.1.1.1.0 (p.prepare.ensures G W s)
+    charted_of G e.args.t1 r.0 r.1.0 r.1.1.0 r.1.1.1.0 r.1.1.1.1.0 r.1.1.1.1.1.0 (p.prepare.ensures G W s)
     e.args.row.now e.args.work.now o.sow.last.0 c.fill.new.0 e.pre.1.1 o.sow.ensures c.fill.ensures
 
 prepare-requires : tie.Need-prepare-requires
 prepare-requires c κs =
     let e = entry c in
-    (e.pre.0, (zeros limits.maxStates, zeros limits.maxNonterminals, zeros limits.maxNonterminals))
+    (e.pre.0, (zeros limits.max_states, zeros limits.max_nonterminals, zeros limits.max_nonterminals))
 
 sow-requires : tie.Need-sow-requires
 sow-requires c κs =
@@ -54,8 +54,8 @@ sow-requires c κs =
     let e = entry p.before in
     let g = e.pre.0 in
     let r = p.prepare.last.1 in
-    let S = p.prepare.ensures g.grammar g.wellFormed g.same in
-    (S.wired.ready, (e.pre.1.0, sow-asks g.grammar e.args.t1 r.0 r.1.0 r.1.1.0 r.1.1.1.0 r.1.1.1.1.0 r.1.1.1.1.1.0 S))
+    let S = p.prepare.ensures g.grammar g.well_formed g.same in
+    (S.wired.ready, (e.pre.1.0, sow_asks g.grammar e.args.t1 r.0 r.1.0 r.1.1.0 r.1.1.1.0 r.1.1.1.1.0 r.1.1.1.1.1.0 S))
 
 fill-requires : tie.Need-fill-requires
 fill-requires c κs =
@@ -63,7 +63,7 @@ fill-requires c κs =
     let p = prepared o.before in
     let e = entry p.before in
     let g = e.pre.0 in (
-      (p.prepare.ensures g.grammar g.wellFormed g.same).wired,
+      (p.prepare.ensures g.grammar g.well_formed g.same).wired,
       record { cells = omega (arith, e.pre.1.0, o.sow.kept.0); small = omega (arith, e.pre.1.0); rises = omega arith; inside = omega arith },
     )
 
@@ -73,7 +73,7 @@ answer-requires c κs =
     let p = begun f in
     let e = entry p.before in
     let g = e.pre.0 in (
-      record { grammar = g.grammar; places = (p.prepare.ensures g.grammar g.wellFormed g.same).places; charted = charted f g.grammar g.wellFormed g.same },
+      record { grammar = g.grammar; places = (p.prepare.ensures g.grammar g.well_formed g.same).places; charted = charted f g.grammar g.well_formed g.same },
       record { cells = omega (arith, e.pre.1.0, (sown f.before).sow.auto.0, f.fill.kept.0); small = omega (arith, e.pre.1.0) },
     )
 

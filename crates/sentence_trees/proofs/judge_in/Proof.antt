@@ -6,7 +6,7 @@ use Prim.Native.Nat.{ℕ, ◌+◌, ◌*◌, ◌≤◌}
 use lib.ListN.{length, take}
 use lib.Seq.{length-take-le}
 use Rattle.trees.specs.Trees.{places}
-use Rattle.sentence_trees.proofs.Parts.{used-fits, used-some, used-zero, clear-twice}
+use Rattle.sentence_trees.proofs.Parts.{used_fits, used-some, used-zero, clear_twice}
 use Rattle.sentence_trees.proofs.judge_in.Statement.{statement}
 use Rattle.sentence_trees.proofs.judge_in.Tie as tie
 
@@ -14,11 +14,11 @@ use Rattle.sentence_trees.proofs.judge_in.Tie as tie
 abbrev start : tie.After-clear → tie.Start
 start c = c.before.before.before.before.before
 
-abbrev clearedAt : tie.After-judge → tie.After-clear
-clearedAt c = c.before.before.before.before.before
+abbrev cleared_at : tie.After-judge → tie.After-clear
+cleared_at c = c.before.before.before.before.before
 
-abbrev judgedAt : tie.After-clear2 → tie.After-judge
-judgedAt c = c.before.before.before.before.before.before
+abbrev judged_at : tie.After-clear2 → tie.After-judge
+judged_at c = c.before.before.before.before.before.before
 
 -- the entries that the row uses
 abbrev used : tie.Start → ℕ
@@ -28,7 +28,7 @@ abbrev cells : tie.Start → ℕ
 cells e = places * places * e.args.g.states
 
 fits : (e : tie.Start) → used e ≤ cells e
-fits e = used-fits e.args.g.states (length e.args.row.now + 1) (omega (arith, e.requires.1))
+fits e = used_fits e.args.g.states (length e.args.row.now + 1) (omega (arith, e.requires.1))
 
 inside : (c : tie.After-clear) → used (start c) ≤ length c.clear.new.0
 inside c = omega (arith, fits (start c), c.clear.auto.0, (start c).requires.1)
@@ -84,12 +84,12 @@ same-length-2 c = search rules
 
 returns : tie.Need-returns
 returns c =
-    let j = judgedAt c.before.before in
-    let d = clearedAt j in
+    let j = judged_at c.before.before in
+    let d = cleared_at j in
     let e = start d in (
       j.judge.ensures,
       c.before.before.clear2.ensures
-          ∙ clear-twice (cells e) (used e) j.judge.last.1.1.0 e.args.work.now d.clear.last.0 (j.judge.kept.1.1.0 ∙ part d) (fits e) d.clear.ensures,
+          ∙ clear_twice (cells e) (used e) j.judge.last.1.1.0 e.args.work.now d.clear.last.0 (j.judge.kept.1.1.0 ∙ part d) (fits e) d.clear.ensures,
     )
 
 pub judge-in-spec : {M : Type 1} → statement M

@@ -3,13 +3,13 @@ use borrow.Author.Rules.{rules}
 use native.Mathlib.Omega.{arith}
 use Prim.Native.Nat.{◌-◌, ◌≤◌}
 use lib.ListN.{length}
-use Rattle.trees.specs.Trees.{maxRow}
+use Rattle.trees.specs.Trees.{max_row}
 use Rattle.sentence_trees.proofs.Faults.{Passed, passed_start, passed-more, passed-full, passed-low, passed-high, passed-end}
 use Rattle.sentence_trees.proofs.row_fault.Statement.{statement}
 use Rattle.sentence_trees.proofs.row_fault.Tie as tie
 
 abbrev invariant-loop : tie.invariant-loop
-invariant-loop t row i₀ i = (i ≤ length row) × (i ≤ maxRow) × Passed t row i
+invariant-loop t row i₀ i = (i ≤ length row) × (i ≤ max_row) × Passed t row i
 
 abbrev decreases-loop : tie.decreases-loop
 decreases-loop t row i₀ i = length row - i

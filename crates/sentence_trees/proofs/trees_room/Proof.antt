@@ -4,10 +4,10 @@ use native.Mathlib.Omega.{arith}
 use mathlib.Core.Path.{sym, ap, ◌∙◌}
 use Prim.Native.Nat.{◌*◌}
 use Rattle.grammar.specs.Refusal.{done}
-use Rattle.grammar.proofs.Answers.{then-goes, then-stops}
+use Rattle.grammar.proofs.Answers.{then-goes, then_stops}
 use Rattle.table_check.proofs.Callers.{PassedTable, passed-table, refused-table}
-use Rattle.trees.specs.Trees.{places, workSize, treesRoom}
-use Rattle.trees.specs.Promise.{roomTold}
+use Rattle.trees.specs.Trees.{places, work_size, trees_room}
+use Rattle.trees.specs.Promise.{room_told}
 use Rattle.trees.specs.declared.TreesRoom.TheVariants.{Entries}
 use Rattle.sentence_trees.proofs.Order.{states-of}
 use Rattle.sentence_trees.proofs.trees_room.Statement.{statement}
@@ -28,12 +28,12 @@ enum-known-verdict : tie.Need-enum-known-verdict
 enum-known-verdict c = search rules
 
 returns : tie.Need-returns
-unfolding treesRoom
+unfolding trees_room
 returns c =
     let k = c.before.before.before in
     let a = k.before.before.args in
     let v = c.before.verdict.given in
-    ap roomTold (sym (then-stops _ (λ G. done (workSize G)) v.0.0 v.0.1.0
+    ap room_told (sym (then_stops _ (λ G. done (work_size G)) v.0.0 v.0.1.0
     (refused-table a.t a.n a.table.now k.check-table.result k.check-table.ensures v.0.0 v.0.1.0 v.1)))
 
 enum_told : tie.Need-enum-told
@@ -46,15 +46,15 @@ mul-t9 : tie.Need-overflow-mul-t9
 mul-t9 c =
     let d = c.before in
     let p = passed d in
-    omega (arith, states-of d.before.before.check-table.result.grammar p.grammar p.same, p.wellFormed.size)
+    omega (arith, states-of d.before.before.check-table.result.grammar p.grammar p.same, p.well_formed.size)
 
 returns-2 : tie.Need-returns-2
-unfolding treesRoom
+unfolding trees_room
 returns-2 c =
     let d = c.before in
     let p = passed d in
     ap (λ q. Entries (places * places * q)) (states-of d.before.before.check-table.result.grammar p.grammar p.same)
-    ∙ ap roomTold (sym (then-goes _ (λ G. done (workSize G)) p.grammar p.checked))
+    ∙ ap room_told (sym (then-goes _ (λ G. done (work_size G)) p.grammar p.checked))
 
 pub trees-room-spec : {M : Type 1} → statement M
 trees-room-spec =

@@ -12,20 +12,20 @@ use lib.Seq.{length-take-le}
 use Rattle.grammar.specs.Basics.{choose}
 use Rattle.grammar.specs.Limits.{limits}
 use Rattle.grammar.specs.Grammar.{Grammar}
-use Rattle.grammar.specs.TableCheck.{in_range, storedTable, checkTable, tableChecked}
+use Rattle.grammar.specs.TableCheck.{in_range, stored_table, check_table, table_checked}
 use Rattle.grammar.specs.Refusal.{Answer, done, refused}
-use Rattle.grammar.specs.Live.{hasSentence}
+use Rattle.grammar.specs.Live.{has_sentence}
 use Rattle.grammar.specs.declared.CheckedGrammar.{CheckedGrammar}
 use Rattle.grammar.specs.declared.TableVerdict.TheVariants.{Passed}
-use Rattle.grammar.proofs.Plain.{in-range}
-use Rattle.grammar.proofs.Steps.{grammarOf, table-out}
+use Rattle.grammar.proofs.Plain.{in_range_lem}
+use Rattle.grammar.proofs.Steps.{grammar_of, table-out}
 use Rattle.grammar.proofs.WellFormed as formed
-use Rattle.grammar.proofs.Sentence.{with-sentence, without-sentence, not-stored}
+use Rattle.grammar.proofs.Sentence.{with_sentence, without_sentence_lem, not-stored}
 use Rattle.live.specs.Lent.{ColumnsOf}
 use Rattle.live.proofs.ColumnLaws.{lent_of}
-use Rattle.table_check.specs.Contracts.{nextOrFull}
+use Rattle.table_check.specs.Clauses.{next_or_full}
 use Rattle.table_check.proofs.RecordLaws.{paste-part}
-use Rattle.table_check.proofs.WalkLaws.{Walk, Room, walk_start, walk_before, walk-room, walk-on, walk_end, walk-fault, length-read, fault-read}
+use Rattle.table_check.proofs.WalkLaws.{Walk, Room, walk_start, walk_before, walk-room, walk-on, walk_end, walk_fault, length-read, fault_read}
 use Rattle.table_check.proofs.check_up_to.Statement.{statement}
 use Rattle.table_check.proofs.check_up_to.Tie as tie
 
@@ -37,10 +37,10 @@ decreases-loop t n table whole terminals nonterminals g₀ at₀ g at = length t
 
 -- what is asked for: the grammar that the table stores, and where the whole is asked for, with a sentence
 abbrev answer : (t n : ℕ) (table : List ℕ) → Bool → Answer Grammar
-answer t n table whole = choose whole (checkTable limits t n table) (storedTable limits t n table)
+answer t n table whole = choose whole (check_table limits t n table) (stored_table limits t n table)
 
 -- a table that stores no grammar is refused either way
-either : (t n : ℕ) (table : List ℕ) (whole : Bool) (cause at : ℕ) → storedTable limits t n table ≡ refused cause at → answer t n table whole ≡ refused cause at
+either : (t n : ℕ) (table : List ℕ) (whole : Bool) (cause at : ℕ) → stored_table limits t n table ≡ refused cause at → answer t n table whole ≡ refused cause at
 either t n table true cause at e = not-stored limits t n table cause at e
 either t n table false cause at e = e
 
@@ -49,20 +49,20 @@ ranges : (c : tie.Else1 invariant-loop decreases-loop) → let a = c.before.befo
 ranges c = sym c.before.in-range.ensures ∙ not-false c.before.in-range.result c.if1.false
 
 -- from a rule without fault back to the turn's start; from the end of the turn back to the rule
-abbrev turnAt : tie.After-known-told2 invariant-loop decreases-loop → tie.At-loop invariant-loop decreases-loop
-turnAt c = c.before.before.before.before.before.before.before.before
+abbrev turn_at : tie.After-known-told2 invariant-loop decreases-loop → tie.At-loop invariant-loop decreases-loop
+turn_at c = c.before.before.before.before.before.before.before.before
 
-abbrev ruleAt : tie.After-code invariant-loop decreases-loop → tie.After-known-told2 invariant-loop decreases-loop
-ruleAt c = c.before.before.before.before.before
+abbrev rule_at : tie.After-code invariant-loop decreases-loop → tie.After-known-told2 invariant-loop decreases-loop
+rule_at c = c.before.before.before.before.before
 
 -- the rule at the offset is without fault, so the record has room for it
-told : (c : tie.After-known-told2 invariant-loop decreases-loop) → let a = (turnAt c).before.before.before.before.before.args in let l = (turnAt c).loop in
-    nextOrFull a.t a.n a.table.now l.g.count l.at ≡ done c.before.read2.given.0.0
+told : (c : tie.After-known-told2 invariant-loop decreases-loop) → let a = (turn_at c).before.before.before.before.before.args in let l = (turn_at c).loop in
+    next_or_full a.t a.n a.table.now l.g.count l.at ≡ done c.before.read2.given.0.0
 told c = length-read _ c.before.read2.given.0.0 (sym c.before.before.before.next-rule.ensures ∙ c.before.read2.given.1)
 
-room : (c : tie.After-known-told2 invariant-loop decreases-loop) → let a = (turnAt c).before.before.before.before.before.args in let l = (turnAt c).loop in
+room : (c : tie.After-known-told2 invariant-loop decreases-loop) → let a = (turn_at c).before.before.before.before.before.args in let l = (turn_at c).loop in
     Room l.g a.table.now l.at c.before.read2.given.0.0
-room c = walk-room c.before.read2.given.0.0 (turnAt c).loop.invariant (told c)
+room c = walk-room c.before.read2.given.0.0 (turn_at c).loop.invariant (told c)
 
 in-range-requires : tie.Need-in-range-requires invariant-loop decreases-loop
 in-range-requires c κs = search rules
@@ -74,13 +74,13 @@ returns : tie.Need-returns invariant-loop decreases-loop
 returns c =
     let a = c.before.before.before.before.args in
     let o = table-out limits a.t a.n a.table.now (sym c.before.before.in-range.ensures ∙ not-true c.before.before.in-range.result c.before.if1.true) in
-    c.refuse.ensures ∙ ap tableChecked (sym (either a.t a.n a.table.now a.whole _ _ o))
+    c.refuse.ensures ∙ ap table_checked (sym (either a.t a.n a.table.now a.whole _ _ o))
 
 cast-terminals : tie.Need-overflow-cast-terminals invariant-loop decreases-loop
-cast-terminals c = let a = c.before.before.before.args in omega (arith, (in-range limits a.t a.n).0 (ranges c))
+cast-terminals c = let a = c.before.before.before.args in omega (arith, (in_range_lem limits a.t a.n).0 (ranges c))
 
 cast-nonterminals : tie.Need-overflow-cast-nonterminals invariant-loop decreases-loop
-cast-nonterminals c = let a = c.before.before.before.args in omega (arith, (in-range limits a.t a.n).0 (ranges c))
+cast-nonterminals c = let a = c.before.before.before.args in omega (arith, (in_range_lem limits a.t a.n).0 (ranges c))
 
 without-rules-requires : tie.Need-without-rules-requires invariant-loop decreases-loop
 without-rules-requires c κs = search rules
@@ -105,8 +105,8 @@ returns-2 c =
     let n = c.before.before.before.before in
     let t = n.before.before.before.before.before in
     let a = t.before.before.before.before.before.args in
-    let o = walk-fault e.0.0 e.0.1.0 t.loop.invariant n.before.before.before.before.loop-test.true (fault-read _ e.0.0 e.0.1.0 (sym n.next-rule.ensures ∙ e.1)) in
-    c.refuse2.ensures ∙ ap tableChecked (sym (either a.t a.n a.table.now a.whole _ _ o))
+    let o = walk_fault e.0.0 e.0.1.0 t.loop.invariant n.before.before.before.before.loop-test.true (fault_read _ e.0.0 e.0.1.0 (sym n.next-rule.ensures ∙ e.1)) in
+    c.refuse2.ensures ∙ ap table_checked (sym (either a.t a.n a.table.now a.whole _ _ o))
 
 enum-known-read-2 : tie.Need-enum-known-read-2 invariant-loop decreases-loop
 enum-known-read-2 c = search rules
@@ -139,8 +139,8 @@ put-codes-requires : tie.Need-put-codes-requires invariant-loop decreases-loop
 put-codes-requires c κs =
     let b = c.before.before in
     let r = room b in
-    let l = (turnAt b).loop in
-    (r.row, omega (arith, r.used, part_length (turnAt b).before.before.before.before.before.args.table.now l.at b.before.read2.given.0.0 r.whole))
+    let l = (turn_at b).loop in
+    (r.row, omega (arith, r.used, part_length (turn_at b).before.before.before.before.before.args.table.now l.at b.before.read2.given.0.0 r.whole))
 
 cast-g : tie.Need-overflow-cast-g invariant-loop decreases-loop
 cast-g c = omega (arith, room c.before.before.before)
@@ -158,46 +158,46 @@ code-requires : tie.Need-code-requires invariant-loop decreases-loop
 code-requires c κs = search rules
 
 mul-g-2 : tie.Need-overflow-mul-g-2 invariant-loop decreases-loop
-mul-g-2 c = omega (arith, room (ruleAt c))
+mul-g-2 c = omega (arith, room (rule_at c))
 
 element-write-g-2 : tie.Need-element-write-g-2 invariant-loop decreases-loop
-element-write-g-2 c = (room (ruleAt c)).count
+element-write-g-2 c = (room (rule_at c)).count
 
 cast-g-2 : tie.Need-overflow-cast-g-2 invariant-loop decreases-loop
-cast-g-2 c = omega (arith, room (ruleAt c))
+cast-g-2 c = omega (arith, room (rule_at c))
 
 mul-g-3 : tie.Need-overflow-mul-g-3 invariant-loop decreases-loop
-mul-g-3 c = omega (arith, room (ruleAt c))
+mul-g-3 c = omega (arith, room (rule_at c))
 
 element-write-g-3 : tie.Need-element-write-g-3 invariant-loop decreases-loop
-element-write-g-3 c = (room (ruleAt c)).count
+element-write-g-3 c = (room (rule_at c)).count
 
 add-g : tie.Need-overflow-add-g invariant-loop decreases-loop
-add-g c = omega (arith, room (ruleAt c))
+add-g c = omega (arith, room (rule_at c))
 
 add-g-2 : tie.Need-overflow-add-g-2 invariant-loop decreases-loop
-add-g-2 c = omega (arith, room (ruleAt c))
+add-g-2 c = omega (arith, room (rule_at c))
 
 add-g-3 : tie.Need-overflow-add-g-3 invariant-loop decreases-loop
-add-g-3 c = omega (arith, room (ruleAt c))
+add-g-3 c = omega (arith, room (rule_at c))
 
 add-g-4 : tie.Need-overflow-add-g-4 invariant-loop decreases-loop
-add-g-4 c = omega (arith, room (ruleAt c))
+add-g-4 c = omega (arith, room (rule_at c))
 
 add_at : tie.Need-overflow-add-at invariant-loop decreases-loop
-add_at c = omega (arith, room (ruleAt c))
+add_at c = omega (arith, room (rule_at c))
 
 add-at-2 : tie.Need-overflow-add-at-2 invariant-loop decreases-loop
-add-at-2 c = omega (arith, room (ruleAt c))
+add-at-2 c = omega (arith, room (rule_at c))
 
 loop-less : tie.Need-loop-smaller invariant-loop decreases-loop
-loop-less c = omega (arith, room (ruleAt c))
+loop-less c = omega (arith, room (rule_at c))
 
 loop-again : tie.Need-loop-preserved invariant-loop decreases-loop
 loop-again c =
-    let b = ruleAt c in
+    let b = rule_at c in
     let k = b.before.read2.given.0.0 in
-    let t = turnAt b in
+    let t = turn_at b in
     let a = t.before.before.before.before.before.args in
     let e : t.loop.at + 2 + k - (t.loop.at + 2) ≡ k = omega arith in
     walk-on k c.code.result _ t.loop.inv b.before.before.before.before.before.before.before.loop-test.taken (told b)
@@ -209,26 +209,26 @@ abbrev start : tie.After-loop invariant-loop decreases-loop → tie.Start invari
 start c = c.before.before.before.before.before.before
 
 abbrev Whole : tie.After-loop invariant-loop decreases-loop → Grammar
-Whole c = let a = (start c).args in grammarOf a.t a.n c.before.loop.invariant.rules
+Whole c = let a = (start c).args in grammar_of a.t a.n c.before.loop.invariant.rules
 
-stored : (c : tie.After-loop invariant-loop decreases-loop) → let a = (start c).args in storedTable limits a.t a.n a.table.now ≡ done (Whole c)
+stored : (c : tie.After-loop invariant-loop decreases-loop) → let a = (start c).args in stored_table limits a.t a.n a.table.now ≡ done (Whole c)
 stored c = walk_end c.before.loop.invariant c.loop-test.false
 
 columns : (c : tie.After-loop invariant-loop decreases-loop) → let g = c.before.loop.g in
     ColumnsOf (Whole c) g.nonterminals g.states g.count g.used g.lefts g.lengths g.codes
-columns c = lent_of _ (Whole c) (formed.stored-only limits formed.room _ _ _ (Whole c) (stored c)).wellFormed c.before.loop.invariant.shows
+columns c = lent_of _ (Whole c) (formed.stored-only limits formed.room _ _ _ (Whole c) (stored c)).well_formed c.before.loop.invariant.shows
 
 -- from the question for a sentence back to the table's end
 abbrev ended : tie.After-has-sentence invariant-loop decreases-loop → tie.After-loop invariant-loop decreases-loop
 ended c = c.before.before.before.before.before.before
 
-sentence : (c : tie.After-has-sentence invariant-loop decreases-loop) → c.has-sentence.result ≡ hasSentence limits (Whole (ended c))
+sentence : (c : tie.After-has-sentence invariant-loop decreases-loop) → c.has-sentence.result ≡ has_sentence limits (Whole (ended c))
 sentence c = c.has-sentence.ensures _ _ _ (columns (ended c))
 
 -- the record is the grammar's
 passed : (c : tie.After-loop invariant-loop decreases-loop) → let a = (start c).args in answer a.t a.n a.table.now a.whole ≡ done (Whole c)
-    → record { verdict = Passed; grammar = c.before.loop.g } ≡ tableChecked (answer a.t a.n a.table.now a.whole)
-passed c e = ap (λ (g : CheckedGrammar). record { verdict = Passed; grammar = g }) c.before.loop.invariant.shows ∙ ap tableChecked (sym e)
+    → record { verdict = Passed; grammar = c.before.loop.g } ≡ table_checked (answer a.t a.n a.table.now a.whole)
+passed c e = ap (λ (g : CheckedGrammar). record { verdict = Passed; grammar = g }) c.before.loop.invariant.shows ∙ ap table_checked (sym e)
 
 has-sentence-requires : tie.Need-has-sentence-requires invariant-loop decreases-loop
 has-sentence-requires c κs = let l = c.before.before.before.before.before in (Whole l, _, _, columns l)
@@ -242,8 +242,8 @@ returns-3 c =
     let l = ended s in
     let a = (start l).args in
     let h = sym (sentence s) ∙ not-true s.has-sentence.result c.before.if3.true in
-    let o = without-sentence limits a.t a.n a.table.now (Whole l) (stored l) h in
-    c.refuse3.ensures ∙ ap tableChecked (sym (ap (answer a.t a.n a.table.now) s.before.before.before.before.before.if2.true ∙ o))
+    let o = without_sentence_lem limits a.t a.n a.table.now (Whole l) (stored l) h in
+    c.refuse3.ensures ∙ ap table_checked (sym (ap (answer a.t a.n a.table.now) s.before.before.before.before.before.if2.true ∙ o))
 
 returns-4 : tie.Need-returns-4 invariant-loop decreases-loop
 returns-4 c =
@@ -251,7 +251,7 @@ returns-4 c =
     let l = ended s in
     let a = (start l).args in
     let h = sym (sentence s) ∙ not-false s.has-sentence.result c.if3.false in
-    let o = with-sentence limits a.t a.n a.table.now (Whole l) (stored l) h in
+    let o = with_sentence limits a.t a.n a.table.now (Whole l) (stored l) h in
     passed l (ap (answer a.t a.n a.table.now) s.before.before.before.before.before.if2.true ∙ o)
 
 returns-5 : tie.Need-returns-5 invariant-loop decreases-loop

@@ -5,7 +5,7 @@ use mathlib.Core.Path.{◌≡◌, ap, ◌∙◌}
 use Prim.Native.Nat.{◌≤◌, ◌+◌, ◌-◌}
 use mathlib.Core.List.{◌++◌}
 use lib.ListN.{length, take, drop, get_or, set, length-set}
-use Rattle.text_read.proofs.Rows.{copy_more, copy-all}
+use Rattle.text_read.proofs.Rows.{copy_more, copy_all}
 use Rattle.text_read.proofs.copy_words.Statement.{statement}
 use Rattle.text_read.proofs.copy_words.Tie as tie
 
@@ -51,7 +51,7 @@ same_length c = c.before.loop.invariant.1
 returns : tie.Need-returns invariant-loop decreases-loop
 returns c = let e = c.before.before in
     let l = c.before.loop in
-    l.invariant.2 ∙ copy-all e.args.front.now e.args.out.now l.i e.requires (omega arith) (omega arith)
+    l.invariant.2 ∙ copy_all e.args.front.now e.args.out.now l.i e.requires (omega arith) (omega arith)
 
 pub copy-words-spec : {M : Type 1} → statement M
 copy-words-spec =

@@ -6,7 +6,7 @@ use Prim.Native.Nat.{ℕ, ◌+◌, ◌≤◌}
 use lib.ListN.{length}
 use lib.Seq.{length-take-le}
 use Rattle.grammar.specs.Limits.{limits}
-use Rattle.text.specs.Rules.{checkText}
+use Rattle.text.specs.Rules.{check_text}
 use Rattle.text_read.specs.Texts.{ChecksText}
 use Rattle.text_read.proofs.Whole.{kept-within, checks}
 use Rattle.text_read.proofs.Written.{read-refused, entries-kept, starts-kept, lengths-kept, short-table, short-starts, short_lengths, read_all}
@@ -60,13 +60,13 @@ states c = c.before.read.given.0.1.1.1.0
 -- what is kept has what is copied
 module _ (w : tie.After-known-told) where
   entries_fit : entries w ≤ length (start (answer w)).args.row.now
-  entries_fit = let r = answer w in let a = (start r).args in entries-kept (checkText limits a.text.now) a.row.now a.begins.now a.sizes.now r.check-kept.result (checked r) (t w) (n w) (entries w) (states w) w.before.read.given.1
+  entries_fit = let r = answer w in let a = (start r).args in entries-kept (check_text limits a.text.now) a.row.now a.begins.now a.sizes.now r.check-kept.result (checked r) (t w) (n w) (entries w) (states w) w.before.read.given.1
 
-  begins-fit : t w + n w ≤ length (start (answer w)).args.begins.now
-  begins-fit = let r = answer w in let a = (start r).args in starts-kept (checkText limits a.text.now) a.row.now a.begins.now a.sizes.now r.check-kept.result (checked r) (t w) (n w) (entries w) (states w) w.before.read.given.1
+  begins_fit : t w + n w ≤ length (start (answer w)).args.begins.now
+  begins_fit = let r = answer w in let a = (start r).args in starts-kept (check_text limits a.text.now) a.row.now a.begins.now a.sizes.now r.check-kept.result (checked r) (t w) (n w) (entries w) (states w) w.before.read.given.1
 
-  sizes-fit : t w + n w ≤ length (start (answer w)).args.sizes.now
-  sizes-fit = let r = answer w in let a = (start r).args in lengths-kept (checkText limits a.text.now) a.row.now a.begins.now a.sizes.now r.check-kept.result (checked r) (t w) (n w) (entries w) (states w) w.before.read.given.1
+  sizes_fit : t w + n w ≤ length (start (answer w)).args.sizes.now
+  sizes_fit = let r = answer w in let a = (start r).args in lengths-kept (check_text limits a.text.now) a.row.now a.begins.now a.sizes.now r.check-kept.result (checked r) (t w) (n w) (entries w) (states w) w.before.read.given.1
 
 check-kept-requires : tie.Need-check-kept-requires
 check-kept-requires c κs = let e = lent c in let a = e.args in kept-within a.text.now a.row.now a.kept e.pre.lines
@@ -83,7 +83,7 @@ returns c =
     read-refused a.text.now a.table.now a.starts.now a.lengths.now a.row.now a.begins.now a.sizes.now r.check-kept.result (checked r) g.0.0 g.0.1.0 g.1
 
 add-count : tie.Need-overflow-add-count
-add-count c = omega (arith, begins-fit c)
+add-count c = omega (arith, begins_fit c)
 
 returns-2 : tie.Need-returns-2
 returns-2 c =
@@ -109,20 +109,20 @@ copy-codes-requires c κs =
     omega (arith, length-take-le (entries w) (start (answer w)).args.row.now (entries_fit w), o.before.before.if1.false)
 
 slice-aggregate-copy-words : tie.Need-slice-aggregate-copy-words
-slice-aggregate-copy-words c = sym (length-take-le _ _ (begins-fit (told (room (codes c.before)))))
+slice-aggregate-copy-words c = sym (length-take-le _ _ (begins_fit (told (room (codes c.before)))))
 
 copy-words-requires : tie.Need-copy-words-requires
 copy-words-requires c κs =
     let o = room (codes c.before.before) in let w = told o in
-    omega (arith, length-take-le (t w + n w) (start (answer w)).args.begins.now (begins-fit w), o.before.if2.left)
+    omega (arith, length-take-le (t w + n w) (start (answer w)).args.begins.now (begins_fit w), o.before.if2.left)
 
 slice-aggregate-copy-words-2 : tie.Need-slice-aggregate-copy-words-2
-slice-aggregate-copy-words-2 c = sym (length-take-le _ _ (sizes-fit (told (room (coded (words c.before))))))
+slice-aggregate-copy-words-2 c = sym (length-take-le _ _ (sizes_fit (told (room (coded (words c.before))))))
 
 copy-words-requires-2 : tie.Need-copy-words-requires-2
 copy-words-requires-2 c κs =
     let o = room (coded (words c.before.before)) in let w = told o in
-    omega (arith, length-take-le (t w + n w) (start (answer w)).args.sizes.now (sizes-fit w), o.if3.left)
+    omega (arith, length-take-le (t w + n w) (start (answer w)).args.sizes.now (sizes_fit w), o.if3.left)
 
 same_length : tie.Need-same-length
 same_length c = search rules

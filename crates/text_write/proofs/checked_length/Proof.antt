@@ -4,7 +4,7 @@ use native.Mathlib.Omega.{arith}
 use borrow.Author.Rules.{rules}
 use lib.Seq.{length-take-le}
 use Rattle.text_write.proofs.TableLaws.{symbols-most}
-use Rattle.text_write.proofs.WriteLaws.{length-bad, Lent, lent, ready, length-named}
+use Rattle.text_write.proofs.WriteLaws.{length_bad, Lent, lent, ready, length-named}
 use Rattle.text_write.proofs.checked_length.Statement.{statement}
 use Rattle.text_write.proofs.checked_length.Tie as tie
 
@@ -37,7 +37,7 @@ returns c =
     let k = c.before in
     let s = start k in
     let a = s.args in
-    length-bad a.t a.n a.table.now a.bytes.now a.starts.now a.lengths.now
+    length_bad a.t a.n a.table.now a.bytes.now a.starts.now a.lengths.now
     s.pre.grammar s.pre.passes k.first-bad.result k.first-bad.ensures c.if1.true
 
 slice-aggregate-named-length : tie.Need-slice-aggregate-named-length

@@ -7,11 +7,11 @@ use lib.ListN.{length}
 use Rattle.grammar.specs.Limits.{limits}
 use Rattle.grammar.specs.Table.{decode}
 use Rattle.text.specs.Spelled.{spelled}
-use Rattle.text_write.specs.Length.{textLength}
-use Rattle.text_write.specs.Contracts.{Coded, text_of}
-use Rattle.text_write.proofs.LentLaws.{names-count, lengths-spelled}
+use Rattle.text_write.specs.Length.{text_length}
+use Rattle.text_write.specs.Clauses.{Coded, text_of}
+use Rattle.text_write.proofs.LentLaws.{names_count, lengths-spelled}
 use Rattle.text_write.proofs.LengthLaws.{printed-length}
-use Rattle.text_write.proofs.WriteLaws.{named-double, named-bytes}
+use Rattle.text_write.proofs.WriteLaws.{named_double, named-bytes}
 use Rattle.text_write.proofs.named_length.Statement.{statement}
 use Rattle.text_write.proofs.named_length.Tie as tie
 
@@ -24,12 +24,12 @@ names s = spelled s.args.bytes.now s.args.starts.now s.args.lengths.now
 -- the length that is computed is that of the text
 sized : (c : tie.Start) →
     let a = c.args in
-    length (text_of a.t (names c) (decode a.table.now)) ≡ textLength limits a.t a.lengths.now
+    length (text_of a.t (names c) (decode a.table.now)) ≡ text_length limits a.t a.lengths.now
     (decode a.table.now)
 sized c =
     let a = c.args in
-    printed-length a.t (names c) (decode a.table.now) (omega (arith, names-count c.requires.rows, c.requires.terminals))
-    ∙ ap (λ l. textLength limits a.t l (decode a.table.now))
+    printed-length a.t (names c) (decode a.table.now) (omega (arith, names_count c.requires.rows, c.requires.terminals))
+    ∙ ap (λ l. text_length limits a.t l (decode a.table.now))
     (lengths-spelled a.bytes.now a.starts.now a.lengths.now c.requires.rows)
 
 first-double-requires : tie.Need-first-double-requires
@@ -40,8 +40,8 @@ returns c =
     let k = c.before in
     let s = start k in
     let a = s.args in
-    named-double a.t (names s) (decode a.table.now) k.first-double.result k.first-double.ensures
-    (omega (arith, names-count s.pre.rows, c.if1.true))
+    named_double a.t (names s) (decode a.table.now) k.first-double.result k.first-double.ensures
+    (omega (arith, names_count s.pre.rows, c.if1.true))
 
 text-length-requires : tie.Need-text-length-requires
 text-length-requires c κs =
@@ -58,7 +58,7 @@ returns-2 c =
     let s = start k in
     let a = s.args in
     named-bytes a.t (names s) (decode a.table.now) k.first-double.result c.text-length.result
-    k.first-double.ensures (omega (arith, names-count s.pre.rows, c.before.if1.false))
+    k.first-double.ensures (omega (arith, names_count s.pre.rows, c.before.if1.false))
     (c.text-length.ensures ∙ sym (sized s))
 
 pub named-length-spec : {M : Type 1} → statement M

@@ -7,13 +7,13 @@ use lib.ListN.{length, length-set}
 use Rattle.grammar.specs.Limits.{limits}
 use Rattle.tree_walk.specs.Charted.{Rows, rows}
 use Rattle.tree_walk.specs.Walking.{Course, Begun}
-use Rattle.tree_walk.proofs.Totals.{Listing, measure, turn-less, listing_start, listing-walks, listing-on, listing-room, listing-more, listing-end}
+use Rattle.tree_walk.proofs.Totals.{Listing, measure, turn_less, listing_start, listing_walks, listing_on, listing_room, listing_more, listing_end}
 use Rattle.tree_walk.proofs.write_rules.Statement.{statement}
 use Rattle.tree_walk.proofs.write_rules.Tie as tie
 
 abbrev invariant-loop : tie.invariant-loop
 invariant-loop work₀ ahead lead number home row states list₀ found₀ w₀ out₀ going₀ work list found w out going =
-    (going ≤ 1) × (out ≤ length list₀) × (length work ≡ length work₀) × (length list ≡ length list₀) × (length found ≡ limits.maxNonterminals)
+    (going ≤ 1) × (out ≤ length list₀) × (length work ≡ length work₀) × (length list ≡ length list₀) × (length found ≡ limits.max_nonterminals)
     × ((c : Course) → Begun (rows states ahead lead number home row) c work₀ → Listing (rows states ahead lead number home row) c list₀ work list w out going)
 
 abbrev decreases-loop : tie.decreases-loop
@@ -26,8 +26,8 @@ start c = c.before.before.before.before.before
 abbrev turn_of : tie.After-turn invariant-loop decreases-loop → tie.At-loop invariant-loop decreases-loop
 turn_of c = c.before.before.before.before
 
-abbrev turnedAt : tie.After-struct-known invariant-loop decreases-loop → tie.After-turn invariant-loop decreases-loop
-turnedAt c = c.before.before.before.before
+abbrev turned_at : tie.After-struct-known invariant-loop decreases-loop → tie.After-turn invariant-loop decreases-loop
+turned_at c = c.before.before.before.before
 
 -- the rows
 abbrev rows_of : tie.Start invariant-loop decreases-loop → Rows
@@ -39,11 +39,11 @@ room d f =
     let l = turn_of d in
     let e = start l in
     let s = e.pre.0 in
-    listing-room (rows_of e) s.course e.args.list.now l.loop.work d.turn.new.0 l.loop.list l.loop.w d.turn.result l.loop.out l.loop.going
+    listing_room (rows_of e) s.course e.args.list.now l.loop.work d.turn.new.0 l.loop.list l.loop.w d.turn.result l.loop.out l.loop.going
     d.before.before.before.loop-test.true d.turn.ensures.0 (l.loop.inv.5 s.course s.begun) s.fits f
 
 -- a turn keeps the length of what was found last
-keeps : (d : tie.After-turn invariant-loop decreases-loop) → length d.turn.new.1.1.1.1.1.1.1.1.0 ≡ limits.maxNonterminals
+keeps : (d : tie.After-turn invariant-loop decreases-loop) → length d.turn.new.1.1.1.1.1.1.1.1.0 ≡ limits.max_nonterminals
 keeps d = d.turn.auto.1.1.1.1.1.1.1.1.0 ∙ (turn_of d).loop.invariant.4
 
 root-requires : tie.Need-root-requires invariant-loop decreases-loop
@@ -62,31 +62,31 @@ turn-requires c κs =
     let l = c.before.before.before in
     let e = start l in
     let s = e.pre.0 in (
-      listing-walks (rows_of e) s.course e.args.list.now l.loop.work l.loop.list l.loop.w l.loop.out l.loop.going c.before.before.loop-test.true
+      listing_walks (rows_of e) s.course e.args.list.now l.loop.work l.loop.list l.loop.w l.loop.out l.loop.going c.before.before.loop-test.true
           (l.loop.invariant.5 s.course s.begun),
       (record { cells = omega (arith, e.pre.1.cells, l.loop.invariant.2); small = e.pre.1.small }, omega (arith, l.loop.invariant.4)),
     )
 
 mul-list : tie.Need-overflow-mul-list invariant-loop decreases-loop
-mul-list c = let d = turnedAt c.before in omega (arith, room d c.if1.true, (start (turn_of d)).good.1.1.1.1.1.1.1.0)
+mul-list c = let d = turned_at c.before in omega (arith, room d c.if1.true, (start (turn_of d)).good.1.1.1.1.1.1.1.0)
 
 slice-write-list : tie.Need-slice-write-list invariant-loop decreases-loop
-slice-write-list c = let d = turnedAt c.before in omega (arith, room d c.if1.true, (turn_of d).loop.inv.3)
+slice-write-list c = let d = turned_at c.before in omega (arith, room d c.if1.true, (turn_of d).loop.inv.3)
 
 add-out : tie.Need-overflow-add-out invariant-loop decreases-loop
-add-out c = let d = turnedAt c.before in omega (arith, room d c.if1.true, (start (turn_of d)).good.1.1.1.1.1.1.1.0)
+add-out c = let d = turned_at c.before in omega (arith, room d c.if1.true, (start (turn_of d)).good.1.1.1.1.1.1.1.0)
 
 loop-less : tie.Need-loop-smaller invariant-loop decreases-loop
 loop-less c =
-    let d = turnedAt c.before in
+    let d = turned_at c.before in
     let t = d.turn in
     let l = turn_of d in
-    turn-less (length (start l).args.list.now) l.loop.out 1 l.loop.going l.loop.w t.result (omega (arith, room d c.if1.true))
+    turn_less (length (start l).args.list.now) l.loop.out 1 l.loop.going l.loop.w t.result (omega (arith, room d c.if1.true))
     (omega (arith, c.if1.true, t.ensures.1.0)) t.ensures.1.0.0 t.ensures.1.0.1 t.ensures.1.0.2 d.before.before.before.loop-test.taken t.ensures.1.1
 
 loop-again : tie.Need-loop-preserved invariant-loop decreases-loop
 loop-again c =
-    let d = turnedAt c.before in
+    let d = turned_at c.before in
     let t = d.turn in
     let l = turn_of d in
     let e = start l in
@@ -96,22 +96,22 @@ loop-again c =
       t.kept.0 ∙ l.loop.inv.2,
       length-set l.loop.list l.loop.out t.result.rule ∙ l.loop.inv.3,
       keeps d,
-      λ g b. listing-more (rows_of e) g e.args.list.now l.loop.work t.last.0 l.loop.list l.loop.w t.result l.loop.out l.loop.going
+      λ g b. listing_more (rows_of e) g e.args.list.now l.loop.work t.last.0 l.loop.list l.loop.w t.result l.loop.out l.loop.going
           d.before.before.before.loop-test.taken t.ensures.0 (l.loop.inv.5 g b) z c.if1.true,
     )
 
 loop-less-2 : tie.Need-loop-smaller-2 invariant-loop decreases-loop
 loop-less-2 c =
-    let d = turnedAt c.before in
+    let d = turned_at c.before in
     let t = d.turn in
     let l = turn_of d in
-    let z = turn-less (length (start l).args.list.now) l.loop.out 0 l.loop.going l.loop.w t.result (omega (arith, l.loop.inv.1)) (omega (arith, c.if1.false))
+    let z = turn_less (length (start l).args.list.now) l.loop.out 0 l.loop.going l.loop.w t.result (omega (arith, l.loop.inv.1)) (omega (arith, c.if1.false))
     t.ensures.1.0.0 t.ensures.1.0.1 t.ensures.1.0.2 d.before.before.before.loop-test.taken t.ensures.1.1 in
     omega (arith, z)
 
 loop-again-2 : tie.Need-loop-preserved-2 invariant-loop decreases-loop
 loop-again-2 c =
-    let d = turnedAt c.before in
+    let d = turned_at c.before in
     let t = d.turn in
     let l = turn_of d in
     let e = start l in (
@@ -120,7 +120,7 @@ loop-again-2 c =
       t.kept.0 ∙ l.loop.inv.2,
       l.loop.inv.3,
       keeps d,
-      λ g b. listing-on (rows_of e) g e.args.list.now l.loop.work t.last.0 l.loop.list l.loop.w t.result l.loop.out l.loop.going
+      λ g b. listing_on (rows_of e) g e.args.list.now l.loop.work t.last.0 l.loop.list l.loop.w t.result l.loop.out l.loop.going
           d.before.before.before.loop-test.taken t.ensures.0 (l.loop.inv.5 g b) (omega (arith, c.if1.false)),
     )
 
@@ -134,7 +134,7 @@ returns : tie.Need-returns invariant-loop decreases-loop
 returns c =
     let l = c.before in
     let e = start l in
-    λ g b fit. listing-end (rows_of e) g e.args.list.now l.loop.work l.loop.list l.loop.w l.loop.out l.loop.going (omega arith) (l.loop.invariant.5 g b)
+    λ g b fit. listing_end (rows_of e) g e.args.list.now l.loop.work l.loop.list l.loop.w l.loop.out l.loop.going (omega arith) (l.loop.invariant.5 g b)
 
 pub write-rules-spec : {M : Type 1} → statement M
 write-rules-spec =

@@ -5,10 +5,10 @@ use mathlib.Core.Path.{◌≡◌, sym, subst, ◌∙◌}
 use mathlib.Core.List.{List}
 use Rattle.grammar.specs.Limits.{limits}
 use Rattle.grammar.specs.Grammar.{Grammar}
-use Rattle.grammar.specs.TableCheck.{checkTable}
+use Rattle.grammar.specs.TableCheck.{check_table}
 use Rattle.grammar.proofs.Answers.{no_answer, done_inj}
 use Rattle.grammar.proofs.WellFormed.{room}
-use Rattle.automaton.specs.Callers.{checkWith}
+use Rattle.automaton.specs.Callers.{check_with}
 use Rattle.automaton.specs.PositionMoves.{moves_of}
 use Rattle.triples.specs.Sides.{OneEach}
 use Rattle.triple_laws.proofs.CallerChecks.{zero-check}
@@ -32,7 +32,7 @@ abbrev lent_at : tie.After-walk-arg2 → tie.After-targets2
 lent_at c = c.before.before
 
 -- without callers the check is the table check
-zero : (e : tie.Start) → checkWith limits e.args.t e.args.n e.args.table.now 0 ≡ checkTable limits e.args.t e.args.n e.args.table.now
+zero : (e : tie.Start) → check_with limits e.args.t e.args.n e.args.table.now 0 ≡ check_table limits e.args.t e.args.n e.args.table.now
 zero e = zero-check limits room e.args.t e.args.n e.args.table.now
 
 -- of one grammar
@@ -57,14 +57,14 @@ enum-told-2 c = search rules
 slice-aggregate-walk : tie.Need-slice-aggregate-walk
 slice-aggregate-walk c =
     let p = passed_at c in
-    sym ((rows_at p).prepare.ensures.passed-as p.enum-told2.given.1).2.long
+    sym ((rows_at p).prepare.ensures.passed_as p.enum-told2.given.1).2.long
 
 walk-requires : tie.Need-walk-requires
 walk-requires c κs =
     let p = passed_at (lent_at c) in
     let w = rows_at p in
     let e = start w in
-    let g = w.prepare.ensures.passed-as p.enum-told2.given.1 in
+    let g = w.prepare.ensures.passed_as p.enum-told2.given.1 in
     let r = g.2 in
     (searchable-of (moves_of limits g.0) r.regular _ _ _ r.size _ r.shows r.long, (e.pre.left-room, e.pre.right-room))
 
@@ -81,7 +81,7 @@ returns-2 c =
     let w = rows_at p in
     let e = start w in
     let row = e.args.row.now in
-    let g = w.prepare.ensures.passed-as p.enum-told2.given.1 in
+    let g = w.prepare.ensures.passed_as p.enum-told2.given.1 in
     let r = g.2 in
     let one : OneEach (moves_of limits g.0) row = subst (λ (G : Grammar). OneEach (moves_of limits G) row) (done_inj (sym (zero e ∙ e.pre.passes) ∙ g.1)) e.pre.one in
     let z = k.walk.ensures (moves_of limits g.0) (gives_of (moves_of limits g.0) r.regular _ _ _ r.size _ r.shows) one in

@@ -6,9 +6,9 @@ use mathlib.Core.Path.{◌≡◌, refl, ap₂, ◌∙◌}
 use mathlib.Core.List.{List}
 use lib.ListN.{length, take, get_or}
 use Rattle.automaton.specs.Moves.{Moves}
-use Rattle.triples.specs.Sides.{OneEach, leftSide, rightSide}
+use Rattle.triples.specs.Sides.{OneEach, left_side, right_side}
 use Rattle.steps.specs.Plan.{Rows, rows_of}
-use Rattle.witness_sides.specs.Contracts.{FrontLetters, stepFound, GivesRecords}
+use Rattle.witness_sides.specs.Clauses.{FrontLetters, step_found, GivesRecords}
 use Rattle.witness_sides.proofs.WalkLaws.{letters-none, letters-more, letters-all}
 use Rattle.witness_sides.proofs.walk.Statement.{statement}
 use Rattle.witness_sides.proofs.walk.Tie as tie
@@ -16,7 +16,7 @@ use Rattle.witness_sides.proofs.walk.Tie as tie
 -- the letters of the first x steps stand at the fronts
 abbrev Fronts : Rows → ℕ → List ℕ → ℕ → ℕ → List ℕ → ℕ → List ℕ → Type 0
 Fronts R Q row x lefts left rights right = (M : Moves) → GivesRecords M R Q → OneEach M row
-    → FrontLetters (leftSide M (take (x + 1) row)) lefts left × FrontLetters (rightSide M (take (x + 1) row)) rights right
+    → FrontLetters (left_side M (take (x + 1) row)) lefts left × FrontLetters (right_side M (take (x + 1) row)) rights right
 
 abbrev invariant-loop : tie.invariant-loop
 invariant-loop ahead number member first after targets t m q row left₀ right₀ lefts₀ rights₀ x₀ left right lefts rights x =
@@ -36,8 +36,8 @@ turn c = c.before.before.before.before.before
 abbrev found : tie.After-put-letter invariant-loop decreases-loop → tie.After-step-to invariant-loop decreases-loop
 found c = c.before.before
 
-abbrev leftPut : tie.After-put-letter2 invariant-loop decreases-loop → tie.After-put-letter invariant-loop decreases-loop
-leftPut c = c.before.before.before.before
+abbrev left_put : tie.After-put-letter2 invariant-loop decreases-loop → tie.After-put-letter invariant-loop decreases-loop
+left_put c = c.before.before.before.before
 
 -- the rows
 abbrev rows : tie.Start invariant-loop decreases-loop → Rows
@@ -45,12 +45,12 @@ rows e = let a = e.args in rows_of a.ahead.now a.number.now a.member.now a.first
 
 -- the step that was found leads from one entry to the next
 leads : (c : tie.After-step-to invariant-loop decreases-loop) → let l = (turn c).before in let a = (start l).args in
-    c.step-to.result ≡ stepFound (rows (start l)) a.q (get_or a.row.now l.loop.x 0) (get_or a.row.now (l.loop.x + 1) 0)
+    c.step-to.result ≡ step_found (rows (start l)) a.q (get_or a.row.now l.loop.x 0) (get_or a.row.now (l.loop.x + 1) 0)
 leads c =
     let l = (turn c).before in
     let a = (start l).args in
     c.step-to.ensures
-    ∙ ap₂ (λ (i j : ℕ). stepFound (rows (start l)) a.q i j) c.before.before.before.wide.ensures c.before.wide2.ensures
+    ∙ ap₂ (λ (i j : ℕ). step_found (rows (start l)) a.q i j) c.before.before.before.wide.ensures c.before.wide2.ensures
 
 loop-holds : tie.Need-loop-init invariant-loop decreases-loop
 loop-holds c =
@@ -97,7 +97,7 @@ put-letter-requires-2 : tie.Need-put-letter-requires-2 invariant-loop decreases-
 put-letter-requires-2 c κs = search rules
 
 add-x : tie.Need-overflow-add-x invariant-loop decreases-loop
-add-x c = add-loop (turn (found (leftPut c.before.before))).before
+add-x c = add-loop (turn (found (left_put c.before.before))).before
 
 loop-less : tie.Need-loop-smaller invariant-loop decreases-loop
 loop-less c = search rules
@@ -105,7 +105,7 @@ loop-less c = search rules
 loop-again : tie.Need-loop-preserved invariant-loop decreases-loop
 loop-again c =
     let r = c.before.before in
-    let p = leftPut r in
+    let p = left_put r in
     let f = found p in
     let t = turn f in
     let l = t.before.loop in
@@ -143,8 +143,8 @@ returns c =
       right-length = v.long;
       left-front = u.front;
       right-front = v.front;
-      left-fits = u.fits;
-      right-fits = v.fits;
+      left_fits = u.fits;
+      right_fits = v.fits;
     }
 
 pub walk-spec : {M : Type 1} → statement M

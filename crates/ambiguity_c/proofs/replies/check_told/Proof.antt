@@ -1,7 +1,7 @@
 -- check_told meets its contract: each arm is a case of the definition.
 use borrow.Author.Rules.{rules}
 use mathlib.Core.Path.{ap, sym}
-use Rattle.ambiguity_c.specs.Replies.{checkReply}
+use Rattle.ambiguity_c.specs.Replies.{check_reply}
 use Rattle.ambiguity_c.proofs.replies.check_told.Statement.{statement}
 use Rattle.ambiguity_c.proofs.replies.check_told.Tie as tie
 
@@ -15,10 +15,10 @@ cast-t5 : tie.Need-overflow-cast-t5
 cast-t5 c = search rules
 
 returns : tie.Need-returns
-returns c = sym (ap checkReply c.enum_told.given.1)
+returns c = sym (ap check_reply c.enum_told.given.1)
 
 returns-2 : tie.Need-returns-2
-returns-2 c = sym (ap checkReply c.before.verdict.given.1)
+returns-2 c = sym (ap check_reply c.before.verdict.given.1)
 
 pub check-told-spec : {M : Type 1} → statement M
 check-told-spec = tie.close (tie.spec enum_told enum-known-verdict cast-t5 returns returns-2)

@@ -1,7 +1,7 @@
 -- draft_counts_told meets its contract: each arm is a case of the definition.
 use borrow.Author.Rules.{rules}
 use mathlib.Core.Path.{ap, sym}
-use Rattle.ambiguity_c.specs.Replies.{draftCountsReply}
+use Rattle.ambiguity_c.specs.Replies.{draft_counts_reply}
 use Rattle.ambiguity_c.proofs.replies.draft_counts_told.Statement.{statement}
 use Rattle.ambiguity_c.proofs.replies.draft_counts_told.Tie as tie
 
@@ -15,10 +15,10 @@ cast-t15 : tie.Need-overflow-cast-t15
 cast-t15 c = search rules
 
 returns : tie.Need-returns
-returns c = sym (ap draftCountsReply c.before.answer.given.1)
+returns c = sym (ap draft_counts_reply c.before.answer.given.1)
 
 returns-2 : tie.Need-returns-2
-returns-2 c = sym (ap draftCountsReply c.before.answer2.given.1)
+returns-2 c = sym (ap draft_counts_reply c.before.answer2.given.1)
 
 pub draft-counts-told-spec : {M : Type 1} → statement M
 draft-counts-told-spec = tie.close (tie.spec enum-known-answer enum-known-answer-2 cast-t15 returns returns-2)

@@ -1,7 +1,7 @@
 -- draft_table_told meets its contract: each arm is a case of the definition.
 use borrow.Author.Rules.{rules}
 use mathlib.Core.Path.{ap, sym}
-use Rattle.ambiguity_c.specs.Replies.{draftTableReply}
+use Rattle.ambiguity_c.specs.Replies.{draft_table_reply}
 use Rattle.ambiguity_c.proofs.replies.draft_table_told.Statement.{statement}
 use Rattle.ambiguity_c.proofs.replies.draft_table_told.Tie as tie
 
@@ -15,10 +15,10 @@ cast-t9 : tie.Need-overflow-cast-t9
 cast-t9 c = search rules
 
 returns : tie.Need-returns
-returns c = sym (ap draftTableReply c.before.answer.given.1)
+returns c = sym (ap draft_table_reply c.before.answer.given.1)
 
 returns-2 : tie.Need-returns-2
-returns-2 c = sym (ap draftTableReply c.before.answer2.given.1)
+returns-2 c = sym (ap draft_table_reply c.before.answer2.given.1)
 
 pub draft-table-told-spec : {M : Type 1} → statement M
 draft-table-told-spec = tie.close (tie.spec enum-known-answer enum-known-answer-2 cast-t9 returns returns-2)

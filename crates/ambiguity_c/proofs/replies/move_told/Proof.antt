@@ -1,7 +1,7 @@
 -- move_told meets its contract: each arm is a case of the definition.
 use borrow.Author.Rules.{rules}
 use mathlib.Core.Path.{ap, sym}
-use Rattle.ambiguity_c.specs.Replies.{moveReply}
+use Rattle.ambiguity_c.specs.Replies.{move_reply}
 use Rattle.ambiguity_c.proofs.replies.move_told.Statement.{statement}
 use Rattle.ambiguity_c.proofs.replies.move_told.Tie as tie
 
@@ -27,16 +27,16 @@ cast-t8 : tie.Need-overflow-cast-t8
 cast-t8 c = search rules
 
 returns : tie.Need-returns
-returns c = sym (ap moveReply c.enum_told.given.1)
+returns c = sym (ap move_reply c.enum_told.given.1)
 
 returns-2 : tie.Need-returns-2
-returns-2 c = sym (ap moveReply c.before.side.given.1)
+returns-2 c = sym (ap move_reply c.before.side.given.1)
 
 returns-3 : tie.Need-returns-3
-returns-3 c = sym (ap moveReply c.before.side2.given.1)
+returns-3 c = sym (ap move_reply c.before.side2.given.1)
 
 returns-4 : tie.Need-returns-4
-returns-4 c = sym (ap moveReply c.before.side3.given.1)
+returns-4 c = sym (ap move_reply c.before.side3.given.1)
 
 pub move-told-spec : {M : Type 1} → statement M
 move-told-spec =

@@ -1,7 +1,7 @@
 -- report_told meets its contract: each arm is a case of the definition.
 use borrow.Author.Rules.{rules}
 use mathlib.Core.Path.{ap, sym}
-use Rattle.ambiguity_c.specs.Replies.{reportReply}
+use Rattle.ambiguity_c.specs.Replies.{report_reply}
 use Rattle.ambiguity_c.proofs.replies.report_told.Statement.{statement}
 use Rattle.ambiguity_c.proofs.replies.report_told.Tie as tie
 
@@ -15,10 +15,10 @@ cast-t7 : tie.Need-overflow-cast-t7
 cast-t7 c = search rules
 
 returns : tie.Need-returns
-returns c = sym (ap reportReply c.before.answer.given.1)
+returns c = sym (ap report_reply c.before.answer.given.1)
 
 returns-2 : tie.Need-returns-2
-returns-2 c = sym (ap reportReply c.before.answer2.given.1)
+returns-2 c = sym (ap report_reply c.before.answer2.given.1)
 
 pub report-told-spec : {M : Type 1} → statement M
 report-told-spec =

@@ -1,7 +1,7 @@
 -- room_told meets its contract: each arm is a case of the definition.
 use borrow.Author.Rules.{rules}
 use mathlib.Core.Path.{ap, sym}
-use Rattle.ambiguity_c.specs.Replies.{roomReply}
+use Rattle.ambiguity_c.specs.Replies.{room_reply}
 use Rattle.ambiguity_c.proofs.replies.room_told.Statement.{statement}
 use Rattle.ambiguity_c.proofs.replies.room_told.Tie as tie
 
@@ -15,10 +15,10 @@ cast-t13 : tie.Need-overflow-cast-t13
 cast-t13 c = search rules
 
 returns : tie.Need-returns
-returns c = sym (ap roomReply c.before.answer.given.1)
+returns c = sym (ap room_reply c.before.answer.given.1)
 
 returns-2 : tie.Need-returns-2
-returns-2 c = sym (ap roomReply c.before.answer2.given.1)
+returns-2 c = sym (ap room_reply c.before.answer2.given.1)
 
 pub room-told-spec : {M : Type 1} → statement M
 room-told-spec =

@@ -1,7 +1,7 @@
 -- step_told meets its contract: each arm is a case of the definition.
 use borrow.Author.Rules.{rules}
 use mathlib.Core.Path.{ap, sym, ◌∙◌}
-use Rattle.ambiguity_c.specs.Replies.{stepReply}
+use Rattle.ambiguity_c.specs.Replies.{step_reply}
 use Rattle.ambiguity_c.proofs.replies.step_told.Statement.{statement}
 use Rattle.ambiguity_c.proofs.replies.step_told.Tie as tie
 
@@ -27,13 +27,13 @@ no-record-requires-2 : tie.Need-no-record-requires-2
 no-record-requires-2 c κs = search rules
 
 returns : tie.Need-returns
-returns c = c.record-told.ensures ∙ sym (ap stepReply c.before.before.answer.given.1)
+returns c = c.record-told.ensures ∙ sym (ap step_reply c.before.before.answer.given.1)
 
 returns-2 : tie.Need-returns-2
-returns-2 c = c.no_record.ensures ∙ sym (ap stepReply c.before.enum_told.given.1)
+returns-2 c = c.no_record.ensures ∙ sym (ap step_reply c.before.enum_told.given.1)
 
 returns-3 : tie.Need-returns-3
-returns-3 c = c.no-record2.ensures ∙ sym (ap stepReply c.before.before.answer2.given.1)
+returns-3 c = c.no-record2.ensures ∙ sym (ap step_reply c.before.before.answer2.given.1)
 
 pub step-told-spec : {M : Type 1} → statement M
 step-told-spec =

@@ -1,7 +1,7 @@
 -- trees_told meets its contract: each arm is a case of the definition.
 use borrow.Author.Rules.{rules}
 use mathlib.Core.Path.{ap, sym}
-use Rattle.ambiguity_c.specs.Replies.{treesReply}
+use Rattle.ambiguity_c.specs.Replies.{trees_reply}
 use Rattle.ambiguity_c.proofs.replies.trees_told.Statement.{statement}
 use Rattle.ambiguity_c.proofs.replies.trees_told.Tie as tie
 
@@ -21,16 +21,16 @@ cast-t7 : tie.Need-overflow-cast-t7
 cast-t7 c = search rules
 
 returns : tie.Need-returns
-returns c = sym (ap treesReply c.enum_told.given.1)
+returns c = sym (ap trees_reply c.enum_told.given.1)
 
 returns-2 : tie.Need-returns-2
-returns-2 c = sym (ap treesReply c.before.answer.given.1)
+returns-2 c = sym (ap trees_reply c.before.answer.given.1)
 
 returns-3 : tie.Need-returns-3
-returns-3 c = sym (ap treesReply c.enum-told2.given.1)
+returns-3 c = sym (ap trees_reply c.enum-told2.given.1)
 
 returns-4 : tie.Need-returns-4
-returns-4 c = sym (ap treesReply c.before.answer2.given.1)
+returns-4 c = sym (ap trees_reply c.before.answer2.given.1)
 
 pub trees-told-spec : {M : Type 1} → statement M
 trees-told-spec =

@@ -1,7 +1,7 @@
 -- write_told meets its contract: each arm is a case of the definition.
 use borrow.Author.Rules.{rules}
 use mathlib.Core.Path.{ap, sym}
-use Rattle.ambiguity_c.specs.Replies.{writeReply}
+use Rattle.ambiguity_c.specs.Replies.{write_reply}
 use Rattle.ambiguity_c.proofs.replies.write_told.Statement.{statement}
 use Rattle.ambiguity_c.proofs.replies.write_told.Tie as tie
 
@@ -15,10 +15,10 @@ cast-t7 : tie.Need-overflow-cast-t7
 cast-t7 c = search rules
 
 returns : tie.Need-returns
-returns c = sym (ap writeReply c.before.answer.given.1)
+returns c = sym (ap write_reply c.before.answer.given.1)
 
 returns-2 : tie.Need-returns-2
-returns-2 c = sym (ap writeReply c.before.answer2.given.1)
+returns-2 c = sym (ap write_reply c.before.answer2.given.1)
 
 pub write-told-spec : {M : Type 1} → statement M
 write-told-spec =

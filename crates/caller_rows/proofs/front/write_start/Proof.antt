@@ -1,5 +1,5 @@
 -- write_start meets its contract: rule 0 is a rule with one code and one caller.
-use Rattle.caller_rows.proofs.LevelRowLaws.{start-ruled}
+use Rattle.caller_rows.proofs.LevelRowLaws.{start_ruled}
 use borrow.Author.Rules.{rules}
 use Rattle.caller_rows.proofs.front.write_start.Statement.{statement}
 use Rattle.caller_rows.proofs.front.write_start.Tie as tie
@@ -18,7 +18,7 @@ slice-aggregate-write-rule-2 : tie.Need-slice-aggregate-write-rule-2
 slice-aggregate-write-rule-2 c = search rules
 
 write-rule-requires : tie.Need-write-rule-requires
-write-rule-requires c κs = let e = start-of-write-rule-arg6 c in (start-ruled _ _ e.pre.0.0 e.pre.0.1 e.pre.0.2, e.pre.1)
+write-rule-requires c κs = let e = start-of-write-rule-arg6 c in (start_ruled _ _ e.pre.0.0 e.pre.0.1 e.pre.0.2, e.pre.1)
 
 same_length : tie.Need-same-length
 same_length c = search rules

@@ -1,7 +1,7 @@
 -- write_level meets its contract: the front, then all rules.
 use native.Mathlib.Omega.{arith}
 use Rattle.grammar.specs.Limits.{limits}
-use Rattle.caller_rows.proofs.LevelRowLaws.{wide-less, front-wide, level-start}
+use Rattle.caller_rows.proofs.LevelRowLaws.{wide_less, front-wide, level_start}
 use borrow.Author.Rules.{rules}
 use Rattle.caller_rows.proofs.level.write_level.Statement.{statement}
 use Rattle.caller_rows.proofs.level.write_level.Tie as tie
@@ -26,10 +26,10 @@ abbrev write-front-of-write-rules : tie.After-write-rules → tie.After-write-fr
 write-front-of-write-rules c = c.before.before.before.before.before.before.before.before.before.before.before.before.before.before.before.before.before.before.before
 
 write-front-requires : tie.Need-write-front-requires
-write-front-requires c κs = let e = start-of-write-front-arg6 c in let g = e.pre.0 in ((g.kinds, g.ranked, g.little), wide-less 4 limits.maxStates _ (omega arith) e.pre.1)
+write-front-requires c κs = let e = start-of-write-front-arg6 c in let g = e.pre.0 in ((g.kinds, g.ranked, g.little), wide_less 4 limits.max_states _ (omega arith) e.pre.1)
 
 write-rules-requires : tie.Need-write-rules-requires
-write-rules-requires c κs = let e = start-of-write-front (write-front-of-write-rules-arg6 c) in (e.pre.0, front-wide limits.maxStates _ _ _ _ e.pre.1 (write-front-of-write-rules-arg6 c).write-front.ensures)
+write-rules-requires c κs = let e = start-of-write-front (write-front-of-write-rules-arg6 c) in (e.pre.0, front-wide limits.max_states _ _ _ _ e.pre.1 (write-front-of-write-rules-arg6 c).write-front.ensures)
 
 same_length : tie.Need-same-length
 same_length c = search rules
@@ -50,7 +50,7 @@ same-length-6 : tie.Need-same-length-6
 same-length-6 c = search rules
 
 returns : tie.Need-returns
-returns c = let a = (start-of-write-rules (write-rules-of-slice-known18 c)).args in (write-rules-of-slice-known18 c).write-rules.ensures _ (level-start a.lefts.now a.lengths.now a.codes.now a.kinds a.first.now a.callers.now a.below.now a.widths.now a.ranks.now _ _ (write-front-of-write-rules (write-rules-of-slice-known18 c)).write-front.ensures)
+returns c = let a = (start-of-write-rules (write-rules-of-slice-known18 c)).args in (write-rules-of-slice-known18 c).write-rules.ensures _ (level_start a.lefts.now a.lengths.now a.codes.now a.kinds a.first.now a.callers.now a.below.now a.widths.now a.ranks.now _ _ (write-front-of-write-rules (write-rules-of-slice-known18 c)).write-front.ensures)
 
 pub write-level-spec : {M : Type 1} → statement M
 write-level-spec =

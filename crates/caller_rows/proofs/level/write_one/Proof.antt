@@ -3,7 +3,7 @@ use native.Mathlib.Omega.{arith}
 use Prim.Native.Nat.{◌+◌, ◌≤◌}
 use lib.ListN.{length}
 use Rattle.grammar.specs.Limits.{limits}
-use Rattle.caller_rows.proofs.LevelRowLaws.{part-is, one-ruled, one_written, wide-less}
+use Rattle.caller_rows.proofs.LevelRowLaws.{part_is, one_ruled, one_written, wide_less}
 use borrow.Author.Rules.{rules}
 use Rattle.caller_rows.proofs.level.write_one.Statement.{statement}
 use Rattle.caller_rows.proofs.level.write_one.Tie as tie
@@ -28,13 +28,13 @@ start c = c.before.before.before.before.before.before.before.before.before.befor
 codes-end : (c : tie.After-segment-at) → (start c).args.u + c.before.before.before.before.wide.result ≤ length (start c).args.codes.now
 codes-end c =
     let e = start c in
-    let h = e.pre.0.codes-in e.args.i e.pre.1.0.0 in
+    let h = e.pre.0.codes_in e.args.i e.pre.1.0.0 in
     omega (arith, h, e.pre.1.0.1, c.before.before.before.before.wide.ensures)
 
 callers-end : (c : tie.After-segment-at) → c.segment-at.result + c.before.before.wide2.result ≤ length (start c).args.callers.now
 callers-end c =
     let e = start c in
-    let h = e.pre.0.callers-in e.args.i e.pre.1.0.0 in
+    let h = e.pre.0.callers_in e.args.i e.pre.1.0.0 in
     omega (arith, h, c.segment-at.ensures, c.before.before.wide2.ensures)
 
 mul_wide : tie.Need-overflow-mul-wide
@@ -111,8 +111,8 @@ write-rule-requires c κs =
     let g = segment-at-of-write-rule-arg8 c in
     let e = start g in
     let a = e.args in
-    let r = one-ruled a.lefts.now a.lengths.now a.codes.now a.count a.kinds a.first.now a.callers.now a.below.now a.widths.now a.ranks.now e.pre.0 a.i e.pre.1.0.0 _ _ a.low a.at (part-is a.codes.now a.u _ g.before.before.before.before.wide.result _ e.pre.1.0.1 g.before.before.before.before.wide.ensures) (part-is a.callers.now g.segment-at.result _ g.before.before.wide2.result _ g.segment-at.ensures g.before.before.wide2.ensures) e.pre.1.0.2 e.pre.1.0.3 in
-    (r, wide-less _ limits.maxStates _ r.room e.pre.1.1)
+    let r = one_ruled a.lefts.now a.lengths.now a.codes.now a.count a.kinds a.first.now a.callers.now a.below.now a.widths.now a.ranks.now e.pre.0 a.i e.pre.1.0.0 _ _ a.low a.at (part_is a.codes.now a.u _ g.before.before.before.before.wide.result _ e.pre.1.0.1 g.before.before.before.before.wide.ensures) (part_is a.callers.now g.segment-at.result _ g.before.before.wide2.result _ g.segment-at.ensures g.before.before.wide2.ensures) e.pre.1.0.2 e.pre.1.0.3 in
+    (r, wide_less _ limits.max_states _ r.room e.pre.1.1)
 
 same_length : tie.Need-same-length
 same_length c = search rules
@@ -137,7 +137,7 @@ returns c =
     let g = segment-at-of-write-rule (write-rule-of-slice-known12 c) in
     let e = start g in
     let a = e.args in
-    one_written a.lefts.now a.lengths.now a.codes.now a.count a.kinds a.first.now a.callers.now a.below.now a.widths.now a.ranks.now e.pre.0 a.i e.pre.1.0.0 _ _ a.low a.at _ _ (part-is a.codes.now a.u _ g.before.before.before.before.wide.result _ e.pre.1.0.1 g.before.before.before.before.wide.ensures) (part-is a.callers.now g.segment-at.result _ g.before.before.wide2.result _ g.segment-at.ensures g.before.before.wide2.ensures) (write-rule-of-slice-known12 c).write-rule.ensures
+    one_written a.lefts.now a.lengths.now a.codes.now a.count a.kinds a.first.now a.callers.now a.below.now a.widths.now a.ranks.now e.pre.0 a.i e.pre.1.0.0 _ _ a.low a.at _ _ (part_is a.codes.now a.u _ g.before.before.before.before.wide.result _ e.pre.1.0.1 g.before.before.before.before.wide.ensures) (part_is a.callers.now g.segment-at.result _ g.before.before.wide2.result _ g.segment-at.ensures g.before.before.wide2.ensures) (write-rule-of-slice-known12 c).write-rule.ensures
 
 pub write-one-spec : {M : Type 1} → statement M
 write-one-spec =

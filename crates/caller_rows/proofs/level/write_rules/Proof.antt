@@ -6,10 +6,10 @@ use lib.ListN.{get_or}
 use Rattle.grammar.specs.Limits.{limits}
 use Rattle.live.specs.Marks.{before}
 use Rattle.live.proofs.PassLaws.{before-next}
-use Rattle.caller_rows.specs.Contracts.{start_of}
+use Rattle.caller_rows.specs.Clauses.{start_of}
 use Rattle.caller_rule.specs.RuleRows.{six, Wide, Alike}
 use Rattle.caller_rows.specs.LevelRows.{RulesWritten}
-use Rattle.caller_rows.proofs.LevelRowLaws.{start_up, start-next, rule-kept, alike-none, alike_next, level-next}
+use Rattle.caller_rows.proofs.LevelRowLaws.{start_up, start-next, rule-kept, alike_none, alike_next, level_next}
 use borrow.Author.Rules.{rules}
 use Rattle.caller_rows.proofs.level.write_rules.Statement.{statement}
 use Rattle.caller_rows.proofs.level.write_rules.Tie as tie
@@ -17,7 +17,7 @@ use Rattle.caller_rows.proofs.level.write_rules.Tie as tie
 abbrev invariant-loop : tie.invariant-loop
 invariant-loop lefts lengths codes count kinds first callers below widths ranks ahead₀ number₀ member₀ target₀ after₀ down₀ at₀ low₀ u₀ i₀ ahead number member target after down at low u i =
     (i ≤ count) × (at ≡ start_of lengths widths i) × (low ≡ start_of lengths below i) × (u ≡ before lengths i)
-    × Wide limits.maxStates (six ahead number member target after down)
+    × Wide limits.max_states (six ahead number member target after down)
     × RulesWritten lefts lengths codes kinds first callers below widths ranks i (six ahead₀ number₀ member₀ target₀ after₀ down₀) (six ahead number member target after down)
     × Alike (six ahead₀ number₀ member₀ target₀ after₀ down₀) (six ahead number member target after down)
 
@@ -56,7 +56,7 @@ start c = c.before.before.before.before.before.before.before.before.before.befor
 abbrev turn : tie.After-rule-states invariant-loop decreases-loop → tie.In-loop invariant-loop decreases-loop
 turn c = c.before.before.before.before.before.before.before.before.before.before.before.before.before.before.before.before.before.before.before.before.before.before
 
-at_room : (c : tie.After-rule-states invariant-loop decreases-loop) → (turn c).before.loop.at + c.rule-states.result ≤ limits.maxStates
+at_room : (c : tie.After-rule-states invariant-loop decreases-loop) → (turn c).before.loop.at + c.rule-states.result ≤ limits.max_states
 at_room c =
     let l = (turn c).before.loop in
     let e = start (turn c).before in
@@ -64,7 +64,7 @@ at_room c =
     omega (arith, x, l.inv.1, c.rule-states.ensures.0, e.pre.0.room)
 
 low-room : (c : tie.After-rule-states invariant-loop decreases-loop) → let a = (start (turn c).before).args in let l = (turn c).before.loop in
-    l.low + (get_or a.lengths.now l.i 0 + 1) * get_or a.below.now l.i 0 ≤ limits.maxStates
+    l.low + (get_or a.lengths.now l.i 0 + 1) * get_or a.below.now l.i 0 ≤ limits.max_states
 low-room c =
     let l = (turn c).before.loop in
     let e = start (turn c).before in
@@ -73,7 +73,7 @@ low-room c =
 
 loop-holds : tie.Need-loop-init invariant-loop decreases-loop
 unfolding start_of before
-loop-holds c = (omega arith, refl, refl, refl, (start-of-slice-known6 c).pre.1, λ oldest x. x, alike-none _)
+loop-holds c = (omega arith, refl, refl, refl, (start-of-slice-known6 c).pre.1, λ oldest x. x, alike_none _)
 
 write-one-requires : tie.Need-write-one-requires invariant-loop decreases-loop
 write-one-requires c κs =
@@ -82,16 +82,16 @@ write-one-requires c κs =
     (e.pre.0, (((turn-of-write-one-arg6 c).loop-test.taken, l.inv.3, l.inv.2, l.inv.1), l.inv.4))
 
 mul-k : tie.Need-overflow-mul-k invariant-loop decreases-loop
-mul-k c = let t = turn-of-write-one (write-one-of-slice-known12 c) in let g = (start t.before).pre.0 in omega (arith, t.loop-test.taken, g.count-few)
+mul-k c = let t = turn-of-write-one (write-one-of-slice-known12 c) in let g = (start t.before).pre.0 in omega (arith, t.loop-test.taken, g.count_few)
 
 shared-slice-read-k : tie.Need-shared-slice-read-k invariant-loop decreases-loop
 shared-slice-read-k c = let t = turn-of-write-one (write-one-of-shared-slice-known9 c) in let g = (start t.before).pre.0 in omega (arith, t.loop-test.taken, g.lengths-long)
 
 mul-rule-states : tie.Need-overflow-mul-rule-states invariant-loop decreases-loop
-mul-rule-states c = let t = turn-of-write-one (write-one-of-shared-slice-known9 c) in let g = (start t.before).pre.0 in omega (arith, t.loop-test.taken, g.count-few)
+mul-rule-states c = let t = turn-of-write-one (write-one-of-shared-slice-known9 c) in let g = (start t.before).pre.0 in omega (arith, t.loop-test.taken, g.count_few)
 
 shared-slice-read-rule-states : tie.Need-shared-slice-read-rule-states invariant-loop decreases-loop
-shared-slice-read-rule-states c = let t = turn-of-write-one (write-one-of-shared-slice-known10 c) in let g = (start t.before).pre.0 in omega (arith, t.loop-test.taken, g.widths-long)
+shared-slice-read-rule-states c = let t = turn-of-write-one (write-one-of-shared-slice-known10 c) in let g = (start t.before).pre.0 in omega (arith, t.loop-test.taken, g.widths_long)
 
 rule-states-requires : tie.Need-rule-states-requires invariant-loop decreases-loop
 rule-states-requires c κs = search rules
@@ -103,7 +103,7 @@ add_low : tie.Need-overflow-add-low invariant-loop decreases-loop
 add_low c = let t = turn c in let e = start t.before in let h = e.pre.0.short t.before.loop.i t.loop-test.taken in omega (arith, h)
 
 mul_low : tie.Need-overflow-mul-low invariant-loop decreases-loop
-mul_low c = let t = turn c in let g = (start t.before).pre.0 in omega (arith, t.loop-test.taken, g.count-few)
+mul_low c = let t = turn c in let g = (start t.before).pre.0 in omega (arith, t.loop-test.taken, g.count_few)
 
 shared-slice-read-low : tie.Need-shared-slice-read-low invariant-loop decreases-loop
 shared-slice-read-low c = let t = turn c.before in let g = (start t.before).pre.0 in omega (arith, t.loop-test.taken, g.below-long)
@@ -122,11 +122,11 @@ add-u c =
     let t = turn c.before.before in
     let l = t.before.loop in
     let e = start t.before in
-    let h = e.pre.0.codes-in l.i t.loop-test.taken in
+    let h = e.pre.0.codes_in l.i t.loop-test.taken in
     omega (arith, h, l.inv.3, c.wide.ensures, e.pre.0.codes-few)
 
 add-i : tie.Need-overflow-add-i invariant-loop decreases-loop
-add-i c = let t = turn-of-wide c in let g = (start t.before).pre.0 in omega (arith, t.loop-test.taken, g.count-few)
+add-i c = let t = turn-of-wide c in let g = (start t.before).pre.0 in omega (arith, t.loop-test.taken, g.count_few)
 
 loop-less : tie.Need-loop-smaller invariant-loop decreases-loop
 loop-less c = search rules
@@ -144,7 +144,7 @@ loop-again c =
       (λ j. l.inv.2 j + (get_or a.lengths.now l.i 0 + 1) * get_or a.below.now l.i 0) ∙ sym (start-next a.lengths.now a.below.now l.i),
       (λ j. l.inv.3 j + c.wide.ensures j) ∙ sym (before-next a.lengths.now l.i),
       rule-kept _ _ _ _ _ _ _ _ _ _ _ _ l.inv.4 (write-one-of-wide c).write-one.ensures,
-      λ oldest x. level-next a.lefts.now a.lengths.now a.codes.now a.kinds a.first.now a.callers.now a.below.now a.widths.now a.ranks.now a.count l.i e.pre.0 h l.low l.at oldest (six l.ahead l.number l.member l.target l.after l.down) _ l.inv.2 l.inv.1 (l.inv.5 oldest x) (write-one-of-wide c).write-one.ensures,
+      λ oldest x. level_next a.lefts.now a.lengths.now a.codes.now a.kinds a.first.now a.callers.now a.below.now a.widths.now a.ranks.now a.count l.i e.pre.0 h l.low l.at oldest (six l.ahead l.number l.member l.target l.after l.down) _ l.inv.2 l.inv.1 (l.inv.5 oldest x) (write-one-of-wide c).write-one.ensures,
       alike_next _ _ _ _ _ _ _ _ _ _ _ _ l.inv.6 (write-one-of-wide c).write-one.ensures,
     )
 

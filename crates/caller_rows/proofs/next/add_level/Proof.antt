@@ -8,9 +8,9 @@ use Rattle.grammar.specs.Limits.{limits}
 use Rattle.grammar.specs.Grammar.{Grammar}
 use Rattle.moves.proofs.Built.{columns_of}
 use Rattle.caller_rows.proofs.PlaceLaws.{zeros}
-use Rattle.caller_rows.specs.Levels.{writtenFrom, sizedBy, Sizable, Level}
-use Rattle.caller_rows.proofs.BuiltLaws.{sizable-by}
-use Rattle.caller_rows.proofs.AddLaws.{record_of, counted, ready, said, segments, down-small, next_level}
+use Rattle.caller_rows.specs.Levels.{written_from, sized_by, Sizable, Level}
+use Rattle.caller_rows.proofs.BuiltLaws.{sizable_by}
+use Rattle.caller_rows.proofs.AddLaws.{record_of_lem, counted, ready, said, segments, down-small, next_level}
 use Rattle.caller_rows.proofs.next.add_level.Statement.{statement}
 use Rattle.caller_rows.proofs.next.add_level.Tie as tie
 
@@ -40,19 +40,19 @@ abbrev ranking : tie.After-next-ranks → tie.After-write-level
 ranking c = c.before.before.before.before.before.before
 
 -- what the level is written from sizes it
-sizes : (e : tie.Start) (G : Grammar) (m : ℕ) → let a = e.args in Level G m (writtenFrom G a.n a.count a.lefts.now a.lengths.now a.codes.now) a.live.now a.q a.ahead.now a.below.now a.ranks.now
-    → Sizable G m (sizedBy G a.n a.count a.lefts.now a.lengths.now) a.live.now a.q a.ahead.now
-sizes e G m L = sizable-by G m _ _ _ _ _ _ _ _ L.sizable
+sizes : (e : tie.Start) (G : Grammar) (m : ℕ) → let a = e.args in Level G m (written_from G a.n a.count a.lefts.now a.lengths.now a.codes.now) a.live.now a.q a.ahead.now a.below.now a.ranks.now
+    → Sizable G m (sized_by G a.n a.count a.lefts.now a.lengths.now) a.live.now a.q a.ahead.now
+sizes e G m L = sizable_by G m _ _ _ _ _ _ _ _ L.sizable
 
 -- what is handed in as a slice has the length of its type
-below-size : (c : tie.After-widths2) → length (entry (fitting-widths c).before).args.below.now ≡ limits.maxRules
+below-size : (c : tie.After-widths2) → length (entry (fitting-widths c).before).args.below.now ≡ limits.max_rules
 below-size c = c.before.write-level-arg5.given.0
 
 size-level-requires : tie.Need-size-level-requires
 size-level-requires c κs =
     let e = c.before.before.before.before in
     let p = e.requires in
-    ((p.0, p.1, sizes e p.0 p.1 p.2), λ k. let z = zeros limits.maxStates k in omega (arith, z))
+    ((p.0, p.1, sizes e p.0 p.1 p.2), λ k. let z = zeros limits.max_states k in omega (arith, z))
 
 returns : tie.Need-returns
 returns c G m L =
@@ -82,7 +82,7 @@ slice-aggregate-write-level-3 : tie.Need-slice-aggregate-write-level-3
 slice-aggregate-write-level-3 c =
     let s = (fitting-widths c).before in
     let p = (entry s).pre in
-    sym (s.size-level.ensures p.0 p.1 (sizes (entry s) p.0 p.1 p.2)).widths-size
+    sym (s.size-level.ensures p.0 p.1 (sizes (entry s) p.0 p.1 p.2)).widths_size
 
 slice-aggregate-write-level-4 : tie.Need-slice-aggregate-write-level-4
 slice-aggregate-write-level-4 c = search rules
@@ -94,10 +94,10 @@ write-level-requires c κs =
     let a = e.args in
     let p = e.pre in
     let Z = s.size-level.ensures p.0 p.1 (sizes (entry s) p.0 p.1 p.2) in
-    let k = columns_of _ (record_of p.0 p.1 _ _ _ _ p.2.sizable) in
+    let k = columns_of _ (record_of_lem p.0 p.1 _ _ _ _ p.2.sizable) in
     let v = lent-widths c in
     let x = c.before in (
-      ready p.0 p.1 _ _ _ _ _ _ p.2 _ _ _ _ _ Z (fitting c).if1.false (omega (arith, k.few, Z.widths-size)) (omega (arith, k.few, below-size v)),
+      ready p.0 p.1 _ _ _ _ _ _ p.2 _ _ _ _ _ Z (fitting c).if1.false (omega (arith, k.few, Z.widths_size)) (omega (arith, k.few, below-size v)),
       record {
         ahead = omega (arith, x.before.before.before.before.write-level-arg8.given.0.1);
         number = omega (arith, x.before.before.before.write-level-arg9.given.0.1);
@@ -130,7 +130,7 @@ next-ranks-requires c κs =
     let a = (entry s).args in
     let p = (entry s).pre in
     let Z = s.size-level.ensures p.0 p.1 (sizes (entry s) p.0 p.1 p.2) in
-    let z : length a.ranks.now ≡ limits.maxStates = search rules in
+    let z : length a.ranks.now ≡ limits.max_states = search rules in
     let h = (fitting w.before).if1.false in (
       segments p.0 p.1 _ _ _ _ _ _ p.2 _ _ _ _ _ Z _ _ w.write-level.ensures,
       (omega (arith, h, w.write-level.ensures.down.size), omega (arith, h, z), down-small p.0 p.1 _ _ _ _ _ _ p.2 _ _ _ _ _ Z _ _ w.write-level.ensures),
@@ -140,7 +140,7 @@ slice-aggregate-pass-widths : tie.Need-slice-aggregate-pass-widths
 slice-aggregate-pass-widths c =
     let s = writing (ranking c.before) in
     let p = (entry s).pre in
-    sym (s.size-level.ensures p.0 p.1 (sizes (entry s) p.0 p.1 p.2)).widths-size
+    sym (s.size-level.ensures p.0 p.1 (sizes (entry s) p.0 p.1 p.2)).widths_size
 
 pass-widths-requires : tie.Need-pass-widths-requires
 pass-widths-requires c κs =
@@ -148,9 +148,9 @@ pass-widths-requires c κs =
     let a = (entry s).args in
     let p = (entry s).pre in
     let Z = s.size-level.ensures p.0 p.1 (sizes (entry s) p.0 p.1 p.2) in
-    let k = columns_of _ (record_of p.0 p.1 _ _ _ _ p.2.sizable) in
-    let y : length a.below.now ≡ limits.maxRules = search rules in
-    (omega (arith, k.few, Z.widths-size), omega (arith, k.few, y))
+    let k = columns_of _ (record_of_lem p.0 p.1 _ _ _ _ p.2.sizable) in
+    let y : length a.below.now ≡ limits.max_rules = search rules in
+    (omega (arith, k.few, Z.widths_size), omega (arith, k.few, y))
 
 returns-2 : tie.Need-returns-2
 returns-2 c G m L =

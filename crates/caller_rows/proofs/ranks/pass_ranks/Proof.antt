@@ -1,7 +1,7 @@
 -- pass_ranks meets its contract: a turn writes one entry.
 use native.Mathlib.Omega.{arith}
 use lib.ListN.{get_or}
-use Rattle.caller_rows.specs.Contracts.{Filled}
+use Rattle.caller_rows.specs.Clauses.{Filled}
 use Rattle.caller_rows.proofs.FilledLaws.{filled_none, filled_next}
 use Prim.Native.Nat.{ℕ, ◌-◌, ◌≤◌, ◌<◌}
 use mathlib.Core.Path.{◌≡◌, ap, subst}
@@ -21,7 +21,7 @@ abbrev start-of-wide : tie.After-wide invariant-loop decreases-loop → tie.Star
 start-of-wide c = c.before.before.before.before.before.before.before
 
 -- what a state is one level below is a state there
-under : (c : tie.After-wide invariant-loop decreases-loop) → c.wide.result < limits.maxStates
+under : (c : tie.After-wide invariant-loop decreases-loop) → c.wide.result < limits.max_states
 under c =
     let l = c.before.before.before.loop in
     let h = (start-of-wide c).pre.2 l.p c.before.before.loop-test.true in

@@ -3,8 +3,8 @@ use native.Mathlib.Omega.{arith}
 use Prim.Native.Nat.{ℕ, ◌-◌, ◌≤◌, ◌<◌}
 use mathlib.Core.Path.{◌≡◌, refl, subst}
 use Rattle.grammar.specs.Limits.{limits}
-use Rattle.caller_rows.specs.Contracts.{SegmentRanked}
-use Rattle.caller_rows.proofs.RankLaws.{ranked-none, ranked-next}
+use Rattle.caller_rows.specs.Clauses.{SegmentRanked}
+use Rattle.caller_rows.proofs.RankLaws.{ranked_none, ranked_next}
 use borrow.Author.Rules.{rules}
 use Rattle.caller_rows.proofs.ranks.rank_segment.Statement.{statement}
 use Rattle.caller_rows.proofs.ranks.rank_segment.Tie as tie
@@ -20,13 +20,13 @@ abbrev start-of-wide : tie.After-wide invariant-loop decreases-loop → tie.Star
 start-of-wide c = c.before.before.before.before.before.before
 
 -- the state that is ranked
-state : (c : tie.After-wide invariant-loop decreases-loop) → c.wide.result < limits.maxStates
+state : (c : tie.After-wide invariant-loop decreases-loop) → c.wide.result < limits.max_states
 state c =
     let h = (start-of-wide c).pre.0.small c.before.before.before.loop.k c.before.before.loop-test.true in
     omega (arith, h, c.wide.ensures)
 
 loop-holds : tie.Need-loop-init invariant-loop decreases-loop
-loop-holds c = (omega arith, c.before.before.requires.1.0, ranked-none _ _ _)
+loop-holds c = (omega arith, c.before.before.requires.1.0, ranked_none _ _ _)
 
 mul_wide : tie.Need-overflow-mul-wide invariant-loop decreases-loop
 mul_wide c = omega (arith, c.loop-test.true, c.before.before.before.before.requires.0.few)
@@ -63,7 +63,7 @@ loop-again c =
     let a = e.args in (
       omega (arith, l.invariant.0),
       omega (arith, t),
-      ranked-next a.callers.now a.from l.k a.to a.ranks.now l.ranks c.wide.result _ e.pre.0 l.invariant.0 t c.wide.ensures e.pre.1.1 refl l.invariant.2,
+      ranked_next a.callers.now a.from l.k a.to a.ranks.now l.ranks c.wide.result _ e.pre.0 l.invariant.0 t c.wide.ensures e.pre.1.1 refl l.invariant.2,
     )
 
 same_length : tie.Need-same-length invariant-loop decreases-loop

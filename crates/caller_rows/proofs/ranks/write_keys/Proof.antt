@@ -2,7 +2,7 @@
 use native.Mathlib.Omega.{arith}
 use Prim.Native.Nat.{ℕ, ◌-◌, ◌≤◌}
 use lib.ListN.{get_or}
-use Rattle.caller_rows.specs.Contracts.{Filled, keyOf}
+use Rattle.caller_rows.specs.Clauses.{Filled, key_of}
 use Rattle.caller_rows.proofs.FilledLaws.{filled_none, filled_next, filled-first}
 use mathlib.Core.Path.{◌≡◌, subst}
 use borrow.Author.Rules.{rules}
@@ -10,7 +10,7 @@ use Rattle.caller_rows.proofs.ranks.write_keys.Statement.{statement}
 use Rattle.caller_rows.proofs.ranks.write_keys.Tie as tie
 
 abbrev invariant-loop : tie.invariant-loop
-invariant-loop ahead q n keys₀ p₀ keys p = (p ≤ q) × Filled keys₀ keys p (λ p. keyOf n (get_or ahead p 0))
+invariant-loop ahead q n keys₀ p₀ keys p = (p ≤ q) × Filled keys₀ keys p (λ p. key_of n (get_or ahead p 0))
 
 abbrev decreases-loop : tie.decreases-loop
 decreases-loop ahead q n keys₀ p₀ keys p = q - p
@@ -63,8 +63,8 @@ returns c =
     let e = c.before.before.before.before in
     let a = e.args in
     let z : l.p ≡ a.q = omega (arith, l.invariant.0, c.loop-test.false) in
-    filled-first a.keys.now l.keys a.q a.n (λ p. keyOf a.n (get_or a.ahead.now p 0))
-    (subst (λ (q : ℕ). Filled a.keys.now l.keys q (λ p. keyOf a.n (get_or a.ahead.now p 0))) z l.invariant.1) e.requires.0 e.requires.2
+    filled-first a.keys.now l.keys a.q a.n (λ p. key_of a.n (get_or a.ahead.now p 0))
+    (subst (λ (q : ℕ). Filled a.keys.now l.keys q (λ p. key_of a.n (get_or a.ahead.now p 0))) z l.invariant.1) e.requires.0 e.requires.2
 
 pub write-keys-spec : {M : Type 1} → statement M
 write-keys-spec =

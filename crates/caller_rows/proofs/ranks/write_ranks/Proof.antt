@@ -2,8 +2,8 @@
 use native.Mathlib.Omega.{arith}
 use Prim.Native.Nat.{ℕ, ◌+◌, ◌-◌, ◌≤◌, ◌<◌}
 use mathlib.Core.Path.{◌≡◌, ap, subst}
-use Rattle.caller_rows.specs.Contracts.{RanksWritten}
-use Rattle.caller_rows.proofs.RankLaws.{rankable-less, ranks-none, ranks-next}
+use Rattle.caller_rows.specs.Clauses.{RanksWritten}
+use Rattle.caller_rows.proofs.RankLaws.{rankable_less, ranks_none, ranks_next}
 use borrow.Author.Rules.{rules}
 use Rattle.caller_rows.proofs.ranks.write_ranks.Statement.{statement}
 use Rattle.caller_rows.proofs.ranks.write_ranks.Tie as tie
@@ -43,7 +43,7 @@ add-kinds : tie.Need-overflow-add-kinds invariant-loop decreases-loop
 add-kinds c = search rules
 
 loop-holds : tie.Need-loop-init invariant-loop decreases-loop
-loop-holds c = (omega arith, ap (λ (k : ℕ). k + 1) c.wide.ensures, ranks-none _ _ _)
+loop-holds c = (omega arith, ap (λ (k : ℕ). k + 1) c.wide.ensures, ranks_none _ _ _)
 
 mul_wide : tie.Need-overflow-mul-wide invariant-loop decreases-loop
 mul_wide c = let t = c in let g = (start-of-turn c).pre.0 in omega (arith, t.loop-test.true, t.before.loop.invariant.1, g.kinds-few)
@@ -77,7 +77,7 @@ rank-segment-requires c κs =
     let h : l.b < a.n + 1 = omega (arith, t.loop-test.true, l.invariant.1) in
     let x = e.pre.0.order (l.b + 1) (a.n + 1) (omega (arith, h)) (omega arith) in
     let y = e.pre.0.order l.b (l.b + 1) (omega arith) (omega (arith, h)) in
-    (rankable-less a.callers.now _ _ (omega (arith, x, u.wide3.ensures)) e.pre.0.rankable, (omega (arith, y, u.wide3.ensures, v.wide2.ensures), omega (arith, l.invariant.2.size, e.pre.1)))
+    (rankable_less a.callers.now _ _ (omega (arith, x, u.wide3.ensures)) e.pre.0.rankable, (omega (arith, y, u.wide3.ensures, v.wide2.ensures), omega (arith, l.invariant.2.size, e.pre.1)))
 
 add-b : tie.Need-overflow-add-b invariant-loop decreases-loop
 add-b c = let t = turn-of-rank-segment c.before.before in let g = (start-of-rank-segment c.before.before).pre.0 in omega (arith, t.loop-test.taken, t.before.loop.inv.1, g.kinds-few)
@@ -96,7 +96,7 @@ loop-again c =
     let h : l.b < a.n + 1 = omega (arith, t.loop-test.taken, l.inv.1) in (
       omega (arith, h),
       l.inv.1,
-      ranks-next a.first.now a.callers.now (a.n + 1) l.b v.wide2.result u.wide3.result a.ranks.now l.ranks _ e.pre.0 h v.wide2.ensures u.wide3.ensures l.inv.2 c.before.before.rank-segment.ensures,
+      ranks_next a.first.now a.callers.now (a.n + 1) l.b v.wide2.result u.wide3.result a.ranks.now l.ranks _ e.pre.0 h v.wide2.ensures u.wide3.ensures l.inv.2 c.before.before.rank-segment.ensures,
     )
 
 same_length : tie.Need-same-length invariant-loop decreases-loop

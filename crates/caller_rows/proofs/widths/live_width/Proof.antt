@@ -1,7 +1,7 @@
 -- live_width meets its contract: the test chooses.
 use mathlib.Core.Path.{ap, sym, ◌∙◌}
 use Rattle.grammar.specs.Basics.{choose}
-use Rattle.caller_rows.specs.Contracts.{width_of}
+use Rattle.caller_rows.specs.Clauses.{width_of}
 use borrow.Author.Tests.{lt-ltb, le-ltb}
 use borrow.Author.Rules.{rules}
 use Rattle.caller_rows.proofs.widths.live_width.Statement.{statement}

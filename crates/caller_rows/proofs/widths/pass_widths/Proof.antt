@@ -3,7 +3,7 @@ use native.Mathlib.Omega.{arith}
 use Prim.Native.Nat.{ℕ, ◌-◌, ◌≤◌}
 use mathlib.Core.Path.{◌≡◌, refl, subst}
 use lib.ListN.{get_or}
-use Rattle.caller_rows.specs.Contracts.{Filled}
+use Rattle.caller_rows.specs.Clauses.{Filled}
 use Rattle.caller_rows.proofs.FilledLaws.{filled_none, filled_next}
 use borrow.Author.Rules.{rules}
 use Rattle.caller_rows.proofs.widths.pass_widths.Statement.{statement}

@@ -4,7 +4,7 @@ use native.Mathlib.Nat.{mul-le-mul}
 use mathlib.Core.Path.{ap₂}
 use Prim.Native.Nat.{ℕ, ◌+◌, ◌*◌, ◌≤◌}
 use borrow.Author.Rules.{rules}
-use Rattle.caller_rows.specs.Contracts.{mostProduct}
+use Rattle.caller_rows.specs.Clauses.{most_product}
 use Rattle.caller_rows.proofs.widths.rule_states.Statement.{statement}
 use Rattle.caller_rows.proofs.widths.rule_states.Tie as tie
 
@@ -18,7 +18,7 @@ wide-requires-2 : tie.Need-wide-requires-2
 wide-requires-2 c κs = search rules
 
 mul-result : tie.Need-overflow-mul-result
-mul-result c = let x : c.before.wide.result + 1 ≤ 65536 = search rules in let y : c.wide2.result ≤ 65536 = search rules in let h : (c.before.wide.result + 1) * c.wide2.result ≤ mostProduct = mul-le-mul {n₂ = 65536} {m₂ = 65536} x y in omega (arith, h)
+mul-result c = let x : c.before.wide.result + 1 ≤ 65536 = search rules in let y : c.wide2.result ≤ 65536 = search rules in let h : (c.before.wide.result + 1) * c.wide2.result ≤ most_product = mul-le-mul {n₂ = 65536} {m₂ = 65536} x y in omega (arith, h)
 
 returns : tie.Need-returns
 returns c = let x : c.before.wide.result + 1 ≤ 65536 = search rules in let y : c.wide2.result ≤ 65536 = search rules in (ap₂ (λ (k w : ℕ). (k + 1) * w) c.before.wide.ensures c.wide2.ensures, mul-le-mul {n₂ = 65536} {m₂ = 65536} x y)

@@ -2,14 +2,14 @@
 use native.Mathlib.Omega.{arith}
 use Prim.Native.Nat.{◌+◌, ◌-◌, ◌*◌, ◌≤◌}
 use mathlib.Core.Path.{◌≡◌, refl, sym, ap, ◌∙◌}
-use Rattle.caller_rows.specs.Contracts.{mostProduct, start_of}
+use Rattle.caller_rows.specs.Clauses.{most_product, start_of}
 use Rattle.caller_rows.proofs.LevelRowLaws.{start-next}
 use borrow.Author.Rules.{rules}
 use Rattle.caller_rows.proofs.widths.state_count.Statement.{statement}
 use Rattle.caller_rows.proofs.widths.state_count.Tie as tie
 
 abbrev invariant-loop : tie.invariant-loop
-invariant-loop lengths count widths q₀ i₀ q i = (i ≤ count) × (q ≡ start_of lengths widths i) × (q ≤ 4 + i * mostProduct)
+invariant-loop lengths count widths q₀ i₀ q i = (i ≤ count) × (q ≡ start_of lengths widths i) × (q ≤ 4 + i * most_product)
 
 abbrev decreases-loop : tie.decreases-loop
 decreases-loop lengths count widths q₀ i₀ q i = count - i

@@ -1,7 +1,7 @@
 -- write_widths meets its contract: a turn writes one entry.
 use native.Mathlib.Omega.{arith}
 use Prim.Native.Nat.{ℕ, ◌-◌, ◌≤◌}
-use Rattle.caller_rows.specs.Contracts.{Filled, width_at}
+use Rattle.caller_rows.specs.Clauses.{Filled, width_at}
 use Rattle.caller_rows.proofs.FilledLaws.{filled_none, filled_next}
 use mathlib.Core.Path.{◌≡◌, subst}
 use borrow.Author.Rules.{rules}

@@ -7,8 +7,8 @@ use Prim.Native.Nat.{ℕ, ◌+◌, ◌*◌, ◌≤◌, ◌<◌}
 use Rattle.grammar.proofs.Answers.{no_bool}
 use Rattle.triples.proofs.Index.{pair_lt}
 use Rattle.plans.specs.Plan.{Rows, rows}
-use Rattle.plans.proofs.PlanLaws.{layer-le, span-le}
-use Rattle.certificate_check.proofs.ColumnLaws.{placed-side, column-closed, beside-in}
+use Rattle.plans.proofs.PlanLaws.{layer_le, span_le}
+use Rattle.certificate_check.proofs.ColumnLaws.{placed-side, column_closed, beside_in}
 use Rattle.certificate_check.proofs.columns.column_held.Statement.{statement}
 use Rattle.certificate_check.proofs.columns.column_held.Tie as tie
 
@@ -54,7 +54,7 @@ shift-held-requires c κs =
     let e = start (side c.before.before) in let a = e.args in let p = e.pre.1.0 in (
       (e.pre.0.fits.few, p.0, p.1, p.2),
       λ h.
-          let l = beside-in (R e) a.targets.now a.t a.m a.q a.bytes.now a.f a.a a.b e.pre.0 p.0 p.1 p.2
+          let l = beside_in (R e) a.targets.now a.t a.m a.q a.bytes.now a.f a.a a.b e.pre.0 p.0 p.1 p.2
           (subst (λ (n : ℕ). 0 < n) c.shift_of.ensures h) in
           omega (arith, l, p.3),
     )
@@ -72,7 +72,7 @@ layer-after-requires c κs = search rules
 row : (c : tie.After-layer-after) → let a = (start (entry c)).args in (c.layer-after.result ≤ 1) × (c.layer-after.result * a.q + a.a < 2 * a.q)
 row c =
     let e = start (entry c) in let a = e.args in
-    let l = subst (λ (n : ℕ). n ≤ 1) (sym c.layer-after.ensures) (layer-le a.m a.f (entry c).side-of.result) in
+    let l = subst (λ (n : ℕ). n ≤ 1) (sym c.layer-after.ensures) (layer_le a.m a.f (entry c).side-of.result) in
     (l, pair_lt 2 a.q c.layer-after.result a.a (omega (arith, l)) e.pre.1.0.1)
 
 mul-row : tie.Need-overflow-mul-row
@@ -96,8 +96,8 @@ pairs-of-requires c κs =
     let s = entry (layer c.before) in let e = start s in let a = e.args in let f = e.pre.0.fits in (
       omega (arith, e.pre.1.0.1, f.few),
       omega (arith, e.pre.1.0.2, f.few),
-      span-le a.member.now a.first.now a.a a.x (f.side a.a e.pre.1.0.1) e.pre.1.1.0,
-      span-le a.member.now a.first.now a.b s.side-of.result (f.side a.b e.pre.1.0.2) s.side-of.ensures,
+      span_le a.member.now a.first.now a.a a.x (f.side a.a e.pre.1.0.1) e.pre.1.1.0,
+      span_le a.member.now a.first.now a.b s.side-of.result (f.side a.b e.pre.1.0.2) s.side-of.ensures,
     )
 
 parts-held-requires : tie.Need-parts-held-requires
@@ -117,7 +117,7 @@ returns-4 : tie.Need-returns-4
 returns-4 c =
     let r = c.before.before.before.before in let k = layer r in let s = entry k in let e = start s in let a = e.args in
     let h = after-shift k in let l = after-left h in (
-      λ q. column-closed (R e) a.targets.now a.t a.m a.q a.bytes.now a.f a.a a.b a.x s.side-of.result k.layer-after.result
+      λ q. column_closed (R e) a.targets.now a.t a.m a.q a.bytes.now a.f a.a a.b a.x s.side-of.result k.layer-after.result
           l.before.Alone-of.result k.before.alone-of2.result h.before.shift_of.result c.before.before.pairs_of.result
           e.pre.1.0.1 e.pre.1.0.2 e.pre.1.1.0 s.side-of.ensures k.layer-after.ensures
           l.before.Alone-of.ensures k.before.alone-of2.ensures h.before.shift_of.ensures c.before.before.pairs_of.ensures

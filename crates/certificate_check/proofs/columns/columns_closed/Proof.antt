@@ -9,11 +9,11 @@ use Rattle.grammar.proofs.Answers.{no_bool}
 use Rattle.triples.specs.Index.{index}
 use Rattle.triples.proofs.Index.{index_below}
 use Rattle.bits.specs.Windows.{Columns, Window}
-use Rattle.bits.proofs.WindowLaws.{columns-window, window-next, lowest-within}
+use Rattle.bits.proofs.WindowLaws.{columns_window, window_next, lowest-within}
 use Rattle.plans.specs.Plan.{Rows, rows}
-use Rattle.plans.proofs.PlanLaws.{layer-le}
+use Rattle.plans.proofs.PlanLaws.{layer_le}
 use Rattle.certificate_check.specs.Columns.{Noted, ClosedAt, ClosedFrom}
-use Rattle.certificate_check.proofs.ColumnLaws.{meet-fits, near-held, wide-mask, closed_none, closed-more, closed-end}
+use Rattle.certificate_check.proofs.ColumnLaws.{meet_fits, near-held, wide_mask, closed_none, closed-more, closed-end}
 use Rattle.certificate_check.proofs.columns.columns_closed.Statement.{statement}
 use Rattle.certificate_check.proofs.columns.columns_closed.Tie as tie
 use Rattle.certificate_check.proofs.columns.columns_closed.Reads as reads
@@ -63,13 +63,13 @@ layer-after-requires c κs = search rules
 index-of-requires : tie.Need-index-of-requires invariant-loop decreases-loop
 index-of-requires c κs =
     let e = c.before.before.before.before in
-    let l = layer-le e.args.m e.args.f c.before.side-of.result in
+    let l = layer_le e.args.m e.args.f c.before.side-of.result in
     (e.requires.0.fits.few, omega (arith, l, c.layer-after.ensures), omega arith, omega (arith, e.requires.1.0.2, e.requires.0.fits.few))
 
 meet-requires : tie.Need-meet-requires invariant-loop decreases-loop
 meet-requires c κs =
     let e = start c in let a = e.args in let s = c.before.before.side-of in let l = c.before.layer-after in
-    let f = meet-fits (R e) a.targets.now a.t a.m a.q a.f a.a a.b s.result l.result c.index_of.result e.pre.0 e.pre.1.0.1 s.ensures l.ensures c.index_of.ensures e.pre.1.0.2 in
+    let f = meet_fits (R e) a.targets.now a.t a.m a.q a.f a.a a.b s.result l.result c.index_of.result e.pre.0 e.pre.1.0.1 s.ensures l.ensures c.index_of.ensures e.pre.1.0.2 in
     ((c.before.before.before.if1.false, e.pre.0.fits.few, f.0, f.1), λ k h. let z = f.2 k h in omega (arith, z, e.pre.1.0.5))
 
 index-of-requires-2 : tie.Need-index-of-requires-2 invariant-loop decreases-loop
@@ -87,17 +87,17 @@ shl-w : tie.Need-overflow-shl-w invariant-loop decreases-loop
 shl-w c = omega (arith, (entry c).requires.1.0.4)
 
 rem-w : tie.Need-nonzero-rem-w invariant-loop decreases-loop
-rem-w c = let e = entry c in subst (λ (m : ℕ). 0 < m) (sym (wide-mask e.args.n e.pre.1.0.4)) (pow_pos e.args.n)
+rem-w c = let e = entry c in subst (λ (m : ℕ). 0 < m) (sym (wide_mask e.args.n e.pre.1.0.4)) (pow_pos e.args.n)
 
 loop-holds : tie.Need-loop-init invariant-loop decreases-loop
 loop-holds c =
     let e = entry c in let a = e.args in let i = index a.q a.f a.a a.b in let p = e.pre.1.0 in
     let h = index_below a.q a.f a.a (a.q - 1) (omega (arith, p.0)) p.1 (omega (arith, p.1)) in
-    let w = columns-window a.bytes.now i a.n c.wide-window.result (subst (λ (i : ℕ). Columns a.bytes.now i c.wide-window.result) c.before.index-of2.ensures c.wide-window.ensures) p.4 (omega (arith, h, p.3, p.5)) in
+    let w = columns_window a.bytes.now i a.n c.wide-window.result (subst (λ (i : ℕ). Columns a.bytes.now i c.wide-window.result) c.before.index-of2.ensures c.wide-window.ensures) p.4 (omega (arith, h, p.3, p.5)) in
     let z : i ≡ i + 0 = omega arith in (
       omega arith,
       subst (λ (i' : ℕ). Window a.bytes.now i' (i + a.n) (c.wide-window.result % ((1 * 2 ^ a.n) % 2 ^ 64))) z
-          (subst (λ (m : ℕ). Window a.bytes.now i (i + a.n) (c.wide-window.result % m)) (sym (wide-mask a.n p.4)) w),
+          (subst (λ (m : ℕ). Window a.bytes.now i (i + a.n) (c.wide-window.result % m)) (sym (wide_mask a.n p.4)) w),
       closed_none (R e) a.targets.now a.t a.m a.q a.bytes.now i,
       e.pre.1.1,
     )
@@ -159,7 +159,7 @@ loop-again c =
     let closed = c.before.column-held.ensures.0 (not-false c.before.column-held.result c.if2.false) in
     let z : index a.q a.f a.a (a.b + (l.c + k)) ≡ i + (l.c + k) = omega arith in (
       omega (arith, h),
-      window-next a.bytes.now (i + l.c) (i + a.n) l.w k (i + (l.c + k + 1)) l.invariant.1 (omega (arith, h)) (omega arith),
+      window_next a.bytes.now (i + l.c) (i + a.n) l.w k (i + (l.c + k + 1)) l.invariant.1 (omega (arith, h)) (omega arith),
       closed-more (R e) a.targets.now a.t a.m a.q a.bytes.now i l.c k (i + a.n) l.w l.invariant.2 l.invariant.1 o.lowest-one.ensures
           (subst (ClosedAt (R e) a.targets.now a.t a.m a.q a.bytes.now) z closed),
       c.before.column-held.ensures.1,

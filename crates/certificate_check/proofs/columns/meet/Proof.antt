@@ -5,9 +5,9 @@ use mathlib.Core.Path.{◌≡◌, sym, subst}
 use Prim.Native.Nat.{ℕ, ◌+◌, ◌-◌, ◌*◌, ◌≤◌, ◌<◌}
 use lib.ListN.{length}
 use Rattle.grammar.specs.Limits.{limits}
-use Rattle.plans.proofs.PlanLaws.{cell-times}
+use Rattle.plans.proofs.PlanLaws.{cell_times}
 use Rattle.certificate_check.specs.Columns.{Met}
-use Rattle.certificate_check.proofs.ColumnLaws.{met-none, met-more}
+use Rattle.certificate_check.proofs.ColumnLaws.{met_none, met_more}
 use Rattle.certificate_check.proofs.columns.meet.Statement.{statement}
 use Rattle.certificate_check.proofs.columns.meet.Tie as tie
 
@@ -22,7 +22,7 @@ abbrev start : tie.After-wide invariant-loop decreases-loop → tie.Start invari
 start c = c.before.before.before.before.before
 
 loop-holds : tie.Need-loop-init invariant-loop decreases-loop
-loop-holds c = (omega arith, met-none _ _ _ _ _ _)
+loop-holds c = (omega arith, met_none _ _ _ _ _ _)
 
 add_wide : tie.Need-overflow-add-wide invariant-loop decreases-loop
 add_wide c = search rules
@@ -37,8 +37,8 @@ wide-requires : tie.Need-wide-requires invariant-loop decreases-loop
 wide-requires c κs = search rules
 
 -- the product that places the row
-small : (c : tie.After-wide invariant-loop decreases-loop) → c.wide.result * (start c).args.q ≤ 65535 * limits.maxStates
-small c = cell-times c.wide.result (start c).args.q (start c).requires.0.1 (omega (arith, c.wide.ensures.1))
+small : (c : tie.After-wide invariant-loop decreases-loop) → c.wide.result * (start c).args.q ≤ 65535 * limits.max_states
+small c = cell_times c.wide.result (start c).args.q (start c).requires.0.1 (omega (arith, c.wide.ensures.1))
 
 mul-wide-window : tie.Need-overflow-mul-wide-window invariant-loop decreases-loop
 mul-wide-window c = omega (arith, small c)
@@ -61,7 +61,7 @@ loop-less c = search rules
 loop-again : tie.Need-loop-preserved invariant-loop decreases-loop
 loop-again c =
     let l = c.before.before.before.before.loop in
-    (omega arith, met-more _ _ _ _ _ l.k l.w c.wide-window.result c.before.wide.result l.invariant.1 c.before.wide.ensures.0 c.wide-window.ensures)
+    (omega arith, met_more _ _ _ _ _ l.k l.w c.wide-window.result c.before.wide.result l.invariant.1 c.before.wide.ensures.0 c.wide-window.ensures)
 
 returns : tie.Need-returns invariant-loop decreases-loop
 returns c =

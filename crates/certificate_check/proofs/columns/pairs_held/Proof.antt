@@ -46,15 +46,15 @@ turn c = c.before.before.before
 bounds : (first : List ℕ) (kind c lo hi : ℕ) → c ≡ kind → lo ≡ get_or first c 0 → hi ≡ get_or first (c + 1) 0 → (lo ≡ get_or first kind 0) × (hi ≡ get_or first (kind + 1) 0)
 bounds first kind c lo hi k l h = (l ∙ ap (λ (n : ℕ). get_or first n 0) k, h ∙ ap (λ (n : ℕ). get_or first (n + 1) 0) k)
 
-left-bounds : (c : tie.After-wide3 invariant-loop decreases-loop) → let a = (start c).args in
+left_bounds : (c : tie.After-wide3 invariant-loop decreases-loop) → let a = (start c).args in
     (c.before.before.wide2.result ≡ get_or a.first.now a.left 0) × (c.wide3.result ≡ get_or a.first.now (a.left + 1) 0)
-left-bounds c =
+left_bounds c =
     let a = (start c).args in let w = c.before.before in
     bounds a.first.now a.left w.before.before.wide.result w.wide2.result c.wide3.result w.before.before.wide.ensures.0 w.wide2.ensures.0 c.wide3.ensures.0
 
-right-bounds : (c : tie.After-wide6 invariant-loop decreases-loop) → let a = (entry c).args in
+right_bounds : (c : tie.After-wide6 invariant-loop decreases-loop) → let a = (entry c).args in
     (c.before.before.wide5.result ≡ get_or a.first.now a.right 0) × (c.wide6.result ≡ get_or a.first.now (a.right + 1) 0)
-right-bounds c =
+right_bounds c =
     let a = (entry c).args in let w = c.before.before in
     bounds a.first.now a.right w.before.before.wide4.result w.wide5.result c.wide6.result w.before.before.wide4.ensures.0 w.wide5.ensures.0 c.wide6.ensures.0
 
@@ -93,7 +93,7 @@ wide-requires-3 : tie.Need-wide-requires-3 invariant-loop decreases-loop
 wide-requires-3 c κs = search rules
 
 sub-height : tie.Need-overflow-sub-height invariant-loop decreases-loop
-sub-height c = omega (arith, (left-bounds c).0, (left-bounds c).1, (start c).requires.1.0.order)
+sub-height c = omega (arith, (left_bounds c).0, (left_bounds c).1, (start c).requires.1.0.order)
 
 wide-requires-4 : tie.Need-wide-requires-4 invariant-loop decreases-loop
 wide-requires-4 c κs = search rules
@@ -120,11 +120,11 @@ wide-requires-6 : tie.Need-wide-requires-6 invariant-loop decreases-loop
 wide-requires-6 c κs = search rules
 
 sub-span : tie.Need-overflow-sub-span invariant-loop decreases-loop
-sub-span c = omega (arith, (right-bounds c).0, (right-bounds c).1, (entry c).requires.1.1.order)
+sub-span c = omega (arith, (right_bounds c).0, (right_bounds c).1, (entry c).requires.1.1.order)
 
 loop-holds : tie.Need-loop-init invariant-loop decreases-loop
 loop-holds c =
-    let l = left-bounds (below c) in let r = right-bounds c in
+    let l = left_bounds (below c) in let r = right_bounds c in
     (omega arith, l.0, omega (arith, l.0, l.1), r.0, omega (arith, r.0, r.1), pairs-none _ _ _ _ _ _)
 
 add-wide-3 : tie.Need-overflow-add-wide-3 invariant-loop decreases-loop

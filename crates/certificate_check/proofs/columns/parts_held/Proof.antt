@@ -7,7 +7,7 @@ use Prim.Native.Nat.{ℕ, ◌+◌, ◌*◌}
 use lib.ListN.{get_or}
 use Rattle.grammar.proofs.Answers.{no_bool}
 use Rattle.certificate_check.specs.Columns.{Noting}
-use Rattle.certificate_check.proofs.ColumnLaws.{note-more, note-pairs}
+use Rattle.certificate_check.proofs.ColumnLaws.{note_more, note_pairs}
 use Rattle.certificate_check.proofs.columns.parts_held.Statement.{statement}
 use Rattle.certificate_check.proofs.columns.parts_held.Tie as tie
 use Rattle.certificate_check.proofs.columns.parts_held.Reads as reads
@@ -75,9 +75,9 @@ returns-4 c =
     let s = c.before.pairs-held.ensures (not-false c.before.pairs-held.result c.if3.false) in
     let n : 2 * a.q + k.wide2.result + 1 ≡ 2 * a.q + a.left + 1 = ap (λ (d : ℕ). 2 * a.q + d + 1) k.wide2.ensures.0 in (
       λ q h. s,
-      note-more a.first.now a.targets.now a.q a.bytes.now a.seen.now k.before.wide.result (2 * a.q + a.left) (2 * a.q + k.wide2.result + 1) n e.pre.1.1.1
+      note_more a.first.now a.targets.now a.q a.bytes.now a.seen.now k.before.wide.result (2 * a.q + a.left) (2 * a.q + k.wide2.result + 1) n e.pre.1.1.1
           (subst (λ (d : ℕ). Noting a.first.now a.targets.now a.q a.bytes.now d (2 * a.q + a.left)) (sym k.before.wide.ensures.0)
-          (note-pairs a.first.now a.targets.now a.q a.bytes.now a.left a.right s)),
+          (note_pairs a.first.now a.targets.now a.q a.bytes.now a.left a.right s)),
     )
 
 pub parts-held-spec : {M : Type 1} → statement M

@@ -7,7 +7,7 @@ use Prim.Native.Nat.{ℕ, ◌+◌}
 use lib.ListN.{get_or}
 use Rattle.grammar.proofs.Answers.{no_bool}
 use Rattle.certificate_check.specs.Columns.{Noting}
-use Rattle.certificate_check.proofs.ColumnLaws.{note-more, note-row}
+use Rattle.certificate_check.proofs.ColumnLaws.{note_more, note_row}
 use Rattle.certificate_check.proofs.columns.right_held.Statement.{statement}
 use Rattle.certificate_check.proofs.columns.right_held.Tie as tie
 use Rattle.certificate_check.proofs.columns.right_held.Reads as reads
@@ -66,9 +66,9 @@ returns-4 c =
     let k = c.before.before.before.before.before in let e = start k in let a = e.args in
     let s = c.before.row-held.ensures (not-false c.before.row-held.result c.if3.false) in (
       λ q h. s,
-      note-more a.first.now a.targets.now a.q a.bytes.now a.seen.now k.wide.result a.row (a.row + 1) refl e.pre.1.1
+      note_more a.first.now a.targets.now a.q a.bytes.now a.seen.now k.wide.result a.row (a.row + 1) refl e.pre.1.1
           (subst (λ (d : ℕ). Noting a.first.now a.targets.now a.q a.bytes.now d a.row) (sym k.wide.ensures.0)
-          (note-row a.first.now a.targets.now a.q a.bytes.now a.kind a.row e.pre.0.1 s)),
+          (note_row a.first.now a.targets.now a.q a.bytes.now a.kind a.row e.pre.0.1 s)),
     )
 
 pub right-held-spec : {M : Type 1} → statement M

@@ -6,9 +6,9 @@ use borrow.Author.Tests.{not-false}
 use Prim.Native.Nat.{ℕ, ◌+◌, ◌-◌, ◌*◌, ◌≤◌, ◌<◌}
 use lib.ListN.{get_or}
 use Rattle.grammar.proofs.Answers.{no_bool}
-use Rattle.triples.specs.Certificate.{isSet}
+use Rattle.triples.specs.Certificate.{is_set}
 use Rattle.certificate_check.specs.Columns.{span_of, target_of, RowTo}
-use Rattle.certificate_check.proofs.ColumnLaws.{row-none, row_more, row-bit, row-times}
+use Rattle.certificate_check.proofs.ColumnLaws.{row-none, row_more, row-bit, row_times}
 use Rattle.certificate_check.proofs.columns.row_held.Statement.{statement}
 use Rattle.certificate_check.proofs.columns.row_held.Tie as tie
 use Rattle.certificate_check.proofs.columns.row_held.Reads as reads
@@ -71,7 +71,7 @@ sub-span : tie.Need-overflow-sub-span invariant-loop decreases-loop
 sub-span c = let f = found c in omega (arith, f.0, f.1, f.2)
 
 mul-base : tie.Need-overflow-mul-base invariant-loop decreases-loop
-mul-base c = let e = entry c in omega (arith, row-times e.args.q e.args.row e.pre.0.0 e.pre.0.1)
+mul-base c = let e = entry c in omega (arith, row_times e.args.q e.args.row e.pre.0.0 e.pre.0.1)
 
 loop-holds : tie.Need-loop-init invariant-loop decreases-loop
 loop-holds c = let f = found c in (omega arith, f.0, omega (arith, f.0, f.1), refl, row-none _ _ _ _ _ _)
@@ -91,7 +91,7 @@ wide-requires-4 c κs = search rules
 add-is-set : tie.Need-overflow-add-is-set invariant-loop decreases-loop
 add-is-set c =
     let e = entry c.before.before.before.before in
-    omega (arith, c.before.before.before.loop.invariant.3, row-times e.args.q e.args.row e.pre.0.0 e.pre.0.1, c.wide4.ensures.1)
+    omega (arith, c.before.before.before.loop.invariant.3, row_times e.args.q e.args.row e.pre.0.0 e.pre.0.1, c.wide4.ensures.1)
 
 is-set-requires : tie.Need-is-set-requires invariant-loop decreases-loop
 is-set-requires c κs =
@@ -120,7 +120,7 @@ loop-again c =
       l.invariant.2,
       l.invariant.3,
       row_more a.first.now a.targets.now a.q a.bytes.now a.kind a.row l.k w.wide4.result l.invariant.4 (target w).0
-          (ap (λ (n : ℕ). isSet a.bytes.now (n + w.wide4.result)) (sym l.invariant.3) ∙ s),
+          (ap (λ (n : ℕ). is_set a.bytes.now (n + w.wide4.result)) (sym l.invariant.3) ∙ s),
     )
 
 returns-2 : tie.Need-returns-2 invariant-loop decreases-loop

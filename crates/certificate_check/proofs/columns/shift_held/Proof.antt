@@ -5,7 +5,7 @@ use mathlib.Core.Path.{◌≡◌, ap, ap₂, sym, subst, ◌∙◌}
 use Prim.Native.Nat.{ℕ, ◌*◌, ◌<◌}
 use lib.ListN.{length, get_or}
 use Rattle.triples.specs.Index.{index}
-use Rattle.triples.specs.Certificate.{isSet}
+use Rattle.triples.specs.Certificate.{is_set}
 use Rattle.certificate_check.proofs.columns.shift_held.Statement.{statement}
 use Rattle.certificate_check.proofs.columns.shift_held.Tie as tie
 
@@ -57,7 +57,7 @@ is-set-requires c κs =
 returns-2 : tie.Need-returns-2
 returns-2 c =
     let i = c.before in let a = (start (tested i.before)).args in
-    λ q h. ap (isSet a.bytes.now) (sym (beside i)) ∙ sym c.is_set.ensures ∙ q
+    λ q h. ap (is_set a.bytes.now) (sym (beside i)) ∙ sym c.is_set.ensures ∙ q
 
 pub shift-held-spec : {M : Type 1} → statement M
 shift-held-spec =

@@ -3,7 +3,7 @@
 use borrow.Author.Rules.{rules}
 use Prim.Native.Nat.{◌-◌}
 use native.Mathlib.Omega.{arith}
-use Rattle.drafts.proofs.Adds.{append-cell, append-row}
+use Rattle.drafts.proofs.Adds.{append_cell, append_row}
 use Rattle.drafts.proofs.adding.append.Statement.{statement}
 use Rattle.drafts.proofs.adding.append.Tie as tie
 use Rattle.drafts.proofs.adding.append.Reads as reads
@@ -28,7 +28,7 @@ slice-read-row c = search rules
 add_row : tie.Need-overflow-add-row
 add_row c =
     let s = start-of-slice-known3 c in
-    let z = append-cell s.args.row.now _ s.args.entries.now s.args.end s.args.k s.pre c.before.before.before.put_entries.ensures in
+    let z = append_cell s.args.row.now _ s.args.entries.now s.args.end s.args.k s.pre c.before.before.before.put_entries.ensures in
     let n = s.pre.count in
     omega (arith, z, n)
 
@@ -39,7 +39,7 @@ same_length : tie.Need-same-length
 same_length c = search rules
 
 returns : tie.Need-returns
-returns c = let s = start-of-slice-known3 c in append-row s.args.row.now _ s.args.entries.now s.args.end s.args.k s.pre c.before.before.before.put_entries.ensures
+returns c = let s = start-of-slice-known3 c in append_row s.args.row.now _ s.args.entries.now s.args.end s.args.k s.pre c.before.before.before.put_entries.ensures
 
 pub append-spec : {M : Type 1} → statement M
 append-spec =

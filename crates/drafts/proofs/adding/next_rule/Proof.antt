@@ -6,11 +6,11 @@ use mathlib.Core.Path.{◌≡◌, ap, sym, ◌∙◌}
 use native.Mathlib.Omega.{arith}
 use Rattle.grammar.specs.Limits.{limits}
 use Rattle.grammar.specs.Refusal.{done}
-use Rattle.grammar.specs.TableCheck.{readRule}
+use Rattle.grammar.specs.TableCheck.{read_rule}
 use Rattle.grammar.proofs.Steps.{read_done}
-use Rattle.table_check.specs.Contracts.{ruleRead}
-use Rattle.table_check.proofs.WalkLaws.{next-full, next-fault, next-repeated, next-large, next-good, length-read, fault-read}
-use Rattle.drafts.proofs.Earlier.{led-leading, led-few, led-states}
+use Rattle.table_check.specs.Clauses.{rule_read}
+use Rattle.table_check.proofs.WalkLaws.{next-full, next_fault, next-repeated, next-large, next_good, length-read, fault_read}
+use Rattle.drafts.proofs.Earlier.{led_leading, led-few, led-states}
 use Rattle.drafts.proofs.adding.next_rule.Statement.{statement}
 use Rattle.drafts.proofs.adding.next_rule.Tie as tie
 use Rattle.drafts.proofs.adding.next_rule.Reads as reads
@@ -26,14 +26,14 @@ abbrev size : tie.After-known-told → ℕ
 size c = c.before.read.given.0.0
 
 -- the rule alone is without fault, and short
-read : (c : tie.After-known-told) → let a = (start c).args in readRule limits a.t a.n a.table.now a.at ≡ done (size c)
+read : (c : tie.After-known-told) → let a = (start c).args in read_rule limits a.t a.n a.table.now a.at ≡ done (size c)
 read c = length-read _ (size c) (sym c.before.before.before.read-rule.ensures ∙ c.before.read.given.1)
 
-short : (c : tie.After-known-told) → size c ≤ limits.maxLength
+short : (c : tie.After-known-told) → size c ≤ limits.max_length
 short c = let a = (start c).args in (read_done limits a.t a.n a.table.now a.at (size c) (read c)).few
 
 returns : tie.Need-returns
-returns c = let a = c.before.before.args in ap ruleRead (next-full a.t a.n a.table.now a.count a.at c.if1.true)
+returns c = let a = c.before.before.args in ap rule_read (next-full a.t a.n a.table.now a.count a.at c.if1.true)
 
 read-rule-requires : tie.Need-read-rule-requires
 read-rule-requires c κs = search rules
@@ -48,17 +48,17 @@ returns-2 : tie.Need-returns-2
 returns-2 c =
     let a = c.before.before.before.before.before.args in
     let e = c.enum_told.given in
-    let f = fault-read _ e.0.0 e.0.1.0 (sym c.before.before.read-rule.ensures ∙ e.1) in
-    e.1 ∙ ap ruleRead (next-fault a.t a.n a.table.now a.count a.at e.0.0 e.0.1.0 c.before.before.before.if1.false f)
+    let f = fault_read _ e.0.0 e.0.1.0 (sym c.before.before.read-rule.ensures ∙ e.1) in
+    e.1 ∙ ap rule_read (next_fault a.t a.n a.table.now a.count a.at e.0.0 e.0.1.0 c.before.before.before.if1.false f)
 
 stands-before-requires : tie.Need-stands-before-requires
-stands-before-requires c κs = let s = start c in let a = s.args in led-leading a.table.now a.count a.at a.t a.n (size c) s.pre (read c)
+stands-before-requires c κs = let s = start c in let a = s.args in led_leading a.table.now a.count a.at a.t a.n (size c) s.pre (read c)
 
 returns-3 : tie.Need-returns-3
 returns-3 c =
     let k = c.before.before in
     let a = (start k).args in
-    ap ruleRead
+    ap rule_read
     (next-repeated a.t a.n a.table.now a.count a.at (size k) k.before.before.before.before.if1.false (read k)
     (sym c.before.stands-before.ensures ∙ c.if2.true))
 
@@ -82,7 +82,7 @@ returns-4 c =
     let k = c.before.before.before in
     let s = start k in
     let a = s.args in
-    ap ruleRead
+    ap rule_read
     (next-large a.t a.n a.table.now a.count (a.at + 4 - a.count) a.at (size k) k.before.before.before.before.if1.false (read k)
     (sym c.before.before.stands-before.ensures ∙ c.before.if2.false) (led-states a.table.now a.count a.at s.pre) c.if3.true)
 
@@ -91,8 +91,8 @@ returns-5 c =
     let k = c.before.before.before in
     let s = start k in
     let a = s.args in
-    ap ruleRead
-    (next-good a.t a.n a.table.now a.count (a.at + 4 - a.count) a.at (size k) k.before.before.before.before.if1.false (read k)
+    ap rule_read
+    (next_good a.t a.n a.table.now a.count (a.at + 4 - a.count) a.at (size k) k.before.before.before.before.if1.false (read k)
     (sym c.before.before.stands-before.ensures ∙ c.before.if2.false) (led-states a.table.now a.count a.at s.pre) c.if3.false)
 
 pub next-rule-spec : {M : Type 1} → statement M

@@ -4,9 +4,9 @@ use borrow.Author.Rules.{rules}
 use Prim.Native.Nat.{ℕ, ◌-◌}
 use mathlib.Core.Path.{ap, sym, ◌∙◌}
 use native.Mathlib.Omega.{arith}
-use Rattle.grammar.specs.Table.{ruleAt}
-use Rattle.grammar.specs.TableCheck.{sameRule}
-use Rattle.drafts.proofs.Earlier.{Behind, behind-start, behind-whole, behind-found, behind_more, behind-end}
+use Rattle.grammar.specs.Table.{rule_at}
+use Rattle.grammar.specs.TableCheck.{same_rule}
+use Rattle.drafts.proofs.Earlier.{Behind, behind_start, behind_whole, behind_found, behind_more, behind_end}
 use Rattle.drafts.proofs.adding.stands_before.Statement.{statement}
 use Rattle.drafts.proofs.adding.stands_before.Tie as tie
 use Rattle.drafts.proofs.adding.stands_before.Reads as reads
@@ -21,7 +21,7 @@ abbrev decreases-loop : tie.decreases-loop
 decreases-loop table at k o₀ o = at - o
 
 loop-holds : tie.Need-loop-init invariant-loop decreases-loop
-loop-holds c = behind-start _ _ _ c.before.requires
+loop-holds c = behind_start _ _ _ c.before.requires
 
 add_wide : tie.Need-overflow-add-wide invariant-loop decreases-loop
 add_wide c = let w = c.before.loop.invariant.whole in let h = c.loop-test.true in omega (arith, w, h)
@@ -39,7 +39,7 @@ same-rule-requires : tie.Need-same-rule-requires invariant-loop decreases-loop
 same-rule-requires c κs =
     let l = c.before.before.before.loop in
     let w = l.invariant.whole in
-    let h = behind-whole _ _ _ _ l.invariant c.before.before.loop-test.true in
+    let h = behind_whole _ _ _ _ l.invariant c.before.before.loop-test.true in
     let e = c.wide.ensures in
     (omega (arith, w, h, e), w)
 
@@ -47,8 +47,8 @@ returns : tie.Need-returns invariant-loop decreases-loop
 returns c =
     let a = c.before.before.before.before.before.before.before.args in
     let l = c.before.before.before.before.before.loop in
-    behind-found _ _ _ _ l.invariant c.before.before.before.before.loop-test.true
-    (ap (λ (m : ℕ). sameRule (ruleAt a.table.now l.o m) (ruleAt a.table.now a.at a.k)) (sym c.before.before.wide.ensures)
+    behind_found _ _ _ _ l.invariant c.before.before.before.before.loop-test.true
+    (ap (λ (m : ℕ). same_rule (rule_at a.table.now l.o m) (rule_at a.table.now a.at a.k)) (sym c.before.before.wide.ensures)
     ∙ sym c.before.same-rule.ensures ∙ c.if1.true)
 
 add-o : tie.Need-overflow-add-o invariant-loop decreases-loop
@@ -62,7 +62,7 @@ add-o-2 : tie.Need-overflow-add-o-2 invariant-loop decreases-loop
 add-o-2 c =
     let l = c.before.before.before.before.before.loop in
     let w = l.invariant.whole in
-    let h = behind-whole _ _ _ _ l.invariant c.before.before.before.before.loop-test.true in
+    let h = behind_whole _ _ _ _ l.invariant c.before.before.before.before.loop-test.true in
     let e = c.before.before.wide.ensures in
     omega (arith, w, h, e)
 
@@ -78,7 +78,7 @@ loop-again c =
     (sym c.before.same-rule.ensures ∙ c.if1.false)
 
 returns-2 : tie.Need-returns-2 invariant-loop decreases-loop
-returns-2 c = behind-end _ _ _ _ c.before.loop.invariant c.loop-test.false
+returns-2 c = behind_end _ _ _ _ c.before.loop.invariant c.loop-test.false
 
 pub stands-before-spec : {M : Type 1} → statement M
 stands-before-spec =

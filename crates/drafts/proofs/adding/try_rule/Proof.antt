@@ -5,9 +5,9 @@ use Prim.Native.Nat.{ℕ, ◌-◌}
 use mathlib.Core.Path.{ap, ◌∙◌}
 use native.Mathlib.Omega.{arith}
 use lib.ListN.{length-replicate}
-use Rattle.table_check.specs.Contracts.{ruleRead}
-use Rattle.drafts.specs.Edits.{tryRoom}
-use Rattle.drafts.proofs.Tries.{gathered, trying, part-fits, prefix-size}
+use Rattle.table_check.specs.Clauses.{rule_read}
+use Rattle.drafts.specs.Edits.{try_room}
+use Rattle.drafts.proofs.Tries.{gathered, trying, part_fits, prefix_size}
 use Rattle.drafts.proofs.Readouts.{table-room, counts-held}
 use Rattle.drafts.proofs.adding.try_rule.Statement.{statement}
 use Rattle.drafts.proofs.adding.try_rule.Tie as tie
@@ -56,8 +56,8 @@ put-entries-requires : tie.Need-put-entries-requires
 put-entries-requires c κs =
     let s = c.before.before.before.before in
     let r = table-room s.args.draft.now _ s.requires in
-    let z = length-replicate {A = ℕ} tryRoom 0 in
-    (omega (arith, z, r.1), part-fits s.args.draft.now s.args.end s.requires)
+    let z = length-replicate {A = ℕ} try_room 0 in
+    (omega (arith, z, r.1), part_fits s.args.draft.now s.args.end s.requires)
 
 at-most-requires : tie.Need-at-most-requires
 at-most-requires c κs = search rules
@@ -68,14 +68,14 @@ slice-aggregate-put-entries-2 c = search rules
 put-entries-requires-2 : tie.Need-put-entries-requires-2
 put-entries-requires-2 c κs =
     let s = start-of-few c.before in
-    let a = gathered s.args.draft.now s.args.entries.now _ _ s.args.end _ s.pre (length-replicate {A = ℕ} tryRoom 0) c.before.before.before.put_entries.ensures c.before.at_most.ensures in
+    let a = gathered s.args.draft.now s.args.entries.now _ _ s.args.end _ s.pre (length-replicate {A = ℕ} try_room 0) c.before.before.before.put_entries.ensures c.before.at_most.ensures in
     (omega (arith, a.size, a.few.1, a.fits.1), a.few.0)
 
 add_total : tie.Need-overflow-add-total
 add_total c =
     let b = c.before in
     let s = start-of-both b in
-    let a = gathered s.args.draft.now s.args.entries.now _ _ s.args.end _ s.pre (length-replicate {A = ℕ} tryRoom 0) (first b).put_entries.ensures (few b).at_most.ensures in
+    let a = gathered s.args.draft.now s.args.entries.now _ _ s.args.end _ s.pre (length-replicate {A = ℕ} try_room 0) (first b).put_entries.ensures (few b).at_most.ensures in
     omega (arith, a.few.1, a.fits.1)
 
 shared-slice-read-t : tie.Need-shared-slice-read-t
@@ -101,22 +101,22 @@ array-share-prefix-table : tie.Need-array-share-prefix-table
 array-share-prefix-table c =
     let b = both-of-cell c in
     let s = start-of-both b in
-    let a = gathered s.args.draft.now s.args.entries.now _ _ s.args.end _ s.pre (length-replicate {A = ℕ} tryRoom 0) (first b).put_entries.ensures (few b).at_most.ensures in
+    let a = gathered s.args.draft.now s.args.entries.now _ _ s.args.end _ s.pre (length-replicate {A = ℕ} try_room 0) (first b).put_entries.ensures (few b).at_most.ensures in
     omega (arith, a.few.1, a.fits.1)
 
 slice-aggregate-next-rule : tie.Need-slice-aggregate-next-rule
 slice-aggregate-next-rule c =
     let b = both-of-cell c.before in
     let s = start-of-both b in
-    let a = gathered s.args.draft.now s.args.entries.now _ _ s.args.end _ s.pre (length-replicate {A = ℕ} tryRoom 0) (first b).put_entries.ensures (few b).at_most.ensures in
-    prefix-size _ _ _ _ _ _ _ a b.put-entries2.ensures (omega (arith, a.few.1, a.fits.1))
+    let a = gathered s.args.draft.now s.args.entries.now _ _ s.args.end _ s.pre (length-replicate {A = ℕ} try_room 0) (first b).put_entries.ensures (few b).at_most.ensures in
+    prefix_size _ _ _ _ _ _ _ a b.put-entries2.ensures (omega (arith, a.few.1, a.fits.1))
 
 next-rule-requires : tie.Need-next-rule-requires
 next-rule-requires c κs =
     let w = c.before in
     let b = both-of-cell w in
     let s = start-of-both b in
-    let a = gathered s.args.draft.now s.args.entries.now _ _ s.args.end _ s.pre (length-replicate {A = ℕ} tryRoom 0) (first b).put_entries.ensures (few b).at_most.ensures in
+    let a = gathered s.args.draft.now s.args.entries.now _ _ s.args.end _ s.pre (length-replicate {A = ℕ} try_room 0) (first b).put_entries.ensures (few b).at_most.ensures in
     let k = ap (λ (cell : ℕ). cell - 1) w.wide.ensures in
     (trying s.args.draft.now s.args.entries.now _ _ s.args.end _ _ s.pre a b.put-entries2.ensures k).led
 
@@ -125,10 +125,10 @@ returns c =
     let w = c.before.before in
     let b = both-of-cell w in
     let s = start-of-both b in
-    let a = gathered s.args.draft.now s.args.entries.now _ _ s.args.end _ s.pre (length-replicate {A = ℕ} tryRoom 0) (first b).put_entries.ensures (few b).at_most.ensures in
+    let a = gathered s.args.draft.now s.args.entries.now _ _ s.args.end _ s.pre (length-replicate {A = ℕ} try_room 0) (first b).put_entries.ensures (few b).at_most.ensures in
     let k = ap (λ (cell : ℕ). cell - 1) w.wide.ensures in
     c.next-rule.ensures
-    ∙ ap ruleRead (trying s.args.draft.now s.args.entries.now _ _ s.args.end _ _ s.pre a b.put-entries2.ensures k).reads
+    ∙ ap rule_read (trying s.args.draft.now s.args.entries.now _ _ s.args.end _ _ s.pre a b.put-entries2.ensures k).reads
 
 pub try-rule-spec : {M : Type 1} → statement M
 try-rule-spec =

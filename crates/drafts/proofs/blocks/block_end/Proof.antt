@@ -7,7 +7,7 @@ use native.Mathlib.Omega.{arith}
 use lib.ListN.{length}
 use Rattle.drafts.specs.Row.{walk, end_of}
 use Rattle.drafts.specs.Edits.{ending}
-use Rattle.drafts.proofs.Walks.{walk_start, walk-on, walk-short, walk-cut, walk_end, end_none, no-entry}
+use Rattle.drafts.proofs.Walks.{walk_start, walk-on, walk-short, walk_cut, walk_end, end_none, no_entry}
 use Rattle.drafts.proofs.blocks.block_end.Statement.{statement}
 use Rattle.drafts.proofs.blocks.block_end.Tie as tie
 use Rattle.drafts.proofs.blocks.block_end.Reads as reads
@@ -27,7 +27,7 @@ abbrev else2-of-else4 : tie.Else4 invariant-loop decreases-loop → tie.Else2 in
 else2-of-else4 c = c.before.before.before.before.before.before
 
 returns : tie.Need-returns invariant-loop decreases-loop
-returns c = let b = c.before.before.args.block.now in sym (ap ending (end_none b (no-entry b c.if1.true)))
+returns c = let b = c.before.before.args.block.now in sym (ap ending (end_none b (no_entry b c.if1.true)))
 
 shared-slice-read-wide : tie.Need-shared-slice-read-wide invariant-loop decreases-loop
 shared-slice-read-wide c = search rules
@@ -81,7 +81,7 @@ returns-4 c =
     let w = c.before.wide2 in
     let t = c.if4.true in
     let f = c.before.before.before.if3.false in
-    sym (ap ending (sym l.invariant.2 ∙ walk-cut (e.before.wide.result - 1) l.i l.at b c.before.before.before.before.loop-test.true (omega (arith, f, l.invariant.1)) (omega (arith, t, w.ensures))))
+    sym (ap ending (sym l.invariant.2 ∙ walk_cut (e.before.wide.result - 1) l.i l.at b c.before.before.before.before.loop-test.true (omega (arith, f, l.invariant.1)) (omega (arith, t, w.ensures))))
 
 add_at : tie.Need-overflow-add-at invariant-loop decreases-loop
 add_at c = search rules

@@ -6,7 +6,7 @@ use mathlib.Core.Path.{◌≡◌, ap, ◌∙◌}
 use native.Mathlib.Omega.{arith}
 use lib.ListN.{length, drop}
 use lib.Seq.{paste, paste-zero}
-use Rattle.drafts.proofs.Copies.{copy_more, copy-length}
+use Rattle.drafts.proofs.Copies.{copy_more, copy_length}
 use Rattle.drafts.proofs.blocks.copy_within.Statement.{statement}
 use Rattle.drafts.proofs.blocks.copy_within.Tie as tie
 use Rattle.drafts.proofs.blocks.copy_within.Reads as reads
@@ -32,7 +32,7 @@ slice-read-row c =
     let t = c.before.loop-test in
     let g = s.requires.goal in
     let f = s.requires.source in
-    let z : length l.row ≡ length a.row.now = ap length l.invariant.1 ∙ copy-length a.row.now a.from a.to a.n l.i s.requires l.invariant.0 in
+    let z : length l.row ≡ length a.row.now = ap length l.invariant.1 ∙ copy_length a.row.now a.from a.to a.n l.i s.requires l.invariant.0 in
     omega (arith, z, g, f)
 
 add-row-2 : tie.Need-overflow-add-row-2 invariant-loop decreases-loop
@@ -46,7 +46,7 @@ slice-write-row c =
     let t = c.before.loop-test in
     let g = s.requires.goal in
     let f = s.requires.source in
-    let z : length l.row ≡ length a.row.now = ap length l.invariant.1 ∙ copy-length a.row.now a.from a.to a.n l.i s.requires l.invariant.0 in
+    let z : length l.row ≡ length a.row.now = ap length l.invariant.1 ∙ copy_length a.row.now a.from a.to a.n l.i s.requires l.invariant.0 in
     omega (arith, z, g, f)
 
 add-i : tie.Need-overflow-add-i invariant-loop decreases-loop
@@ -67,7 +67,7 @@ same_length c =
     let s = c.before.before in
     let a = s.args in
     let l = c.before.loop in
-    ap length l.invariant.1 ∙ copy-length a.row.now a.from a.to a.n l.i s.requires l.invariant.0
+    ap length l.invariant.1 ∙ copy_length a.row.now a.from a.to a.n l.i s.requires l.invariant.0
 
 returns : tie.Need-returns invariant-loop decreases-loop
 returns c =

@@ -6,7 +6,7 @@ use mathlib.Core.Path.{◌≡◌, ap, ◌∙◌}
 use native.Mathlib.Omega.{arith}
 use lib.ListN.{take, drop}
 use Rattle.drafts.specs.Edits.{ending}
-use Rattle.drafts.specs.Row.{blockSize, end_of}
+use Rattle.drafts.specs.Row.{block_size, end_of}
 use Rattle.drafts.proofs.blocks.held.Statement.{statement}
 use Rattle.drafts.proofs.blocks.held.Tie as tie
 use Rattle.drafts.proofs.blocks.held.Reads as reads
@@ -37,8 +37,8 @@ block-end-requires c κs = search rules
 returns : tie.Need-returns
 returns c =
     let a = c.before.before.before.args in
-    let from = 2 + a.j * blockSize in
-    let z : from + blockSize - from ≡ blockSize = omega arith in
+    let from = 2 + a.j * block_size in
+    let z : from + block_size - from ≡ block_size = omega arith in
     c.block-end.ensures ∙ ap (λ (n : ℕ). ending (end_of (take n (drop from a.row.now)))) z
 
 mul-block-end : tie.Need-overflow-mul-block-end

@@ -7,7 +7,7 @@ use mathlib.Core.List.{List}
 use native.Mathlib.Omega.{arith}
 use lib.ListN.{length, set}
 use Rattle.drafts.specs.Row.{emptied}
-use Rattle.drafts.specs.Draft.{marksCount}
+use Rattle.drafts.specs.Draft.{marks_count}
 use Rattle.drafts.proofs.Entries.{begin-row, begin-lengths, emptied-length}
 use Rattle.drafts.proofs.edits.begin.Statement.{statement}
 use Rattle.drafts.proofs.edits.begin.Tie as tie
@@ -53,7 +53,7 @@ same_length c =
     let p = put-of-end c in
     let a = (start p).args in
     let r = begin-lengths a.row.now _ a.table.now a.t a.n a.cell p.put_entries.ensures (start p).pre.1 (start p).pre.0 in
-    ap length c.before.before.empty-marks.ensures ∙ emptied-length marksCount _ ∙ r.3
+    ap length c.before.before.empty-marks.ensures ∙ emptied-length marks_count _ ∙ r.3
 
 returns : tie.Need-returns
 returns c =
@@ -61,8 +61,8 @@ returns c =
     let a = (start p).args in
     let h = (start p).pre.0 in
     c.before.before.empty-marks.ensures
-    ∙ ap (λ (l : List ℕ). emptied marksCount (set (set (set l 0 a.t) 1 a.n) 2 a.cell)) p.put_entries.ensures
-    ∙ ap (emptied marksCount) (begin-row a.row.now a.table.now a.t a.n a.cell (omega (arith, h)))
+    ∙ ap (λ (l : List ℕ). emptied marks_count (set (set (set l 0 a.t) 1 a.n) 2 a.cell)) p.put_entries.ensures
+    ∙ ap (emptied marks_count) (begin-row a.row.now a.table.now a.t a.n a.cell (omega (arith, h)))
 
 pub begin-spec : {M : Type 1} → statement M
 begin-spec =

@@ -6,7 +6,7 @@ use mathlib.Core.Path.{◌≡◌, ap, ◌∙◌}
 use native.Mathlib.Omega.{arith}
 use lib.ListN.{length}
 use Rattle.drafts.specs.Row.{emptied}
-use Rattle.drafts.specs.Draft.{marksCount}
+use Rattle.drafts.specs.Draft.{marks_count}
 use Rattle.drafts.proofs.Entries.{emptied-length, emptied-more, emptied-none}
 use Rattle.drafts.proofs.edits.empty_marks.Statement.{statement}
 use Rattle.drafts.proofs.edits.empty_marks.Tie as tie
@@ -14,10 +14,10 @@ use Rattle.drafts.proofs.edits.empty_marks.Reads as reads
 use Rattle.drafts.proofs.edits.empty_marks.Lts as lts
 
 abbrev invariant-loop : tie.invariant-loop
-invariant-loop row₀ k₀ row k = (k ≤ marksCount) × (row ≡ emptied k row₀)
+invariant-loop row₀ k₀ row k = (k ≤ marks_count) × (row ≡ emptied k row₀)
 
 abbrev decreases-loop : tie.decreases-loop
-decreases-loop row₀ k₀ row k = marksCount - k
+decreases-loop row₀ k₀ row k = marks_count - k
 
 loop-holds : tie.Need-loop-init invariant-loop decreases-loop
 loop-holds c = (omega arith, emptied-none c.args.row.now)
@@ -54,7 +54,7 @@ same_length c = let l = c.before.loop in ap length l.invariant.1 ∙ emptied-len
 returns : tie.Need-returns invariant-loop decreases-loop
 returns c =
     let l = c.before.loop in
-    let p : l.k ≡ marksCount = omega arith in
+    let p : l.k ≡ marks_count = omega arith in
     l.invariant.1 ∙ ap (λ (m : ℕ). emptied m c.before.before.args.row.now) p
 
 mul-row-2 : tie.Need-overflow-mul-row-2 invariant-loop decreases-loop

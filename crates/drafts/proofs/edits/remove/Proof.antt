@@ -3,7 +3,7 @@
 use borrow.Author.Rules.{rules}
 use Prim.Native.Nat.{◌+◌, ◌-◌}
 use native.Mathlib.Omega.{arith}
-use Rattle.drafts.proofs.Removals.{remove-apart, remove-cell, remove-row}
+use Rattle.drafts.proofs.Removals.{remove_apart, remove_cell, remove_row}
 use Rattle.drafts.proofs.edits.remove.Statement.{statement}
 use Rattle.drafts.proofs.edits.remove.Tie as tie
 use Rattle.drafts.proofs.edits.remove.Reads as reads
@@ -36,7 +36,7 @@ sub-copy-within : tie.Need-overflow-sub-copy-within
 sub-copy-within c = search rules
 
 copy-within-requires : tie.Need-copy-within-requires
-copy-within-requires c κs = let s = c.before.before.before.before in remove-apart s.args.row.now s.args.from s.args.end _ s.requires c.before.wide.ensures
+copy-within-requires c κs = let s = c.before.before.before.before in remove_apart s.args.row.now s.args.from s.args.end _ s.requires c.before.wide.ensures
 
 slice-read-row : tie.Need-slice-read-row
 slice-read-row c = search rules
@@ -45,7 +45,7 @@ sub_row : tie.Need-overflow-sub-row
 sub_row c =
     let s = start-of-slice-known4 c in
     let k = c.before.before.before.before.before.wide.result in
-    let z = remove-cell s.args.row.now _ s.args.from s.args.end k (2 + s.args.end - (s.args.from + 2 + k)) s.pre c.before.before.before.copy_within.ensures in
+    let z = remove_cell s.args.row.now _ s.args.from s.args.end k (2 + s.args.end - (s.args.from + 2 + k)) s.pre c.before.before.before.copy_within.ensures in
     let o = s.pre.one in
     omega (arith, z, o)
 
@@ -56,7 +56,7 @@ same_length : tie.Need-same-length
 same_length c = search rules
 
 returns : tie.Need-returns
-returns c = let s = start-of-slice-known4 c in remove-row s.args.row.now _ s.args.from s.args.end _ s.pre c.before.before.before.before.before.wide.ensures c.before.before.before.copy_within.ensures
+returns c = let s = start-of-slice-known4 c in remove_row s.args.row.now _ s.args.from s.args.end _ s.pre c.before.before.before.before.before.wide.ensures c.before.before.before.copy_within.ensures
 
 mul_wide : tie.Need-overflow-mul-wide
 mul_wide c = search rules

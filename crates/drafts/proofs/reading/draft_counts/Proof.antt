@@ -6,10 +6,10 @@ use mathlib.Core.Path.{◌≡◌, ap, ap₂, sym, ◌∙◌}
 use native.Mathlib.Omega.{arith}
 use lib.ListN.{get_or}
 use Rattle.grammar.specs.Refusal.{done}
-use Rattle.drafts.specs.Edits.{openRow}
+use Rattle.drafts.specs.Edits.{open_row}
 use Rattle.drafts.specs.Reading.{counted}
 use Rattle.drafts.specs.declared.DraftCounts.TheVariants.{Counts}
-use Rattle.drafts.proofs.Opens.{opened-told, shut-told, open-refused}
+use Rattle.drafts.proofs.Opens.{opened-told, shut-told, open_refused}
 use Rattle.drafts.proofs.Readouts.{Counted, counts-held, table-room}
 use Rattle.drafts.proofs.reading.draft_counts.Statement.{statement}
 use Rattle.drafts.proofs.reading.draft_counts.Tie as tie
@@ -22,8 +22,8 @@ abbrev begin : tie.After-known-told2 → tie.Start
 begin c = c.before.before.before.before.before
 
 -- the row holds a draft
-opened-at : (c : tie.After-known-told2) → openRow (begin c).args.draft.now ≡ done c.before.opened2.given.0.0
-opened-at c = opened-told (openRow (begin c).args.draft.now) c.before.opened2.given.0.0 (sym c.before.before.before.open-draft.ensures ∙ c.before.opened2.given.1)
+opened-at : (c : tie.After-known-told2) → open_row (begin c).args.draft.now ≡ done c.before.opened2.given.0.0
+opened-at c = opened-told (open_row (begin c).args.draft.now) c.before.opened2.given.0.0 (sym c.before.before.before.open-draft.ensures ∙ c.before.opened2.given.1)
 
 counts-at : (c : tie.After-known-told2) → Counted (begin c).args.draft.now c.before.opened2.given.0.0
 counts-at c = counts-held (begin c).args.draft.now _ (opened-at c)
@@ -41,7 +41,7 @@ returns : tie.Need-returns
 returns c =
     let row = c.before.before.before.before.before.args.draft.now in
     let g = c.before.opened.given in
-    sym (ap counted (open-refused row g.0.0 g.0.1.0 (shut-told (openRow row) g.0.0 g.0.1.0 (sym c.before.before.before.open-draft.ensures ∙ g.1))))
+    sym (ap counted (open_refused row g.0.0 g.0.1.0 (shut-told (open_row row) g.0.0 g.0.1.0 (sym c.before.before.before.open-draft.ensures ∙ g.1))))
 
 enum-known-opened-2 : tie.Need-enum-known-opened-2
 enum-known-opened-2 c = search rules

@@ -6,8 +6,8 @@ use mathlib.Core.Path.{◌≡◌, sym, ◌∙◌}
 use native.Mathlib.Omega.{arith}
 use lib.ListN.{length}
 use Rattle.grammar.specs.Refusal.{done}
-use Rattle.drafts.specs.Edits.{openRow}
-use Rattle.drafts.specs.Row.{blockSize, draftRoom}
+use Rattle.drafts.specs.Edits.{open_row}
+use Rattle.drafts.specs.Row.{block_size, draft_room}
 use Rattle.drafts.proofs.Readouts.{table_none, table-held, table-room}
 use Rattle.drafts.proofs.Opens.{opened-told, shut-told}
 use Rattle.drafts.proofs.reading.draft_table.Statement.{statement}
@@ -23,10 +23,10 @@ abbrev start-of-result2 : tie.After-result2 → tie.Start
 start-of-result2 c = c.before.before.before.before.before.before
 
 -- the row holds a draft
-opened-at : (c : tie.After-known-told2) → openRow c.before.before.before.before.before.args.draft.now ≡ done c.before.opened2.given.0.0
-opened-at c = opened-told (openRow c.before.before.before.before.before.args.draft.now) c.before.opened2.given.0.0 (sym c.before.before.before.open-draft.ensures ∙ c.before.opened2.given.1)
+opened-at : (c : tie.After-known-told2) → open_row c.before.before.before.before.before.args.draft.now ≡ done c.before.opened2.given.0.0
+opened-at c = opened-told (open_row c.before.before.before.before.before.args.draft.now) c.before.opened2.given.0.0 (sym c.before.before.before.open-draft.ensures ∙ c.before.opened2.given.1)
 
-room : (c : tie.After-known-told2) → (1 ≤ c.before.opened2.given.0.0) × (c.before.opened2.given.0.0 ≤ blockSize) × (draftRoom ≤ length c.before.before.before.before.before.args.draft.now)
+room : (c : tie.After-known-told2) → (1 ≤ c.before.opened2.given.0.0) × (c.before.opened2.given.0.0 ≤ block_size) × (draft_room ≤ length c.before.before.before.before.before.args.draft.now)
 room c = table-room c.before.before.before.before.before.args.draft.now _ (opened-at c)
 
 open-draft-requires : tie.Need-open-draft-requires
@@ -48,7 +48,7 @@ returns : tie.Need-returns
 returns c =
     let row = (start-of-result c).args.draft.now in
     let g = c.before.before.opened.given in
-    sym (table_none row g.0.0 g.0.1.0 (shut-told (openRow row) g.0.0 g.0.1.0 (sym c.before.before.before.before.open-draft.ensures ∙ g.1)))
+    sym (table_none row g.0.0 g.0.1.0 (shut-told (open_row row) g.0.0 g.0.1.0 (sym c.before.before.before.before.open-draft.ensures ∙ g.1)))
 
 enum-known-opened-2 : tie.Need-enum-known-opened-2
 enum-known-opened-2 c = search rules

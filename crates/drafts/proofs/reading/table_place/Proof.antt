@@ -5,9 +5,9 @@ use Prim.Native.Nat.{◌-◌}
 use mathlib.Core.Path.{◌≡◌, ap, sym, ◌∙◌}
 use native.Mathlib.Omega.{arith}
 use Rattle.grammar.specs.Refusal.{done}
-use Rattle.drafts.specs.Edits.{openRow}
+use Rattle.drafts.specs.Edits.{open_row}
 use Rattle.drafts.specs.Reading.{placed}
-use Rattle.drafts.proofs.Opens.{opened-told, shut-told, open-refused}
+use Rattle.drafts.proofs.Opens.{opened-told, shut-told, open_refused}
 use Rattle.drafts.proofs.Readouts.{counts-held, table-room}
 use Rattle.drafts.proofs.reading.table_place.Statement.{statement}
 use Rattle.drafts.proofs.reading.table_place.Tie as tie
@@ -19,8 +19,8 @@ abbrev begin : tie.After-known-told2 → tie.Start
 begin c = c.before.before.before.before.before
 
 -- the row holds a draft
-opened-at : (c : tie.After-known-told2) → openRow (begin c).args.draft.now ≡ done c.before.opened2.given.0.0
-opened-at c = opened-told (openRow (begin c).args.draft.now) c.before.opened2.given.0.0 (sym c.before.before.before.open-draft.ensures ∙ c.before.opened2.given.1)
+opened-at : (c : tie.After-known-told2) → open_row (begin c).args.draft.now ≡ done c.before.opened2.given.0.0
+opened-at c = opened-told (open_row (begin c).args.draft.now) c.before.opened2.given.0.0 (sym c.before.before.before.open-draft.ensures ∙ c.before.opened2.given.1)
 
 open-draft-requires : tie.Need-open-draft-requires
 open-draft-requires c κs = search rules
@@ -32,7 +32,7 @@ returns : tie.Need-returns
 returns c =
     let row = c.before.before.before.before.before.args.draft.now in
     let g = c.before.opened.given in
-    sym (ap placed (open-refused row g.0.0 g.0.1.0 (shut-told (openRow row) g.0.0 g.0.1.0 (sym c.before.before.before.open-draft.ensures ∙ g.1))))
+    sym (ap placed (open_refused row g.0.0 g.0.1.0 (shut-told (open_row row) g.0.0 g.0.1.0 (sym c.before.before.before.open-draft.ensures ∙ g.1))))
 
 enum-known-opened-2 : tie.Need-enum-known-opened-2
 enum-known-opened-2 c = search rules

@@ -1,7 +1,7 @@
 -- push_rest meets its contract: without a shift the block alone; else the block below the shift, the shift, and the block past it.
 use native.Mathlib.Omega.{arith}
 use Rattle.explore.specs.State.{State, held}
-use Rattle.explore.proofs.PushLaws.{rest_below, shift-below, rest-alone, lower-rest, both_rest, rest-pushed}
+use Rattle.explore.proofs.PushLaws.{rest_below, shift_below, rest-alone, lower_rest, both_rest, rest-pushed}
 use borrow.Author.Rules.{rules}
 use Rattle.explore.proofs.blocks.push_rest.Statement.{statement}
 use Rattle.explore.proofs.blocks.push_rest.Tie as tie
@@ -59,8 +59,8 @@ push-requires c κs =
     let e = l.before.before.before.before.before.before.before.before in
     let a = e.args in
     let p = e.requires.1.0 in (
-      lower-rest a.q a.place a.row.now a.from a.to a.base a.shift a.beside e.requires.1.1.0 m.result m.ensures.0.0 m.ensures.0.1 (rows e) _ e.requires.0 l.expand2.ensures,
-      (p.0, p.1, shift-below a.q a.place a.row.now a.from a.to a.base a.shift a.beside e.requires.1.1.0 (omega (arith, t.if1.false))),
+      lower_rest a.q a.place a.row.now a.from a.to a.base a.shift a.beside e.requires.1.1.0 m.result m.ensures.0.0 m.ensures.0.1 (rows e) _ e.requires.0 l.expand2.ensures,
+      (p.0, p.1, shift_below a.q a.place a.row.now a.from a.to a.base a.shift a.beside e.requires.1.1.0 (omega (arith, t.if1.false))),
     )
 
 expand-requires-3 : tie.Need-expand-requires-3
@@ -74,7 +74,7 @@ expand-requires-3 c κs =
     let a = e.args in
     let p = e.requires.1.0 in
     let o = e.requires.1.1.1 in
-    let g = lower-rest a.q a.place a.row.now a.from a.to a.base a.shift a.beside e.requires.1.1.0 m.result m.ensures.0.0 m.ensures.0.1 (rows e) _ e.requires.0 l.expand2.ensures in (
+    let g = lower_rest a.q a.place a.row.now a.from a.to a.base a.shift a.beside e.requires.1.1.0 m.result m.ensures.0.0 m.ensures.0.1 (rows e) _ e.requires.0 l.expand2.ensures in (
       both_rest a.q a.place a.row.now a.from a.to a.base a.shift a.beside e.requires.1.1.0 m.result m.ensures.0.0 m.ensures.0.1 (omega (arith, t.if1.false)) _ _ g b.push.ensures,
       (
         (p.0, p.1, m.ensures.0.1, p.3),

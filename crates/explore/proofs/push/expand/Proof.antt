@@ -3,7 +3,7 @@ use mathlib.Core.Path.{◌≡◌, refl, sym, subst}
 use Prim.Native.Nat.{ℕ, ◌+◌, ◌-◌, ◌*◌, ◌≤◌, ◌<◌}
 use native.Mathlib.Omega.{arith}
 use lib.ListN.{length}
-use Rattle.triples.specs.Index.{tripleCount}
+use Rattle.triples.specs.Index.{triple_count}
 use Rattle.explore.specs.State.{State, held, Pushed, Along}
 use Rattle.explore.proofs.AddsLaws.{count_small}
 use Rattle.explore.proofs.PushLaws.{along-start, along-marked, along-more, along-end}
@@ -28,12 +28,12 @@ rows e = held e.args.queue.now e.args.parents.now e.args.count
 
 below : (c : tie.After-push-arg2 invariant-loop decreases-loop) →
     let a = c.before.before.before.before.before.before.before.before.before.args in
-    a.base + c.before.before.wide.result * a.stride < tripleCount a.q
+    a.base + c.before.before.wide.result * a.stride < triple_count a.q
 below c =
     let e = c.before.before.before.before.before.before.before.before.before in
     let a = e.args in
     let l = c.before.before.before.before.before in
-    subst (λ (u : ℕ). a.base + u * a.stride < tripleCount a.q) (sym c.before.before.wide.ensures.0)
+    subst (λ (u : ℕ). a.base + u * a.stride < triple_count a.q) (sym c.before.before.wide.ensures.0)
     (e.requires.1.1.0 l.loop.k l.loop.invariant.0 c.before.before.before.before.loop-test.true)
 
 loop-holds : tie.Need-loop-init invariant-loop decreases-loop

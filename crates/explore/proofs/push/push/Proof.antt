@@ -5,8 +5,8 @@ use mathlib.Core.List.{List}
 use Prim.Native.Nat.{ℕ, ◌+◌, ◌≤◌, ◌<◌}
 use native.Mathlib.Omega.{arith}
 use lib.ListN.{length, set, length-map}
-use Rattle.triples.specs.Index.{tripleCount}
-use Rattle.triples.specs.Certificate.{isSet}
+use Rattle.triples.specs.Index.{triple_count}
+use Rattle.triples.specs.Certificate.{is_set}
 use Rattle.explore.specs.State.{State, state, Pushed}
 use Rattle.explore.proofs.AddsLaws.{added-room, count_small, pushed-old, pushed-new}
 use Rattle.tops.specs.Tops.{top, low, tops, lows}
@@ -17,16 +17,16 @@ use Rattle.explore.proofs.push.push.Tie as tie
 abbrev rows : tie.Start → State
 rows e = state e.args.queue.now (lows e.args.parents.now) (tops e.args.parents.now) e.args.count
 
-fresh : (c : tie.Else1) → isSet (tops c.before.before.before.before.before.args.parents.now) c.before.before.before.before.before.args.to ≡ false
+fresh : (c : tie.Else1) → is_set (tops c.before.before.before.before.before.args.parents.now) c.before.before.before.before.before.args.to ≡ false
 fresh c = sym c.before.is-marked.ensures ∙ c.if1.false
 
-room : (c : tie.Else1) → c.before.before.before.before.before.args.count < tripleCount c.before.before.before.before.before.args.q
+room : (c : tie.Else1) → c.before.before.before.before.before.args.count < triple_count c.before.before.before.before.before.args.q
 room c =
     let e = c.before.before.before.before.before in
     added-room e.args.q e.args.place (rows e) e.args.to e.requires.0 e.requires.1.2 (fresh c)
 
-long : (e : tie.Start) → tripleCount e.args.q ≤ length e.args.parents.now
-long e = omega (arith, e.requires.0.parents-room, length-map e.args.parents.now low)
+long : (e : tie.Start) → triple_count e.args.q ≤ length e.args.parents.now
+long e = omega (arith, e.requires.0.parents_room, length-map e.args.parents.now low)
 
 is-marked-requires : tie.Need-is-marked-requires
 is-marked-requires c κs = let e = c.before.before.before in omega (arith, long e, e.requires.1.2)
@@ -61,7 +61,7 @@ slice-write-queue : tie.Need-slice-write-queue
 slice-write-queue c =
     let n = c.before.before.before.before.before.before.before.before in
     let e = n.before.before.before.before.before in
-    omega (arith, room n, e.requires.0.queue-room)
+    omega (arith, room n, e.requires.0.queue_room)
 
 add-result : tie.Need-overflow-add-result
 add-result c =

@@ -4,7 +4,7 @@ use native.Mathlib.Omega.{arith}
 use mathlib.Core.Path.{sym, ◌∙◌}
 use lib.Seq.{length-take-le}
 use Rattle.joining.proofs.GatherLaws.{room-kept}
-use Rattle.joining.proofs.Held.{robot-halves, addon-halves, terminals-most, nonterminals-most, first-ready, second-ready, all-gathered}
+use Rattle.joining.proofs.Held.{robot_halves, addon_halves, terminals-most, nonterminals-most, first_ready, second_ready, all-gathered}
 use Rattle.joining.proofs.gathering.gather_names.Statement.{statement}
 use Rattle.joining.proofs.gathering.gather_names.Tie as tie
 
@@ -31,33 +31,33 @@ abbrev last : tie.After-slice-known9 → tie.After-put-kind2
 last c = c.before.before.before.before.before.before
 
 add-m : tie.Need-overflow-add-m
-add-m c = let h = (begin c).requires.held in omega (arith, (robot-halves h).starts-most)
+add-m c = let h = (begin c).requires.held in omega (arith, (robot_halves h).starts-most)
 
 add-k : tie.Need-overflow-add-k
-add-k c = let h = (begin c.before).requires.held in omega (arith, (addon-halves h).starts-most)
+add-k c = let h = (begin c.before).requires.held in omega (arith, (addon_halves h).starts-most)
 
 slice-aggregate-put-kind : tie.Need-slice-aggregate-put-kind
-slice-aggregate-put-kind c = sym (length-take-le _ _ (omega (arith, (robot-halves (begin c.before.before).requires.held).starts-most)))
+slice-aggregate-put-kind c = sym (length-take-le _ _ (omega (arith, (robot_halves (begin c.before.before).requires.held).starts-most)))
 
 slice-aggregate-put-kind-2 : tie.Need-slice-aggregate-put-kind-2
-slice-aggregate-put-kind-2 c = sym (length-take-le _ _ (omega (arith, (robot-halves (begin c.before.before.before).requires.held).lengths-most)))
+slice-aggregate-put-kind-2 c = sym (length-take-le _ _ (omega (arith, (robot_halves (begin c.before.before.before).requires.held).lengths-most)))
 
 slice-aggregate-put-kind-3 : tie.Need-slice-aggregate-put-kind-3
-slice-aggregate-put-kind-3 c = sym (length-take-le _ _ (omega (arith, (addon-halves (begin c.before.before.before.before).requires.held).starts-most)))
+slice-aggregate-put-kind-3 c = sym (length-take-le _ _ (omega (arith, (addon_halves (begin c.before.before.before.before).requires.held).starts-most)))
 
 slice-aggregate-put-kind-4 : tie.Need-slice-aggregate-put-kind-4
 slice-aggregate-put-kind-4 c =
     let h = (begin c.before.before.before.before.before).requires.held in
-    sym (length-take-le _ _ (omega (arith, (addon-halves h).lengths-most)))
+    sym (length-take-le _ _ (omega (arith, (addon_halves h).lengths-most)))
 
 slice-aggregate-put-kind-5 : tie.Need-slice-aggregate-put-kind-5
 slice-aggregate-put-kind-5 c = sym (length-take-le _ _ (terminals-most (lent c).requires.held))
 
 put-kind-requires : tie.Need-put-kind-requires
-put-kind-requires c κs = let e = first c in first-ready e.pre.held e.args.bytes.now e.args.places.now e.args.spans.now e.pre.room
+put-kind-requires c κs = let e = first c in first_ready e.pre.held e.args.bytes.now e.args.places.now e.args.spans.now e.pre.room
 
 mul-put-kind : tie.Need-overflow-mul-put-kind
-mul-put-kind c = omega (arith, (robot-halves (part c).requires.held).first-few)
+mul-put-kind c = omega (arith, (robot_halves (part c).requires.held).first-few)
 
 sub-put-kind : tie.Need-overflow-sub-put-kind
 sub-put-kind c = search rules
@@ -66,10 +66,10 @@ part-put-kind-start : tie.Need-slice-bounds-put-kind-start
 part-put-kind-start c = search rules
 
 part-put-kind-end : tie.Need-slice-bounds-put-kind-end
-part-put-kind-end c = omega (arith, (robot-halves (part c).requires.held).starts-most)
+part-put-kind-end c = omega (arith, (robot_halves (part c).requires.held).starts-most)
 
 mul-put-kind-2 : tie.Need-overflow-mul-put-kind-2
-mul-put-kind-2 c = omega (arith, (robot-halves (part c.before).requires.held).first-few)
+mul-put-kind-2 c = omega (arith, (robot_halves (part c.before).requires.held).first-few)
 
 sub-put-kind-2 : tie.Need-overflow-sub-put-kind-2
 sub-put-kind-2 c = search rules
@@ -78,10 +78,10 @@ part-put-kind-start-2 : tie.Need-slice-bounds-put-kind-start-2
 part-put-kind-start-2 c = search rules
 
 part-put-kind-end-2 : tie.Need-slice-bounds-put-kind-end-2
-part-put-kind-end-2 c = omega (arith, (robot-halves (part c.before).requires.held).lengths-most)
+part-put-kind-end-2 c = omega (arith, (robot_halves (part c.before).requires.held).lengths-most)
 
 mul-put-kind-3 : tie.Need-overflow-mul-put-kind-3
-mul-put-kind-3 c = omega (arith, (addon-halves (part c.before.before).requires.held).first-few)
+mul-put-kind-3 c = omega (arith, (addon_halves (part c.before.before).requires.held).first-few)
 
 sub-put-kind-3 : tie.Need-overflow-sub-put-kind-3
 sub-put-kind-3 c = search rules
@@ -90,10 +90,10 @@ part-put-kind-start-3 : tie.Need-slice-bounds-put-kind-start-3
 part-put-kind-start-3 c = search rules
 
 part-put-kind-end-3 : tie.Need-slice-bounds-put-kind-end-3
-part-put-kind-end-3 c = omega (arith, (addon-halves (part c.before.before).requires.held).starts-most)
+part-put-kind-end-3 c = omega (arith, (addon_halves (part c.before.before).requires.held).starts-most)
 
 mul-put-kind-4 : tie.Need-overflow-mul-put-kind-4
-mul-put-kind-4 c = omega (arith, (addon-halves (part c.before.before.before).requires.held).first-few)
+mul-put-kind-4 c = omega (arith, (addon_halves (part c.before.before.before).requires.held).first-few)
 
 sub-put-kind-4 : tie.Need-overflow-sub-put-kind-4
 sub-put-kind-4 c = search rules
@@ -102,7 +102,7 @@ part-put-kind-start-4 : tie.Need-slice-bounds-put-kind-start-4
 part-put-kind-start-4 c = search rules
 
 part-put-kind-end-4 : tie.Need-slice-bounds-put-kind-end-4
-part-put-kind-end-4 c = omega (arith, (addon-halves (part c.before.before.before).requires.held).lengths-most)
+part-put-kind-end-4 c = omega (arith, (addon_halves (part c.before.before.before).requires.held).lengths-most)
 
 slice-aggregate-put-kind-6 : tie.Need-slice-aggregate-put-kind-6
 slice-aggregate-put-kind-6 c = sym (length-take-le _ _ (nonterminals-most (part c.before.before.before.before.before).requires.held))
@@ -111,7 +111,7 @@ put-kind-requires-2 : tie.Need-put-kind-requires-2
 put-kind-requires-2 c κs =
     let p = put (second c) in let e = first p.before in
     let stays = p.put-kind.kept.1.1.1.1.1.1.1 in let now = p.put-kind.last.1.1.1.1.1.1.1 in
-    second-ready e.pre.held now.0 now.1.0 now.1.1.0 (room-kept stays.0 stays.1.0 stays.1.1.0 e.pre.room)
+    second_ready e.pre.held now.0 now.1.0 now.1.1.0 (room-kept stays.0 stays.1.0 stays.1.1.0 e.pre.room)
 
 same_length : tie.Need-same-length
 same_length c = let l = last c in l.put-kind2.kept.1.1.1.1.1.1.1.0 ∙ (put (second l.before)).put-kind.auto.1.1.1.1.1.1.1.0

@@ -8,7 +8,7 @@ use lib.ListN.{length, take}
 use lib.Seq.{take_all}
 use Rattle.text.specs.Spelled.{spelled}
 use Rattle.joining.specs.Gathering.{Puts}
-use Rattle.joining.proofs.GatherLaws.{room-kept, puts_none, puts-next, listed-count}
+use Rattle.joining.proofs.GatherLaws.{room-kept, puts_none, puts_next, listed_count}
 use Rattle.joining.proofs.gathering.put_all.Statement.{statement}
 use Rattle.joining.proofs.gathering.put_all.Tie as tie
 
@@ -57,12 +57,12 @@ loop-again c =
     let p = put c in let t = turn p.before in let l = t.before.loop in let e = entry t.before in let a = e.args in
     let stays = p.put_one.kept.1.1.1.1 in
     let xs = spelled a.text.now a.starts.now a.lengths.now in
-    let n = listed-count a.text.now a.starts.now a.lengths.now e.pre.listed in (
+    let n = listed_count a.text.now a.starts.now a.lengths.now e.pre.listed in (
       omega (arith, t.loop-test.taken),
       stays.0 ∙ l.inv.1,
       stays.1.0 ∙ l.inv.2,
       stays.1.1.0 ∙ l.inv.3,
-      puts-next xs l.i (omega (arith, n, t.loop-test.taken)) l.inv.4 p.put_one.ensures,
+      puts_next xs l.i (omega (arith, n, t.loop-test.taken)) l.inv.4 p.put_one.ensures,
     )
 
 same_length : tie.Need-same-length invariant-loop decreases-loop
@@ -78,7 +78,7 @@ returns : tie.Need-returns invariant-loop decreases-loop
 returns c =
     let l = c.before.loop in let e = entry c.before in let a = e.args in
     let xs = spelled a.text.now a.starts.now a.lengths.now in
-    let n = listed-count a.text.now a.starts.now a.lengths.now e.pre.listed in
+    let n = listed_count a.text.now a.starts.now a.lengths.now e.pre.listed in
     subst (λ (more : List (List ℕ)). Puts more a.k a.bytes.now a.places.now a.spans.now l.bytes l.places l.spans)
     (take_all l.i xs (omega (arith, n, c.loop-test.false))) l.invariant.4
 

@@ -7,7 +7,7 @@ use mathlib.Core.List.{List, [], ◌∷◌}
 use lib.ListN.{length, take, get_or, length-append}
 use Rattle.text.specs.Spelled.{spelled}
 use Rattle.joining.specs.Gathering.{fresh, Puts}
-use Rattle.joining.proofs.GatherLaws.{room-kept, puts_none, puts-more, listed-count, fresh-none, fresh-next, fresh-room, fresh-all}
+use Rattle.joining.proofs.GatherLaws.{room-kept, puts_none, puts_more, listed_count, fresh-none, fresh-next, fresh-room, fresh-all}
 use Rattle.joining.proofs.gathering.put_fresh.Statement.{statement}
 use Rattle.joining.proofs.gathering.put_fresh.Tie as tie
 
@@ -41,7 +41,7 @@ abbrev names : tie.Start invariant-loop decreases-loop → List (List ℕ)
 names e = let a = e.args in spelled a.text.now a.starts.now a.lengths.now
 
 count : (e : tie.Start invariant-loop decreases-loop) → length (names e) ≡ length e.args.starts.now
-count e = let a = e.args in listed-count a.text.now a.starts.now a.lengths.now e.requires.listed
+count e = let a = e.args in listed_count a.text.now a.starts.now a.lengths.now e.requires.listed
 
 loop-holds : tie.Need-loop-init invariant-loop decreases-loop
 loop-holds c =
@@ -93,7 +93,7 @@ loop-again c =
       stays.1.1.0 ∙ l.inv.3,
       omega (arith, p.put-if-fresh.ensures.0, l.inv.4, ap length z, length-append done one),
       subst (λ (more : List (List ℕ)). Puts more a.k a.bytes.now a.places.now a.spans.now now.0 now.1.0 now.1.1.0) (sym z)
-          (puts-more done one l.to l.inv.4 l.inv.5 p.put-if-fresh.ensures.1),
+          (puts_more done one l.to l.inv.4 l.inv.5 p.put-if-fresh.ensures.1),
     )
 
 same_length : tie.Need-same-length invariant-loop decreases-loop

@@ -7,7 +7,7 @@ use mathlib.Core.List.{List, ◌++◌}
 use lib.ListN.{length, length-append}
 use Rattle.text.specs.Spelled.{spelled}
 use Rattle.joining.specs.Gathering.{fresh}
-use Rattle.joining.proofs.GatherLaws.{room-kept, puts-more, listed-count}
+use Rattle.joining.proofs.GatherLaws.{room-kept, puts_more, listed_count}
 use Rattle.joining.proofs.gathering.put_kind.Statement.{statement}
 use Rattle.joining.proofs.gathering.put_kind.Tie as tie
 
@@ -29,11 +29,11 @@ abbrev addons : tie.Start → List (List ℕ)
 addons e = let a = e.args in fresh (length a.starts.now) a.numbers.now (spelled a.addon.now a.firsts.now a.widths.now)
 
 -- how many they are
-robot-count : (e : tie.Start) → length (robots e) ≡ length e.args.starts.now
-robot-count e = let a = e.args in listed-count a.robot.now a.starts.now a.lengths.now e.requires.robot-listed
+robot_count : (e : tie.Start) → length (robots e) ≡ length e.args.starts.now
+robot_count e = let a = e.args in listed_count a.robot.now a.starts.now a.lengths.now e.requires.robot-listed
 
 count : (e : tie.Start) → length (robots e ++ addons e) ≡ length e.args.starts.now + length (addons e)
-count e = length-append (robots e) (addons e) ∙ ap (λ (n : ℕ). n + length (addons e)) (robot-count e)
+count e = length-append (robots e) (addons e) ∙ ap (λ (n : ℕ). n + length (addons e)) (robot_count e)
 
 put-all-requires : tie.Need-put-all-requires
 put-all-requires c κs =
@@ -65,7 +65,7 @@ same-length-3 c = search rules
 returns : tie.Need-returns
 returns c =
     let f = put c in let p = all f.before in let e = begin p.before in let a = e.args in
-    puts-more (robots e) (addons e) (a.k + length a.starts.now) (omega (arith, robot-count e)) p.put_all_lem.ensures f.put-fresh.ensures
+    puts_more (robots e) (addons e) (a.k + length a.starts.now) (omega (arith, robot_count e)) p.put_all_lem.ensures f.put-fresh.ensures
 
 pub put-kind-spec : {M : Type 1} → statement M
 put-kind-spec =

@@ -3,7 +3,7 @@ use borrow.Author.Rules.{rules}
 use native.Mathlib.Omega.{arith}
 use mathlib.Core.Path.{sym}
 use lib.Seq.{length-take-le}
-use Rattle.joining.proofs.JoinLaws.{robot-names-fit, addon-names-fit, addon-table-fits, names-few, numbers_fit, named, names-refused, rules-ready, last-refused, last-joined}
+use Rattle.joining.proofs.JoinLaws.{robot-names_fit, addon-names_fit, addon-table_fits, names-few, numbers_fit, named, names-refused, rules_ready, last-refused, last-joined}
 use Rattle.joining.proofs.joins.join_read.Statement.{statement}
 use Rattle.joining.proofs.joins.join_read.Tie as tie
 
@@ -33,16 +33,16 @@ add-k : tie.Need-overflow-add-k
 add-k c = let p = names-few (lent c).requires in omega (arith, p.2, p.3)
 
 slice-aggregate-join-names : tie.Need-slice-aggregate-join-names
-slice-aggregate-join-names c = sym (length-take-le _ _ (robot-names-fit (lent c.before).requires).0)
+slice-aggregate-join-names c = sym (length-take-le _ _ (robot-names_fit (lent c.before).requires).0)
 
 slice-aggregate-join-names-2 : tie.Need-slice-aggregate-join-names-2
-slice-aggregate-join-names-2 c = sym (length-take-le _ _ (robot-names-fit (lent c.before.before).requires).1)
+slice-aggregate-join-names-2 c = sym (length-take-le _ _ (robot-names_fit (lent c.before.before).requires).1)
 
 slice-aggregate-join-names-3 : tie.Need-slice-aggregate-join-names-3
-slice-aggregate-join-names-3 c = sym (length-take-le _ _ (addon-names-fit (lent c.before.before.before).requires).0)
+slice-aggregate-join-names-3 c = sym (length-take-le _ _ (addon-names_fit (lent c.before.before.before).requires).0)
 
 slice-aggregate-join-names-4 : tie.Need-slice-aggregate-join-names-4
-slice-aggregate-join-names-4 c = sym (length-take-le _ _ (addon-names-fit (lent c.before.before.before.before).requires).1)
+slice-aggregate-join-names-4 c = sym (length-take-le _ _ (addon-names_fit (lent c.before.before.before.before).requires).1)
 
 join-names-requires : tie.Need-join-names-requires
 join-names-requires c κs = named (lent c.before.before.before.before.before.before).requires
@@ -53,7 +53,7 @@ returns c =
     names-refused (lent (args w)).requires _ _ w.join_names.result c.before.cause.given.1 w.join_names.ensures
 
 slice-aggregate-put-rules : tie.Need-slice-aggregate-put-rules
-slice-aggregate-put-rules c = sym (length-take-le _ _ (addon-table-fits (start c.before).requires))
+slice-aggregate-put-rules c = sym (length-take-le _ _ (addon-table_fits (start c.before).requires))
 
 slice-reshare-prefix-put-rules : tie.Need-slice-reshare-prefix-put-rules
 slice-reshare-prefix-put-rules c = let k = c.before in omega (arith, (numbers_fit (start k).requires).0, (counted k).join_names.auto.1.1.1.1.1.1.1.1.0)
@@ -70,7 +70,7 @@ slice-aggregate-put-rules-3 c = let k = c.before.before.before in sym (length-ta
 put-rules-requires : tie.Need-put-rules-requires
 put-rules-requires c κs =
     let k = c.before.before.before.before in let w = counted k in
-    rules-ready (lent (args w)).requires _ _ w.join_names.result k.before.a.given.1 w.join_names.ensures
+    rules_ready (lent (args w)).requires _ _ w.join_names.result k.before.a.given.1 w.join_names.ensures
 
 last-tests-requires : tie.Need-last-tests-requires
 last-tests-requires c κs = c.before.before.before.put-rules.ensures.inside
@@ -78,12 +78,12 @@ last-tests-requires c κs = c.before.before.before.put-rules.ensures.inside
 returns-2 : tie.Need-returns-2
 returns-2 c =
     let l = c.before.before.before in let p = tested l in let k = put p in let w = counted k in
-    last-refused (lent (args w)).requires _ _ w.join_names.result k.before.a.given.1 w.join_names.ensures p.put-rules.ensures l.last-tests.ensures c.before.cause2.given.1
+    last-refused (lent (args w)).requires _ _ w.join_names.result k.before.a.given.1 w.join_names.ensures p.put-rules.ensures l.last_tests_lem.ensures c.before.cause2.given.1
 
 returns-3 : tie.Need-returns-3
 returns-3 c =
     let l = c.before.before.before in let p = tested l in let k = put p in let w = counted k in
-    last-joined (lent (args w)).requires _ _ w.join_names.result k.before.a.given.1 w.join_names.ensures p.put-rules.ensures l.last-tests.ensures c.before.entries.given.1
+    last-joined (lent (args w)).requires _ _ w.join_names.result k.before.a.given.1 w.join_names.ensures p.put-rules.ensures l.last_tests_lem.ensures c.before.entries.given.1
 
 enum-known-cause : tie.Need-enum-known-cause
 enum-known-cause c = search rules

@@ -10,7 +10,7 @@ use Rattle.grammar.specs.Basics.{over}
 use Rattle.text.specs.Spelled.{spelled}
 use Rattle.modules.specs.Joined.{meet, added}
 use Rattle.joining.specs.Numbers.{numbered}
-use Rattle.joining.proofs.Refusals.{told-clash, told-together, first-clash, second-clash, many-terminals, many-nonterminals}
+use Rattle.joining.proofs.Refusals.{told_clash, told-together, first_clash, second_clash, many_terminals, many_nonterminals}
 use Rattle.joining.proofs.naming.count_kinds.Statement.{statement}
 use Rattle.joining.proofs.naming.count_kinds.Tie as tie
 
@@ -69,8 +69,8 @@ enum_told c = search rules
 returns : tie.Need-returns
 returns c =
     let w = c.before.before.before.before in let e = entry w in
-    λ a. first-clash (rt e) (rn e) (mt e) (mn e) a
-    (told-clash (rn e) (mn e) (mt e) e.args.nonterminals.now w.match-kind.last.1.1.1.1.1.1.1.1.0 w.match-kind.result c.enum_told.given.1 w.match-kind.ensures)
+    λ a. first_clash (rt e) (rn e) (mt e) (mn e) a
+    (told_clash (rn e) (mn e) (mt e) e.args.nonterminals.now w.match-kind.last.1.1.1.1.1.1.1.1.0 w.match-kind.result c.enum_told.given.1 w.match-kind.ensures)
 
 match-kind-requires-2 : tie.Need-match-kind-requires-2
 match-kind-requires-2 c κs = (entry (first c.before)).requires.0
@@ -84,18 +84,18 @@ enum-told-2 c = search rules
 returns-2 : tie.Need-returns-2
 returns-2 c =
     let x = c.before.before.before.before in let k = between x in let e = entry (first k) in
-    λ a. second-clash (rt e) (rn e) (mt e) (mn e) a (nonterminals-told k).0
-    (told-clash (rt e) (mt e) (mn e) e.args.terminals.now x.match-kind2.last.1.1.1.1.1.1.1.1.0 x.match-kind2.result c.enum-told2.given.1 x.match-kind2.ensures)
+    λ a. second_clash (rt e) (rn e) (mt e) (mn e) a (nonterminals-told k).0
+    (told_clash (rt e) (mt e) (mn e) e.args.terminals.now x.match-kind2.last.1.1.1.1.1.1.1.1.0 x.match-kind2.result c.enum-told2.given.1 x.match-kind2.ensures)
 
 returns-3 : tie.Need-returns-3
 returns-3 c =
     let k = c.before in let f = between (second k) in let e = entry (first f) in
-    λ a. many-terminals (rt e) (rn e) (mt e) (mn e) a (nonterminals-told f).0 (terminals-told k).0 (omega (arith, (terminals-told k).1, c.if1.true))
+    λ a. many_terminals (rt e) (rn e) (mt e) (mn e) a (nonterminals-told f).0 (terminals-told k).0 (omega (arith, (terminals-told k).1, c.if1.true))
 
 returns-4 : tie.Need-returns-4
 returns-4 c =
     let k = c.before.before in let f = between (second k) in let e = entry (first f) in
-    λ a. many-nonterminals (rt e) (rn e) (mt e) (mn e) a (nonterminals-told f).0 (terminals-told k).0
+    λ a. many_nonterminals (rt e) (rn e) (mt e) (mn e) a (nonterminals-told f).0 (terminals-told k).0
     (omega (arith, (terminals-told k).1, c.before.if1.false)) (omega (arith, (nonterminals-told f).1, c.if2.true))
 
 returns-5 : tie.Need-returns-5
@@ -103,10 +103,10 @@ returns-5 c =
     let k = c.before.before in let f = between (second k) in
     let x = terminals-told k in let y = nonterminals-told f in
     record {
-      first-clear = y.0;
-      second-clear = x.0;
-      terminals-are = x.1;
-      nonterminals-are = y.1;
+      first_clear = y.0;
+      second_clear = x.0;
+      terminals_are = x.1;
+      nonterminals_are = y.1;
       terminals-most = omega (arith, c.before.if1.false);
       nonterminals-most = omega (arith, c.if2.false);
       terminals-row = x.2;

@@ -6,7 +6,7 @@ use mathlib.Core.Path.{◌≡◌, refl, sym, ap₂}
 use lib.ListN.{take, drop}
 use lib.Seq.{length-take-le}
 use Rattle.text.specs.Spelled.{spelled}
-use Rattle.joining.proofs.Refusals.{rest, kinds-lent, counts-are}
+use Rattle.joining.proofs.Refusals.{rest, kinds-lent, counts_are}
 use Rattle.joining.proofs.naming.join_names.Statement.{statement}
 use Rattle.joining.proofs.naming.join_names.Tie as tie
 
@@ -21,7 +21,7 @@ slice-aggregate-count-kinds : tie.Need-slice-aggregate-count-kinds
 slice-aggregate-count-kinds c = sym (length-take-le _ _ (lent c).requires.robot-terminals)
 
 slice-aggregate-count-kinds-2 : tie.Need-slice-aggregate-count-kinds-2
-slice-aggregate-count-kinds-2 c = let p = (lent c.before).requires in sym (length-take-le _ _ (omega (arith, p.robot-terminals, p.robot-paired)))
+slice-aggregate-count-kinds-2 c = let p = (lent c.before).requires in sym (length-take-le _ _ (omega (arith, p.robot-terminals, p.robot_paired)))
 
 mul-count-kinds : tie.Need-overflow-mul-count-kinds
 mul-count-kinds c = search rules
@@ -51,7 +51,7 @@ slice-aggregate-count-kinds-3 : tie.Need-slice-aggregate-count-kinds-3
 slice-aggregate-count-kinds-3 c = sym (length-take-le _ _ (lent c.before.before.before.before).requires.addon-terminals)
 
 slice-aggregate-count-kinds-4 : tie.Need-slice-aggregate-count-kinds-4
-slice-aggregate-count-kinds-4 c = let p = (lent c.before.before.before.before.before).requires in sym (length-take-le _ _ (omega (arith, p.addon-terminals, p.addon-paired)))
+slice-aggregate-count-kinds-4 c = let p = (lent c.before.before.before.before.before).requires in sym (length-take-le _ _ (omega (arith, p.addon-terminals, p.addon_paired)))
 
 mul-count-kinds-3 : tie.Need-overflow-mul-count-kinds-3
 mul-count-kinds-3 c = search rules
@@ -94,7 +94,7 @@ returns c =
     let w = c.before.before.before.before in let a = (lent (all w.before)).args in
     let rt = spelled a.robot.now (take a.t a.starts.now) (take a.t a.lengths.now) in
     let mt = spelled a.addon.now (take a.u a.firsts.now) (take a.u a.sizes.now) in
-    counts-are rt _ mt _ rt (spelled a.robot.now (drop a.t a.starts.now) (drop a.t a.lengths.now))
+    counts_are rt _ mt _ rt (spelled a.robot.now (drop a.t a.starts.now) (drop a.t a.lengths.now))
     mt (spelled a.addon.now (drop a.u a.firsts.now) (drop a.u a.sizes.now)) _ _ _ _ w.count-kinds.result
     refl (ap₂ (spelled a.robot.now) (rest a.t a.starts.now) (rest a.t a.lengths.now))
     refl (ap₂ (spelled a.addon.now) (rest a.u a.firsts.now) (rest a.u a.sizes.now))

@@ -8,10 +8,10 @@ use lib.ListN.{length, length-append, length-replicate}
 use Rattle.grammar.specs.Basics.{over}
 use Rattle.text.specs.Spelled.{spelled}
 use Rattle.text.proofs.Spans.{length-spelled}
-use Rattle.text.proofs.Gather.{first-double}
-use Rattle.text_read.specs.Values.{allNames}
+use Rattle.text.proofs.Gather.{first_double_lem}
+use Rattle.text_read.specs.Values.{all_names}
 use Rattle.lexicon.specs.Tree.{Lexicon}
-use Rattle.lexicon.proofs.Tree.{no-links}
+use Rattle.lexicon.proofs.Tree.{no_links}
 use Rattle.modules.specs.Joined.{added}
 use Rattle.joining.specs.Numbers.{numbered}
 use Rattle.joining.proofs.naming.match_kind.Statement.{statement}
@@ -33,8 +33,8 @@ tree c =
     let e = entry c.before in
     let a = e.args in
     c.plant.ensures.1
-    (c.plant.ensures.0 ∙ (first-double (spelled a.robot.now a.starts.now a.lengths.now)).1 e.pre.once
-    ∙ length-spelled a.robot.now a.starts.now a.lengths.now e.pre.robot-spans.paired)
+    (c.plant.ensures.0 ∙ (first_double_lem (spelled a.robot.now a.starts.now a.lengths.now)).1 e.pre.once
+    ∙ length-spelled a.robot.now a.starts.now a.lengths.now e.pre.robot_spans.paired)
 
 slice-aggregate-plant : tie.Need-slice-aggregate-plant
 slice-aggregate-plant c = search rules
@@ -42,14 +42,14 @@ slice-aggregate-plant c = search rules
 plant-requires : tie.Need-plant-requires
 plant-requires c κs =
     let p = (entry c).requires in
-    let m = length-replicate {A = ℕ} (2 * allNames) 0 in
-    ((p.robot-spans, omega (arith, p.robot-few), omega (arith, p.robot-few, m)), no-links (2 * allNames))
+    let m = length-replicate {A = ℕ} (2 * all_names) 0 in
+    ((p.robot_spans, omega (arith, p.robot-few), omega (arith, p.robot-few, m)), no_links (2 * all_names))
 
 slice-aggregate-meets : tie.Need-slice-aggregate-meets
 slice-aggregate-meets c = search rules
 
 meets-requires : tie.Need-meets-requires
-meets-requires c κs = let k = planted c in (tree k, (entry k.before).requires.other-spans)
+meets-requires c κs = let k = planted c in (tree k, (entry k.before).requires.other_spans)
 
 returns : tie.Need-returns
 returns c = sym c.before.meets.ensures ∙ c.if1.true
@@ -61,7 +61,7 @@ number-names-requires : tie.Need-number-names-requires
 number-names-requires c κs =
     let k = planted c.before.before.before.before in
     let p = (entry k.before).requires in
-    record { lexicon = tree k; addon-spans = p.addon-spans; few = omega (arith, p.robot-few, p.addon-few); room = p.room }
+    record { lexicon = tree k; addon_spans = p.addon_spans; few = omega (arith, p.robot-few, p.addon-few); room = p.room }
 
 same_length : tie.Need-same-length
 same_length c = search rules
@@ -74,7 +74,7 @@ returns-2 c =
     let a = e.args in
     let names = spelled a.robot.now a.starts.now a.lengths.now in
     let xs = spelled a.addon.now a.firsts.now a.sizes.now in
-    let n = length-spelled a.robot.now a.starts.now a.lengths.now e.pre.robot-spans.paired in
+    let n = length-spelled a.robot.now a.starts.now a.lengths.now e.pre.robot_spans.paired in
     let x = c.before.before.number-names.ensures in (
       sym m.meets.ensures ∙ w.before.if1.left,
       x.0 ∙ ap (λ (k : ℕ). k + length (added names xs)) (sym n) ∙ sym (length-append names (added names xs)),

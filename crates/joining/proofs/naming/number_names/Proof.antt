@@ -12,7 +12,7 @@ use Rattle.text.specs.Spelled.{spelled}
 use Rattle.text.proofs.Spans.{length-spelled}
 use Rattle.modules.specs.Joined.{added}
 use Rattle.joining.specs.Numbers.{numbered}
-use Rattle.joining.proofs.Loops.{next_more, number_more, number-all, added-all, none-added, choose-small, choose-next}
+use Rattle.joining.proofs.Loops.{next_more, number_more, number_all, added-all, none-added, choose-small, choose-next}
 use Rattle.joining.proofs.naming.number_names.Statement.{statement}
 use Rattle.joining.proofs.naming.number_names.Tie as tie
 
@@ -39,7 +39,7 @@ loop-holds c =
 number-of-requires : tie.Need-number-of-requires invariant-loop decreases-loop
 number-of-requires c κs =
     let s = start c.before in
-    (s.pre.lexicon, s.pre.addon-spans, c.loop-test.true)
+    (s.pre.lexicon, s.pre.addon_spans, c.loop-test.true)
 
 number-for-requires : tie.Need-number-for-requires invariant-loop decreases-loop
 number-for-requires c κs = search rules
@@ -80,7 +80,7 @@ loop-again c =
     let k = c.before.before.number-of in
     let R = spelled a.robot.now a.starts.now a.lengths.now in
     let M = spelled a.addon.now a.firsts.now a.sizes.now in
-    let size = length-spelled a.addon.now a.firsts.now a.sizes.now s.pre.addon-spans.paired in
+    let size = length-spelled a.addon.now a.firsts.now a.sizes.now s.pre.addon_spans.paired in
     let q : n ≡ length R = sym (length-spelled a.robot.now a.starts.now a.lengths.now s.pre.lexicon.spans.paired) in
     let h : l.i < length M = omega (arith, size, c.before.before.before.loop-test.true) in (
       omega (arith, c.before.before.before.loop-test.true),
@@ -101,9 +101,9 @@ returns c =
     let a = s.args in
     let R = spelled a.robot.now a.starts.now a.lengths.now in
     let M = spelled a.addon.now a.firsts.now a.sizes.now in
-    let e : l.i ≡ length M = omega (arith, length-spelled a.addon.now a.firsts.now a.sizes.now s.pre.addon-spans.paired, c.loop-test.false, l.invariant.0) in (
+    let e : l.i ≡ length M = omega (arith, length-spelled a.addon.now a.firsts.now a.sizes.now s.pre.addon_spans.paired, c.loop-test.false, l.invariant.0) in (
       l.invariant.3 ∙ ap (λ (k : ℕ). length a.starts.now + k) (added-all R M l.i e),
-      l.invariant.4 ∙ number-all R M a.numbers.now (length a.starts.now) l.i e,
+      l.invariant.4 ∙ number_all R M a.numbers.now (length a.starts.now) l.i e,
     )
 
 pub number-names-spec : {M : Type 1} → statement M

@@ -23,7 +23,7 @@ recoded-left c = c.before.before.before.before
 
 -- the rule's entries
 entries : (s : tie.Start) → Entries s.args.rule.now s.requires.rule
-entries s = one-rule s.args.rule.now s.requires.rule s.requires.entries-are
+entries s = one-rule s.args.rule.now s.requires.rule s.requires.entries_are
 
 -- there are two, and the row has room for them
 two : (s : tie.Start) → 2 ≤ length s.args.rule.now

@@ -4,7 +4,7 @@ use borrow.Author.Rules.{rules}
 use native.Mathlib.Omega.{arith}
 use Prim.Native.Nat.{◌+◌, ◌-◌, ◌≤◌}
 use lib.ListN.{length, get_or}
-use Rattle.joining.proofs.Putting.{Putting, put-start, put_whole, put-ready, put-before, put-more, put-end}
+use Rattle.joining.proofs.Putting.{Putting, put-start, put_whole, put_ready, put-before, put-more, put-end}
 use Rattle.joining.proofs.rules.put_rules.Statement.{statement}
 use Rattle.joining.proofs.rules.put_rules.Tie as tie
 
@@ -65,7 +65,7 @@ part-put-rule-end c = omega (arith, whole (turn c), c.length-of.ensures)
 put-rule-requires : tie.Need-put-rule-requires invariant-loop decreases-loop
 put-rule-requires c κs =
     let m = c.before.before in let l = turn m in
-    put-ready l.before.loop.inv l.loop-test.taken m.length-of.result m.length-of.ensures
+    put_ready l.before.loop.inv l.loop-test.taken m.length-of.result m.length-of.ensures
 
 next-place-requires : tie.Need-next-place-requires invariant-loop decreases-loop
 next-place-requires c κs =

@@ -4,7 +4,7 @@ use native.Mathlib.Omega.{arith}
 use mathlib.Core.Path.{sym, ◌∙◌}
 use Prim.Native.Nat.{◌+◌, ◌-◌, ◌≤◌}
 use lib.ListN.{length, get_or}
-use Rattle.joining.proofs.Seeking.{Seeking, seek-start, seek-whole, seek_found, seek-more, seek-end}
+use Rattle.joining.proofs.Seeking.{Seeking, seek_start, seek_whole, seek_found, seek_more, seek_end}
 use Rattle.joining.proofs.rules.stands_before.Statement.{statement}
 use Rattle.joining.proofs.rules.stands_before.Tie as tie
 
@@ -21,10 +21,10 @@ start l = l.before.before.before
 -- the rule at the cursor is whole
 whole : (l : tie.In-loop invariant-loop decreases-loop) → let a = (start l).args in
     l.before.loop.o + 2 + get_or a.row.now (l.before.loop.o + 1) 0 ≤ length a.row.now
-whole l = let s = start l in omega (arith, seek-whole s.pre l.before.loop.invariant l.loop-test.true, s.pre.inside)
+whole l = let s = start l in omega (arith, seek_whole s.pre l.before.loop.invariant l.loop-test.true, s.pre.inside)
 
 loop-holds : tie.Need-loop-init invariant-loop decreases-loop
-loop-holds c = seek-start c.before.requires
+loop-holds c = seek_start c.before.requires
 
 add-length-of : tie.Need-overflow-add-length-of invariant-loop decreases-loop
 add-length-of c = search rules
@@ -59,11 +59,11 @@ loop-less c = search rules
 loop-again : tie.Need-loop-preserved invariant-loop decreases-loop
 loop-again c =
     let m = c.before.before in let l = m.before.before in
-    seek-more m.length-of.result (start l).requires l.before.loop.invariant l.loop-test.true m.length-of.ensures
+    seek_more m.length-of.result (start l).requires l.before.loop.invariant l.loop-test.true m.length-of.ensures
     (sym c.before.same-rule.ensures ∙ c.if1.false)
 
 returns-2 : tie.Need-returns-2 invariant-loop decreases-loop
-returns-2 c = seek-end c.before.before.before.requires c.before.loop.invariant c.loop-test.false
+returns-2 c = seek_end c.before.before.before.requires c.before.loop.invariant c.loop-test.false
 
 pub stands-before-spec : {M : Type 1} → statement M
 stands-before-spec =

@@ -1,6 +1,6 @@
 -- `joining::shown::joined_place` meets its contract: nowhere for a refusal, else where the rows say. Assumes nothing.
 use borrow.Author.Rules.{rules}
-use Rattle.joining.proofs.Places.{place-ready, place-refused}
+use Rattle.joining.proofs.Places.{place_ready, place-refused}
 use Rattle.joining.proofs.Rooms.{rows_both}
 use Rattle.joining.proofs.shown.joined_place.Statement.{statement}
 use Rattle.joining.proofs.shown.joined_place.Tie as tie
@@ -74,7 +74,7 @@ place-of-requires c κs =
     let o = read c in
     let k = (answer o.before.before.before).join_Kept in
     let g = o.before.sizes.given in
-    place-ready _ _ _ _ _ _ _ _ _ k.result k.ensures g.0.0 g.0.1.0 g.0.1.1.0 g.1
+    place_ready _ _ _ _ _ _ _ _ _ k.result k.ensures g.0.0 g.0.1.0 g.0.1.1.0 g.1
 
 returns : tie.Need-returns
 returns c =

@@ -11,14 +11,14 @@ use Rattle.modules.specs.declared.Place.TheVariants.{Module}
 use Rattle.joining.proofs.ShownNames.{Told}
 use Rattle.joining.proofs.Places.{
   robot-room,
-  module-room,
+  module_room,
   terminals-room,
   nonterminals-room,
-  terminal-in,
-  nonterminal-in,
-  own-terminal-told,
+  terminal_in,
+  nonterminal_in,
+  own_terminal-told,
   added-terminal-told,
-  own-nonterminal-told,
+  own_nonterminal-told,
   added-nonterminal-told,
   past-told,
 }
@@ -63,7 +63,7 @@ robot-at-requires c κs =
 returns : tie.Need-returns
 returns c =
     let e = start c.before.before in
-    subst (Shows e) (sym c.robot-at.ensures) (own-terminal-told e.pre e.args.i c.before.if1.true)
+    subst (Shows e) (sym c.robot-at.ensures) (own_terminal-told e.pre e.args.i c.before.if1.true)
 
 slice-aggregate-entry-of : tie.Need-slice-aggregate-entry-of
 slice-aggregate-entry-of c = sym (length-take-le _ _ (terminals-room (past (among c.before)).requires))
@@ -75,8 +75,8 @@ module-at-requires : tie.Need-module-at-requires
 module-at-requires c κs =
     let o = c.before.before in
     let e = past (among o) in
-    let h = module-room e.pre in
-    let l = terminal-in e.pre e.args.i (among o).if1.false o.if2.true in
+    let h = module_room e.pre in
+    let l = terminal_in e.pre e.args.i (among o).if1.false o.if2.true in
     (omega (arith, h.0, l, c.entry-of.ensures), omega (arith, h.1, l, c.entry-of.ensures))
 
 returns-2 : tie.Need-returns-2
@@ -102,7 +102,7 @@ returns-3 : tie.Need-returns-3
 returns-3 c =
     let o = over c.before.before.before in
     let e = after o in
-    subst (Shows e) (sym c.robot-at2.ensures) (own-nonterminal-told e.pre e.args.i o.if2.left c.before.before.if3.true)
+    subst (Shows e) (sym c.robot-at2.ensures) (own_nonterminal-told e.pre e.args.i o.if2.left c.before.before.if3.true)
 
 slice-aggregate-entry-of-2 : tie.Need-slice-aggregate-entry-of-2
 slice-aggregate-entry-of-2 c = sym (length-take-le _ _ (nonterminals-room (after (over (more c.before).before)).requires))
@@ -114,16 +114,16 @@ add-module-at : tie.Need-overflow-add-module-at
 add-module-at c =
     let o = c.before.before.before in
     let e = after (over (more o).before) in
-    let h = module-room e.pre in
-    let l = nonterminal-in e.pre _ (more o).if3.false o.if4.true in
+    let h = module_room e.pre in
+    let l = nonterminal_in e.pre _ (more o).if3.false o.if4.true in
     omega (arith, h.0, l, c.before.entry-of2.ensures)
 
 module-at-requires-2 : tie.Need-module-at-requires-2
 module-at-requires-2 c κs =
     let o = c.before.before.before in
     let e = after (over (more o).before) in
-    let h = module-room e.pre in
-    let l = nonterminal-in e.pre _ (more o).if3.false o.if4.true in
+    let h = module_room e.pre in
+    let l = nonterminal_in e.pre _ (more o).if3.false o.if4.true in
     (omega (arith, h.0, l, c.before.entry-of2.ensures), omega (arith, h.1, l, c.before.entry-of2.ensures))
 
 returns-4 : tie.Need-returns-4

@@ -5,11 +5,11 @@ use native.Mathlib.Omega.{arith}
 use mathlib.Core.Path.{sym}
 use lib.ListN.{length-replicate}
 use lib.Seq.{length-take-le}
-use Rattle.text_read.specs.Values.{allNames}
+use Rattle.text_read.specs.Values.{all_names}
 use Rattle.joining.specs.Gathering.{longest}
 use Rattle.joining.proofs.Rooms.{name-room}
 use Rattle.joining.proofs.Held.{entries-most}
-use Rattle.joining.proofs.Writes.{writes-joined}
+use Rattle.joining.proofs.Writes.{writes_joined}
 use Rattle.joining.proofs.writing.write_held.Statement.{statement}
 use Rattle.joining.proofs.writing.write_held.Tie as tie
 
@@ -60,8 +60,8 @@ returns : tie.Need-returns
 returns c =
     let w = wrote c in let g = gathered (lent w) in let e = begin g.before in let a = e.args in
     let now = g.gather-names.last.1.1.1.1.1.1.1.1.1 in
-    writes-joined e.pre.held now.0 now.1.0 now.1.1.0
-    (omega (arith, g.gather-names.kept.1.1.1.1.1.1.1.1.1.0, length-replicate {A = ℕ} (allNames * longest) 0))
+    writes_joined e.pre.held now.0 now.1.0 now.1.1.0
+    (omega (arith, g.gather-names.kept.1.1.1.1.1.1.1.1.1.0, length-replicate {A = ℕ} (all_names * longest) 0))
     g.gather-names.ensures a.out.now w.write-text.result w.write-text.last.1.1.1.1.1.1.0 w.write-text.ensures
 
 pub write-held-spec : {M : Type 1} → statement M

@@ -7,7 +7,7 @@ use lib.ListN.{length, get_or, take, drop}
 use Rattle.grammar.specs.Limits.{limits}
 use Rattle.live.specs.Marks.{Small, before, left_at}
 use Rattle.live.proofs.MarkLaws.{passed-few}
-use Rattle.live.proofs.PassLaws.{small-part, before-start, before-next, before-most, part-is, LedTo, led-start, led-more}
+use Rattle.live.proofs.PassLaws.{small-part, before-start, before-next, before-most, part_is, LedTo, led-start, led-more}
 use Rattle.live.proofs.passes.lead_all.Statement.{statement}
 use Rattle.live.proofs.passes.lead_all.Tie as tie
 
@@ -73,9 +73,9 @@ lead-requires c κs =
     let a = c.before.before.before.before.before.before.before.before.before.before.before.before.args in
     let l = c.before.before.before.before.before.before.loop in
     let p = c.before.before.before.before.before.before.before.before.before.before.before.before.requires in
-    let e : limits.maxNonterminals ≡ length l.marks = sym (l.invariant.2.long ∙ p.1.1) in
+    let e : limits.max_nonterminals ≡ length l.marks = sym (l.invariant.2.long ∙ p.1.1) in
     let k = p.0.known l.i (omega arith) in
-    let s = small-part limits.maxNonterminals a.codes.now (l.u + c.before.before.before.wide.result - l.u) l.u p.0.small in (
+    let s = small-part limits.max_nonterminals a.codes.now (l.u + c.before.before.before.wide.result - l.u) l.u p.0.small in (
       omega (arith, e, k.1),
       (
         k.0,
@@ -87,19 +87,19 @@ lead-requires c κs =
     )
 
 -- the rule at hand is done too
-led-too : (c : tie.After-slice-known2 invariant-loop decreases-loop) →
+led_too : (c : tie.After-slice-known2 invariant-loop decreases-loop) →
     let a = c.before.before.before.before.before.before.before.before.before.before.before.before.before.before.before.args in
     let l = c.before.before.before.before.before.before.before.before.before.loop in
     LedTo a.lefts.now a.lengths.now a.codes.now a.count a.productive.now (l.i + 1) a.marks.now c.before.before.lead.new.1.1.1.0 (l.n + c.before.before.lead.result)
-led-too c =
+led_too c =
     let a = c.before.before.before.before.before.before.before.before.before.before.before.before.before.before.before.args in
     let l = c.before.before.before.before.before.before.before.before.before.loop in
     led-more a.lefts.now a.lengths.now a.codes.now a.count a.productive.now l.i _ _ a.marks.now l.marks _ l.n _ (omega arith) refl
-    (part-is a.lengths.now a.codes.now l.i l.u (l.u + c.before.before.before.before.before.before.wide.result) l.invariant.1 (omega (arith, l.invariant.1, c.before.before.before.before.before.before.wide.ensures)))
+    (part_is a.lengths.now a.codes.now l.i l.u (l.u + c.before.before.before.before.before.before.wide.result) l.invariant.1 (omega (arith, l.invariant.1, c.before.before.before.before.before.before.wide.ensures)))
     l.invariant.2 c.before.before.lead.ensures
 
 add-n : tie.Need-overflow-add-n invariant-loop decreases-loop
-add-n c = let h = passed-few (led-too c) in search (rules, h)
+add-n c = let h = passed-few (led_too c) in search (rules, h)
 
 add-i : tie.Need-overflow-add-i invariant-loop decreases-loop
 add-i c = search rules
@@ -108,7 +108,7 @@ loop-less : tie.Need-loop-smaller invariant-loop decreases-loop
 loop-less c = omega arith
 
 loop-again : tie.Need-loop-preserved invariant-loop decreases-loop
-loop-again c = (omega arith, let h = fits c.before.before.before.before.before.before in h.2, led-too c)
+loop-again c = (omega arith, let h = fits c.before.before.before.before.before.before in h.2, led_too c)
 
 same_length : tie.Need-same-length invariant-loop decreases-loop
 same_length c = c.before.loop.invariant.2.long

@@ -5,13 +5,13 @@ use native.Mathlib.Omega.{arith}
 use Prim.Native.Nat.{◌≤◌, ◌-◌}
 use mathlib.Core.Path.{◌≡◌, sym, ◌∙◌}
 use lib.ListN.{length, drop}
-use Rattle.readings_read.specs.Words.{markPiece}
-use Rattle.readings_read.proofs.Marks.{markFrom, mark-none, mark-zero, mark-led, mark-start, mark-end, mark-low, mark-high, mark-more, mark-big}
+use Rattle.readings_read.specs.Words.{mark_piece}
+use Rattle.readings_read.proofs.Marks.{mark_from, mark-none, mark-zero, mark-led, mark-start, mark-end, mark-low, mark-high, mark-more, mark_big}
 use Rattle.readings_read.proofs.pieces.mark.Statement.{statement}
 use Rattle.readings_read.proofs.pieces.mark.Tie as tie
 
 abbrev invariant-loop : tie.invariant-loop
-invariant-loop kind s count n x₀ i₀ x i = (i ≤ length s) × (x ≤ count) × (markPiece kind count s ≡ markFrom kind count x (drop i s))
+invariant-loop kind s count n x₀ i₀ x i = (i ≤ length s) × (x ≤ count) × (mark_piece kind count s ≡ mark_from kind count x (drop i s))
 
 abbrev decreases-loop : tie.decreases-loop
 decreases-loop kind s count n x₀ i₀ x i = length s - i
@@ -65,7 +65,7 @@ add-x c = search rules
 returns-6 : tie.Need-returns-6 invariant-loop decreases-loop
 returns-6 c = let l = c.before.before.before.before.before in
     let a = (entry l).args in
-    sym (l.loop.invariant.2 ∙ mark-big a.kind a.count l.loop.x a.s.now l.loop.i (omega arith) c.before.before.if4.false c.before.if5.false c.if6.true)
+    sym (l.loop.invariant.2 ∙ mark_big a.kind a.count l.loop.x a.s.now l.loop.i (omega arith) c.before.before.if4.false c.before.if5.false c.if6.true)
 
 add-i : tie.Need-overflow-add-i invariant-loop decreases-loop
 add-i c = search rules

@@ -6,12 +6,12 @@ use mathlib.Core.Bool.{true}
 use mathlib.Core.List.{List}
 use Prim.Native.Nat.{ℕ, ◌+◌, ◌*◌}
 use lib.ListN.{length}
-use Rattle.text.specs.Names.{isName}
+use Rattle.text.specs.Names.{is_name}
 use Rattle.text.specs.Spelled.{spelled}
 use Rattle.text.proofs.Spans.{length-spelled}
-use Rattle.readings.specs.Letters.{kindUnit}
+use Rattle.readings.specs.Letters.{kind_unit}
 use Rattle.readings_read.specs.declared.Piece.TheVariants.{Entry}
-use Rattle.readings_read.proofs.Words.{name-bad, name-unknown, name-known}
+use Rattle.readings_read.proofs.Words.{name_bad, name_unknown_lem, name-known}
 use Rattle.readings_read.proofs.pieces.name.Statement.{statement}
 use Rattle.readings_read.proofs.pieces.name.Tie as tie
 
@@ -30,7 +30,7 @@ as_many : (e : tie.Start) → length (names e) ≡ length e.args.starts.now
 as_many e = length-spelled e.args.text.now e.args.starts.now e.args.lengths.now e.requires.0.spans.paired
 
 -- what is looked up is a name
-good : (c : tie.After-find) → isName (start (tested c)).args.x.now ≡ true
+good : (c : tie.After-find) → is_name (start (tested c)).args.x.now ≡ true
 good c = sym (tested c).is_name.ensures ∙ c.before.if1.true
 
 is-name-requires : tie.Need-is-name-requires
@@ -42,7 +42,7 @@ find-requires c κs = (start c.before).requires.0
 returns : tie.Need-returns
 returns c = let l = c.before in
     let e = start (tested l) in
-    sym (name-unknown e.args.t (names e) e.args.x.now (good l) l.find.result l.find.ensures
+    sym (name_unknown_lem e.args.t (names e) e.args.x.now (good l) l.find.result l.find.ensures
     (omega (arith, as_many e, c.if2.true)))
 
 mul-t11 : tie.Need-overflow-mul-t11
@@ -60,14 +60,14 @@ add-t14 c = search rules
 returns-2 : tie.Need-returns-2
 returns-2 c = let l = c.before.before in
     let e = start (tested l) in
-    ap (λ n. Entry (3 * kindUnit + n)) c.code_of_lem.ensures
+    ap (λ n. Entry (3 * kind_unit + n)) c.code_of_lem.ensures
     ∙ sym (name-known e.args.t (names e) e.args.x.now (good l) l.find.result l.find.ensures
     (omega (arith, as_many e, c.before.if2.false)))
 
 returns-3 : tie.Need-returns-3
 returns-3 c = let k = c.before in
     let e = start k in
-    sym (name-bad e.args.t (names e) e.args.x.now (sym k.is_name.ensures ∙ c.if1.false))
+    sym (name_bad e.args.t (names e) e.args.x.now (sym k.is_name.ensures ∙ c.if1.false))
 
 pub name-spec : {M : Type 1} → statement M
 name-spec =

@@ -4,8 +4,8 @@ use native.Mathlib.Omega.{arith}
 use mathlib.Core.Path.{sym, ap, ◌∙◌}
 use Rattle.text.specs.Spelled.{spelled}
 use Rattle.text_read.proofs.Values.{tail-part}
-use Rattle.readings_read.specs.Words.{markPiece}
-use Rattle.readings_read.proofs.Words.{piece-none, piece-opening, piece-closing, piece-name}
+use Rattle.readings_read.specs.Words.{mark_piece}
+use Rattle.readings_read.proofs.Words.{piece_none, piece_opening, piece_closing, piece_name}
 use Rattle.readings_read.proofs.pieces.read_piece.Statement.{statement}
 use Rattle.readings_read.proofs.pieces.read_piece.Tie as tie
 
@@ -15,7 +15,7 @@ start c = c.before.before.before.before.before
 
 returns : tie.Need-returns
 returns c = let a = (start c.before).args in
-    sym (piece-none a.t a.count (spelled a.text.now a.starts.now a.lengths.now) a.p.now c.if1.true)
+    sym (piece_none a.t a.count (spelled a.text.now a.starts.now a.lengths.now) a.p.now c.if1.true)
 
 shared-slice-read-if2 : tie.Need-shared-slice-read-if2
 shared-slice-read-if2 c = search rules
@@ -34,8 +34,8 @@ mark-requires c κs = (omega arith, (start c.before.before.before.before).requir
 
 returns-2 : tie.Need-returns-2
 returns-2 c = let a = (start c.before.before.before.before.before).args in
-    c.mark.ensures ∙ ap (markPiece 1 a.count) (tail-part a.p.now 1)
-    ∙ sym (piece-opening a.t a.count (spelled a.text.now a.starts.now a.lengths.now) a.p.now
+    c.mark.ensures ∙ ap (mark_piece 1 a.count) (tail-part a.p.now 1)
+    ∙ sym (piece_opening a.t a.count (spelled a.text.now a.starts.now a.lengths.now) a.p.now
     (omega (arith, c.before.before.before.before.if1.false)) c.before.before.if2.true)
 
 shared-slice-read-if3 : tie.Need-shared-slice-read-if3
@@ -55,8 +55,8 @@ mark-requires-2 c κs = (omega arith, (start c.before.before.before.before.befor
 
 returns-3 : tie.Need-returns-3
 returns-3 c = let a = (start c.before.before.before.before.before.before.before).args in
-    c.mark2.ensures ∙ ap (markPiece 2 a.count) (tail-part a.p.now 1)
-    ∙ sym (piece-closing a.t a.count (spelled a.text.now a.starts.now a.lengths.now) a.p.now
+    c.mark2.ensures ∙ ap (mark_piece 2 a.count) (tail-part a.p.now 1)
+    ∙ sym (piece_closing a.t a.count (spelled a.text.now a.starts.now a.lengths.now) a.p.now
     (omega (arith, c.before.before.before.before.before.before.if1.false)) c.before.before.if3.true)
 
 name-requires : tie.Need-name-requires
@@ -65,7 +65,7 @@ name-requires c κs = let s = (start c.before.before.before.before.before).requi
 returns-4 : tie.Need-returns-4
 returns-4 c = let a = (start c.before.before.before.before.before.before).args in
     c.name.ensures
-    ∙ sym (piece-name a.t a.count (spelled a.text.now a.starts.now a.lengths.now) a.p.now
+    ∙ sym (piece_name a.t a.count (spelled a.text.now a.starts.now a.lengths.now) a.p.now
     (omega (arith, c.before.before.before.before.before.if1.false)) c.before.before.before.if2.false c.before.if3.false)
 
 pub read-piece-spec : {M : Type 1} → statement M

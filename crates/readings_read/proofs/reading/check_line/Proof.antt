@@ -6,7 +6,7 @@ use Prim.Native.Nat.{ℕ}
 use mathlib.Core.List.{List}
 use Rattle.text.specs.Spelled.{spelled}
 use Rattle.readings_read.specs.Lines.{StartsAt}
-use Rattle.readings_read.proofs.Sayings.{told-start, told_none, line-none, line-malformed, line-unknown, line_known}
+use Rattle.readings_read.proofs.Sayings.{told-start, told_none, line-none, line-malformed, line_unknown, line_known}
 use Rattle.readings_read.proofs.reading.check_line.Statement.{statement}
 use Rattle.readings_read.proofs.reading.check_line.Tie as tie
 
@@ -73,7 +73,7 @@ returns-3 : tie.Need-returns-3
 returns-3 c = let w = c.before.before in
     let k = keyed w in
     let a = (start k.before.before).args in
-    line-unknown a.t a.count (names (start k.before.before)) a.at a.key.now a.line.now k.start.given.0.0 (begins k)
+    line_unknown a.t a.count (names (start k.before.before)) a.at a.key.now a.line.now k.start.given.0.0 (begins k)
     (sym w.check-value.ensures.form ∙ c.enum-told3.given.1)
 
 returns-4 : tie.Need-returns-4

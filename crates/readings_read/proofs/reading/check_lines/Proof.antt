@@ -4,9 +4,9 @@ use Prim.Native.Nat.{ℕ}
 use mathlib.Core.List.{List}
 use Rattle.text.specs.Spelled.{spelled}
 use Rattle.names.specs.Found.{part}
-use Rattle.readings.specs.Readings.{leftKey}
-use Rattle.readings_read.proofs.Sayings.{told-said, told-fault}
-use Rattle.readings_read.proofs.Both.{first-missing, first-fault, first_said}
+use Rattle.readings.specs.Readings.{left_key}
+use Rattle.readings_read.proofs.Sayings.{told-said, told_fault}
+use Rattle.readings_read.proofs.Both.{first-missing, first_fault, first_said}
 use Rattle.readings_read.proofs.reading.check_lines.Statement.{statement}
 use Rattle.readings_read.proofs.reading.check_lines.Tie as tie
 
@@ -58,7 +58,7 @@ second-line-requires c κs = let k = c.before.before.before in
     let g = c.before.start.given in (
       e.pre,
       first_said a.t a.count (names e) a.lines.now f.result f.ensures.at k.before.before.before.if1.false g.0.0 g.0.1.0
-          (told-said a.t a.count (names e) 1 leftKey (part 0 f.result a.lines.now) k.check-line.result g.0.0 g.0.1.0 g.1 k.check-line.ensures),
+          (told-said a.t a.count (names e) 1 left_key (part 0 f.result a.lines.now) k.check-line.result g.0.0 g.0.1.0 g.1 k.check-line.ensures),
     )
 
 returns-2 : tie.Need-returns-2
@@ -67,8 +67,8 @@ returns-2 c = let k = c.before.before.before in
     let a = e.args in
     let f = (searched k).find in
     let g = c.before.cause.given in
-    first-fault a.t a.count (names e) a.lines.now f.result f.ensures.at k.before.before.before.if1.false g.0.0 g.0.1.0
-    (told-fault a.t a.count (names e) 1 leftKey (part 0 f.result a.lines.now) k.check-line.result g.0.0 g.0.1.0 g.1 k.check-line.ensures)
+    first_fault a.t a.count (names e) a.lines.now f.result f.ensures.at k.before.before.before.if1.false g.0.0 g.0.1.0
+    (told_fault a.t a.count (names e) 1 left_key (part 0 f.result a.lines.now) k.check-line.result g.0.0 g.0.1.0 g.1 k.check-line.ensures)
 
 returns-3 : tie.Need-returns-3
 returns-3 c = c.second-line.ensures

@@ -7,7 +7,7 @@ use Rattle.text.specs.Spelled.{spelled}
 use Rattle.readings_read.specs.Lines.{BothSaid}
 use Rattle.names.specs.Found.{part}
 use Rattle.readings_read.proofs.Sayings.{told-both, told-refused}
-use Rattle.readings_read.proofs.Back.{says-count, back-refused, short-left, short-right, both-written}
+use Rattle.readings_read.proofs.Back.{says_count, back-refused, short-left, short-right, both-written}
 use Rattle.readings_read.proofs.reading.read_lines.Statement.{statement}
 use Rattle.readings_read.proofs.reading.read_lines.Tie as tie
 
@@ -79,7 +79,7 @@ put-value-requires c κs = let t = c.before.before in
     let k = passed t in
     let e = start k.before.before in
     let g = k.first.given.0 in
-    (e.pre, omega (arith, says-count e.args.t e.args.count (names e) (part g.0 g.1.0 e.args.lines.now) (both k).left g.1.1.0 (both k).left-says, t.before.if1.false))
+    (e.pre, omega (arith, says_count e.args.t e.args.count (names e) (part g.0 g.1.0 e.args.lines.now) (both k).left g.1.1.0 (both k).left-says, t.before.if1.false))
 
 sub-put-value-2 : tie.Need-overflow-sub-put-value-2
 sub-put-value-2 c = (both (passed (first c))).second
@@ -95,7 +95,7 @@ put-value-requires-2 c κs = let t = first c.before.before in
     let k = passed t in
     let e = start k.before.before in
     let g = k.first.given.0 in
-    (e.pre, omega (arith, says-count e.args.t e.args.count (names e) (part g.1.1.1.0 g.1.1.1.1.0 e.args.lines.now) (both k).right g.1.1.1.1.1.0 (both k).right-says, t.if2.left))
+    (e.pre, omega (arith, says_count e.args.t e.args.count (names e) (part g.1.1.1.0 g.1.1.1.1.0 e.args.lines.now) (both k).right g.1.1.1.1.1.0 (both k).right-says, t.if2.left))
 
 returns-3 : tie.Need-returns-3
 returns-3 c = let k = c.before.before.before in

@@ -8,10 +8,10 @@ use lib.ListN.{drop, length-drop}
 use lib.Seq.{length-take-le}
 use Rattle.text.specs.Spelled.{spelled}
 use Rattle.names.specs.Found.{part}
-use Rattle.readings.specs.Readings.{rightKey}
+use Rattle.readings.specs.Readings.{right_key}
 use Rattle.readings_read.specs.Lines.{SaysAt}
-use Rattle.readings_read.proofs.Sayings.{told-said, told-fault}
-use Rattle.readings_read.proofs.Both.{second-missing, second_past, second-fault, second-said}
+use Rattle.readings_read.proofs.Sayings.{told-said, told_fault}
+use Rattle.readings_read.proofs.Both.{second-missing, second_past, second_fault, second-said}
 use Rattle.readings_read.proofs.reading.second_line.Statement.{statement}
 use Rattle.readings_read.proofs.reading.second_line.Tie as tie
 
@@ -28,10 +28,10 @@ names e = spelled e.args.text.now e.args.starts.now e.args.lengths.now
 
 -- the second line says a string
 says : (k : tie.After-start) → let c = k.before.before in let e = start (searched c) in
-    SaysAt e.args.t e.args.count (names e) 2 rightKey (part (e.args.end + 1) (searched c).find.result e.args.lines.now) k.start.given.0.0 k.start.given.0.1.0
+    SaysAt e.args.t e.args.count (names e) 2 right_key (part (e.args.end + 1) (searched c).find.result e.args.lines.now) k.start.given.0.0 k.start.given.0.1.0
 says k = let c = k.before.before in
     let e = start (searched c) in
-    told-said e.args.t e.args.count (names e) 2 rightKey (part (e.args.end + 1) (searched c).find.result e.args.lines.now)
+    told-said e.args.t e.args.count (names e) 2 right_key (part (e.args.end + 1) (searched c).find.result e.args.lines.now)
     c.check-line.result k.start.given.0.0 k.start.given.0.1.0 k.start.given.1 c.check-line.ensures
 
 add_a : tie.Need-overflow-add-a
@@ -89,9 +89,9 @@ returns-3 c = let k = c.before.before.before in
     let a = e.args in
     let f = (searched k).find in
     let g = c.before.cause.given in
-    second-fault a.t a.count (names e) a.lines.now a.first a.end a.left e.pre.1 f.result f.ensures.at
+    second_fault a.t a.count (names e) a.lines.now a.first a.end a.left e.pre.1 f.result f.ensures.at
     k.before.before.before.before.if1.false k.before.before.before.if2.false g.0.0 g.0.1.0
-    (told-fault a.t a.count (names e) 2 rightKey (part (a.end + 1) f.result a.lines.now) k.check-line.result g.0.0 g.0.1.0 g.1 k.check-line.ensures)
+    (told_fault a.t a.count (names e) 2 right_key (part (a.end + 1) f.result a.lines.now) k.check-line.result g.0.0 g.0.1.0 g.1 k.check-line.ensures)
 
 returns-4 : tie.Need-returns-4
 returns-4 c = let k = c.before.before.before in

@@ -5,20 +5,20 @@ use Prim.Native.Nat.{◌≤◌, ◌+◌, ◌-◌}
 use mathlib.Core.Path.{sym, ap, subst, ◌∙◌}
 use mathlib.Core.List.{[], ◌∷◌, map}
 use lib.ListN.{length, drop, length-map}
-use Rattle.text.specs.Pieces.{splitOn}
+use Rattle.text.specs.Pieces.{split_on}
 use Rattle.text.specs.Spelled.{spelled}
 use Rattle.names.specs.Found.{part}
-use Rattle.names.proofs.Pieces.{piece-more, piece-last, piece-first}
+use Rattle.names.proofs.Pieces.{piece_more, piece_last, piece_first}
 use Rattle.readings.specs.Readings.{pieces_of}
 use Rattle.readings_read.specs.Words.{entry_at}
-use Rattle.readings_read.proofs.Words.{pieces_none, pieces-some}
+use Rattle.readings_read.proofs.Words.{pieces_none, pieces_some}
 use Rattle.readings_read.proofs.Passes.{entry-at, Writing, writing_start, writing-room, writing-put, writing-done}
 use Rattle.readings_read.proofs.values.put_value.Statement.{statement}
 use Rattle.readings_read.proofs.values.put_value.Tie as tie
 
 abbrev invariant-loop : tie.invariant-loop
 invariant-loop v text starts lengths links t count row₀ n a₀ j₀ row a j = (a ≤ length v) × (j ≤ a)
-    × Writing (map (entry_at t count (spelled text starts lengths)) (pieces_of v)) row₀ j row (map (entry_at t count (spelled text starts lengths)) (splitOn 32 (drop a v)))
+    × Writing (map (entry_at t count (spelled text starts lengths)) (pieces_of v)) row₀ j row (map (entry_at t count (spelled text starts lengths)) (split_on 32 (drop a v)))
 
 abbrev decreases-loop : tie.decreases-loop
 decreases-loop v text starts lengths links t count row₀ n a₀ j₀ row a j = length v - a
@@ -53,7 +53,7 @@ loop-holds c = let e = start c.before in
     let front = map (entry_at a.t a.count ns) (pieces_of a.v.now) in (
       omega arith,
       omega arith,
-      subst (λ ps. Writing front a.row.now 0 a.row.now (map (entry_at a.t a.count ns) ps)) (pieces-some a.v.now (omega (arith, c.if1.false)))
+      subst (λ ps. Writing front a.row.now 0 a.row.now (map (entry_at a.t a.count ns) ps)) (pieces_some a.v.now (omega (arith, c.if1.false)))
           (writing_start front a.row.now (fits e)),
     )
 
@@ -84,7 +84,7 @@ slice-write-row c = let l = c.before.before.before.before in
     let ns = spelled a.text.now a.starts.now a.lengths.now in
     let f = c.before.before.before.find in
     writing-room (map (entry_at a.t a.count ns) (pieces_of a.v.now)) a.row.now l.loop.j l.loop.row _ _ _
-    (ap (map (entry_at a.t a.count ns)) (piece-first 32 a.v.now l.loop.a f.result (omega arith) f.ensures.at).1) l.loop.invariant.2
+    (ap (map (entry_at a.t a.count ns)) (piece_first 32 a.v.now l.loop.a f.result (omega arith) f.ensures.at).1) l.loop.invariant.2
 
 same_length : tie.Need-same-length invariant-loop decreases-loop
 same_length c = search rules
@@ -98,7 +98,7 @@ returns-2 c = let l = c.before.before.before.before.before in
     let x = c.before.entry.ensures ∙ entry-at a.t a.count ns p c.before.before.read-piece.result c.before.before.read-piece.ensures in
     writing-done (map (entry_at a.t a.count ns) (pieces_of a.v.now)) a.row.now (l.loop.j + 1) _
     (writing-put (map (entry_at a.t a.count ns) (pieces_of a.v.now)) a.row.now l.loop.j l.loop.row _ c.before.entry.result []
-    (ap (map (entry_at a.t a.count ns)) (piece-last 32 a.v.now l.loop.a f.result (omega arith) f.ensures.at c.if2.true)
+    (ap (map (entry_at a.t a.count ns)) (piece_last 32 a.v.now l.loop.a f.result (omega arith) f.ensures.at c.if2.true)
     ∙ ap (λ x. x ∷ []) (sym x)) l.loop.invariant.2)
 
 add_a : tie.Need-overflow-add-a invariant-loop decreases-loop
@@ -116,12 +116,12 @@ loop-again c = let l = c.before.before.before.before.before in
     let ns = spelled a.text.now a.starts.now a.lengths.now in
     let f = c.before.before.before.before.find in
     let p = part l.loop.a f.result a.v.now in
-    let rest = map (entry_at a.t a.count ns) (splitOn 32 (drop (f.result + 1) a.v.now)) in
+    let rest = map (entry_at a.t a.count ns) (split_on 32 (drop (f.result + 1) a.v.now)) in
     let x = c.before.entry.ensures ∙ entry-at a.t a.count ns p c.before.before.read-piece.result c.before.before.read-piece.ensures in (
       omega arith,
       omega arith,
       writing-put (map (entry_at a.t a.count ns) (pieces_of a.v.now)) a.row.now l.loop.j l.loop.row _ c.before.entry.result rest
-          (ap (map (entry_at a.t a.count ns)) (piece-more 32 a.v.now l.loop.a f.result (omega arith) f.ensures.at c.if2.false)
+          (ap (map (entry_at a.t a.count ns)) (piece_more 32 a.v.now l.loop.a f.result (omega arith) f.ensures.at c.if2.false)
           ∙ ap (λ x. x ∷ rest) (sym x)) l.loop.invariant.2,
     )
 

@@ -3,7 +3,7 @@ use borrow.Author.Rules.{rules}
 use mathlib.Core.Path.{refl}
 use mathlib.Core.List.{List, [], ◌∷◌, ◌++◌}
 use Prim.Native.Nat.{ℕ}
-use Rattle.text_write.proofs.Filling.{Filling, filling-start, filling-room, filling-ran, filling-last, filling-all}
+use Rattle.text_write.proofs.Filling.{Filling, filling_start, filling_room, filling_ran, filling_last, filling_all}
 use Rattle.report.specs.Report.{line}
 use Rattle.report.proofs.put.put_line.Statement.{statement}
 use Rattle.report.proofs.put.put_line.Tie as tie
@@ -17,34 +17,34 @@ after-key : (c : tie.After-put-bytes) →
     Still s c.put-bytes.result c.put-bytes.new.0 (s.args.value.now ++ (10 ∷ []))
 after-key c =
     let s = c.before.before.before.before.before in
-    filling-ran s.args.key.now _ refl c.put-bytes.ensures (filling-start _ _ _ s.requires)
+    filling_ran s.args.key.now _ refl c.put-bytes.ensures (filling_start _ _ _ s.requires)
 
 after-value : (c : tie.After-put-bytes2) →
     let s = c.before.before.before.before.before.before.before.before.before in
     Still s c.put-bytes2.result c.put-bytes2.new.0 (10 ∷ [])
 after-value c =
     let s = c.before.before.before.before.before.before.before.before.before in
-    filling-ran s.args.value.now _ refl c.put-bytes2.ensures (after-key c.before.before.before.before)
+    filling_ran s.args.value.now _ refl c.put-bytes2.ensures (after-key c.before.before.before.before)
 
 put-bytes-requires : tie.Need-put-bytes-requires
 put-bytes-requires c κs =
     let s = c.before.before.before.before in
-    filling-room s.args.key.now _ refl (filling-start s.args.at s.args.out.now _ s.requires)
+    filling_room s.args.key.now _ refl (filling_start s.args.at s.args.out.now _ s.requires)
 
 put-bytes-requires-2 : tie.Need-put-bytes-requires-2
-put-bytes-requires-2 c κs = filling-room c.before.before.before.before.before.before.before.before.args.value.now _ refl (after-key c.before.before.before)
+put-bytes-requires-2 c κs = filling_room c.before.before.before.before.before.before.before.before.args.value.now _ refl (after-key c.before.before.before)
 
 slice-aggregate-put-bytes : tie.Need-slice-aggregate-put-bytes
 slice-aggregate-put-bytes c = search rules
 
 put-bytes-requires-3 : tie.Need-put-bytes-requires-3
-put-bytes-requires-3 c κs = filling-all (after-value c.before.before.before.before)
+put-bytes-requires-3 c κs = filling_all (after-value c.before.before.before.before)
 
 same_length : tie.Need-same-length
 same_length c = search rules
 
 returns : tie.Need-returns
-returns c = filling-last c.before.before.put-bytes3.ensures (after-value c.before.before.before.before.before.before.before)
+returns c = filling_last c.before.before.put-bytes3.ensures (after-value c.before.before.before.before.before.before.before)
 
 pub put-line-spec : {M : Type 1} → statement M
 put-line-spec =

@@ -11,11 +11,11 @@ use Rattle.grammar.specs.Refusal.{refused}
 use Rattle.text.specs.declared.TextRead.TheVariants as reader
 use Rattle.text.proofs.Enough.{Enough, rows-refused, ReadRows, read-rows}
 use Rattle.text_write.proofs.Filling.{wrote_as}
-use Rattle.report.specs.Report.{judge, reportOf}
-use Rattle.report.specs.Contracts.{refusedLines}
-use Rattle.report.proofs.Sizes.{never-short}
-use Rattle.report.proofs.Told.{long-text, text-refused, many-states}
-use Rattle.report.proofs.Read.{refused-report, tellable, read-report}
+use Rattle.report.specs.Report.{judge, report_of}
+use Rattle.report.specs.Clauses.{refused_lines}
+use Rattle.report.proofs.Sizes.{never_short}
+use Rattle.report.proofs.Told.{long-text, text-refused, many_states}
+use Rattle.report.proofs.Read.{refused_report, tellable, read_report}
 use Rattle.report.proofs.telling.put_report.Statement.{statement}
 use Rattle.report.proofs.telling.put_report.Tie as tie
 
@@ -33,29 +33,29 @@ abbrev second : tie.After-known-told2 → tie.After-read-text
 second c = reading c.before.before.before
 
 -- room for a table, and for all names
-abbrev mostEntries : ℕ
-mostEntries = limits.maxStates + limits.maxRules
+abbrev most_entries : ℕ
+most_entries = limits.max_states + limits.max_rules
 
-abbrev mostNames : ℕ
-mostNames = limits.maxTerminals + limits.maxNonterminals
+abbrev most_names : ℕ
+most_names = limits.max_terminals + limits.max_nonterminals
 
 -- the rows that are lent suffice
-suffice : Enough (length (replicate {A = ℕ} mostEntries 0)) (length (replicate {A = ℕ} mostNames 0)) (length (replicate {A = ℕ} mostNames 0))
+suffice : Enough (length (replicate {A = ℕ} most_entries 0)) (length (replicate {A = ℕ} most_names 0)) (length (replicate {A = ℕ} most_names 0))
 suffice = record {
-  entries = omega (arith, length-replicate {A = ℕ} mostEntries 0);
-  starts = omega (arith, length-replicate {A = ℕ} mostNames 0);
-  lengths = omega (arith, length-replicate {A = ℕ} mostNames 0);
+  entries = omega (arith, length-replicate {A = ℕ} most_entries 0);
+  starts = omega (arith, length-replicate {A = ℕ} most_names 0);
+  lengths = omega (arith, length-replicate {A = ℕ} most_names 0);
 }
 
 short : (k : tie.After-read-text) → length (start k).args.text.now ≤ 4096
 short k = omega (arith, k.before.before.before.before.if1.false)
 
 -- a refusal's lines, which have room
-told : (s : tie.Start) (cause at : ℕ) → judge s.args.text.now ≡ refused cause at → refusedLines cause at ≡ reportOf s.args.text.now
-told s cause at e = refused-report s.args.text.now cause at e
+told : (s : tie.Start) (cause at : ℕ) → judge s.args.text.now ≡ refused cause at → refused_lines cause at ≡ report_of s.args.text.now
+told s cause at e = refused_report s.args.text.now cause at e
 
-has_room : (s : tie.Start) (cause at : ℕ) → judge s.args.text.now ≡ refused cause at → length (refusedLines cause at) ≤ length s.args.out.now
-has_room s cause at e = omega (arith, ap length (told s cause at e), never-short s.args.text.now, s.requires)
+has_room : (s : tie.Start) (cause at : ℕ) → judge s.args.text.now ≡ refused cause at → length (refused_lines cause at) ≤ length s.args.out.now
+has_room s cause at e = omega (arith, ap length (told s cause at e), never_short s.args.text.now, s.requires)
 
 too_long : (s : tie.Start) → 4096 < length s.args.text.now → judge s.args.text.now ≡ refused 14 0
 too_long s h = long-text s.args.text.now h
@@ -95,7 +95,7 @@ many : (c : tie.After-known-told2) → 48 < states c → judge (start (second c)
 many c h =
     let k = second c in
     let r = rows c in
-    many-states (start k).args.text.now (short k) r.source r.checked (omega (arith, r.states, h))
+    many_states (start k).args.text.now (short k) r.source r.checked (omega (arith, r.states, h))
 
 put-refused-requires : tie.Need-put-refused-requires
 put-refused-requires c κs = let s = c.before.before.before.before in has_room s 14 0 (too_long s (omega (arith, c.before.if1.true)))
@@ -151,7 +151,7 @@ add-m c =
 array-share-prefix-table : tie.Need-array-share-prefix-table
 array-share-prefix-table c =
     let b = c.before.before in
-    omega (arith, (rows b).table_fits, (second b).read-text.auto.1.0, length-replicate {A = ℕ} mostEntries 0)
+    omega (arith, (rows b).table_fits, (second b).read-text.auto.1.0, length-replicate {A = ℕ} most_entries 0)
 
 slice-aggregate-put-table : tie.Need-slice-aggregate-put-table
 slice-aggregate-put-table c = sym (length-take-le _ _ (rows c.before.before.before).table_fits)
@@ -159,18 +159,18 @@ slice-aggregate-put-table c = sym (length-take-le _ _ (rows c.before.before.befo
 array-share-prefix-starts : tie.Need-array-share-prefix-starts
 array-share-prefix-starts c =
     let b = c.before.before.before in
-    omega (arith, (rows b).starts-fits, (second b).read-text.auto.1.1.0, length-replicate {A = ℕ} mostNames 0)
+    omega (arith, (rows b).starts_fits, (second b).read-text.auto.1.1.0, length-replicate {A = ℕ} most_names 0)
 
 slice-aggregate-put-table-2 : tie.Need-slice-aggregate-put-table-2
-slice-aggregate-put-table-2 c = sym (length-take-le _ _ (rows c.before.before.before.before).starts-fits)
+slice-aggregate-put-table-2 c = sym (length-take-le _ _ (rows c.before.before.before.before).starts_fits)
 
 array-share-prefix-lengths : tie.Need-array-share-prefix-lengths
 array-share-prefix-lengths c =
     let b = c.before.before.before.before in
-    omega (arith, (rows b).lengths-fits, (second b).read-text.auto.1.1.1.0, length-replicate {A = ℕ} mostNames 0)
+    omega (arith, (rows b).lengths_fits, (second b).read-text.auto.1.1.1.0, length-replicate {A = ℕ} most_names 0)
 
 slice-aggregate-put-table-3 : tie.Need-slice-aggregate-put-table-3
-slice-aggregate-put-table-3 c = sym (length-take-le _ _ (rows c.before.before.before.before.before).lengths-fits)
+slice-aggregate-put-table-3 c = sym (length-take-le _ _ (rows c.before.before.before.before.before).lengths_fits)
 
 put-table-requires : tie.Need-put-table-requires
 put-table-requires c κs =
@@ -193,7 +193,7 @@ returns-4 : tie.Need-returns-4
 returns-4 c =
     let p = c.before.before in
     let b = p.before.before.before.before.before.before in
-    wrote_as (read-report _ _ _ _ _ _ _ _ (rows b) p.before.before.before.before.before.if2.false (short (second b))) p.put-table.ensures
+    wrote_as (read_report _ _ _ _ _ _ _ _ (rows b) p.before.before.before.before.before.if2.false (short (second b))) p.put-table.ensures
 
 pub put-report-spec : {M : Type 1} → statement M
 put-report-spec =

@@ -7,7 +7,7 @@ use Prim.Native.Nat.{ℕ, ◌≤◌}
 use lib.ListN.{length, length-replicate}
 use lib.Seq.{length-take-le}
 use Rattle.text_write.proofs.Filling.{wrote_as}
-use Rattle.report.proofs.Strings.{walkable, sayable, sides-fit, sides-lines}
+use Rattle.report.proofs.Strings.{walkable, sayable, sides_fit, sides-lines}
 use Rattle.report.proofs.telling.put_sides.Statement.{statement}
 use Rattle.report.proofs.telling.put_sides.Tie as tie
 
@@ -17,14 +17,14 @@ start c = c.before.before.before.before.before.before.before.before.before
 abbrev walked : tie.After-put-readings-arg → tie.After-two-sides
 walked c = c.before.before.before
 
-abbrev leftAfter : tie.After-two-sides → List ℕ
-leftAfter c = c.two-sides.new.1.1.1.1.0
+abbrev left_after : tie.After-two-sides → List ℕ
+left_after c = c.two-sides.new.1.1.1.1.0
 
-abbrev rightAfter : tie.After-two-sides → List ℕ
-rightAfter c = c.two-sides.new.1.1.1.1.1.0
+abbrev right_after : tie.After-two-sides → List ℕ
+right_after c = c.two-sides.new.1.1.1.1.1.0
 
-fits : (c : tie.After-two-sides) → (c.two-sides.result.left ≤ length (leftAfter c)) × (c.two-sides.result.right ≤ length (rightAfter c))
-fits c = sides-fit _ _ _ _ _ _ _ _ _ _ (start c).requires c.two-sides.result (leftAfter c) (rightAfter c) c.two-sides.ensures
+fits : (c : tie.After-two-sides) → (c.two-sides.result.left ≤ length (left_after c)) × (c.two-sides.result.right ≤ length (right_after c))
+fits c = sides_fit _ _ _ _ _ _ _ _ _ _ (start c).requires c.two-sides.result (left_after c) (right_after c) c.two-sides.ensures
 
 slice-aggregate-two-sides : tie.Need-slice-aggregate-two-sides
 slice-aggregate-two-sides c = search rules
@@ -55,7 +55,7 @@ slice-aggregate-put-readings-2 c = sym (length-take-le _ _ (fits (walked c.befor
 put-readings-requires : tie.Need-put-readings-requires
 put-readings-requires c κs =
     let k = walked c.before.before in
-    sayable _ _ _ _ _ _ _ _ _ _ (start k).pre k.two-sides.result (leftAfter k) (rightAfter k) k.two-sides.ensures
+    sayable _ _ _ _ _ _ _ _ _ _ (start k).pre k.two-sides.result (left_after k) (right_after k) k.two-sides.ensures
 
 same_length : tie.Need-same-length
 same_length c = search rules
@@ -64,7 +64,7 @@ returns : tie.Need-returns
 returns c =
     let r = c.before.before in
     let k = walked r.before.before.before in
-    wrote_as (sides-lines _ _ _ _ _ _ _ _ _ _ (start k).pre k.two-sides.result (leftAfter k) (rightAfter k) k.two-sides.ensures) r.put-readings.ensures
+    wrote_as (sides-lines _ _ _ _ _ _ _ _ _ _ (start k).pre k.two-sides.result (left_after k) (right_after k) k.two-sides.ensures) r.put-readings.ensures
 
 pub put-sides-spec : {M : Type 1} → statement M
 put-sides-spec =

@@ -8,14 +8,14 @@ use Prim.Native.Nat.{ℕ, ◌≤◌}
 use lib.ListN.{length, take, replicate, length-replicate, length-append}
 use lib.Seq.{length-take-le}
 use Rattle.grammar.specs.Limits.{limits}
-use Rattle.grammar.specs.TableCheck.{checkTable}
+use Rattle.grammar.specs.TableCheck.{check_table}
 use Rattle.text.specs.Spelled.{spelled}
-use Rattle.text_write.proofs.Filling.{Filling, filling-start, filling-room, filling-ran, filling-last, wrote_as}
+use Rattle.text_write.proofs.Filling.{Filling, filling_start, filling_room, filling_ran, filling_last, wrote_as}
 use Rattle.search.specs.Promise.{Lent, lent}
 use Rattle.search.specs.declared.SearchVerdict.TheVariants as search
-use Rattle.report.specs.Contracts.{unambiguousLines, potentialLines, tableLines, sidesLines}
-use Rattle.report.proofs.Told.{Rows, no-refusal}
-use Rattle.report.proofs.Lines.{lines-most, unambiguous-lines, potential-lines, potential-fits, speakable}
+use Rattle.report.specs.Clauses.{unambiguous_lines, potential_lines, table_lines, sides_lines}
+use Rattle.report.proofs.Told.{Rows, no_refusal}
+use Rattle.report.proofs.Lines.{lines-most, unambiguous-lines, potential-lines, potential_fits, speakable}
 use Rattle.report.proofs.telling.put_table.Statement.{statement}
 use Rattle.report.proofs.telling.put_table.Tie as tie
 
@@ -48,22 +48,22 @@ suffice = record {
 
 -- what is to be written
 abbrev whole : tie.Start → List ℕ
-whole s = tableLines (checkTable limits s.args.t s.args.n s.args.table.now) (spelled s.args.text.now s.args.starts.now s.args.lengths.now)
+whole s = table_lines (check_table limits s.args.t s.args.n s.args.table.now) (spelled s.args.text.now s.args.starts.now s.args.lengths.now)
 
 abbrev sides : tie.Start → List ℕ
-sides s = sidesLines (checkTable limits s.args.t s.args.n s.args.table.now) (spelled s.args.text.now s.args.starts.now s.args.lengths.now)
+sides s = sides_lines (check_table limits s.args.t s.args.n s.args.table.now) (spelled s.args.text.now s.args.starts.now s.args.lengths.now)
 
-is-size : (k : tie.After-search) (r l : ℕ) → k.search.result ≡ search.Unambiguous r l → unambiguousLines (start k).args.q r ≡ whole (start k)
-is-size k r l e = unambiguous-lines _ _ _ _ _ _ _ (start k).requires.0 before k.search.result (after k) suffice k.search.ensures r l e
+is_size : (k : tie.After-search) (r l : ℕ) → k.search.result ≡ search.Unambiguous r l → unambiguous_lines (start k).args.q r ≡ whole (start k)
+is_size k r l e = unambiguous-lines _ _ _ _ _ _ _ (start k).requires.0 before k.search.result (after k) suffice k.search.ensures r l e
 
-is-sides : (k : tie.After-search) (r l : ℕ) → k.search.result ≡ search.Potential r l → whole (start k) ≡ potentialLines (start k).args.q ++ sides (start k)
-is-sides k r l e = potential-lines _ _ _ _ _ _ _ (start k).requires.0 before k.search.result (after k) suffice k.search.ensures r l e
+is_sides : (k : tie.After-search) (r l : ℕ) → k.search.result ≡ search.Potential r l → whole (start k) ≡ potential_lines (start k).args.q ++ sides (start k)
+is_sides k r l e = potential-lines _ _ _ _ _ _ _ (start k).requires.0 before k.search.result (after k) suffice k.search.ensures r l e
 
 fits : (k : tie.After-search) (r l : ℕ) → k.search.result ≡ search.Potential r l → r ≤ length (after k).witness
-fits k r l e = potential-fits _ _ _ _ _ _ _ (start k).requires.0 before k.search.result (after k) suffice k.search.ensures r l e
+fits k r l e = potential_fits _ _ _ _ _ _ _ (start k).requires.0 before k.search.result (after k) suffice k.search.ensures r l e
 
 begins : (k : tie.After-search) → Filling 0 (start k).args.out.now (whole (start k)) 0 (start k).args.out.now (whole (start k))
-begins k = filling-start 0 _ _ (omega (arith, lines-most _ _ _ _ _ _ _ (start k).requires.0, (start k).requires.1))
+begins k = filling_start 0 _ _ (omega (arith, lines-most _ _ _ _ _ _ _ (start k).requires.0, (start k).requires.1))
 
 -- of the branches: the verdict's numbers
 abbrev reached : (c : tie.After-known-told) → (r l : ℕ) × ((first c).search.result ≡ search.Unambiguous r l)
@@ -80,7 +80,7 @@ after-potential : (c : tie.After-put-potential) →
 after-potential c =
     let b = c.before.before in
     let k = second b in
-    filling-ran (potentialLines (start k).args.q) (sides (start k)) (is-sides k (entries b).0 (entries b).1 (entries b).2) c.put-potential.ensures (begins k)
+    filling_ran (potential_lines (start k).args.q) (sides (start k)) (is_sides k (entries b).0 (entries b).1 (entries b).2) c.put-potential.ensures (begins k)
 
 slice-aggregate-search : tie.Need-slice-aggregate-search
 slice-aggregate-search c = search rules
@@ -104,7 +104,7 @@ put-unambiguous-requires : tie.Need-put-unambiguous-requires
 put-unambiguous-requires c κs =
     let b = c.before in
     let k = first b in
-    omega (arith, ap length (is-size k (reached b).0 (reached b).1 (reached b).2), lines-most _ _ _ _ _ _ _ (start k).pre.0, (start k).pre.1)
+    omega (arith, ap length (is_size k (reached b).0 (reached b).1 (reached b).2), lines-most _ _ _ _ _ _ _ (start k).pre.0, (start k).pre.1)
 
 enum-known-verdict-2 : tie.Need-enum-known-verdict-2
 enum-known-verdict-2 c = search rules
@@ -113,7 +113,7 @@ put-potential-requires : tie.Need-put-potential-requires
 put-potential-requires c κs =
     let b = c.before in
     let k = second b in
-    omega (arith, filling-room (potentialLines (start k).args.q) (sides (start k)) (is-sides k (entries b).0 (entries b).1 (entries b).2) (begins k))
+    omega (arith, filling_room (potential_lines (start k).args.q) (sides (start k)) (is_sides k (entries b).0 (entries b).1 (entries b).2) (begins k))
 
 array-share-prefix-witness : tie.Need-array-share-prefix-witness
 array-share-prefix-witness c =
@@ -144,7 +144,7 @@ returns : tie.Need-returns
 returns c =
     let p = c.before.before in
     let b = p.before.before in
-    wrote_as (is-size (first b) (reached b).0 (reached b).1 (reached b).2) p.put-unambiguous.ensures
+    wrote_as (is_size (first b) (reached b).0 (reached b).1 (reached b).2) p.put-unambiguous.ensures
 
 same-length-2 : tie.Need-same-length-2
 same-length-2 c = search rules
@@ -152,13 +152,13 @@ same-length-2 c = search rules
 returns-2 : tie.Need-returns-2
 returns-2 c =
     let p = c.before.before in
-    filling-last p.put_sides.ensures (after-potential p.before.before.before.before.before)
+    filling_last p.put_sides.ensures (after-potential p.before.before.before.before.before)
 
 returns-3 : tie.Need-returns-3
 returns-3 c =
     let k = searched c.before.before in
     let g = c.enum_told.given in
-    no-refusal _ _ _ _ _ _ _ (start k).pre.0 before k.search.result (after k) suffice k.search.ensures g.0.0 g.0.1.0 g.1
+    no_refusal _ _ _ _ _ _ _ (start k).pre.0 before k.search.result (after k) suffice k.search.ensures g.0.0 g.0.1.0 g.1
 
 pub put-table-spec : {M : Type 1} → statement M
 put-table-spec =

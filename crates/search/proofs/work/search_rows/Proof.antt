@@ -5,15 +5,15 @@ use Prim.Native.Nat.{ℕ, ◌+◌, ◌*◌, ◌≤◌}
 use mathlib.Core.Path.{◌≡◌, ap, sym, subst₂, ◌∙◌}
 use mathlib.Core.List.{List}
 use lib.ListN.{length, get_or, drop}
-use Rattle.plans.specs.Contracts.{mostSquare}
-use Rattle.triples.specs.Index.{tripleCount}
+use Rattle.plans.specs.Clauses.{most_square}
+use Rattle.triples.specs.Index.{triple_count}
 use Rattle.plans.specs.Plan.{Rows, rows}
 use Rattle.plans.proofs.PlanLaws.{square-of}
-use Rattle.search.specs.Promise.{lent, Told, isPotential}
+use Rattle.search.specs.Promise.{lent, Told, is_potential}
 use Rattle.search.proofs.FinishLaws.{linked}
-use Rattle.clearing.proofs.Laws.{cleared_at, cleared-rest}
-use Rattle.search.proofs.WorkLaws.{rest-is, zero-marks}
-use Rattle.search.proofs.AnswerLaws.{told, looked-is}
+use Rattle.clearing.proofs.Laws.{cleared_at_lem, cleared-rest}
+use Rattle.search.proofs.WorkLaws.{rest_is, zero_marks}
+use Rattle.search.proofs.AnswerLaws.{told, looked_is}
 use Rattle.search.proofs.work.search_rows.Statement.{statement}
 use Rattle.search.proofs.work.search_rows.Tie as tie
 use Rattle.search.proofs.work.search_rows.Reads as reads
@@ -41,7 +41,7 @@ answer-place c = c.before.before.before.before.before.before.before.before.befor
 table : tie.Start → Rows
 table e = rows e.args.ahead.now e.args.number.now e.args.member.now e.args.first.now e.args.after.now
 
-small : (e : tie.Start) → (16 ≤ e.args.q * e.args.q) × (e.args.q * e.args.q ≤ mostSquare)
+small : (e : tie.Start) → (16 ≤ e.args.q * e.args.q) × (e.args.q * e.args.q ≤ most_square)
 small e = square-of e.args.q e.requires.0.verified.fits.four e.requires.0.verified.fits.few
 
 mul-square : tie.Need-overflow-mul-square
@@ -59,13 +59,13 @@ explore-requires c κs =
     let d = k.before.before in
     let e = clear-start d in
     let q = e.args.q in
-    let long : tripleCount q ≤ length d.clear.new.0 = omega (arith, e.pre.1.parents, d.clear.auto) in (
+    let long : triple_count q ≤ length d.clear.new.0 = omega (arith, e.pre.1.parents, d.clear.auto) in (
       e.pre.0,
       (
         e.pre.1.queue,
         long,
-        zero-marks q d.clear.new.0 e.pre.0.verified.fits.four long (λ i. omega (arith, k.slice-known5.given i))
-            (λ i h. ap (λ (l : List ℕ). get_or l i 0) d.clear.ensures ∙ cleared_at (q * q + 1) e.args.parents.now i h),
+        zero_marks q d.clear.new.0 e.pre.0.verified.fits.four long (λ i. omega (arith, k.slice-known5.given i))
+            (λ i h. ap (λ (l : List ℕ). get_or l i 0) d.clear.ensures ∙ cleared_at_lem (q * q + 1) e.args.parents.now i h),
       ),
     )
 
@@ -116,15 +116,15 @@ returns c = λ G W p.
     let e = explore-start w in
     let a = e.args in
     let x = w.explore.ensures in
-    let n = tripleCount a.q in
+    let n = triple_count a.q in
     let row = w.explore.last.1.1.1.1.1.1.1.1.1.1.0 in
     let rest : drop n row ≡ drop n a.parents.now
-    = rest-is n row d.clear.last.0 x.0.parents-rest x.0.marks-rest ∙ ap (drop n) d.clear.ensures
+    = rest_is n row d.clear.last.0 x.0.parents_rest x.0.marks_rest ∙ ap (drop n) d.clear.ensures
     ∙ cleared-rest (a.q * a.q + 1) n a.parents.now (omega (arith, (small e).0)) in
-    subst₂ (λ (q₂ p₂ : List ℕ). Told (isPotential G) G (lent a.certificate.now a.queue.now a.parents.now a.witness.now) r.result (lent r.last.1.1.1.1.1.0 q₂ p₂ r.last.1.1.1.1.1.1.0))
+    subst₂ (λ (q₂ p₂ : List ℕ). Told (is_potential G) G (lent a.certificate.now a.queue.now a.parents.now a.witness.now) r.result (lent r.last.1.1.1.1.1.0 q₂ p₂ r.last.1.1.1.1.1.1.0))
     (sym c.before.before.before.before.before.before.clear2.ensures) (sym c.before.before.clear3.ensures)
     (told G W (table e) a.targets.now a.t a.m a.q p a.queue.now _ _ _ x.0 a.parents.now row rest a.certificate.now a.witness.now _
-    (x.1.0 ∙ looked-is G W (table e) a.targets.now a.t a.m a.q p a.queue.now _ _ _ x.0) r.result _ _ r.ensures)
+    (x.1.0 ∙ looked_is G W (table e) a.targets.now a.t a.m a.q p a.queue.now _ _ _ x.0) r.result _ _ r.ensures)
 
 pub search-rows-spec : {M : Type 1} → statement M
 search-rows-spec =

@@ -3,8 +3,8 @@ use borrow.Author.Rules.{rules}
 use mathlib.Core.Path.{ap, ◌∙◌}
 use Rattle.triples.specs.declared.Step.{Step}
 use Rattle.steps.specs.declared.StepAnswer.TheVariants.{Record}
-use Rattle.steps.specs.Steps.{recordAnswer}
-use Rattle.steps.proofs.Nth.{shift-first, shift-later}
+use Rattle.steps.specs.Steps.{record_answer}
+use Rattle.steps.proofs.Nth.{shift_first, shift_later}
 use Rattle.steps.proofs.moving.nth_shift.Statement.{statement}
 use Rattle.steps.proofs.moving.nth_shift.Tie as tie
 
@@ -15,7 +15,7 @@ returns : tie.Need-returns
 returns c =
     let a = c.before.before.before.args in
     ap (λ (s : Step). Record s) c.shift_of.ensures
-    ∙ ap recordAnswer (shift-first a.number.now a.after.now a.ls.now a.s a.x a.k c.before.if1.true)
+    ∙ ap record_answer (shift_first a.number.now a.after.now a.ls.now a.s a.x a.k c.before.if1.true)
 
 past_of-requires : tie.Need-past_of-requires
 past_of-requires c κs = search rules
@@ -30,7 +30,7 @@ returns-2 : tie.Need-returns-2
 returns-2 c =
     let a = c.before.before.before.before.args in
     c.nth-above.ensures
-    ∙ ap recordAnswer (shift-later a.number.now a.after.now a.ls.now a.s a.x a.k c.before.past_of.result c.before.past_of.ensures c.before.before.if1.false)
+    ∙ ap record_answer (shift_later a.number.now a.after.now a.ls.now a.s a.x a.k c.before.past_of.result c.before.past_of.ensures c.before.before.if1.false)
 
 pub nth-shift-spec : {M : Type 1} → statement M
 nth-shift-spec =

@@ -6,8 +6,8 @@ use mathlib.Core.List.{[]}
 use Rattle.grammar.specs.Limits.{limits}
 use Rattle.names.proofs.Pieces.{names-none}
 use Rattle.text_read.specs.Values.{DeclaredTold}
-use Rattle.text_read.proofs.Declarations.{told_names, told-fault, told-held, first-missing, first-fault, first-names}
-use Rattle.text_read.proofs.Held.{ready-first, first-held}
+use Rattle.text_read.proofs.Declarations.{told_names, told_fault, told-held, first-missing, first_fault, first-names}
+use Rattle.text_read.proofs.Held.{ready_first, first-held}
 use Rattle.text_read.proofs.Rooms.{rows-kept}
 use Rattle.text_read.proofs.declaring.check_heads.Statement.{statement}
 use Rattle.text_read.proofs.declaring.check_heads.Tie as tie
@@ -26,9 +26,9 @@ abbrev declared-2 : tie.At-match-keys2 → tie.After-declare
 declared-2 c = c.before.before.before.before.before.before.before
 
 -- no name is declared before the first line
-told : (d : tie.After-declare) → DeclaredTold 1 0 0 limits.maxTerminals [] (entry (ended d).before).args.text.now 0 (ended d).before.find.result d.declare.result
+told : (d : tie.After-declare) → DeclaredTold 1 0 0 limits.max_terminals [] (entry (ended d).before).args.text.now 0 (ended d).before.find.result d.declare.result
 told d =
-    subst (λ ns. DeclaredTold 1 0 0 limits.maxTerminals ns (entry (ended d).before).args.text.now 0 (ended d).before.find.result d.declare.result)
+    subst (λ ns. DeclaredTold 1 0 0 limits.max_terminals ns (entry (ended d).before).args.text.now 0 (ended d).before.find.result d.declare.result)
     (names-none [] refl) d.declare.ensures.0
 
 find-requires : tie.Need-find-requires
@@ -49,7 +49,7 @@ part-declare-end c = search rules
 declare-requires : tie.Need-declare-requires
 declare-requires c κs =
     let f = c.before.before.before.before.before in let e = entry f in let a = e.args in
-    ready-first a.text.now a.starts.now a.lengths.now a.links.now f.find.result f.find.ensures.high e.pre.0 e.pre.1 e.pre.2
+    ready_first a.text.now a.starts.now a.lengths.now a.links.now f.find.result f.find.ensures.high e.pre.0 e.pre.1 e.pre.2
 
 enum-known-cause : tie.Need-enum-known-cause
 enum-known-cause c = search rules
@@ -64,7 +64,7 @@ second-head-requires c κs =
     let x = d.declare.last.1.1.1.1.1.1.1.1.1 in
     let y = d.declare.kept.1.1.1.1.1.1.1.1.1 in (
       first-names a.text.now f.find.result f.find.ensures.at (omega (arith, l.if1.left)) g.0.0 g.0.1.0
-          (told_names 1 0 0 limits.maxTerminals [] a.text.now 0 f.find.result d.declare.result g.0.0 g.0.1.0 g.1 (told d)) e.pre.0,
+          (told_names 1 0 0 limits.max_terminals [] a.text.now 0 f.find.result d.declare.result g.0.0 g.0.1.0 g.1 (told d)) e.pre.0,
       first-held a.text.now g.0.0 f.find.result g.0.1.0 a.starts.now a.lengths.now x.0 x.1.0 x.1.1.0
           (told-held a.text.now f.find.result 0 a.starts.now a.lengths.now x.0 x.1.0 x.1.1.0 d.declare.result
           g.0.0 g.0.1.0 g.1 d.declare.ensures.1)
@@ -84,8 +84,8 @@ returns-2 : tie.Need-returns-2
 returns-2 c =
     let d = declared c.before.before in let l = ended d in let f = l.before in let a = (entry f).args in
     let g = c.before.cause.given in
-    first-fault a.text.now f.find.result f.find.ensures.at (omega (arith, l.if1.left)) g.0.0 g.0.1.0
-    (told-fault 1 0 0 limits.maxTerminals [] a.text.now 0 f.find.result d.declare.result g.0.0 g.0.1.0 g.1 (told d))
+    first_fault a.text.now f.find.result f.find.ensures.at (omega (arith, l.if1.left)) g.0.0 g.0.1.0
+    (told_fault 1 0 0 limits.max_terminals [] a.text.now 0 f.find.result d.declare.result g.0.0 g.0.1.0 g.1 (told d))
 
 same-length-4 : tie.Need-same-length-4
 same-length-4 c = search rules

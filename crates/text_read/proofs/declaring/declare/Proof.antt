@@ -11,13 +11,13 @@ use Prim.Native.Nat.{◌+◌, ◌-◌, ◌≤◌}
 use lib.ListN.{length, take, drop, length-drop}
 use lib.Seq.{length-take-le}
 use Rattle.grammar.specs.Refusal.{refused}
-use Rattle.text.specs.Names.{all, isName, hasDouble}
+use Rattle.text.specs.Names.{all, is_name, has_double}
 use Rattle.text.specs.Keys.{key, value_of}
 use Rattle.text.specs.Read.{names_of}
 use Rattle.text.specs.Spelled.{spelled}
 use Rattle.names.specs.Found.{part}
-use Rattle.lexicon.proofs.Growth.{lexicon-once}
-use Rattle.text_read.proofs.Values.{told-value, told_none, count-bad, count-all, decl-none, decl-bad, decl-double, decl-few, decl-many, decl-done}
+use Rattle.lexicon.proofs.Growth.{lexicon_once}
+use Rattle.text_read.proofs.Values.{told-value, told_none, count_bad, count_all, decl_none, decl_bad, decl_double, decl_few, decl_many, decl_done}
 use Rattle.text_read.proofs.Declarations.{line-value}
 use Rattle.text_read.proofs.Held.{value_room}
 use Rattle.text_read.proofs.declaring.declare.Statement.{statement}
@@ -64,20 +64,20 @@ value c =
 
 -- its names are well formed, and so many
 all-names : (d : tie.After-known-told2) → let k = shown (counted-at d) in let a = (entry (split k)).args in let ns = names_of (part (a.a + k.before.start.given.0.0) a.e a.text.now) in
-    (all isName ns ≡ true) × (d.before.count.given.0.0 ≡ length ns)
-all-names d = let m = d.before.count.given in count-all m.0.0 _ (sym (counted-at d).count-names.ensures ∙ m.1)
+    (all is_name ns ≡ true) × (d.before.count.given.0.0 ≡ length ns)
+all-names d = let m = d.before.count.given in count_all m.0.0 _ (sym (counted-at d).count-names.ensures ∙ m.1)
 
 -- no name stands twice in the earlier value
-once : (e : tie.Start) → hasDouble (names_of e.args.earlier.now) ≡ false
-once e = sym (ap hasDouble e.requires.spelt) ∙ lexicon-once _ _ _ _ e.requires.tree
+once : (e : tie.Start) → has_double (names_of e.args.earlier.now) ≡ false
+once e = sym (ap has_double e.requires.spelt) ∙ lexicon_once _ _ _ _ e.requires.tree
 
 -- the names of the rows are those of the earlier value
 doubled : (w : tie.After-keep) (t : Bool) → let k = shown (counted-at (tried w)) in let a = (entry (split k)).args in
     let ns = names_of (part (a.a + k.before.start.given.0.0) a.e a.text.now) in
-    hasDouble (spelled a.text.now (take a.from a.starts.now) (take a.from a.lengths.now) ++ ns) ≡ t → hasDouble (names_of a.earlier.now ++ ns) ≡ t
+    has_double (spelled a.text.now (take a.from a.starts.now) (take a.from a.lengths.now) ++ ns) ≡ t → has_double (names_of a.earlier.now ++ ns) ≡ t
 doubled w t h =
     let k = shown (counted-at (tried w)) in let e = entry (split k) in let a = e.args in
-    sym (ap (λ ns. hasDouble (ns ++ names_of (part (a.a + k.before.start.given.0.0) a.e a.text.now))) e.pre.spelt) ∙ h
+    sym (ap (λ ns. has_double (ns ++ names_of (part (a.a + k.before.start.given.0.0) a.e a.text.now))) e.pre.spelt) ∙ h
 
 sub-key-split : tie.Need-overflow-sub-key-split
 sub-key-split c = search rules
@@ -100,7 +100,7 @@ enum_told c = search rules
 returns : tie.Need-returns
 returns c =
     let s = c.before.before in let e = entry s in let a = e.args in
-    (decl-none a.at a.k a.lo a.hi (names_of a.earlier.now) (part a.a a.e a.text.now) (told_none a.k _ s.key_split.result c.enum_told.given.1 s.key_split.ensures), tt)
+    (decl_none a.at a.k a.lo a.hi (names_of a.earlier.now) (part a.a a.e a.text.now) (told_none a.k _ s.key_split.result c.enum_told.given.1 s.key_split.ensures), tt)
 
 add-b : tie.Need-overflow-add-b
 add-b c = let e = entry (split c) in omega (arith, (value c).0, e.pre.high)
@@ -126,8 +126,8 @@ enum-told-2 c = search rules
 returns-2 : tie.Need-returns-2
 returns-2 c =
     let n = c.before.before in let k = shown n in let e = entry (split k) in let a = e.args in (
-      decl-bad a.at a.k a.lo a.hi (names_of a.earlier.now) (part a.a a.e a.text.now) _ (value k).1
-          (count-bad 0 _ (sym n.count-names.ensures ∙ c.enum-told2.given.1)),
+      decl_bad a.at a.k a.lo a.hi (names_of a.earlier.now) (part a.a a.e a.text.now) _ (value k).1
+          (count_bad 0 _ (sym n.count-names.ensures ∙ c.enum-told2.given.1)),
       tt,
     )
 
@@ -151,7 +151,7 @@ same-length-3 c = search rules
 returns-3 : tie.Need-returns-3
 returns-3 c =
     let y = many-at c in let d = (long y).before in let k = shown (counted-at d) in let e = entry (split k) in let a = e.args in (
-      decl-many a.at a.k a.lo a.hi (names_of a.earlier.now) (part a.a a.e a.text.now) _ (value k).1 (all-names d).0
+      decl_many a.at a.k a.lo a.hi (names_of a.earlier.now) (part a.a a.e a.text.now) _ (value k).1 (all-names d).0
           (omega (arith, (long y).if1.taken, (all-names d).1)) ∙ ap (λ x. refused x a.at) (sym y.many.ensures),
       tt,
     )
@@ -159,7 +159,7 @@ returns-3 c =
 returns-4 : tie.Need-returns-4
 returns-4 c =
     let d = c.before.before in let k = shown (counted-at d) in let e = entry (split k) in let a = e.args in (
-      decl-few a.at a.k a.lo a.hi (names_of a.earlier.now) (part a.a a.e a.text.now) _ (value k).1 (all-names d).0
+      decl_few a.at a.k a.lo a.hi (names_of a.earlier.now) (part a.a a.e a.text.now) _ (value k).1 (all-names d).0
           (omega (arith, c.if2.true, (all-names d).1)) e.pre.least (once e),
       tt,
     )
@@ -193,7 +193,7 @@ returns-5 c =
       record {
         starts = ap (λ m. a.a + m) h.starts;
         inside = (value k).0;
-        read = decl-done a.at a.k a.lo a.hi (names_of a.earlier.now) (part a.a a.e a.text.now) _ (value k).1 (all-names d).0
+        read = decl_done a.at a.k a.lo a.hi (names_of a.earlier.now) (part a.a a.e a.text.now) _ (value k).1 (all-names d).0
             (doubled w false (not-true _ (sym w.keep.ensures.0 ∙ c.if3.true))) (omega (arith, (passed w).if2.left, (all-names d).1))
             (omega (arith, (passed w).before.if1.left, (all-names d).1));
         counts = (all-names d).1;
@@ -214,7 +214,7 @@ same-length-9 c = search rules
 returns-6 : tie.Need-returns-6
 returns-6 c =
     let w = refused-at c in let d = tried w in let k = shown (counted-at d) in let a = (entry (split k)).args in (
-      decl-double a.at a.k a.lo a.hi (names_of a.earlier.now) (part a.a a.e a.text.now) _ (value k).1 (all-names d).0
+      decl_double a.at a.k a.lo a.hi (names_of a.earlier.now) (part a.a a.e a.text.now) _ (value k).1 (all-names d).0
           (doubled w true (not-false _ (sym w.keep.ensures.0 ∙ c.if3.false))),
       tt,
     )

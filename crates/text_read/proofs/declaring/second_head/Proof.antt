@@ -5,8 +5,8 @@ use Prim.Native.Nat.{◌+◌}
 use Rattle.grammar.specs.Limits.{limits}
 use Rattle.text.specs.Read.{names_of}
 use Rattle.names.specs.Found.{part}
-use Rattle.text_read.proofs.Declarations.{told_names, told-fault, told-held, second-missing, second-fault, second-names}
-use Rattle.text_read.proofs.Held.{ready-second, heads-read}
+use Rattle.text_read.proofs.Declarations.{told_names, told_fault, told-held, second-missing, second_fault, second-names}
+use Rattle.text_read.proofs.Held.{ready_second, heads_read}
 use Rattle.text_read.proofs.declaring.second_head.Statement.{statement}
 use Rattle.text_read.proofs.declaring.second_head.Tie as tie
 
@@ -46,7 +46,7 @@ part-declare-end c = search rules
 declare-requires : tie.Need-declare-requires
 declare-requires c κs =
     let f = c.before.before.before.before.before in let e = entry f in let a = e.args in
-    ready-second a.text.now a.first a.end a.terminals a.starts.now a.lengths.now a.links.now e.pre.0 e.pre.1
+    ready_second a.text.now a.first a.end a.terminals a.starts.now a.lengths.now a.links.now e.pre.0 e.pre.1
     f.find.result f.find.ensures.low f.find.ensures.high
 
 enum-known-cause : tie.Need-enum-known-cause
@@ -68,8 +68,8 @@ returns-2 : tie.Need-returns-2
 returns-2 c =
     let d = declared c.before.before in let l = ended d in let f = l.before in let e = entry f in let a = e.args in
     let g = c.before.cause.given in
-    second-fault a.text.now a.first a.end a.terminals e.pre.0 f.find.result f.find.ensures.at (omega (arith, l.if1.left)) g.0.0 g.0.1.0
-    (told-fault 2 1 1 limits.maxNonterminals (names_of (part a.first a.end a.text.now)) a.text.now (a.end + 1) f.find.result d.declare.result
+    second_fault a.text.now a.first a.end a.terminals e.pre.0 f.find.result f.find.ensures.at (omega (arith, l.if1.left)) g.0.0 g.0.1.0
+    (told_fault 2 1 1 limits.max_nonterminals (names_of (part a.first a.end a.text.now)) a.text.now (a.end + 1) f.find.result d.declare.result
     g.0.0 g.0.1.0 g.1 d.declare.ensures.0)
 
 same-length-4 : tie.Need-same-length-4
@@ -86,10 +86,10 @@ returns-3 c =
     let d = declared-2 c.before.before in let l = ended d in let f = l.before in let e = entry f in let a = e.args in
     let g = c.before.count.given in
     let x = d.declare.last.1.1.1.1.1.1.1.1.1 in
-    heads-read a.text.now a.first a.end a.terminals a.starts.now a.lengths.now a.links.now e.pre.0 e.pre.1
+    heads_read a.text.now a.first a.end a.terminals a.starts.now a.lengths.now a.links.now e.pre.0 e.pre.1
     g.0.0 f.find.result g.0.1.0 x.0 x.1.0 x.1.1.0
     (second-names a.text.now a.first a.end a.terminals e.pre.0 f.find.result f.find.ensures.at (omega (arith, l.if1.left)) g.0.0 g.0.1.0
-    (told_names 2 1 1 limits.maxNonterminals (names_of (part a.first a.end a.text.now)) a.text.now (a.end + 1) f.find.result d.declare.result
+    (told_names 2 1 1 limits.max_nonterminals (names_of (part a.first a.end a.text.now)) a.text.now (a.end + 1) f.find.result d.declare.result
     g.0.0 g.0.1.0 g.1 d.declare.ensures.0))
     (told-held a.text.now f.find.result a.terminals a.starts.now a.lengths.now x.0 x.1.0 x.1.1.0 d.declare.result
     g.0.0 g.0.1.0 g.1 d.declare.ensures.1)

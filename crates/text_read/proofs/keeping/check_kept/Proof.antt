@@ -3,7 +3,7 @@ use borrow.Author.Rules.{rules}
 use native.Mathlib.Omega.{arith}
 use mathlib.Core.Path.{sym, ap, subst, ◌∙◌}
 use Rattle.text_read.specs.declared.TextKept.{TextKept}
-use Rattle.text_read.specs.Texts.{KeptWithin, keptRead}
+use Rattle.text_read.specs.Texts.{KeptWithin, kept_read}
 use Rattle.text_read.proofs.keeping.check_kept.Statement.{statement}
 use Rattle.text_read.proofs.keeping.check_kept.Tie as tie
 
@@ -17,10 +17,10 @@ last-tests-requires : tie.Need-last-tests-requires
 last-tests-requires c κs = let e = c.before.before.before.before in subst (λ (k : TextKept). KeptWithin k e.args.row.now) c.before.kept2.given.1 e.requires
 
 returns : tie.Need-returns
-returns c = let e = c.before.before.before.before in sym (ap (λ (k : TextKept). keptRead k e.args.row.now) c.before.kept.given.1)
+returns c = let e = c.before.before.before.before in sym (ap (λ (k : TextKept). kept_read k e.args.row.now) c.before.kept.given.1)
 
 returns-2 : tie.Need-returns-2
-returns-2 c = let e = c.before.before.before.before.before in c.last-tests.ensures ∙ sym (ap (λ (k : TextKept). keptRead k e.args.row.now) c.before.before.kept2.given.1)
+returns-2 c = let e = c.before.before.before.before.before in c.last_tests_lem.ensures ∙ sym (ap (λ (k : TextKept). kept_read k e.args.row.now) c.before.before.kept2.given.1)
 
 pub check-kept-spec : {M : Type 1} → statement M
 check-kept-spec =

@@ -1,7 +1,7 @@
 -- `text_read::keeping::check_module` meets its contract: the lines, then the table. Assumes nothing.
 use borrow.Author.Rules.{rules}
 use native.Mathlib.Omega.{arith}
-use Rattle.text_read.proofs.Whole.{kept-within, checks-module}
+use Rattle.text_read.proofs.Whole.{kept-within, checks_module}
 use Rattle.text_read.proofs.keeping.check_module.Statement.{statement}
 use Rattle.text_read.proofs.keeping.check_module.Tie as tie
 
@@ -30,7 +30,7 @@ same-length-3 c = search rules
 returns : tie.Need-returns
 returns c =
     let k = kept c.before in let x = k.keep-text.last.1 in
-    checks-module (lent k.before).args.text.now x.0 x.1.0 x.1.1.0 k.keep-text.ensures.1 k.keep-text.result
+    checks_module (lent k.before).args.text.now x.0 x.1.0 x.1.1.0 k.keep-text.ensures.1 k.keep-text.result
     c.module-tests.result k.keep-text.ensures.0 c.module-tests.ensures
 
 pub check-module-spec : {M : Type 1} → statement M

@@ -3,7 +3,7 @@ use borrow.Author.Rules.{rules}
 use native.Mathlib.Omega.{arith}
 use Rattle.text_read.specs.Texts.{HeadsRead}
 use Rattle.text_read.proofs.Rooms.{name-rows}
-use Rattle.text_read.proofs.Whole.{lines-refused, refused-names, told-heads, told-headless, ready, names-told}
+use Rattle.text_read.proofs.Whole.{lines-refused, refused-names, told_heads, told_headless, ready, names-told}
 use Rattle.text_read.proofs.keeping.keep_lines.Statement.{statement}
 use Rattle.text_read.proofs.keeping.keep_lines.Tie as tie
 
@@ -25,7 +25,7 @@ heads : (c : tie.After-known-told2) → let w = read-2 c.before.before in let x 
     HeadsRead (entry w).args.text.now x.1.0 x.1.1.0 x.1.1.1.0 g.0.0 g.0.1.0 g.0.1.1.0
 heads c =
     let w = read-2 c.before.before in let x = w.check-heads.last in let g = c.before.end.given in
-    told-heads (entry w).args.text.now x.1.0 x.1.1.0 x.1.1.1.0 w.check-heads.result g.0.0 g.0.1.0 g.0.1.1.0 g.1 w.check-heads.ensures
+    told_heads (entry w).args.text.now x.1.0 x.1.1.0 x.1.1.1.0 w.check-heads.result g.0.0 g.0.1.0 g.0.1.1.0 g.1 w.check-heads.ensures
 
 check-heads-requires : tie.Need-check-heads-requires
 check-heads-requires c κs = let p = (start c).requires in (p.0, name-rows p.1 p.2, p.3)
@@ -60,7 +60,7 @@ returns c =
     let w = read c.before.before in let e = entry w in let a = e.args in let x = w.check-heads.last in
     let g = c.before.cause.given in
     let r = lines-refused a.text.now e.pre.0 g.0.0 g.0.1.0
-    (told-headless a.text.now x.1.0 x.1.1.0 x.1.1.1.0 w.check-heads.result g.0.0 g.0.1.0 g.1 w.check-heads.ensures) in
+    (told_headless a.text.now x.1.0 x.1.1.0 x.1.1.1.0 w.check-heads.result g.0.0 g.0.1.0 g.1 w.check-heads.ensures) in
     (r, refused-names _ g.0.0 g.0.1.0 x.1.0 x.1.1.0 r)
 
 same-length-4 : tie.Need-same-length-4

@@ -5,7 +5,7 @@ use mathlib.Core.Path.{sym}
 use Prim.Native.Nat.{ℕ}
 use mathlib.Core.List.{List}
 use lib.Seq.{length-take-le}
-use Rattle.text_read.proofs.Whole.{ready-rules, ready_refused, ready-told, told-rules, told-fault}
+use Rattle.text_read.proofs.Whole.{ready_rules, ready_refused, ready_told, told-rules, told_fault}
 use Rattle.text_read.proofs.keeping.keep_rules.Statement.{statement}
 use Rattle.text_read.proofs.keeping.keep_rules.Tie as tie
 
@@ -32,7 +32,7 @@ slice-aggregate-read-rules-2 c = sym (length-take-le _ _ (lent c.before.before).
 read-rules-requires : tie.Need-read-rules-requires
 read-rules-requires c κs =
     let e = lent c.before.before.before in let a = e.args in
-    (ready-rules a.text.now a.from a.t a.n a.starts.now a.lengths.now a.links.now a.row.now e.pre, omega (arith, e.pre.begins, e.pre.heads.ends))
+    (ready_rules a.text.now a.from a.t a.n a.starts.now a.lengths.now a.links.now a.row.now e.pre, omega (arith, e.pre.begins, e.pre.heads.ends))
 
 enum-known-cause : tie.Need-enum-known-cause
 enum-known-cause c = search rules
@@ -47,7 +47,7 @@ returns : tie.Need-returns
 returns c =
     let r = c.before.before.before.before.before in let e = start r in let a = e.args in let g = c.before.cause.given in
     ready_refused a.text.now a.from a.t a.n a.starts.now a.lengths.now a.links.now a.row.now e.pre g.0.0 g.0.1.0
-    (told-fault _ (row r) r.read-rules.result g.0.0 g.0.1.0 g.1 r.read-rules.ensures)
+    (told_fault _ (row r) r.read-rules.result g.0.0 g.0.1.0 g.1 r.read-rules.ensures)
 
 same-length-2 : tie.Need-same-length-2
 same-length-2 c = search rules
@@ -55,7 +55,7 @@ same-length-2 c = search rules
 returns-2 : tie.Need-returns-2
 returns-2 c =
     let r = c.before.before.before.before.before in let e = start r in let a = e.args in let g = c.before.end.given in
-    ready-told a.text.now a.from a.t a.n a.starts.now a.lengths.now a.links.now a.row.now e.pre (row r) g.0.0
+    ready_told a.text.now a.from a.t a.n a.starts.now a.lengths.now a.links.now a.row.now e.pre (row r) g.0.0
     (told-rules _ (row r) r.read-rules.result g.0.0 g.1 r.read-rules.ensures)
 
 pub keep-rules-spec : {M : Type 1} → statement M

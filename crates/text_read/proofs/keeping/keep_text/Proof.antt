@@ -3,8 +3,8 @@ use borrow.Author.Rules.{rules}
 use native.Mathlib.Omega.{arith}
 use Prim.Native.Nat.{ℕ, ◌*◌}
 use lib.ListN.{length-replicate}
-use Rattle.lexicon.proofs.Tree.{no-links}
-use Rattle.text_read.specs.Values.{allNames}
+use Rattle.lexicon.proofs.Tree.{no_links}
+use Rattle.text_read.specs.Values.{all_names}
 use Rattle.text_read.proofs.Whole.{text-long, refused-names}
 use Rattle.text_read.proofs.keeping.keep_text.Statement.{statement}
 use Rattle.text_read.proofs.keeping.keep_text.Tie as tie
@@ -28,7 +28,7 @@ slice-aggregate-keep-lines c = search rules
 keep-lines-requires : tie.Need-keep-lines-requires
 keep-lines-requires c κs =
     let l = c.before.before.before.before in let p = (start l).requires in
-    (omega (arith, l.if1.false), p, omega (arith, p.most, length-replicate {A = ℕ} (2 * allNames) 0), no-links (2 * allNames))
+    (omega (arith, l.if1.false), p, omega (arith, p.most, length-replicate {A = ℕ} (2 * all_names) 0), no_links (2 * all_names))
 
 same_length : tie.Need-same-length
 same_length c = search rules

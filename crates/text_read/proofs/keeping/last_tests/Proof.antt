@@ -4,7 +4,7 @@ use native.Mathlib.Omega.{arith}
 use mathlib.Core.Path.{sym}
 use lib.ListN.{take}
 use Rattle.grammar.specs.Limits.{limits}
-use Rattle.grammar.specs.TableCheck.{checkTable}
+use Rattle.grammar.specs.TableCheck.{check_table}
 use lib.Seq.{length-take-le}
 use Rattle.text_read.proofs.Whole.{checked_refused, checked-passed}
 use Rattle.text_read.proofs.keeping.last_tests.Statement.{statement}
@@ -26,12 +26,12 @@ returns : tie.Need-returns
 returns c = let a = c.before.before.before.before.before.before.before.args in
     let x = c.before.before.before.before.check-table in
     let g = c.before.verdict.given in
-    checked_refused a.t a.n a.end (checkTable limits a.t a.n (take a.end a.row.now)) x.result g.0.0 g.0.1.0 x.ensures g.1
+    checked_refused a.t a.n a.end (check_table limits a.t a.n (take a.end a.row.now)) x.result g.0.0 g.0.1.0 x.ensures g.1
 
 returns-2 : tie.Need-returns-2
 returns-2 c = let a = c.before.before.before.before.before.before.args in
     let x = c.before.before.before.check-table in
-    checked-passed a.t a.n a.end (checkTable limits a.t a.n (take a.end a.row.now)) x.result x.ensures c.enum_told.given.1
+    checked-passed a.t a.n a.end (check_table limits a.t a.n (take a.end a.row.now)) x.result x.ensures c.enum_told.given.1
 
 pub last-tests-spec : {M : Type 1} → statement M
 last-tests-spec =

@@ -3,7 +3,7 @@ use borrow.Author.Rules.{rules}
 use native.Mathlib.Omega.{arith}
 use mathlib.Core.Path.{sym, ap, subst, ◌∙◌}
 use Rattle.text_read.specs.declared.TextKept.{TextKept}
-use Rattle.text_read.specs.Texts.{KeptWithin, moduleRead}
+use Rattle.text_read.specs.Texts.{KeptWithin, module_read}
 use Rattle.text_read.proofs.keeping.module_tests.Statement.{statement}
 use Rattle.text_read.proofs.keeping.module_tests.Tie as tie
 
@@ -17,10 +17,10 @@ rule-tests-requires : tie.Need-rule-tests-requires
 rule-tests-requires c κs = let e = c.before.before.before.before in subst (λ (k : TextKept). KeptWithin k e.args.row.now) c.before.kept2.given.1 e.requires
 
 returns : tie.Need-returns
-returns c = let e = c.before.before.before.before in sym (ap (λ (k : TextKept). moduleRead k e.args.row.now) c.before.kept.given.1)
+returns c = let e = c.before.before.before.before in sym (ap (λ (k : TextKept). module_read k e.args.row.now) c.before.kept.given.1)
 
 returns-2 : tie.Need-returns-2
-returns-2 c = let e = c.before.before.before.before.before in c.rule-tests.ensures ∙ sym (ap (λ (k : TextKept). moduleRead k e.args.row.now) c.before.before.kept2.given.1)
+returns-2 c = let e = c.before.before.before.before.before in c.rule-tests.ensures ∙ sym (ap (λ (k : TextKept). module_read k e.args.row.now) c.before.before.kept2.given.1)
 
 pub module-tests-spec : {M : Type 1} → statement M
 module-tests-spec =

@@ -8,20 +8,20 @@ use lib.ListN.{length, drop}
 use Rattle.grammar.specs.Limits.{limits}
 use Rattle.grammar.specs.Grammar.{Rule}
 use Rattle.grammar.specs.Refusal.{Answer}
-use Rattle.text.specs.Pieces.{splitOn}
-use Rattle.text.specs.Read.{ruleLines}
-use Rattle.text.proofs.Pieces.{split-pos}
+use Rattle.text.specs.Pieces.{split_on}
+use Rattle.text.specs.Read.{rule_lines}
+use Rattle.text.proofs.Pieces.{split_pos}
 use Rattle.text.specs.Spelled.{spelled}
 use Rattle.names.specs.Found.{part}
-use Rattle.names.proofs.Pieces.{piece-more, piece-last, length-piece}
+use Rattle.names.proofs.Pieces.{piece_more, piece_last, length_piece}
 use Rattle.text_read.specs.declared.Kept.{Kept}
 use Rattle.text_read.specs.Lines.{RulesTold}
-use Rattle.text_read.proofs.RuleLines.{Passed, passed_none, passed-all, passed-open, passed-fault, passed-more, told-kept, told-fault}
+use Rattle.text_read.proofs.RuleLines.{Passed, passed_none, passed-all, passed_open, passed_fault, passed-more, told-kept, told_fault}
 use Rattle.text_read.proofs.rules.read_rules.Statement.{statement}
 use Rattle.text_read.proofs.rules.read_rules.Tie as tie
 
 abbrev invariant-loop : tie.invariant-loop
-invariant-loop text from starts lengths links t row₀ n a₀ k₀ end₀ row a k end = (a ≤ length text) × (k ≤ a) × Passed (ruleLines limits 3 t (spelled text starts lengths) (splitOn 10 (drop from text))) text t (spelled text starts lengths) a k end row
+invariant-loop text from starts lengths links t row₀ n a₀ k₀ end₀ row a k end = (a ≤ length text) × (k ≤ a) × Passed (rule_lines limits 3 t (spelled text starts lengths) (split_on 10 (drop from text))) text t (spelled text starts lengths) a k end row
     × (length row ≡ length row₀)
 
 abbrev decreases-loop : tie.decreases-loop
@@ -41,7 +41,7 @@ abbrev names : tie.Start invariant-loop decreases-loop → List (List ℕ)
 names e = spelled e.args.text.now e.args.starts.now e.args.lengths.now
 
 abbrev answer : tie.Start invariant-loop decreases-loop → Answer (List Rule)
-answer e = ruleLines limits 3 e.args.t (names e) (splitOn 10 (drop e.args.from e.args.text.now))
+answer e = rule_lines limits 3 e.args.t (names e) (split_on 10 (drop e.args.from e.args.text.now))
 
 -- the row after a line
 abbrev row : tie.After-rule-line invariant-loop decreases-loop → List ℕ
@@ -52,20 +52,20 @@ long c = search rules
 
 -- the line at the cursor is ended
 more : (c : tie.Else1 invariant-loop decreases-loop) → let f = ended c in let l = f.before.loop in let x = (start f.before).args.text.now in
-    splitOn 10 (drop l.a x) ≡ part l.a f.find.result x ∷ splitOn 10 (drop (f.find.result + 1) x)
+    split_on 10 (drop l.a x) ≡ part l.a f.find.result x ∷ split_on 10 (drop (f.find.result + 1) x)
 more c =
     let f = ended c in let l = f.before.loop in
-    piece-more 10 (start f.before).args.text.now l.a f.find.result l.inv.0 f.find.ensures.at c.if1.false
+    piece_more 10 (start f.before).args.text.now l.a f.find.result l.inv.0 f.find.ensures.at c.if1.false
 
 line : (c : tie.Else1 invariant-loop decreases-loop) → let f = ended c in let l = f.before.loop in length (part l.a f.find.result (start f.before).args.text.now) ≡ f.find.result - l.a
-line c = let f = ended c in let l = f.before.loop in length-piece 10 (start f.before).args.text.now l.a f.find.result l.inv.0 f.find.ensures.at
+line c = let f = ended c in let l = f.before.loop in length_piece 10 (start f.before).args.text.now l.a f.find.result l.inv.0 f.find.ensures.at
 
 -- the last one is not
 last : (c : tie.Then1 invariant-loop decreases-loop) → let f = c.before in let l = f.before.loop in let x = (start f.before).args.text.now in
-    splitOn 10 (drop l.a x) ≡ part l.a f.find.result x ∷ []
+    split_on 10 (drop l.a x) ≡ part l.a f.find.result x ∷ []
 last c =
     let f = c.before in let l = f.before.loop in
-    piece-last 10 (start f.before).args.text.now l.a f.find.result l.invariant.0 f.find.ensures.at c.if1.true
+    piece_last 10 (start f.before).args.text.now l.a f.find.result l.invariant.0 f.find.ensures.at c.if1.true
 
 loop-holds : tie.Need-loop-init invariant-loop decreases-loop
 loop-holds c =
@@ -84,8 +84,8 @@ same_length c = c.before.before.before.loop.invariant.3
 returns : tie.Need-returns invariant-loop decreases-loop
 returns c =
     let f = c.before.before in let l = f.before.loop in let e = start f.before in let a = e.args in
-    passed-open (answer e) a.text.now a.t (names e) l.a l.k l.end l.row l.invariant.2 f.find.result (part l.a f.find.result a.text.now) (last c.before)
-    (λ z. omega (arith, length-piece 10 a.text.now l.a f.find.result (omega arith) f.find.ensures.at, c.if2.true, c.before.if1.true))
+    passed_open (answer e) a.text.now a.t (names e) l.a l.k l.end l.row l.invariant.2 f.find.result (part l.a f.find.result a.text.now) (last c.before)
+    (λ z. omega (arith, length_piece 10 a.text.now l.a f.find.result (omega arith) f.find.ensures.at, c.if2.true, c.before.if1.true))
 
 same-length-2 : tie.Need-same-length-2 invariant-loop decreases-loop
 same-length-2 c = c.before.before.before.loop.invariant.3
@@ -94,7 +94,7 @@ returns-2 : tie.Need-returns-2 invariant-loop decreases-loop
 returns-2 c =
     let f = c.before.before in let l = f.before.loop in let e = start f.before in let a = e.args in
     passed-all (answer e) a.text.now a.t (names e) l.a l.k l.end l.row l.invariant.2 f.find.result (part l.a f.find.result a.text.now) (last c.before)
-    (omega (arith, length-piece 10 a.text.now l.a f.find.result (omega arith) f.find.ensures.at, c.if2.false, f.find.ensures.high))
+    (omega (arith, length_piece 10 a.text.now l.a f.find.result (omega arith) f.find.ensures.at, c.if2.false, f.find.ensures.high))
 
 add-rule-line : tie.Need-overflow-add-rule-line invariant-loop decreases-loop
 add-rule-line c = omega (arith, (start (ended c).before).pre.0.short)
@@ -138,8 +138,8 @@ returns-3 c =
     let g = c.enum_told.given in
     let x = a.text.now in
     subst (λ (k : Kept). RulesTold (answer e) (row r) k) (sym g.1)
-    (passed-fault (answer e) x a.t (names e) l.a l.k l.end l.row l.inv.2 f.find.result (part l.a f.find.result x) (splitOn 10 (drop (f.find.result + 1) x)) (more w) (split-pos 10 _) g.0.0 g.0.1.0
-    (told-fault _ l.k l.end _ l.row (row r) r.rule-line.result g.0.0 g.0.1.0 g.1 r.rule-line.ensures))
+    (passed_fault (answer e) x a.t (names e) l.a l.k l.end l.row l.inv.2 f.find.result (part l.a f.find.result x) (split_on 10 (drop (f.find.result + 1) x)) (more w) (split_pos 10 _) g.0.0 g.0.1.0
+    (told_fault _ l.k l.end _ l.row (row r) r.rule-line.result g.0.0 g.0.1.0 g.1 r.rule-line.ensures))
 
 add-k : tie.Need-overflow-add-k invariant-loop decreases-loop
 add-k c = let f = ended (read c.before.before.before.before.before) in omega (arith, (start f.before).pre.0.short)
@@ -157,7 +157,7 @@ loop-again c =
     let x = a.text.now in (
       omega arith,
       omega arith,
-      passed-more (answer e) x a.t (names e) l.a l.k l.end l.row l.inv.2 f.find.result (part l.a f.find.result x) (splitOn 10 (drop (f.find.result + 1) x)) (more w) (split-pos 10 _) (row r) g.0.0
+      passed-more (answer e) x a.t (names e) l.a l.k l.end l.row l.inv.2 f.find.result (part l.a f.find.result x) (split_on 10 (drop (f.find.result + 1) x)) (more w) (split_pos 10 _) (row r) g.0.0
           (told-kept _ l.k l.end _ l.row (row r) r.rule-line.result g.0.0 g.1 r.rule-line.ensures) refl (omega (arith, line w, f.find.ensures.low)),
       omega (arith, long r, l.inv.3),
     )

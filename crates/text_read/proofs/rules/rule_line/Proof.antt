@@ -13,8 +13,8 @@ use Rattle.names.specs.Found.{part}
 use Rattle.text_read.specs.Lines.{KeptTold}
 use Rattle.text_read.specs.Values.{HasValue}
 use Rattle.text_read.proofs.Values.{told-value, told_none}
-use Rattle.text_read.proofs.Shapes.{told-shape, told-shapeless}
-use Rattle.text_read.proofs.RuleLines.{line-none, line-value, value-shapeless, line-rest, told_wider}
+use Rattle.text_read.proofs.Shapes.{told-shape, told_shapeless}
+use Rattle.text_read.proofs.RuleLines.{line-none, line-value, value_shapeless, line-rest, told_wider}
 use Rattle.text_read.proofs.rules.rule_line.Statement.{statement}
 use Rattle.text_read.proofs.rules.rule_line.Tie as tie
 
@@ -87,7 +87,7 @@ returns-2 c =
     let s = c.before.before in let w = valued s in let e = start (split w) in let a = e.args in
     let v = part (from w) (to w) a.line.now in
     line-value a.at a.t (names e) a.line.now (from w) (to w) (value w)
-    ∙ value-shapeless a.at a.t (names e) v (told-shapeless v s.rule-shape.result c.enum-told2.given.1 s.rule-shape.ensures)
+    ∙ value_shapeless a.at a.t (names e) v (told_shapeless v s.rule-shape.result c.enum-told2.given.1 s.rule-shape.ensures)
 
 take-rule-requires : tie.Need-take-rule-requires
 take-rule-requires c κs =

@@ -6,18 +6,18 @@ use Prim.Native.Nat.{ℕ, ◌≤◌, ◌<◌, ◌+◌, ◌-◌}
 use mathlib.Core.List.{List, [], ◌∷◌}
 use mathlib.Core.Bool.{true, false}
 use lib.ListN.{length, drop, set}
-use Rattle.text.specs.Pieces.{splitOn}
+use Rattle.text.specs.Pieces.{split_on}
 use Rattle.text.specs.Spelled.{spelled}
 use Rattle.text.proofs.Spans.{length-spelled}
 use Rattle.names.specs.Found.{part}
-use Rattle.names.proofs.Pieces.{piece-more, piece-last, piece-first}
-use Rattle.text_read.proofs.Codes.{Looking, looking-start, looking-unknown, looking-more, looking-all, taken_none, taken-led}
+use Rattle.names.proofs.Pieces.{piece_more, piece_last, piece_first}
+use Rattle.text_read.proofs.Codes.{Looking, looking_start, looking_unknown, looking_more, looking_all, taken_none, taken-led}
 use Rattle.text_read.proofs.rules.take_codes.Statement.{statement}
 use Rattle.text_read.proofs.rules.take_codes.Tie as tie
 
 abbrev invariant-loop : tie.invariant-loop
 invariant-loop r text starts lengths links t row₀ at n m a₀ j₀ row a j =
-    (0 < length r) × (1 ≤ a) × (a ≤ length r) × (j + 1 ≤ at + a) × Looking t (spelled text starts lengths) (splitOn 32 (drop 1 r)) at row₀ j row (splitOn 32 (drop a r))
+    (0 < length r) × (1 ≤ a) × (a ≤ length r) × (j + 1 ≤ at + a) × Looking t (spelled text starts lengths) (split_on 32 (drop 1 r)) at row₀ j row (split_on 32 (drop a r))
 
 abbrev decreases-loop : tie.decreases-loop
 decreases-loop r text starts lengths links t row₀ at n m a₀ j₀ row a j = length r - a
@@ -41,12 +41,12 @@ as_many e = length-spelled e.args.text.now e.args.starts.now e.args.lengths.now 
 
 -- the name at the cursor is known, its code is put, and `rest` follows
 more : (c : tie.After-put-entry invariant-loop decreases-loop) → let w = looked c in let l = turn w in let e = start l in
-    (rest : List (List ℕ)) → splitOn 32 (drop l.loop.a e.args.r.now) ≡ part l.loop.a w.before.before.find.result e.args.r.now ∷ rest
+    (rest : List (List ℕ)) → split_on 32 (drop l.loop.a e.args.r.now) ≡ part l.loop.a w.before.before.find.result e.args.r.now ∷ rest
     → (row : List ℕ) → row ≡ set l.loop.row l.loop.j c.before.code_of_lem.result
-    → Looking e.args.t (names e) (splitOn 32 (drop 1 e.args.r.now)) e.args.at e.args.row.now (l.loop.j + 1) row rest
+    → Looking e.args.t (names e) (split_on 32 (drop 1 e.args.r.now)) e.args.at e.args.row.now (l.loop.j + 1) row rest
 more c rest q row g =
     let w = looked c in let l = turn w in let e = start l in let a = e.args in
-    looking-more a.t (names e) (splitOn 32 (drop 1 a.r.now)) a.at a.row.now l.loop.j l.loop.row (splitOn 32 (drop l.loop.a a.r.now)) l.loop.inv.4
+    looking_more a.t (names e) (split_on 32 (drop 1 a.r.now)) a.at a.row.now l.loop.j l.loop.row (split_on 32 (drop l.loop.a a.r.now)) l.loop.inv.4
     (part l.loop.a w.before.before.find.result a.r.now) rest q w.find2.result w.find2.ensures
     (omega (arith, as_many e, c.before.before.before.if2.false)) c.before.code_of_lem.result c.before.code_of_lem.ensures row g
 
@@ -58,7 +58,7 @@ returns c =
 loop-holds : tie.Need-loop-init invariant-loop decreases-loop
 loop-holds c =
     let e = c.before.before.before.before.before.before.before in let a = e.args in
-    (omega (arith, c.if1.false), omega arith, omega (arith, c.if1.false), omega arith, looking-start a.t (names e) (splitOn 32 (drop 1 a.r.now)) a.at a.row.now)
+    (omega (arith, c.if1.false), omega arith, omega (arith, c.if1.false), omega arith, looking_start a.t (names e) (split_on 32 (drop 1 a.r.now)) a.at a.row.now)
 
 find-requires : tie.Need-find-requires invariant-loop decreases-loop
 find-requires c κs = search rules
@@ -82,9 +82,9 @@ returns-2 : tie.Need-returns-2 invariant-loop decreases-loop
 returns-2 c =
     let w = c.before in let l = turn w in let e = start l in let a = e.args in
     let f = w.before.before.find in
-    let p = piece-first 32 a.r.now l.loop.a f.result l.loop.inv.2 f.ensures.at in
+    let p = piece_first 32 a.r.now l.loop.a f.result l.loop.inv.2 f.ensures.at in
     taken-led a.t (names e) a.r.now a.at a.row.now l.loop.row false l.loop.inv.0 (e.pre.led l.loop.inv.0)
-    (looking-unknown a.t (names e) (splitOn 32 (drop 1 a.r.now)) a.at a.row.now l.loop.j l.loop.row (splitOn 32 (drop l.loop.a a.r.now)) l.loop.inv.4
+    (looking_unknown a.t (names e) (split_on 32 (drop 1 a.r.now)) a.at a.row.now l.loop.j l.loop.row (split_on 32 (drop l.loop.a a.r.now)) l.loop.inv.4
     (part l.loop.a f.result a.r.now) p.0 p.1 w.find2.result w.find2.ensures (omega (arith, as_many e, c.if2.true)))
 
 code-of-requires : tie.Need-code-of-requires invariant-loop decreases-loop
@@ -100,9 +100,9 @@ returns-3 : tie.Need-returns-3 invariant-loop decreases-loop
 returns-3 c =
     let k = c.before.before.before in let w = looked k in let l = turn w in let e = start l in let a = e.args in
     let f = w.before.before.find in
-    let q = piece-last 32 a.r.now l.loop.a f.result l.loop.inv.2 f.ensures.at c.if3.true in
+    let q = piece_last 32 a.r.now l.loop.a f.result l.loop.inv.2 f.ensures.at c.if3.true in
     taken-led a.t (names e) a.r.now a.at a.row.now _ true l.loop.inv.0 (e.pre.led l.loop.inv.0)
-    (looking-all a.t (names e) (splitOn 32 (drop 1 a.r.now)) a.at a.row.now (l.loop.j + 1) _ [] (more k [] q _ k.put-entry.ensures) refl)
+    (looking_all a.t (names e) (split_on 32 (drop 1 a.r.now)) a.at a.row.now (l.loop.j + 1) _ [] (more k [] q _ k.put-entry.ensures) refl)
 
 add_a : tie.Need-overflow-add-a invariant-loop decreases-loop
 add_a c = search rules
@@ -117,8 +117,8 @@ loop-again : tie.Need-loop-preserved invariant-loop decreases-loop
 loop-again c =
     let k = c.before.before.before in let w = looked k in let l = turn w in let e = start l in let a = e.args in
     let f = w.before.before.find in
-    let q = piece-more 32 a.r.now l.loop.a f.result l.loop.inv.2 f.ensures.at c.if3.false in
-    (l.loop.inv.0, omega arith, omega arith, omega (arith, l.loop.inv.3), more k (splitOn 32 (drop (f.result + 1) a.r.now)) q _ k.put-entry.ensures)
+    let q = piece_more 32 a.r.now l.loop.a f.result l.loop.inv.2 f.ensures.at c.if3.false in
+    (l.loop.inv.0, omega arith, omega arith, omega (arith, l.loop.inv.3), more k (split_on 32 (drop (f.result + 1) a.r.now)) q _ k.put-entry.ensures)
 
 pub take-codes-spec : {M : Type 1} → statement M
 take-codes-spec =

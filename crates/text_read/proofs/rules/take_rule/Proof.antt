@@ -1,4 +1,4 @@
--- `text_read::rules::take_rule` meets its contract: the tests of `knownRule` in its order; of a rule after those that are kept nothing is kept. Assumes nothing.
+-- `text_read::rules::take_rule` meets its contract: the tests of `known_rule` in its order; of a rule after those that are kept nothing is kept. Assumes nothing.
 use borrow.Author.Rules.{rules}
 use native.Mathlib.Omega.{arith}
 use mathlib.Core.Path.{◌≡◌, sym, ap, ◌∙◌}
@@ -9,18 +9,18 @@ use lib.ListN.{length, drop, set, length-set}
 use borrow.Author.Tests.{not-true, not-false}
 use Rattle.grammar.specs.Limits.{limits}
 use Rattle.grammar.specs.Refusal.{done}
-use Rattle.text.specs.Pieces.{splitOn}
-use Rattle.text.specs.Names.{all, sameName, place}
-use Rattle.text.specs.Read.{isKnown, ruleOf}
+use Rattle.text.specs.Pieces.{split_on}
+use Rattle.text.specs.Names.{all, same_name, place}
+use Rattle.text.specs.Read.{is_known, rule_of}
 use Rattle.text.specs.Spelled.{spelled}
 use Rattle.text.proofs.Spans.{length-spelled}
 use Rattle.names.specs.Found.{part}
-use Rattle.text_read.specs.Lines.{ruleValue, keptRules}
+use Rattle.text_read.specs.Lines.{rule_value, kept_rules}
 use Rattle.text_read.proofs.Rooms.{rule-bytes, rule-room}
 use Rattle.text_read.proofs.Lookups.{known-low, known_out, known_in}
 use Rattle.text_read.proofs.Shapes.{led-first}
 use Rattle.text_read.proofs.Codes.{taken-front, taken-entries}
-use Rattle.text_read.proofs.RuleLines.{value-left, value-right, value-many, value-done, body-part, body-count, body-all, head-part, rule-passed, rule-kept}
+use Rattle.text_read.proofs.RuleLines.{value-left, value-right, value_many, value-done, body-part, body_count, body-all, head-part, rule-passed, rule-kept}
 use Rattle.text_read.proofs.rules.take_rule.Statement.{statement}
 use Rattle.text_read.proofs.rules.take_rule.Tie as tie
 
@@ -51,30 +51,30 @@ as_many : (e : tie.Start) → length (names e) ≡ length e.args.starts.now
 as_many e = length-spelled e.args.text.now e.args.starts.now e.args.lengths.now e.requires.1.lexicon.spans.paired
 
 -- the left name's number
-number : (c : tie.After-find) → c.find.result ≡ place (sameName (start c).requires.0.sides.head) (names (start c))
+number : (c : tie.After-find) → c.find.result ≡ place (same_name (start c).requires.0.sides.head) (names (start c))
 number c =
     let e = start c in let a = e.args in
-    c.find.ensures ∙ ap (λ (x : List ℕ). place (sameName x) (names e)) (head-part a.v.now a.colon a.count e.pre.0)
+    c.find.ensures ∙ ap (λ (x : List ℕ). place (same_name x) (names e)) (head-part a.v.now a.colon a.count e.pre.0)
 
-left-known : (c : tie.Else2) → let e = start (found c) in isKnown e.args.t (names e) e.pre.0.sides.head ≡ true
+left-known : (c : tie.Else2) → let e = start (found c) in is_known e.args.t (names e) e.pre.0.sides.head ≡ true
 left-known c =
     let f = found c in let e = start f in
     known_in e.args.t (names e) e.pre.0.sides.head f.find.result (number f) (omega (arith, c.before.if1.false)) (omega (arith, as_many e, c.if2.false))
 
 -- whether the names after the colon are known
-right-known : (c : tie.After-take-codes) (b : Bool) → c.take-codes.result ≡ b → let e = start (found (led c)) in all (isKnown 0 (names e)) e.pre.0.sides.body ≡ b
+right-known : (c : tie.After-take-codes) (b : Bool) → c.take-codes.result ≡ b → let e = start (found (led c)) in all (is_known 0 (names e)) e.pre.0.sides.body ≡ b
 right-known c b q =
     let e = start (found (led c)) in let a = e.args in
-    sym (body-all a.at a.t (names e) a.v.now a.colon a.count e.pre.0 (isKnown 0 (names e))) ∙ sym c.take-codes.ensures.answer ∙ q
+    sym (body-all a.at a.t (names e) a.v.now a.colon a.count e.pre.0 (is_known 0 (names e))) ∙ sym c.take-codes.ensures.answer ∙ q
 
 value : (c : tie.After-take-codes) → c.take-codes.result ≡ true → let e = start (found (led c)) in let a = e.args in
-    a.count ≤ 12 → ruleValue a.at a.t (names e) a.v.now ≡ done (ruleOf limits a.t (names e) e.pre.0.sides)
+    a.count ≤ 12 → rule_value a.at a.t (names e) a.v.now ≡ done (rule_of limits a.t (names e) e.pre.0.sides)
 value c q m =
     let e = start (found (led c)) in let a = e.args in
     value-done a.at a.t (names e) a.v.now a.colon a.count e.pre.0 (left-known (led c)) (right-known c true q) m
 
 -- the row has room for the rule
-room : (c : tie.After-take-codes) → let a = (start (found (led c))).args in a.k < keptRules → a.count ≤ 12 → a.end + 2 + a.count ≤ length a.row.now
+room : (c : tie.After-take-codes) → let a = (start (found (led c))).args in a.k < kept_rules → a.count ≤ 12 → a.end + 2 + a.count ≤ length a.row.now
 room c l m =
     let e = start (found (led c)) in let a = e.args in
     rule-room a.text.now a.starts.now a.lengths.now a.links.now a.t a.row.now a.k a.end a.v.now a.colon a.count e.pre.0 e.pre.1 l m
@@ -145,7 +145,7 @@ same-length-2 c = search rules
 returns-4 : tie.Need-returns-4
 returns-4 c =
     let w = c.before.before.before.before in let e = start (found (led w)) in let a = e.args in
-    value-many a.at a.t (names e) a.v.now a.colon a.count e.pre.0 (left-known (led w)) (right-known w _ (not-false _ c.before.if3.false)) c.if4.true
+    value_many a.at a.t (names e) a.v.now a.colon a.count e.pre.0 (left-known (led w)) (right-known w _ (not-false _ c.before.if3.false)) c.if4.true
 
 same-length-3 : tie.Need-same-length-3
 same-length-3 c = search rules
@@ -154,7 +154,7 @@ returns-5 : tie.Need-returns-5
 returns-5 c =
     let w = c.before.before.before.before.before in let e = start (found (led w)) in let a = e.args in
     rule-passed _ _ a.k a.end a.row.now (row w) (value w (not-false _ c.before.before.if3.false) (omega (arith, c.before.if4.false))) c.if5.true
-    (taken-front a.t (names e) (drop 1 (splitOn 32 (body e))) a.end a.row.now (row w) w.take-codes.result w.take-codes.ensures) (omega (arith, long w, e.pre.1.inside)) _
+    (taken-front a.t (names e) (drop 1 (split_on 32 (body e))) a.end a.row.now (row w) w.take-codes.result w.take-codes.ensures) (omega (arith, long w, e.pre.1.inside)) _
 
 code-of-requires : tie.Need-code-of-requires
 code-of-requires c κs = search rules
@@ -191,8 +191,8 @@ returns-6 c =
     rule-kept _ a.t (names e) h.sides (found (led w)).find.result a.count a.k a.end (body e) a.row.now (set (set (row w) a.end x) (a.end + 1) a.count)
     (body-part a.at a.t (names e) a.v.now a.colon a.count h) (value w (not-false _ k) m) (number (found (led w))) h.counts m c.before.if5.false
     (omega (arith, space, long w, length-set (set (row w) a.end x) (a.end + 1) a.count, length-set (row w) a.end x))
-    (taken-entries a.t (names e) (drop 1 (splitOn 32 (body e))) a.end a.row.now (row w) w.take-codes.result w.take-codes.ensures
-    (found (led w)).find.result a.count x (not-false _ k) c.code_of_lem.ensures (body-count a.at a.t (names e) a.v.now a.colon a.count h) (long w) space)
+    (taken-entries a.t (names e) (drop 1 (split_on 32 (body e))) a.end a.row.now (row w) w.take-codes.result w.take-codes.ensures
+    (found (led w)).find.result a.count x (not-false _ k) c.code_of_lem.ensures (body_count a.at a.t (names e) a.v.now a.colon a.count h) (long w) space)
     _ (rule-bytes a.v.now a.colon a.count h)
 
 mul-row : tie.Need-overflow-mul-row

@@ -5,15 +5,15 @@ use Prim.Native.Nat.{◌≤◌, ◌-◌}
 use mathlib.Core.Path.{◌≡◌, sym, ap, ◌∙◌}
 use lib.ListN.{length, drop}
 use mathlib.Core.List.{[]}
-use Rattle.text.specs.Pieces.{splitOn}
-use Rattle.names.proofs.Pieces.{piece-more, piece-last, piece-first}
+use Rattle.text.specs.Pieces.{split_on}
+use Rattle.names.proofs.Pieces.{piece_more, piece_last, piece_first}
 use Rattle.text_read.specs.Values.{counted}
-use Rattle.text_read.proofs.Values.{counted-good, counted-bad, counted-end}
+use Rattle.text_read.proofs.Values.{counted_good, counted_bad, counted-end}
 use Rattle.text_read.proofs.value.count_pieces.Statement.{statement}
 use Rattle.text_read.proofs.value.count_pieces.Tie as tie
 
 abbrev invariant-loop : tie.invariant-loop
-invariant-loop v from c n a₀ k₀ a k = (a ≤ length v) × (k ≤ a) × (counted 0 (splitOn c (drop from v)) ≡ counted k (splitOn c (drop a v)))
+invariant-loop v from c n a₀ k₀ a k = (a ≤ length v) × (k ≤ a) × (counted 0 (split_on c (drop from v)) ≡ counted k (split_on c (drop a v)))
 
 abbrev decreases-loop : tie.decreases-loop
 decreases-loop v from c n a₀ k₀ a k = length v - a
@@ -43,8 +43,8 @@ returns : tie.Need-returns invariant-loop decreases-loop
 returns c = let e = c.before.before.before.before.before.before.before.args in
     let l = c.before.before.before.before.before.loop in
     let f = c.before.before.before.before.find in
-    sym (l.invariant.2 ∙ ap (counted _) (piece-last e.c e.v.now l.a f.result (omega arith) f.ensures.at c.if2.true)
-    ∙ counted-good _ _ [] (sym c.before.before.is_name.ensures ∙ c.before.if1.true) ∙ counted-end _)
+    sym (l.invariant.2 ∙ ap (counted _) (piece_last e.c e.v.now l.a f.result (omega arith) f.ensures.at c.if2.true)
+    ∙ counted_good _ _ [] (sym c.before.before.is_name.ensures ∙ c.before.if1.true) ∙ counted-end _)
 
 add_a : tie.Need-overflow-add-a invariant-loop decreases-loop
 add_a c = search rules
@@ -58,16 +58,16 @@ loop-again c = let e = c.before.before.before.before.before.before.before.args i
     let f = c.before.before.before.before.find in (
       omega arith,
       omega arith,
-      l.invariant.2 ∙ ap (counted _) (piece-more e.c e.v.now l.a f.result (omega arith) f.ensures.at c.if2.false)
-          ∙ counted-good _ _ _ (sym c.before.before.is_name.ensures ∙ c.before.if1.true),
+      l.invariant.2 ∙ ap (counted _) (piece_more e.c e.v.now l.a f.result (omega arith) f.ensures.at c.if2.false)
+          ∙ counted_good _ _ _ (sym c.before.before.is_name.ensures ∙ c.before.if1.true),
     )
 
 returns-2 : tie.Need-returns-2 invariant-loop decreases-loop
 returns-2 c = let e = c.before.before.before.before.before.before.args in
     let l = c.before.before.before.before.loop in
     let f = c.before.before.before.find in
-    sym (l.invariant.2 ∙ ap (counted _) (piece-first e.c e.v.now l.a f.result (omega arith) f.ensures.at).1
-    ∙ counted-bad _ _ _ (sym c.before.is_name.ensures ∙ c.if1.false))
+    sym (l.invariant.2 ∙ ap (counted _) (piece_first e.c e.v.now l.a f.result (omega arith) f.ensures.at).1
+    ∙ counted_bad _ _ _ (sym c.before.is_name.ensures ∙ c.if1.false))
 
 pub count-pieces-spec : {M : Type 1} → statement M
 count-pieces-spec =

@@ -3,8 +3,8 @@ use borrow.Author.Rules.{rules}
 use native.Mathlib.Omega.{arith}
 use mathlib.Core.Path.{sym, ap, ◌∙◌}
 use Prim.Native.Nat.{◌+◌, ◌-◌}
-use Rattle.text.specs.Pieces.{splitOn}
-use Rattle.text_read.specs.Values.{bodyCounted}
+use Rattle.text.specs.Pieces.{split_on}
+use Rattle.text_read.specs.Values.{body_counted}
 use Rattle.text_read.proofs.Values.{tail-part}
 use Rattle.text_read.proofs.Shapes.{shape-none, shape-head, shape-body, shape-found}
 use Rattle.text_read.proofs.value.rule_shape.Statement.{statement}
@@ -54,13 +54,13 @@ returns-2 : tie.Need-returns-2
 returns-2 c = let v = c.before.before.before.before.before.before.before.before.before.before.args.v.now in
     let f = c.before.before.before.before.before.before.before.before.find in
     shape-body v f.result f.ensures.at (omega arith) (sym c.before.before.before.before.before.is_name.ensures ∙ c.before.before.before.before.if2.true)
-    (ap (λ w. bodyCounted (splitOn 32 w)) (sym (tail-part v (f.result + 1))) ∙ sym c.before.before.body-count.ensures ∙ c.enum_told.given.1)
+    (ap (λ w. body_counted (split_on 32 w)) (sym (tail-part v (f.result + 1))) ∙ sym c.before.before.body-count.ensures ∙ c.enum_told.given.1)
 
 returns-3 : tie.Need-returns-3
 returns-3 c = let v = c.before.before.before.before.before.before.before.before.before.before.before.args.v.now in
     let f = c.before.before.before.before.before.before.before.before.before.find in
     shape-found v f.result f.ensures.at (omega arith) _ (sym c.before.before.before.before.before.before.is_name.ensures ∙ c.before.before.before.before.before.if2.true)
-    (ap (λ w. bodyCounted (splitOn 32 w)) (sym (tail-part v (f.result + 1))) ∙ sym c.before.before.before.body-count.ensures ∙ c.before.count.given.1)
+    (ap (λ w. body_counted (split_on 32 w)) (sym (tail-part v (f.result + 1))) ∙ sym c.before.before.before.body-count.ensures ∙ c.before.count.given.1)
 
 returns-4 : tie.Need-returns-4
 returns-4 c = let v = c.before.before.before.before.before.before.args.v.now in

@@ -6,14 +6,14 @@ use native.Mathlib.Omega.{arith}
 use borrow.Author.Rules.{rules}
 use borrow.Author.Tests.{not-true, not-false}
 use Rattle.text.specs.Print.{gather}
-use Rattle.text_write.specs.Contracts.{stopsAt}
-use Rattle.text_write.proofs.LentLaws.{gather-more, gather-stops, gather-ends}
+use Rattle.text_write.specs.Clauses.{stops_at}
+use Rattle.text_write.proofs.LentLaws.{gather-more, gather_stops, gather-ends}
 use Rattle.text_write.proofs.lent.first_bad.Statement.{statement}
 use Rattle.text_write.proofs.lent.first_bad.Tie as tie
 
 abbrev invariant-loop : tie.invariant-loop
 invariant-loop m bytes starts lengths i₀ i = (i ≤ m)
-    × (stopsAt m (gather bytes starts lengths i (m - i)) ≡ stopsAt m (gather bytes starts lengths 0 m))
+    × (stops_at m (gather bytes starts lengths i (m - i)) ≡ stops_at m (gather bytes starts lengths 0 m))
 
 abbrev decreases-loop : tie.decreases-loop
 decreases-loop m bytes starts lengths i₀ i = m - i
@@ -23,7 +23,7 @@ loop-holds c =
     let s = c.before.before.before in
     let a = s.args in (
       omega arith,
-      ap (λ k. stopsAt a.m (gather a.bytes.now a.starts.now a.lengths.now 0 k))
+      ap (λ k. stops_at a.m (gather a.bytes.now a.starts.now a.lengths.now 0 k))
           (sub-zero a.m),
     )
 
@@ -35,7 +35,7 @@ returns c =
     let s = c.before.before.before.before.before.before.before in
     let a = s.args in
     let l = c.before.before.before.loop in
-    sym (gather-stops a.bytes.now a.starts.now a.lengths.now a.m l.i c.before.before.loop-test.true
+    sym (gather_stops a.bytes.now a.starts.now a.lengths.now a.m l.i c.before.before.loop-test.true
     (sym c.before.is-lent.ensures ∙ not-true c.before.is-lent.result c.if1.true))
     ∙ l.invariant.1
 

@@ -4,13 +4,13 @@ use native.Mathlib.Omega.{arith}
 use Prim.Native.Nat.{ℕ, ◌+◌, ◌*◌}
 use lib.ListN.{length-replicate}
 use Rattle.grammar.specs.Limits.{limits}
-use Rattle.lexicon.proofs.Tree.{no-links}
+use Rattle.lexicon.proofs.Tree.{no_links}
 use Rattle.text_write.proofs.lent.first_double.Statement.{statement}
 use Rattle.text_write.proofs.lent.first_double.Tie as tie
 
 -- two links for each name of a grammar
 abbrev links : ℕ
-links = 2 * (limits.maxTerminals + limits.maxNonterminals)
+links = 2 * (limits.max_terminals + limits.max_nonterminals)
 
 slice-aggregate-plant : tie.Need-slice-aggregate-plant
 slice-aggregate-plant c = search rules
@@ -19,7 +19,7 @@ plant-requires : tie.Need-plant-requires
 plant-requires c κs =
     let s = c.before.before.before.before in
     let r = s.requires.0 in
-    ((record { paired = r.paired; inside = r.inside }, omega (arith, s.requires.1), omega (arith, s.requires.1, length-replicate {A = ℕ} links 0)), no-links links)
+    ((record { paired = r.paired; inside = r.inside }, omega (arith, s.requires.1), omega (arith, s.requires.1, length-replicate {A = ℕ} links 0)), no_links links)
 
 returns : tie.Need-returns
 returns c = search rules

@@ -4,7 +4,7 @@ use Prim.Native.Nat.{◌+◌, ◌-◌}
 use native.Mathlib.Omega.{arith}
 use borrow.Author.Rules.{rules}
 use lib.ListN.{take, drop}
-use Rattle.text.specs.Names.{isName}
+use Rattle.text.specs.Names.{is_name}
 use Rattle.text_write.proofs.LentLaws.{no_start, no_length, not-inside, whole-name}
 use Rattle.text_write.proofs.lent.is_lent.Statement.{statement}
 use Rattle.text_write.proofs.lent.is_lent.Tie as tie
@@ -67,7 +67,7 @@ returns-4 c =
     let s = c.before.before.before.before.before.before.before.before.before.before.before.before in
     let a = s.args in
     c.is_name.ensures
-    ∙ ap₂ (λ u v. isName (take (u + v - u) (drop u a.bytes.now)))
+    ∙ ap₂ (λ u v. is_name (take (u + v - u) (drop u a.bytes.now)))
     c.before.before.before.before.before.wide.ensures.0 c.before.before.before.wide2.ensures.0
     ∙ sym (whole-name a.bytes.now a.starts.now a.lengths.now a.i
     c.before.before.before.before.before.before.before.before.if1.false

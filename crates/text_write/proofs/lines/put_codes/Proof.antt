@@ -6,16 +6,16 @@ use native.Mathlib.Omega.{arith}
 use borrow.Author.Rules.{rules}
 use lib.ListN.{length, drop, get_or}
 use Rattle.text.specs.Spelled.{spelled}
-use Rattle.text_write.specs.Contracts.{codesText}
-use Rattle.text_write.proofs.Filling.{Filling, filling-start, filling-room, filling-ran, filling-done}
+use Rattle.text_write.specs.Clauses.{codes_text}
+use Rattle.text_write.proofs.Filling.{Filling, filling_start, filling_room, filling_ran, filling_done}
 use Rattle.text_write.proofs.PutLaws.{codes-turn, codes-end}
 use Rattle.text_write.proofs.lines.put_codes.Statement.{statement}
 use Rattle.text_write.proofs.lines.put_codes.Tie as tie
 
 abbrev invariant-loop : tie.invariant-loop
 invariant-loop out₀ at codes t bytes starts lengths j₀ i₀ out j i = (i ≤ length codes)
-    × Filling at out₀ (codesText t (spelled bytes starts lengths) codes) j out
-    (codesText t (spelled bytes starts lengths) (drop i codes))
+    × Filling at out₀ (codes_text t (spelled bytes starts lengths) codes) j out
+    (codes_text t (spelled bytes starts lengths) (drop i codes))
 
 abbrev decreases-loop : tie.decreases-loop
 decreases-loop out₀ at codes t bytes starts lengths j₀ i₀ out j i = length codes - i
@@ -28,8 +28,8 @@ next : (c : tie.After-symbol invariant-loop decreases-loop) →
     let s = c.before.before.before.before.before.before.before.before.before in
     let a = s.args in
     let l = c.before.before.before.loop in
-    codesText a.t (names s) (drop l.i a.codes.now)
-    ≡ (32 ∷ []) ++ (get_or (names s) c.symbol.result [] ++ codesText a.t (names s) (drop (l.i + 1) a.codes.now))
+    codes_text a.t (names s) (drop l.i a.codes.now)
+    ≡ (32 ∷ []) ++ (get_or (names s) c.symbol.result [] ++ codes_text a.t (names s) (drop (l.i + 1) a.codes.now))
 next c =
     let s = c.before.before.before.before.before.before.before.before.before in
     let a = s.args in
@@ -40,15 +40,15 @@ next c =
 after-space : (c : tie.After-put-byte invariant-loop decreases-loop) →
     let s = c.before.before.before.before.before.before.before.before.before.before.before in
     let a = s.args in
-    Filling a.at a.out.now (codesText a.t (names s) a.codes.now) c.put_byte.result c.put_byte.new.0
-    (get_or (names s) c.before.before.symbol.result [] ++ codesText a.t (names s)
+    Filling a.at a.out.now (codes_text a.t (names s) a.codes.now) c.put_byte.result c.put_byte.new.0
+    (get_or (names s) c.before.before.symbol.result [] ++ codes_text a.t (names s)
     (drop (c.before.before.before.before.before.loop.i + 1) a.codes.now))
 after-space c =
-    filling-ran (32 ∷ []) _ (next c.before.before) c.put_byte.ensures
+    filling_ran (32 ∷ []) _ (next c.before.before) c.put_byte.ensures
     c.before.before.before.before.before.loop.invariant.1
 
 loop-holds : tie.Need-loop-init invariant-loop decreases-loop
-loop-holds c = (omega arith, filling-start _ _ _ c.before.before.before.before.before.requires.2)
+loop-holds c = (omega arith, filling_start _ _ _ c.before.before.before.before.before.requires.2)
 
 shared-slice-read-symbol : tie.Need-shared-slice-read-symbol invariant-loop decreases-loop
 shared-slice-read-symbol c = search rules
@@ -60,7 +60,7 @@ symbol-requires c κs =
 
 put-byte-requires : tie.Need-put-byte-requires invariant-loop decreases-loop
 put-byte-requires c κs =
-    omega (arith, filling-room (32 ∷ []) _ (next c.before) c.before.before.before.before.loop.invariant.1)
+    omega (arith, filling_room (32 ∷ []) _ (next c.before) c.before.before.before.before.loop.invariant.1)
 
 put-name-requires : tie.Need-put-name-requires invariant-loop decreases-loop
 put-name-requires c κs =
@@ -73,7 +73,7 @@ put-name-requires c κs =
             c.before.before.before.before.before.before.before.before.loop.i
             c.before.before.before.before.before.before.before.loop-test.true).1,
       ),
-      filling-room
+      filling_room
           (get_or (names s) c.before.before.before.before.before.symbol.result []) _ refl
           (after-space c.before.before.before),
     )
@@ -88,7 +88,7 @@ loop-again : tie.Need-loop-preserved invariant-loop decreases-loop
 loop-again c =
     let s = c.before.before.before.before.before.before.before.before.before.before.before.before.before.before.before.before.before in (
       omega arith,
-      filling-ran (get_or (names s)
+      filling_ran (get_or (names s)
           c.before.before.before.before.before.before.before.before.symbol.result []) _ refl
           c.before.before.put-name.ensures (after-space c.before.before.before.before.before.before),
     )
@@ -101,7 +101,7 @@ returns c =
     let s = c.before.before.before.before.before.before.before in
     let a = s.args in
     let l = c.before.loop in
-    filling-done (codes-end a.t (names s) a.codes.now l.i c.loop-test.false) l.invariant.1
+    filling_done (codes-end a.t (names s) a.codes.now l.i c.loop-test.false) l.invariant.1
 
 mul-symbol : tie.Need-overflow-mul-symbol invariant-loop decreases-loop
 mul-symbol c = search rules

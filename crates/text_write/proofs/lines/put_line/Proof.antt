@@ -8,8 +8,8 @@ use lib.Seq.{slice}
 use Rattle.text.specs.Pieces.{join}
 use Rattle.text.specs.Keys.{key}
 use Rattle.text.specs.Spelled.{spelled}
-use Rattle.text_write.specs.Contracts.{lineText}
-use Rattle.text_write.proofs.Filling.{Filling, filling-start, filling-room, filling-ran, filling-last, filling-all}
+use Rattle.text_write.specs.Clauses.{line_text}
+use Rattle.text_write.proofs.Filling.{Filling, filling_start, filling_room, filling_ran, filling_last, filling_all}
 use Rattle.text_write.proofs.PutLaws.{line-parts}
 use Rattle.text_write.proofs.lines.put_line.Statement.{statement}
 use Rattle.text_write.proofs.lines.put_line.Tie as tie
@@ -21,7 +21,7 @@ value s =
 
 -- this is still to come
 abbrev Still : tie.Start → ℕ → List ℕ → List ℕ → Type 0
-Still s j now rest = Filling s.args.at s.args.out.now (lineText s.args.k (value s)) j now rest
+Still s j now rest = Filling s.args.at s.args.out.now (line_text s.args.k (value s)) j now rest
 
 after-key : (c : tie.After-put-key) →
     let s = c.before.before.before.before.before.before in
@@ -29,39 +29,39 @@ after-key : (c : tie.After-put-key) →
 after-key c =
     let s = c.before.before.before.before.before.before in
     let a = s.args in
-    filling-ran (key a.k ++ (61 ∷ [])) _ (line-parts a.k (value s)) c.put-key.ensures
-    (filling-start _ _ _ s.requires.4)
+    filling_ran (key a.k ++ (61 ∷ [])) _ (line-parts a.k (value s)) c.put-key.ensures
+    (filling_start _ _ _ s.requires.4)
 
 after-names : (c : tie.After-put-names) →
     let s = c.before.before.before.before.before.before.before.before.before.before in
     Still s c.put-names.result c.put-names.new.0 (10 ∷ [])
 after-names c =
     let s = c.before.before.before.before.before.before.before.before.before.before in
-    filling-ran (value s) _ refl c.put-names.ensures (after-key c.before.before.before.before)
+    filling_ran (value s) _ refl c.put-names.ensures (after-key c.before.before.before.before)
 
 put-key-requires : tie.Need-put-key-requires
 put-key-requires c κs =
     let s = c.before.before.before.before.before in
     let a = s.args in (
       s.requires.3,
-      filling-room (key a.k ++ (61 ∷ [])) _ (line-parts a.k (value s))
-          (filling-start a.at a.out.now _ s.requires.4),
+      filling_room (key a.k ++ (61 ∷ [])) _ (line-parts a.k (value s))
+          (filling_start a.at a.out.now _ s.requires.4),
     )
 
 put-names-requires : tie.Need-put-names-requires
 put-names-requires c κs =
     let s = c.before.before.before.before.before.before.before.before.before in
-    (s.requires.0, s.requires.1, s.requires.2, filling-room (value s) _ refl (after-key c.before.before.before))
+    (s.requires.0, s.requires.1, s.requires.2, filling_room (value s) _ refl (after-key c.before.before.before))
 
 put-byte-requires : tie.Need-put-byte-requires
-put-byte-requires c κs = omega (arith, filling-all (after-names c.before.before.before))
+put-byte-requires c κs = omega (arith, filling_all (after-names c.before.before.before))
 
 same_length : tie.Need-same-length
 same_length c = search rules
 
 returns : tie.Need-returns
 returns c =
-    filling-last c.before.before.put_byte.ensures (after-names c.before.before.before.before.before.before)
+    filling_last c.before.before.put_byte.ensures (after-names c.before.before.before.before.before.before)
 
 pub put-line-spec : {M : Type 1} → statement M
 put-line-spec =

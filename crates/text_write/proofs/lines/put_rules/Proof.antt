@@ -6,17 +6,17 @@ use native.Mathlib.Omega.{arith}
 use borrow.Author.Rules.{rules}
 use lib.ListN.{length, take, drop, get_or}
 use Rattle.text.specs.Spelled.{spelled}
-use Rattle.text_write.specs.Contracts.{Coded, ruleText, rulesText}
-use Rattle.text_write.proofs.Filling.{Filling, filling-start, filling-room, filling-ran, filling-done}
-use Rattle.text_write.proofs.TableLaws.{Turn, turn, no-rules}
+use Rattle.text_write.specs.Clauses.{Coded, rule_text, rules_text}
+use Rattle.text_write.proofs.Filling.{Filling, filling_start, filling_room, filling_ran, filling_done}
+use Rattle.text_write.proofs.TableLaws.{Turn, turn, no_rules}
 use Rattle.text_write.proofs.PutLaws.{rules-turn, rules-end}
 use Rattle.text_write.proofs.lines.put_rules.Statement.{statement}
 use Rattle.text_write.proofs.lines.put_rules.Tie as tie
 
 abbrev invariant-loop : tie.invariant-loop
 invariant-loop out₀ at table t bytes starts lengths j₀ o₀ out j o = (o ≤ length table) × Coded t (length starts) (drop o table)
-    × Filling at out₀ (rulesText t (spelled bytes starts lengths) table) j out
-    (rulesText t (spelled bytes starts lengths) (drop o table))
+    × Filling at out₀ (rules_text t (spelled bytes starts lengths) table) j out
+    (rules_text t (spelled bytes starts lengths) (drop o table))
 
 abbrev decreases-loop : tie.decreases-loop
 decreases-loop out₀ at table t bytes starts lengths j₀ o₀ out j o = length table - o
@@ -47,7 +47,7 @@ line c =
     let s = c.before.before.before.before.before.before.before.before.before.before in
     let a = s.args in
     let l = c.before.before.before.before.loop in
-    ruleText a.t (names s) (record {
+    rule_text a.t (names s) (record {
       left = get_or a.table.now l.o 0;
       right = take (l.o + 2 + c.wide-entry.result - (l.o + 2)) (drop (l.o + 2) a.table.now);
     })
@@ -55,7 +55,7 @@ line c =
 loop-holds : tie.Need-loop-init invariant-loop decreases-loop
 loop-holds c =
     let s = c.before.before.before.before.before in
-    (omega arith, s.requires.1, filling-start _ _ _ s.requires.2)
+    (omega arith, s.requires.1, filling_start _ _ _ s.requires.2)
 
 shared-slice-read-left : tie.Need-shared-slice-read-left invariant-loop decreases-loop
 shared-slice-read-left c = search rules
@@ -90,7 +90,7 @@ put-rule-requires c κs =
     let a = s.args in (
       s.requires.0,
       (here c.before.before).known,
-      filling-room (line c.before.before) _
+      filling_room (line c.before.before) _
           (rules-turn a.t (names s) _ _ _ (here c.before.before).rules)
           c.before.before.before.before.before.before.loop.invariant.2,
     )
@@ -104,7 +104,7 @@ loop-again c =
     let a = s.args in (
       (here c.before.before.before.before.before).whole,
       (here c.before.before.before.before.before).next,
-      filling-ran (line c.before.before.before.before.before) _
+      filling_ran (line c.before.before.before.before.before) _
           (rules-turn a.t (names s) _ _ _ (here c.before.before.before.before.before).rules)
           c.before.before.put-rule.ensures
           c.before.before.before.before.before.before.before.before.before.loop.invariant.2,
@@ -118,7 +118,7 @@ returns c =
     let s = c.before.before.before.before.before.before.before in
     let a = s.args in
     let l = c.before.loop in
-    filling-done (rules-end a.t (names s) _ (no-rules a.table.now l.o c.loop-test.false)) l.invariant.2
+    filling_done (rules-end a.t (names s) _ (no_rules a.table.now l.o c.loop-test.false)) l.invariant.2
 
 mul_left : tie.Need-overflow-mul-left invariant-loop decreases-loop
 mul_left c = search rules

@@ -9,9 +9,9 @@ use lib.Seq.{slice}
 use Rattle.grammar.specs.Table.{decode}
 use Rattle.text.specs.Pieces.{join}
 use Rattle.text.specs.Spelled.{spelled}
-use Rattle.text_write.specs.Contracts.{lineText, rulesText, text_of}
-use Rattle.text_write.proofs.Filling.{Filling, filling-start, filling-room, filling-ran, filling-last, filling-all}
-use Rattle.text_write.proofs.LentLaws.{names-count}
+use Rattle.text_write.specs.Clauses.{line_text, rules_text, text_of}
+use Rattle.text_write.proofs.Filling.{Filling, filling_start, filling_room, filling_ran, filling_last, filling_all}
+use Rattle.text_write.proofs.LentLaws.{names_count}
 use Rattle.text_write.proofs.PutLaws.{text-parts}
 use Rattle.text_write.proofs.lines.put_text.Statement.{statement}
 use Rattle.text_write.proofs.lines.put_text.Tie as tie
@@ -21,13 +21,13 @@ names s = spelled s.args.bytes.now s.args.starts.now s.args.lengths.now
 
 -- the three parts
 abbrev terminals : tie.Start → List ℕ
-terminals s = lineText 0 (join 44 (slice 0 s.args.t (names s)))
+terminals s = line_text 0 (join 44 (slice 0 s.args.t (names s)))
 
 abbrev nonterminals : tie.Start → List ℕ
-nonterminals s = lineText 1 (join 44 (slice s.args.t (length s.args.starts.now) (names s)))
+nonterminals s = line_text 1 (join 44 (slice s.args.t (length s.args.starts.now) (names s)))
 
 abbrev rules : tie.Start → List ℕ
-rules s = rulesText s.args.t (names s) s.args.table.now
+rules s = rules_text s.args.t (names s) s.args.table.now
 
 -- this is still to come
 abbrev Still : tie.Start → ℕ → List ℕ → List ℕ → Type 0
@@ -36,7 +36,7 @@ Still s j now rest = Filling 0 s.args.out.now (text_of s.args.t (names s) (decod
 start : (c : tie.Start) →
     let a = c.args in
     Still c 0 a.out.now (text_of a.t (names c) (decode a.table.now))
-start c = filling-start _ _ _ (omega (arith, c.requires.3))
+start c = filling_start _ _ _ (omega (arith, c.requires.3))
 
 after-terminals : (c : tie.After-put-line) →
     let s = c.before.before.before.before.before.before.before in
@@ -44,15 +44,15 @@ after-terminals : (c : tie.After-put-line) →
 after-terminals c =
     let s = c.before.before.before.before.before.before.before in
     let a = s.args in
-    filling-ran (terminals s) _ (text-parts a.t (names s) (length a.starts.now) (decode a.table.now)
-    (names-count s.requires.0) s.requires.2) c.put-line.ensures (start s)
+    filling_ran (terminals s) _ (text-parts a.t (names s) (length a.starts.now) (decode a.table.now)
+    (names_count s.requires.0) s.requires.2) c.put-line.ensures (start s)
 
 after-nonterminals : (c : tie.After-put-line2) →
     let s = c.before.before.before.before.before.before.before.before.before.before.before in
     Still s c.put-line2.result c.put-line2.new.0 (rules s)
 after-nonterminals c =
     let s = c.before.before.before.before.before.before.before.before.before.before.before in
-    filling-ran (nonterminals s) _ refl c.put-line2.ensures (after-terminals c.before.before.before.before)
+    filling_ran (nonterminals s) _ refl c.put-line2.ensures (after-terminals c.before.before.before.before)
 
 put-line-requires : tie.Need-put-line-requires
 put-line-requires c κs =
@@ -62,8 +62,8 @@ put-line-requires c κs =
       omega arith,
       s.requires.2,
       omega arith,
-      filling-room (terminals s) _
-          (text-parts a.t (names s) (length a.starts.now) (decode a.table.now) (names-count s.requires.0) s.requires.2)
+      filling_room (terminals s) _
+          (text-parts a.t (names s) (length a.starts.now) (decode a.table.now) (names_count s.requires.0) s.requires.2)
           (start s),
     )
 
@@ -74,21 +74,21 @@ put-line-requires-2 c κs =
       s.requires.2,
       omega arith,
       omega arith,
-      filling-room (nonterminals s) _ refl
+      filling_room (nonterminals s) _ refl
           (after-terminals c.before.before.before),
     )
 
 put-rules-requires : tie.Need-put-rules-requires
 put-rules-requires c κs =
     let s = c.before.before.before.before.before.before.before.before.before.before.before.before.before.before in
-    (s.requires.0, s.requires.1, filling-all (after-nonterminals c.before.before.before))
+    (s.requires.0, s.requires.1, filling_all (after-nonterminals c.before.before.before))
 
 same_length : tie.Need-same-length
 same_length c = search rules
 
 returns : tie.Need-returns
 returns c =
-    filling-last c.before.before.put-rules.ensures
+    filling_last c.before.before.put-rules.ensures
     (after-nonterminals c.before.before.before.before.before.before)
 
 pub put-text-spec : {M : Type 1} → statement M

@@ -4,7 +4,7 @@ use mathlib.Core.Path.{◌≡◌, refl}
 use native.Mathlib.Omega.{arith}
 use borrow.Author.Rules.{rules}
 use lib.ListN.{length, drop, drop_of_length-le}
-use Rattle.text_write.proofs.Filling.{Filling, filling-start, filling-put, filling-at, filling-done}
+use Rattle.text_write.proofs.Filling.{Filling, filling_start, filling_put, filling_at, filling_done}
 use Rattle.text_write.proofs.put.put_bytes.Statement.{statement}
 use Rattle.text_write.proofs.put.put_bytes.Tie as tie
 use Rattle.grammar.proofs.Lists.{drop-next}
@@ -19,7 +19,7 @@ loop-holds : tie.Need-loop-init invariant-loop decreases-loop
 loop-holds c =
     let a = c.args in
     let q : a.at ≡ a.at + 0 = omega arith in
-    (omega arith, filling-at _ _ q (filling-start a.at a.out.now a.src.now c.requires))
+    (omega arith, filling_at _ _ q (filling_start a.at a.out.now a.src.now c.requires))
 
 shared-slice-read-out : tie.Need-shared-slice-read-out invariant-loop decreases-loop
 shared-slice-read-out c = search rules
@@ -41,7 +41,7 @@ loop-again c =
     let a = c.before.before.before.args in
     let l = c.before.before.loop in
     let q : a.at + l.i + 1 ≡ a.at + (l.i + 1) = omega arith in
-    (omega arith, filling-at _ _ q (filling-put _ _ (drop-next a.src.now l.i (omega arith)) l.invariant.1))
+    (omega arith, filling_at _ _ q (filling_put _ _ (drop-next a.src.now l.i (omega arith)) l.invariant.1))
 
 add-result : tie.Need-overflow-add-result invariant-loop decreases-loop
 add-result c = search rules
@@ -53,7 +53,7 @@ returns : tie.Need-returns invariant-loop decreases-loop
 returns c =
     let l = c.before.loop in
     let q = drop_of_length-le c.before.before.args.src.now {i = l.i} (omega arith) in
-    record { place = refl; row = (filling-done q l.invariant.1).row }
+    record { place = refl; row = (filling_done q l.invariant.1).row }
 
 pub put-bytes-spec : {M : Type 1} → statement M
 put-bytes-spec =

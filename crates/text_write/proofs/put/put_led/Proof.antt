@@ -6,18 +6,18 @@ use native.Mathlib.Omega.{arith}
 use borrow.Author.Rules.{rules}
 use lib.ListN.{get_or}
 use lib.Seq.{slice}
-use Rattle.text.specs.Pieces.{ledBy}
+use Rattle.text.specs.Pieces.{led_by}
 use Rattle.text.specs.Spelled.{spelled}
-use Rattle.text_write.proofs.Filling.{Filling, filling-start, filling-room, filling-ran, filling-done}
-use Rattle.text_write.proofs.LentLaws.{names-count}
+use Rattle.text_write.proofs.Filling.{Filling, filling_start, filling_room, filling_ran, filling_done}
+use Rattle.text_write.proofs.LentLaws.{names_count}
 use Rattle.text_write.proofs.PutLaws.{led-turn, led-end}
 use Rattle.text_write.proofs.put.put_led.Statement.{statement}
 use Rattle.text_write.proofs.put.put_led.Tie as tie
 
 abbrev invariant-loop : tie.invariant-loop
 invariant-loop out₀ at bytes starts lengths from to j₀ i₀ out j i = (i ≤ to)
-    × Filling at out₀ (ledBy 44 (slice from to (spelled bytes starts lengths))) j out
-    (ledBy 44 (slice i to (spelled bytes starts lengths)))
+    × Filling at out₀ (led_by 44 (slice from to (spelled bytes starts lengths))) j out
+    (led_by 44 (slice i to (spelled bytes starts lengths)))
 
 abbrev decreases-loop : tie.decreases-loop
 decreases-loop out₀ at bytes starts lengths from to j₀ i₀ out j i = to - i
@@ -30,38 +30,38 @@ next : (c : tie.In-loop invariant-loop decreases-loop) →
     let s = c.before.before.before.before.before.before in
     let a = s.args in
     let l = c.before.loop in
-    ledBy 44 (slice l.i a.to (names s))
-    ≡ (44 ∷ []) ++ (get_or (names s) l.i [] ++ ledBy 44 (slice (l.i + 1) a.to (names s)))
+    led_by 44 (slice l.i a.to (names s))
+    ≡ (44 ∷ []) ++ (get_or (names s) l.i [] ++ led_by 44 (slice (l.i + 1) a.to (names s)))
 next c =
     let s = c.before.before.before.before.before.before in
-    led-turn _ _ _ c.loop-test.true (omega (arith, names-count s.requires.0, s.requires.2))
+    led-turn _ _ _ c.loop-test.true (omega (arith, names_count s.requires.0, s.requires.2))
 
 -- then the name
 after-comma : (c : tie.After-put-byte invariant-loop decreases-loop) →
     let s = c.before.before.before.before.before.before.before.before in
     let a = s.args in
     let l = c.before.before.before.loop in
-    Filling a.at a.out.now (ledBy 44 (slice a.from a.to (names s))) c.put_byte.result
+    Filling a.at a.out.now (led_by 44 (slice a.from a.to (names s))) c.put_byte.result
     c.put_byte.new.0
-    (get_or (names s) l.i [] ++ ledBy 44 (slice (l.i + 1) a.to (names s)))
+    (get_or (names s) l.i [] ++ led_by 44 (slice (l.i + 1) a.to (names s)))
 after-comma c =
-    filling-ran (44 ∷ []) _ (next c.before.before) c.put_byte.ensures c.before.before.before.loop.invariant.1
+    filling_ran (44 ∷ []) _ (next c.before.before) c.put_byte.ensures c.before.before.before.loop.invariant.1
 
 loop-holds : tie.Need-loop-init invariant-loop decreases-loop
 loop-holds c =
     let s = c.before.before.before.before in
-    (s.requires.1, filling-start _ _ _ s.requires.3)
+    (s.requires.1, filling_start _ _ _ s.requires.3)
 
 put-byte-requires : tie.Need-put-byte-requires invariant-loop decreases-loop
 put-byte-requires c κs =
-    omega (arith, filling-room (44 ∷ []) _ (next c.before) c.before.before.loop.invariant.1)
+    omega (arith, filling_room (44 ∷ []) _ (next c.before) c.before.before.loop.invariant.1)
 
 put-name-requires : tie.Need-put-name-requires invariant-loop decreases-loop
 put-name-requires c κs =
     let s = c.before.before.before.before.before.before.before.before.before.before.before in (
       s.requires.0,
       omega (arith, s.requires.2),
-      filling-room (get_or (names s)
+      filling_room (get_or (names s)
           c.before.before.before.before.before.before.loop.i []) _ refl (after-comma c.before.before.before),
     )
 
@@ -75,7 +75,7 @@ loop-again : tie.Need-loop-preserved invariant-loop decreases-loop
 loop-again c =
     let s = c.before.before.before.before.before.before.before.before.before.before.before.before.before.before in (
       omega arith,
-      filling-ran (get_or (names s)
+      filling_ran (get_or (names s)
           c.before.before.before.before.before.before.before.before.before.loop.i []) _ refl
           c.before.before.put-name.ensures (after-comma c.before.before.before.before.before.before),
     )
@@ -88,7 +88,7 @@ returns c =
     let s = c.before.before.before.before.before.before in
     let a = s.args in
     let l = c.before.loop in
-    filling-done (led-end (names s) l.i a.to l.invariant.0 c.loop-test.false) l.invariant.1
+    filling_done (led-end (names s) l.i a.to l.invariant.0 c.loop-test.false) l.invariant.1
 
 pub put-led-spec : {M : Type 1} → statement M
 put-led-spec =

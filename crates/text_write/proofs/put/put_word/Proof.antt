@@ -7,7 +7,7 @@ use borrow.Author.Rules.{rules}
 use lib.ListN.{drop, length-drop, drop_of_length-le}
 use Rattle.text.specs.Keys.{key}
 use Rattle.names.proofs.Keys.{key-length-most, length-key, key-at}
-use Rattle.text_write.proofs.Filling.{Filling, filling-start, filling-room, filling-ran, filling-done}
+use Rattle.text_write.proofs.Filling.{Filling, filling_start, filling_room, filling_ran, filling_done}
 use Rattle.text_write.proofs.put.put_word.Statement.{statement}
 use Rattle.text_write.proofs.put.put_word.Tie as tie
 use Rattle.grammar.proofs.Lists.{drop-next}
@@ -38,7 +38,7 @@ loop-holds : tie.Need-loop-init invariant-loop decreases-loop
 loop-holds c =
     let s = c.before.before in
     let a = s.args in
-    (omega arith, filling-start a.at a.out.now (key a.k) s.requires.1)
+    (omega arith, filling_start a.at a.out.now (key a.k) s.requires.1)
 
 key-byte-requires : tie.Need-key-byte-requires invariant-loop decreases-loop
 key-byte-requires c κs =
@@ -47,7 +47,7 @@ key-byte-requires c κs =
     (s.requires.0, omega (arith, key-length-most a.k s.requires.0, c.before.before.before.key-length.ensures))
 
 put-byte-requires : tie.Need-put-byte-requires invariant-loop decreases-loop
-put-byte-requires c κs = omega (arith, filling-room (c.key-byte.result ∷ []) _ (next c) c.before.before.before.loop.invariant.1)
+put-byte-requires c κs = omega (arith, filling_room (c.key-byte.result ∷ []) _ (next c) c.before.before.before.loop.invariant.1)
 
 add-i : tie.Need-overflow-add-i invariant-loop decreases-loop
 add-i c = search rules
@@ -59,7 +59,7 @@ loop-again : tie.Need-loop-preserved invariant-loop decreases-loop
 loop-again c =
     let k = c.before.before.before in (
       omega arith,
-      filling-ran (k.key-byte.result ∷ []) _ (next k) c.before.before.put_byte.ensures k.before.before.before.loop.invariant.1,
+      filling_ran (k.key-byte.result ∷ []) _ (next k) c.before.before.put_byte.ensures k.before.before.before.loop.invariant.1,
     )
 
 same_length : tie.Need-same-length invariant-loop decreases-loop
@@ -70,7 +70,7 @@ returns c =
     let s = c.before.before.before.before in
     let a = s.args in
     let l = c.before.loop in
-    filling-done (drop_of_length-le (key a.k) {i = l.i}
+    filling_done (drop_of_length-le (key a.k) {i = l.i}
     (omega (arith, length-drop l.i (key a.k), length-key a.k s.requires.0, c.before.before.key-length.ensures)))
     l.invariant.1
 

@@ -7,15 +7,15 @@ use native.Mathlib.Omega.{arith}
 use borrow.Author.Rules.{rules}
 use lib.ListN.{length, drop, get_or}
 use Rattle.grammar.specs.Limits.{limits}
-use Rattle.text_write.specs.Length.{ledLength, codeLength}
+use Rattle.text_write.specs.Length.{led_length, code_length}
 use Rattle.text_write.proofs.LengthLaws.{codes-more, codes-none}
 use Rattle.text_write.proofs.size.codes_length.Statement.{statement}
 use Rattle.text_write.proofs.size.codes_length.Tie as tie
 
 abbrev invariant-loop : tie.invariant-loop
 invariant-loop codes t lengths total₀ i₀ total i = (i ≤ length codes) ×
-    (total + ledLength (map (codeLength limits t lengths) (drop i codes)) ≡ ledLength
-    (map (codeLength limits t lengths) codes))
+    (total + led_length (map (code_length limits t lengths) (drop i codes)) ≡ led_length
+    (map (code_length limits t lengths) codes))
 
 abbrev decreases-loop : tie.decreases-loop
 decreases-loop codes t lengths total₀ i₀ total i = length codes - i
@@ -24,7 +24,7 @@ loop-holds : tie.Need-loop-init invariant-loop decreases-loop
 loop-holds c =
     let s = c.before.before in
     let a = s.args in
-    (omega arith, zero-add (ledLength (map (codeLength limits a.t a.lengths.now) a.codes.now)))
+    (omega arith, zero-add (led_length (map (code_length limits a.t a.lengths.now) a.codes.now)))
 
 shared-slice-read-symbol : tie.Need-shared-slice-read-symbol invariant-loop decreases-loop
 shared-slice-read-symbol c = search rules

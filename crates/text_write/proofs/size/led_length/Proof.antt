@@ -5,14 +5,14 @@ use native.Mathlib.Nat.{zero-add}
 use native.Mathlib.Omega.{arith}
 use borrow.Author.Rules.{rules}
 use lib.Seq.{slice}
-use Rattle.text_write.specs.Length.{ledLength}
+use Rattle.text_write.specs.Length.{led_length}
 use Rattle.text_write.proofs.LengthLaws.{led-more, led-none}
 use Rattle.text_write.proofs.size.led_length.Statement.{statement}
 use Rattle.text_write.proofs.size.led_length.Tie as tie
 
 abbrev invariant-loop : tie.invariant-loop
 invariant-loop lengths from to total₀ i₀ total i = (i ≤ to) ×
-    (total + ledLength (slice i to lengths) ≡ ledLength (slice from to lengths))
+    (total + led_length (slice i to lengths) ≡ led_length (slice from to lengths))
 
 abbrev decreases-loop : tie.decreases-loop
 decreases-loop lengths from to total₀ i₀ total i = to - i
@@ -21,7 +21,7 @@ loop-holds : tie.Need-loop-init invariant-loop decreases-loop
 loop-holds c =
     let s = c.before in
     let a = s.args in
-    (omega arith, zero-add (ledLength (slice a.from a.to a.lengths.now)))
+    (omega arith, zero-add (led_length (slice a.from a.to a.lengths.now)))
 
 mul_wide : tie.Need-overflow-mul-wide invariant-loop decreases-loop
 mul_wide c = search rules

@@ -7,16 +7,16 @@ use borrow.Author.Rules.{rules}
 use lib.ListN.{length, drop, get_or}
 use Rattle.grammar.specs.Limits.{limits}
 use Rattle.grammar.specs.Table.{decode}
-use Rattle.text_write.specs.Length.{rulesLength}
-use Rattle.text_write.specs.Contracts.{Coded}
-use Rattle.text_write.proofs.TableLaws.{Turn, turn, known-right, no-rules}
+use Rattle.text_write.specs.Length.{rules_length}
+use Rattle.text_write.specs.Clauses.{Coded}
+use Rattle.text_write.proofs.TableLaws.{Turn, turn, known-right, no_rules}
 use Rattle.text_write.proofs.LengthLaws.{rules-more, rules-none}
 use Rattle.text_write.proofs.size.rules_length.Statement.{statement}
 use Rattle.text_write.proofs.size.rules_length.Tie as tie
 
 abbrev invariant-loop : tie.invariant-loop
 invariant-loop table t lengths total₀ o₀ total o = (o ≤ length table) × Coded t (length lengths) (drop o table)
-    × (total + rulesLength limits t lengths (decode (drop o table)) ≡ rulesLength limits t lengths (decode table))
+    × (total + rules_length limits t lengths (decode (drop o table)) ≡ rules_length limits t lengths (decode table))
 
 abbrev decreases-loop : tie.decreases-loop
 decreases-loop table t lengths total₀ o₀ total o = length table - o
@@ -43,7 +43,7 @@ loop-holds : tie.Need-loop-init invariant-loop decreases-loop
 loop-holds c =
     let s = c.before.before in
     let a = s.args in
-    (omega arith, s.requires.0, zero-add (rulesLength limits a.t a.lengths.now (decode a.table.now)))
+    (omega arith, s.requires.0, zero-add (rules_length limits a.t a.lengths.now (decode a.table.now)))
 
 shared-slice-read-symbol : tie.Need-shared-slice-read-symbol invariant-loop decreases-loop
 shared-slice-read-symbol c = search rules
@@ -163,7 +163,7 @@ returns c =
     let s = c.before.before.before.before in
     let a = s.args in
     let l = c.before.loop in
-    omega (arith, rules-none a.t a.lengths.now _ (no-rules a.table.now l.o c.loop-test.false), l.invariant.2)
+    omega (arith, rules-none a.t a.lengths.now _ (no_rules a.table.now l.o c.loop-test.false), l.invariant.2)
 
 mul-symbol : tie.Need-overflow-mul-symbol invariant-loop decreases-loop
 mul-symbol c = search rules

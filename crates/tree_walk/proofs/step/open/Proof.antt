@@ -6,12 +6,12 @@ use mathlib.Core.List.{[], ◌∷◌, ◌++◌}
 use Prim.Native.Nat.{suc, ◌+◌, ◌≤◌, ◌<◌}
 use lib.ListN.{length, get_or}
 use Rattle.chart.specs.Rows.{Ready}
-use Rattle.chart.proofs.Cells.{few-runs}
-use Rattle.chart.proofs.MadeLaws.{plane-in, home-in}
+use Rattle.chart.proofs.Cells.{few_runs}
+use Rattle.chart.proofs.MadeLaws.{plane_in, home_in}
 use Rattle.tree_walk.specs.Charted.{Rows, rows, width}
 use Rattle.tree_walk.specs.Walking.{WalkAt}
 use Rattle.tree_walk.proofs.Turns.{inside, deep}
-use Rattle.tree_walk.proofs.Opening.{Chosen, past, open-room, opened}
+use Rattle.tree_walk.proofs.Opening.{Chosen, past, open_room, opened}
 use Rattle.tree_walk.proofs.step.open.Statement.{statement}
 use Rattle.tree_walk.proofs.step.open.Tie as tie
 
@@ -19,14 +19,14 @@ use Rattle.tree_walk.proofs.step.open.Tie as tie
 abbrev start : tie.After-plane → tie.Start
 start c = c.before.before.before.before.before.before
 
-abbrev planeAt : tie.After-split → tie.After-plane
-planeAt c = c.before.before
+abbrev plane_at : tie.After-split → tie.After-plane
+plane_at c = c.before.before
 
-abbrev splitAt : tie.After-first-of → tie.After-split
-splitAt c = c.before.before.before.before.before
+abbrev split_at : tie.After-first-of → tie.After-split
+split_at c = c.before.before.before.before.before
 
 abbrev begun : tie.After-first-of → tie.Start
-begun c = start (planeAt (splitAt c))
+begun c = start (plane_at (split_at c))
 
 abbrev first_at : tie.After-wait → tie.After-first-of
 first_at c = c.before.before.before
@@ -51,11 +51,11 @@ after e =
     past (rows_of e) x.course x.out a.work.now a.p a.i a.j a.depth x.at e.requires.1.1.0
 
 -- what the code has found
-chosen : (c : tie.After-first-of) → let s = splitAt c in let q = planeAt s in let e = start q in let a = e.args in
+chosen : (c : tie.After-first-of) → let s = split_at c in let q = plane_at s in let e = start q in let a = e.args in
     Chosen (rows_of e) a.work.now a.p a.i a.j q.before.home-of.result q.plane.result s.split.result c.first_of.result
 chosen c =
-    let s = splitAt c in
-    let q = planeAt s in
+    let s = split_at c in
+    let q = plane_at s in
     record {
       home = q.before.home-of.ensures;
       plane = q.plane.ensures;
@@ -92,13 +92,13 @@ split-requires c κs =
       record { cells = e.pre.1.0.cells; small = omega (arith, e.pre.1.0.small); rises = (within e).0; inside = (within e).1 },
       (
         (ready e).few,
-        omega (arith, q.before.home-of.ensures, home-in a.home.now (get_or a.ahead.now a.p 0) a.states (ready e).homes (omega (arith, (ready e).four))),
-        omega (arith, q.plane.ensures, plane-in a.ahead.now (a.p + 1) a.states (omega (arith, after e)) (ready e).four),
+        omega (arith, q.before.home-of.ensures, home_in a.home.now (get_or a.ahead.now a.p 0) a.states (ready e).homes (omega (arith, (ready e).four))),
+        omega (arith, q.plane.ensures, plane_in a.ahead.now (a.p + 1) a.states (omega (arith, after e)) (ready e).four),
       ),
     )
 
 sub_wide : tie.Need-overflow-sub-wide
-sub_wide c = let e = start (planeAt c) in omega (arith, e.pre.1.1.0)
+sub_wide c = let e = start (plane_at c) in omega (arith, e.pre.1.1.0)
 
 wide-requires : tie.Need-wide-requires
 wide-requires c κs = search rules
@@ -106,13 +106,13 @@ wide-requires c κs = search rules
 mul_wide : tie.Need-overflow-mul-wide
 mul_wide c =
     let w = c.before in
-    let e = start (planeAt w.before) in
+    let e = start (plane_at w.before) in
     omega (arith, w.wide.ensures, (ready e).codes e.args.p e.pre.0.at.here)
 
 slice-read-wide : tie.Need-slice-read-wide
 slice-read-wide c =
     let w = c.before.before in
-    let e = start (planeAt w.before) in
+    let e = start (plane_at w.before) in
     omega (arith, w.wide.ensures, (ready e).codes e.args.p e.pre.0.at.here, e.pre.1.1)
 
 wide-requires-2 : tie.Need-wide-requires-2
@@ -121,7 +121,7 @@ wide-requires-2 c κs = search rules
 first-of-requires : tie.Need-first-of-requires
 first-of-requires c κs =
     let s = c.before.before.before.before in
-    let e = start (planeAt s) in (
+    let e = start (plane_at s) in (
       record {
         cells = e.pre.1.0.cells;
         small = omega (arith, e.pre.1.0.small);
@@ -152,20 +152,20 @@ add-cell c = search rules
 cell-requires : tie.Need-cell-requires
 cell-requires c κs =
     let e = begun c in
-    (omega (arith, e.pre.1.0.small), omega (arith, after e, (ready e).few), omega (arith, within e, (splitAt c).split.ensures.0), (within e).1)
+    (omega (arith, e.pre.1.0.small), omega (arith, after e, (ready e).few), omega (arith, within e, (split_at c).split.ensures.0), (within e).1)
 
 wait-requires : tie.Need-wait-requires
 wait-requires c κs =
     let f = c.before.before in
-    let s = splitAt f in
+    let s = split_at f in
     let e = begun f in
     let a = e.args in
     let x = e.pre.0 in (
-      open-room (rows_of e) x.course x.out a.work.now a.p a.i a.j a.depth x.at e.pre.1.1.0 _ _ _ _ (chosen f),
+      open_room (rows_of e) x.course x.out a.work.now a.p a.i a.j a.depth x.at e.pre.1.1.0 _ _ _ _ (chosen f),
       omega (
         arith,
         c.before.cell.ensures,
-        few-runs (a.p + 1) (width (rows_of e)) a.j (omega (arith, after e, (ready e).few)) (omega (arith, e.pre.1.0.small)) (within e).1,
+        few_runs (a.p + 1) (width (rows_of e)) a.j (omega (arith, after e, (ready e).few)) (omega (arith, e.pre.1.0.small)) (within e).1,
         within e,
         s.split.ensures.0,
       ),
@@ -198,7 +198,7 @@ returns c =
     let e = begun f in
     let a = e.args in (
       λ g out W.
-          subst (λ row. WalkAt (rows_of e) g (out ++ (get_or a.number.now f.first_of.result 0 ∷ [])) row f.first_of.result a.i (splitAt f).split.result (a.depth + 1))
+          subst (λ row. WalkAt (rows_of e) g (out ++ (get_or a.number.now f.first_of.result 0 ∷ [])) row f.first_of.result a.i (split_at f).split.result (a.depth + 1))
           (sym w.wait.ensures)
           (opened (rows_of e) g out a.work.now a.p a.i a.j a.depth W e.pre.1.1.0 _ _ _ _ (chosen f) w.before.before.cell.result w.before.before.cell.ensures),
       (refl, refl, refl),

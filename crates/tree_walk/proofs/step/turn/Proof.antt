@@ -3,7 +3,7 @@ use borrow.Author.Rules.{rules}
 use native.Mathlib.Omega.{arith}
 use mathlib.Core.Path.{refl}
 use Rattle.tree_walk.specs.Charted.{Rows, rows}
-use Rattle.tree_walk.specs.Walking.{at-work, ended, same, more}
+use Rattle.tree_walk.specs.Walking.{at_work, ended, same, more}
 use Rattle.tree_walk.proofs.Turns.{inside, deep, turn-done, turn-back, turn_on, at_same}
 use Rattle.tree_walk.proofs.step.turn.Statement.{statement}
 use Rattle.tree_walk.proofs.step.turn.Tie as tie
@@ -55,7 +55,7 @@ returns-2 c =
     let a = e.args in
     let w = a.w in
     let b = c.back.ensures in (
-      λ g out W. same b.1.1 (at-work b.1.2 (at_same (rows_of e) g out a.work.now b.0.0 b.0.1 b.0.2 b.1.0
+      λ g out W. same b.1.1 (at_work b.1.2 (at_same (rows_of e) g out a.work.now b.0.0 b.0.1 b.0.2 b.1.0
           (turn-back (rows_of e) g out a.work.now w.p w.i w.j w.depth W d.before.if1.true (omega (arith, d.if2.false))))),
       ((omega (arith, b.1), omega (arith, b.1), omega (arith, b.1)), λ q r. omega (arith, b.1, d.if2.false)),
     )
@@ -77,7 +77,7 @@ returns-3 c =
     let a = e.args in
     let w = a.w in
     let x = e.pre.0.at in (
-      λ g out W. same refl (at-work refl (turn_on (rows_of e) g out a.work.now w.p w.i w.j w.depth W c.before.if1.false c.if3.true)),
+      λ g out W. same refl (at_work refl (turn_on (rows_of e) g out a.work.now w.p w.i w.j w.depth W c.before.if1.false c.if3.true)),
       ((omega arith, omega arith, omega arith), λ q r. omega (arith, x.here, x.charted.ready.few)),
     )
 
@@ -95,7 +95,7 @@ same-length-3 c = search rules
 returns-4 : tie.Need-returns-4
 returns-4 c =
     let o = c.before.before.before.before.«open».ensures in (
-      λ g out W. more o.1.1 (at-work o.1.2 (o.0 g out W)),
+      λ g out W. more o.1.1 (at_work o.1.2 (o.0 g out W)),
       ((omega (arith, o.1), omega (arith, o.1), omega (arith, o.1)), λ q r. absurd (omega (arith, o.1))),
     )
 

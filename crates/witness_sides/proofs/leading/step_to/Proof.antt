@@ -9,19 +9,19 @@ use lib.ListN.{drop}
 use Rattle.grammar.specs.Limits.{limits}
 use Rattle.triples.specs.declared.Step.{Step}
 use Rattle.steps.specs.Plan.{rows_of}
-use Rattle.witness_sides.specs.Contracts.{stepsTo, recordsAt}
+use Rattle.witness_sides.specs.Clauses.{steps_to, records_at}
 use Rattle.witness_sides.proofs.FewRecords.{few-planned}
-use Rattle.witness_sides.proofs.SearchLaws.{leads-there, passed_over, ends-none, past-none, not-refused}
+use Rattle.witness_sides.proofs.SearchLaws.{leads_there, passed_over, ends-none, past-none, not-refused}
 use Rattle.witness_sides.proofs.leading.step_to.Statement.{statement}
 use Rattle.witness_sides.proofs.leading.step_to.Tie as tie
 
 abbrev invariant-loop : tie.invariant-loop
 invariant-loop ahead number member first after targets t m q i j layer left right k₀ k =
-    let l = recordsAt (rows_of ahead number member first after targets t m) q i in
-    (k ≤ limits.maxStates * limits.maxStates) × (stepsTo q (drop k l) j ≡ stepsTo q l j)
+    let l = records_at (rows_of ahead number member first after targets t m) q i in
+    (k ≤ limits.max_states * limits.max_states) × (steps_to q (drop k l) j ≡ steps_to q l j)
 
 abbrev decreases-loop : tie.decreases-loop
-decreases-loop ahead number member first after targets t m q i j layer left right k₀ k = limits.maxStates * limits.maxStates - k
+decreases-loop ahead number member first after targets t m q i j layer left right k₀ k = limits.max_states * limits.max_states - k
 
 -- from a turn of the loop back to the function's entry, and to the turn from the record that was answered
 abbrev start : tie.At-loop invariant-loop decreases-loop → tie.Start invariant-loop decreases-loop
@@ -35,12 +35,12 @@ asked c = c.before.before.before.before
 
 -- the records that are searched
 abbrev all : tie.Start invariant-loop decreases-loop → List Step
-all e = let a = e.args in recordsAt (rows_of a.ahead.now a.number.now a.member.now a.first.now a.after.now a.targets.now a.t a.m) a.q a.i
+all e = let a = e.args in records_at (rows_of a.ahead.now a.number.now a.member.now a.first.now a.after.now a.targets.now a.t a.m) a.q a.i
 
 mul-layer : tie.Need-overflow-mul-layer invariant-loop decreases-loop
 mul-layer c =
     let e = c.before in
-    let h : e.args.q * e.args.q ≤ limits.maxStates * limits.maxStates = mul-le-mul {n₂ = limits.maxStates} {m₂ = limits.maxStates} e.requires.most e.requires.most in
+    let h : e.args.q * e.args.q ≤ limits.max_states * limits.max_states = mul-le-mul {n₂ = limits.max_states} {m₂ = limits.max_states} e.requires.most e.requires.most in
     omega (arith, h)
 
 div-layer : tie.Need-nonzero-div-layer invariant-loop decreases-loop
@@ -107,7 +107,7 @@ returns-3 c =
     let g = asked n in
     let e = start (turn g) in
     let v = n.before.before.answer.given in
-    leads-there e.args.q e.args.j (all e) (turn g).loop.k _ (sym v.1 ∙ g.nth-rows.ensures) (sym n.next-index.ensures ∙ c.if1.true) (turn g).loop.inv.1
+    leads_there e.args.q e.args.j (all e) (turn g).loop.k _ (sym v.1 ∙ g.nth-rows.ensures) (sym n.next-index.ensures ∙ c.if1.true) (turn g).loop.inv.1
 
 add-k : tie.Need-overflow-add-k invariant-loop decreases-loop
 add-k c = search rules

@@ -1,7 +1,7 @@
 -- move_entry meets its contract: each arm is a case of the definition.
 use borrow.Author.Rules.{rules}
 use mathlib.Core.Path.{ap, sym}
-use Rattle.witness_sides.specs.Contracts.{moveEntry}
+use Rattle.witness_sides.specs.Clauses.{move_entry}
 use Rattle.witness_sides.proofs.letter.move_entry.Statement.{statement}
 use Rattle.witness_sides.proofs.letter.move_entry.Tie as tie
 
@@ -45,13 +45,13 @@ enum_told : tie.Need-enum-told
 enum_told c = search rules
 
 returns : tie.Need-returns
-returns c = sym (ap moveEntry c.before.m.given.1)
+returns c = sym (ap move_entry c.before.m.given.1)
 
 returns-2 : tie.Need-returns-2
-returns-2 c = sym (ap moveEntry c.before.m2.given.1)
+returns-2 c = sym (ap move_entry c.before.m2.given.1)
 
 returns-3 : tie.Need-returns-3
-returns-3 c = sym (ap moveEntry c.before.m3.given.1)
+returns-3 c = sym (ap move_entry c.before.m3.given.1)
 
 returns-4 : tie.Need-returns-4
 returns-4 c = search rules

@@ -4,13 +4,13 @@ use Rattle.grammar.specs.Basics.{when, each}
 use Rattle.grammar.specs.Limits.{limits}
 use Rattle.automaton.specs.Moves.{Moves}
 use Rattle.automaton.specs.Strings.{Letter, opening, closing, symbol}
-use Rattle.triples.specs.Index.{index, layerOf, left_of, rightOf}
+use Rattle.triples.specs.Index.{index, layer_of, left_of, right_of}
 use Rattle.triples.specs.Records.{step, records}
 use Rattle.triples.specs.Sides.{OneEach, letters}
 use Rattle.triples.specs.declared.Move.{Move}
 use Rattle.triples.specs.declared.Move.TheVariants.{Opening, Closing, Symbol, Still}
 use Rattle.triples.specs.declared.Step.{Step}
-use Rattle.readings.specs.Letters.{letterNumber}
+use Rattle.readings.specs.Letters.{letter_number}
 use Rattle.steps.specs.Plan.{Rows, Laid, planned}
 use Rattle.witness_sides.specs.declared.Lengths.{Lengths}
 use Rattle.witness_sides.specs.Sides.{TwoSides}
@@ -18,16 +18,16 @@ use Rattle.witness_sides.specs.Sides.{TwoSides}
 -- ---- letters
 
 -- the entry of a move's letter, or 0
-abbrev pub moveEntry : Move → ℕ
-moveEntry (Opening i) = letterNumber (opening i)
-moveEntry (Closing i) = letterNumber (closing i)
-moveEntry (Symbol x) = letterNumber (symbol x)
-moveEntry Still = 0
+abbrev pub move_entry : Move → ℕ
+move_entry (Opening i) = letter_number (opening i)
+move_entry (Closing i) = letter_number (closing i)
+move_entry (Symbol x) = letter_number (symbol x)
+move_entry Still = 0
 
 -- these letters, so many, stand at the front of a row
 pub record FrontLetters (u : List Letter) (count : ℕ) (row : List ℕ) : Type 0 where
   pub long : count ≡ length u
-  pub front : take count row ≡ map letterNumber u
+  pub front : take count row ≡ map letter_number u
   pub fits : count ≤ length row
 
 -- the letter of a move, if any, stands after those that stood there
@@ -37,30 +37,30 @@ Appended m count old r new = (u : List Letter) → FrontLetters u count old → 
 -- ---- the record that leads to an index
 
 -- the records that lead to index j, among Q states
-unfoldable pub stepsTo : ℕ → List Step → ℕ → List Step
-stepsTo Q l j = each l (λ s. when (eqb (index Q s.layer s.left s.right) j) (s ∷ []))
+unfoldable pub steps_to : ℕ → List Step → ℕ → List Step
+steps_to Q l j = each l (λ s. when (eqb (index Q s.layer s.left s.right) j) (s ∷ []))
 
 -- the first of them, or a step that stays at 0
-abbrev pub noStep : Step
-noStep = step 0 0 0 Still Still
+abbrev pub no_step : Step
+no_step = step 0 0 0 Still Still
 
 abbrev pub first_of : List Step → Step
-first_of [] = noStep
+first_of [] = no_step
 first_of (s ∷ l) = s
 
 -- the records of index i, from the rows
-abbrev pub recordsAt : Rows → ℕ → ℕ → List Step
-recordsAt R Q i = planned R (layerOf Q i) (left_of Q i) (rightOf Q i)
+abbrev pub records_at : Rows → ℕ → ℕ → List Step
+records_at R Q i = planned R (layer_of Q i) (left_of Q i) (right_of Q i)
 
-abbrev pub stepFound : Rows → ℕ → ℕ → ℕ → Step
-stepFound R Q i j = first_of (stepsTo Q (recordsAt R Q i) j)
+abbrev pub step_found : Rows → ℕ → ℕ → ℕ → Step
+step_found R Q i j = first_of (steps_to Q (records_at R Q i) j)
 
 -- the targets of Q states are laid out in the rows
 pub record Searchable (Q : ℕ) (member first targets : List ℕ) : Type 0 where
   pub least : 0 < Q
-  pub most : Q ≤ limits.maxStates
+  pub most : Q ≤ limits.max_states
   pub laid : (p : ℕ) → p < Q → Laid member first targets p
-  pub short : length targets ≤ limits.maxStates
+  pub short : length targets ≤ limits.max_states
 
 -- ---- the walk
 
