@@ -23,7 +23,7 @@ has_mem (y ∷ l) x e = elim (or_one (eqb y x) (has l x) e) [
   | inr a ↦ there (has_mem l x a)
 ]
 
-mem_has : {l : List ℕ} {x : ℕ} → Mem x l → has l x ≡ true
+mem_has : {x : ℕ} {l : List ℕ} → Mem x l → has l x ≡ true
 unfolding has
 mem_has {x = x} (here {l = l}) = ap (λ b. b || has l x) (eq-eqb x x refl)
 mem_has {x = x} (there {b = y} {l = l} m) = go (eqb y x) (mem_has m)
@@ -100,6 +100,7 @@ either found (d ∷ cs) c (there m) = go (has_all found d.premises) (either foun
     go true (inr n) = inr n
     go false (inl n) = inl n
     go false (inr n) = inr (there n)
+either found [] c x' = elim x' [ ]
 
 -- a round in which no clause concludes changes nothing
 abbrev Idle : List ℕ → List Clause → Type 0

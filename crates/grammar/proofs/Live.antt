@@ -219,6 +219,7 @@ module _ (L : Limits) (G : Grammar) (W : WellFormed L G) (apart : L.max_terminal
         used_good d (h b (subst (λ z. Mem b (when z (b ∷ []) ++ nonterminals_of L α)) (sym (high b n)) here)) u
     below_good (nonterminal {b = b} {α = α} n d c) h (in-others u) =
         below_good c (λ x m. h x (subst (λ z. Mem x (when z (b ∷ []) ++ nonterminals_of L α)) (sym (high b n)) (there m))) u
+    below_good {j = j} end h u = elim u [ ]
 
   -- there is a sentence exactly if the test says so
   pub has_sentence_lem : (has_sentence L G ≡ true) ↔ HasSentence L G
