@@ -1,5 +1,8 @@
 // Which rules of a checked grammar some sentence uses, and whether there is a sentence: by the nonterminals that have a tree,
 // and then by what S reaches through rules that can stand in a tree.
+
+#![tactic(auto)]
+
 mod marks;
 mod passes;
 

@@ -1,0 +1,26 @@
+-- mark_productive meets its contract: what is marked follows, and a pass that marks nothing has nothing left to mark.
+use borrow.Author.Rules.{rules}
+use native.Mathlib.Omega.{arith}
+use Prim.Native.Nat.{◌+◌, ◌*◌}
+use mathlib.Core.Path.{◌∙◌}
+use Rattle.live.specs.Marks.{unmarked, AllDerived, AllDerivedMarks}
+use Rattle.live.proofs.PassLaws.{Going, going_start, going_more, going_end}
+use Rattle.live.proofs.passes.mark_productive.Goals as goal
+
+pub loop-fresh-init : goal.loop-fresh-init
+loop-fresh-init c = going_start _
+
+pub derive_all-fresh-requires : goal.derive_all-fresh-requires
+derive_all-fresh-requires c = let p = c.requires in record { columns = p.columns; used_value = p.used_value; marks_len = c.loop-fresh.invariant.long ∙ p.marks_len }
+
+pub loop-fresh-smaller : goal.loop-fresh-smaller
+loop-fresh-smaller c = let f = c.derive_all-fresh.ensures.fewer in omega (arith, f)
+
+pub loop-fresh-preserved : goal.loop-fresh-preserved
+loop-fresh-preserved c = going_more c.loop-fresh.invariant c.derive_all-fresh.ensures
+
+pub shape_of-marks : goal.shape_of-marks
+shape_of-marks c = c.loop-fresh.invariant.long
+
+pub returns : goal.returns
+returns c = going_end (omega arith) c.loop-fresh.invariant

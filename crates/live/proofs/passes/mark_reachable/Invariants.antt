@@ -1,0 +1,12 @@
+use native.Mathlib.Omega.{arith}
+use Prim.Native.Nat.{◌+◌, ◌*◌}
+use mathlib.Core.Path.{◌∙◌}
+use Rattle.live.specs.Marks.{unmarked, AllLed, AllLedMarks}
+use Rattle.live.proofs.PassLaws.{Going, going_start, going_more, going_end}
+use Rattle.live.proofs.passes.mark_reachable.Given as goal
+
+abbrev pub invariant-loop-fresh : goal.invariant-loop-fresh
+invariant-loop-fresh l = Going (AllLed l.lefts l.lengths l.codes l.productive 0 l.count) (AllLedMarks l.lefts l.lengths l.codes l.productive 0 l.count) l.initial.marks l.marks l.fresh
+
+abbrev pub decreases-loop-fresh : goal.decreases-loop-fresh
+decreases-loop-fresh l = 2 * unmarked l.marks + l.fresh

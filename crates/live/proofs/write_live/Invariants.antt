@@ -1,0 +1,20 @@
+use native.Mathlib.Omega.{arith}
+use Prim.Native.Nat.{ℕ, ◌+◌, ◌-◌, ◌≤◌, ◌<◌}
+use mathlib.Core.Path.{◌≡◌, refl, ap, sym, subst, ◌∙◌}
+use mathlib.Core.Bool.{◌&&◌}
+use mathlib.Core.List.{List}
+use lib.ListN.{length, get_or, take, drop, length-set}
+use Rattle.grammar.specs.Limits.{limits}
+use Rattle.live.specs.Marks.{Small, before, left_at, right_at, marked, all_marked, bit}
+use Rattle.live.proofs.PassLaws.{small-part, before-start, part_is, rule_fits, written-more}
+use Rattle.live.proofs.write_live.Given as goal
+
+-- the entry of rule j
+abbrev pub live_at : List ℕ → List ℕ → List ℕ → List ℕ → List ℕ → ℕ → ℕ
+live_at lefts lengths codes productive reached j = bit (marked reached (left_at lefts j) && all_marked productive (right_at lengths codes j))
+
+abbrev pub invariant-loop-i : goal.invariant-loop-i
+invariant-loop-i l = (l.i ≤ l.count) × (l.u ≡ before l.lengths l.i) × (length l.live ≡ length l.initial.live) × ((j : ℕ) → j < l.i → get_or l.live j 0 ≡ live_at l.lefts l.lengths l.codes l.productive l.reached j)
+
+abbrev pub decreases-loop-i : goal.decreases-loop-i
+decreases-loop-i l = l.count - l.i
