@@ -39,9 +39,12 @@ module _ (L : Limits) (G : Grammar) where
   begins : {m i : ℕ} → Calls L G (suc m) i [] → i ≡ 0
   begins from_start = refl
 
+  nearest-of : {m i k j d e : ℕ} {cs ds : List (ℕ × ℕ)} → SpotOpens L G m i (spot j d cs) (spot k e ds) → ds ≡ take m ((j, d) ∷ cs)
+  nearest-of (spot-opens r l p c) = refl
+
   -- opening makes the item the nearest caller, of as many as are remembered
   nearest-first : {m i j d e : ℕ} {cs ds : List (ℕ × ℕ)} → SpotOpens L G m i (spot j d cs) (spot i e ds) → ds ≡ take m ((j, d) ∷ cs)
-  nearest-first (spot-opens r l p c) = refl
+  nearest-first o = nearest-of o
 
   -- closing returns to the nearest caller advanced past its nonterminal, and a farther one of the state stays its caller
   to-nearest : {m i k e j d : ℕ} {cs : List (ℕ × ℕ)} {s : Spot} → SpotCloses L G (suc m) i (spot k e ((j, d) ∷ cs)) s

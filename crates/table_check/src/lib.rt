@@ -1,4 +1,7 @@
 // The table check: any t, n and table to the record of a checked grammar, or to the first refusal.
+
+#![tactic(auto)]
+
 mod earlier;
 mod reading;
 

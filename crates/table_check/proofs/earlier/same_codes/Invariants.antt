@@ -1,0 +1,14 @@
+use native.Mathlib.Omega.{arith}
+use borrow.Author.Tests.{eq-eqb, ne_eqb}
+use Prim.Native.Nat.{◌-◌, ◌≤◌}
+use mathlib.Core.Path.{◌≡◌, ◌∙◌}
+use lib.ListN.{length, drop}
+use Rattle.grammar.specs.TableCheck.{same_codes}
+use Rattle.grammar.proofs.Scans.{same_more, same_differs, same_ends, same-lengths}
+use Rattle.table_check.proofs.earlier.same_codes.Given as goal
+
+abbrev pub invariant-loop-i : goal.invariant-loop-i
+invariant-loop-i l = (l.i ≤ length l.a) × (same_codes (drop l.i l.a) (drop l.i l.b) ≡ same_codes l.a l.b)
+
+abbrev pub decreases-loop-i : goal.decreases-loop-i
+decreases-loop-i l = length l.a - l.i

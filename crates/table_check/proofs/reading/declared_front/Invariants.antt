@@ -1,0 +1,15 @@
+use native.Mathlib.Omega.{arith}
+use borrow.Author.Tests.{not-true, not-false}
+use Prim.Native.Nat.{◌+◌, ◌-◌, ◌≤◌}
+use mathlib.Core.Path.{◌≡◌, ap, sym, ◌∙◌}
+use lib.ListN.{length, get_or, drop}
+use Rattle.grammar.specs.Limits.{limits}
+use Rattle.grammar.specs.TableCheck.{is_declared, declared_front}
+use Rattle.grammar.proofs.Scans.{front-more, front_stops, front_ends}
+use Rattle.table_check.proofs.reading.declared_front.Given as goal
+
+abbrev pub invariant-loop-i : goal.invariant-loop-i
+invariant-loop-i l = (l.i ≤ length l.right) × (l.i + declared_front limits l.t l.n (drop l.i l.right) ≡ declared_front limits l.t l.n l.right)
+
+abbrev pub decreases-loop-i : goal.decreases-loop-i
+decreases-loop-i l = length l.right - l.i
