@@ -1,4 +1,7 @@
 // The front of a lent work row becomes 0, before it is used or after.
+
+#![tactic(auto)]
+
 ghost use Rattle.std.specs.Prelude.{◌≡◌, ◌≤◌, length, replicate};
 ghost use Rattle.grammar.specs.Basics.{over};
 
