@@ -49,6 +49,7 @@ module _ (L : Limits) (G : Grammar) (W : WellFormed L G) (apart : L.max_terminal
   unfolding rule
   no_both (spot-opens r l p c) (spot-ends l' e) = omega (arith, p.inside)
   no_both (spot-opens r l p c) (spot-closes r' l' p' c' e q) = omega (arith, p.inside)
+  no_both {m = m} {j = j} {u = u} (spot-start _) x9 = elim x9 [ ]
 
   rules-low : (x n : ℕ) (l : List Rule) → Run L G (any L G W apart) n l → Distinct (live_rules L G x n l)
   unfolding live_rules

@@ -73,6 +73,7 @@ module _ (M : Moves) where
       go : (a ≡ s) ⊎ Mem a l → (Mem a l → Mem a (ordered M i l)) → (a ≡ s) ⊎ Mem a (ordered M i l)
       go (inl e) again = inl e
       go (inr k) again = inr (again k)
+  ordered_in i a [] m = elim m [ ]
 
   -- the ordered list has the same elements
   pub of-ordered : (i : ℕ) (a : Step) (l : List Step) → Mem a (ordered M i l) ↔ Mem a l
