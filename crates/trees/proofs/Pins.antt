@@ -124,7 +124,8 @@ abbrev bare : Grammar
 bare = record { terminals = 0; nonterminals = 1; rules = record { left = 32768; right = [] } ∷ [] }
 
 no_children : (ts : Trees) → Children limits bare [] ts → SameTree (node 1 none) (node 1 ts)
-no_children none Children.end = SameTree.same-node refl SameTrees.same_None
+no_children none Children.end = SameTree.same-node refl SameTrees.same_none
+no_children (child _ _) x3 = elim x3 [ ]
 
 only-tree : (u : Tree) → DerivationTree limits bare 32768 u → SameTree (node 1 none) u
 unfolding rule
