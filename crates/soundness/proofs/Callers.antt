@@ -79,6 +79,7 @@ one-tree-at L G W h m C K w two =
       where
         used : {j : ℕ} → UsesBelow j (Trees.child t Trees.none) → Live L G j
         used (in-first u) = live-rule d u
+used {j = j} (Rattle.grammar.specs.Live.in-others x3) = elim x3 [ ]
 
 -- and so does an acceptable certificate
 pub certified-at : (L : Limits) (G : Grammar) → WellFormed L G → L.max_terminals < L.nonterminal_base → (m : ℕ) (bytes : List ℕ)
