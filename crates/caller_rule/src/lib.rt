@@ -1,4 +1,7 @@
 // The states of one rule with its callers: dot by dot, caller by caller, in rows of numbers that are lent.
+
+#![tactic(auto)]
+
 ghost use Rattle.std.specs.Prelude.{◌≡◌, ◌+◌, ◌*◌, ◌≤◌, length, get_or};
 ghost use Rattle.grammar.specs.Limits.{limits};
 ghost use Rattle.caller_rule.specs.RuleRows.{member_class, target_class, Small, six, Wide, ItemWritten, code_before, low_before, Ruled, RuleWritten};
