@@ -1,4 +1,7 @@
 // A grammar while it is edited: a draft with eight marks, in one lent row. specs/Row.antt says how the row holds it.
+
+#![tactic(auto)]
+
 mod adding;
 mod blocks;
 mod edits;

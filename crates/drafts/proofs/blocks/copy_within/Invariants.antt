@@ -1,0 +1,15 @@
+use Prim.Native.Nat.{◌-◌, ◌≤◌}
+use mathlib.Core.Path.{◌≡◌, ap, ◌∙◌}
+use native.Mathlib.Omega.{arith}
+use lib.ListN.{length, drop}
+use lib.Seq.{paste, paste-zero}
+use Rattle.drafts.proofs.Copies.{copy_more, copy_length}
+use Rattle.drafts.proofs.blocks.copy_within.Reads as reads
+use Rattle.drafts.proofs.blocks.copy_within.Lts as lts
+use Rattle.drafts.proofs.blocks.copy_within.Given as goal
+
+abbrev pub invariant-loop-i : goal.invariant-loop-i
+invariant-loop-i l = (l.i ≤ l.n) × (l.row ≡ paste l.initial.row l.to (drop l.from l.initial.row) l.i)
+
+abbrev pub decreases-loop-i : goal.decreases-loop-i
+decreases-loop-i l = l.n - l.i
