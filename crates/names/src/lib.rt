@@ -1,4 +1,7 @@
 // Pieces, names and keys of grammar text: what the reader and the writer share.
+
+#![tactic(auto)]
+
 ghost use Rattle.std.specs.Prelude.{◌≡◌, [], ◌≤◌, ◌<◌, length, get_or};
 ghost use Rattle.text.specs.Names.{within, is_name_byte, is_name, folded, same_name};
 ghost use Rattle.text.specs.Keys.{key_table, key_lengths};
