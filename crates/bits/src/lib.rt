@@ -1,4 +1,7 @@
 // Bits in bytes, as a certificate has them: index 8b+c is bit c of byte b.
+
+#![tactic(auto)]
+
 ghost use Rattle.std.specs.Prelude.{◌≡◌, ◌+◌, ◌*◌, ◌^◌, ◌≤◌, ◌<◌, length};
 ghost use Rattle.triples.specs.Certificate.{is_set};
 ghost use Rattle.bits.specs.Bits.{with_bit};

@@ -1,0 +1,19 @@
+-- window meets its contract: the bytes without the bits below i.
+use borrow.Author.Rules.{rules}
+use Prim.Native.Nat.{◌/◌}
+use lib.ListN.{length}
+use Rattle.bits.proofs.WindowLaws.{word-one, window_eight, window_one}
+use Rattle.bits.proofs.window.Reads as reads
+use Rattle.bits.proofs.window.Lts as lts
+use Rattle.bits.proofs.eight_bytes.Reads as eight-bytes-reads
+use Rattle.bits.proofs.wide.Reads as wide-reads
+use Rattle.bits.proofs.window.Goals as goal
+
+pub returns-then-b-bytes : goal.returns-then-b-bytes
+returns-then-b-bytes c = let a = c.args in
+    window_eight a.bytes.now (length a.bytes.now) a.i c.eight_bytes.result c.if-b-bytes.true c.eight_bytes.ensures
+
+pub returns : goal.returns
+returns c = let a = c.args in
+    let w = c.wide.ensures in
+    window_one a.bytes.now (length a.bytes.now) a.i c.wide.result c.if-b-bytes.false (word-one a.bytes.now (a.i / 8) c.wide.result w.0 w.1)
