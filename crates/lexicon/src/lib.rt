@@ -2,6 +2,9 @@
 // two for each name, where a search takes one bit at each step and compares in full. The first bits are those of a key made of the name,
 // so that names which begin alike part early; the later ones are the name's own, so that a way has at most KEY_BITS steps more than a
 // name has bits. A link is a name's number; 0 is none, since name 0 is the root.
+
+#![tactic(auto)]
+
 ghost use Rattle.std.specs.Prelude.{◌≡◌, [], ℕ, ◌+◌, ◌*◌, ◌≤◌, ◌<◌, length, get_or};
 ghost use Rattle.text.specs.Names.{same_name, place};
 ghost use Rattle.text.specs.Print.{first_double};

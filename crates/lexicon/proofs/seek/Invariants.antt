@@ -1,0 +1,17 @@
+use native.Mathlib.Omega.{arith}
+use Prim.Native.Nat.{ℕ, ◌≤◌, ◌<◌, ◌+◌, ◌-◌, ◌*◌}
+use mathlib.Core.Path.{◌≡◌, sym, ap, ◌∙◌}
+use mathlib.Core.Bool.{Bool, true, false}
+use mathlib.Core.List.{List}
+use lib.ListN.{length, get_or}
+use Rattle.text.specs.Names.{same_name}
+use Rattle.lexicon.specs.Tree.{name_of}
+use Rattle.lexicon.proofs.Tree.{Still, Led, seek_start, seek_on, seek_gap}
+use Rattle.lexicon.proofs.Numbers.{compared}
+use Rattle.lexicon.proofs.seek.Given as goal
+
+abbrev pub invariant-loop-count : goal.invariant-loop-count
+invariant-loop-count l = (l.q < l.count) × (l.d ≤ l.q) × Still (name_of l.text l.starts l.lengths) l.links l.count l.x l.q l.d × Led (name_of l.text l.starts l.lengths) l.links l.count l.x l.q l.d
+
+abbrev pub decreases-loop-count : goal.decreases-loop-count
+decreases-loop-count l = l.count - l.q
