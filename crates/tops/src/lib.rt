@@ -1,4 +1,7 @@
 // Bits in the top bytes of a row of 32-bit entries, whose lower 24 bits hold places.
+
+#![tactic(auto)]
+
 ghost use Rattle.std.specs.Prelude.{◌≡◌, ◌+◌, ◌*◌, ◌<◌, length, get_or, set};
 ghost use Rattle.triples.specs.Certificate.{is_set};
 ghost use Rattle.bits.specs.Bits.{with_bit};
