@@ -84,6 +84,7 @@ module _ (successors : ℕ → List ℕ) (goal : ℕ) where
       go none q (inl z) again = no_option (sym q ∙ ap f (sym z) ∙ e)
       go none q (inr m) again = again m
       go (some u) q m again = (k ∷ u, refl)
+  first_some f [] j v m e = elim m [ ]
 
   -- a row that is found leads to the goal
   row_leads : (m i : ℕ) (w : List ℕ) → row_of successors goal m i ≡ some w → Leads i w × (length w ≡ m)
@@ -178,6 +179,7 @@ module _ (successors : ℕ → List ℕ) (goal : ℕ) where
     | inl e ↦ (w, subst (λ (y : ℕ). Leads y w) (sym e) h.1, omega arith, λ y n. there n)
     | inr n ↦ let c = cut x w j h.1 n in (c.0, c.1, omega (arith, c.2), λ y k. there (c.3 y k))
   ]
+  cut x [] i h m = elim m [ ]
 
   -- a row with as few indices as there can be has none twice
   least_distinct : (w : List ℕ) (i : ℕ) → Leads i w → NoneBelow (length w) i → Distinct (i ∷ w)
