@@ -9,7 +9,7 @@ use native.Mathlib.Omega.{arith}
 use Rattle.grammar.specs.Limits.{Limits}
 use Rattle.grammar.specs.Grammar.{Grammar, IsRule, rule, WellFormed}
 use Rattle.grammar.specs.Tree.{Tree, Trees, AppliesRuleOf, HasTree, HasTwoTrees}
-use Rattle.grammar.specs.Live.{Live, live-start, live-rule, UsesBelow, in-first}
+use Rattle.grammar.specs.Live.{Live, live-start, live-rule, UsesBelow, in-first, in-others}
 use Rattle.grammar.proofs.Trees.{is_same}
 use Rattle.grammar.proofs.Derives.{forest, tree-same, apart, has_derives}
 use Rattle.automaton.specs.Items.{length_of}
@@ -79,7 +79,7 @@ one-tree-at L G W h m C K w two =
       where
         used : {j : ℕ} → UsesBelow j (Trees.child t Trees.none) → Live L G j
         used (in-first u) = live-rule d u
-used {j = j} (Rattle.grammar.specs.Live.in-others x3) = elim x3 [ ]
+        used (in-others x) = elim x [ ]
 
 -- and so does an acceptable certificate
 pub certified-at : (L : Limits) (G : Grammar) → WellFormed L G → L.max_terminals < L.nonterminal_base → (m : ℕ) (bytes : List ℕ)
