@@ -169,6 +169,7 @@ every-says : {r : Row} (rs : List Row) → every_test rs ≡ true → Mem r rs �
 unfolding every_test
 every-says (s ∷ rs) e here = row-says s (and_both (row_test s) (every_test rs) e).0
 every-says (s ∷ rs) e (there m) = every-says rs (and_both (row_test s) (every_test rs) e).1 m
+every-says {r = r} [] e x'' = elim x'' [ ]
 
 computed : every_test rows ≡ true
 unfolding every_test row_test sentence_test claim_test passes rows stored_table check_from next_rule read_rule declared_front is_among same_codes refuse_unless and_then decode_up_to state_count encode
