@@ -36,8 +36,8 @@ returns-then-same_rule c = let a = c.args in
     (ap (λ (m : ℕ). same_rule (rule_at a.table.now l.o m) (rule_at a.table.now a.at a.k)) (sym c.wide-m.ensures)
     ∙ sym c.same_rule.ensures ∙ c.if-same_rule.true)
 
-pub overflow_add-o : goal.overflow_add-o
-overflow_add-o c = let l = c.loop-o in
+pub overflow_add-o-in-loop-o : goal.overflow_add-o-in-loop-o
+overflow_add-o-in-loop-o c = let l = c.loop-o in
     let w = l.invariant.whole in
     let h = c.loop-o-test.true in
     omega (arith, w, h)

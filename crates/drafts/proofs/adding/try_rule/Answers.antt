@@ -29,8 +29,8 @@ slice_bounds-put_entries-count c = let s = c in let r = table-room s.args.draft.
 pub slice_bounds-put_entries-start : goal.slice_bounds-put_entries-start
 slice_bounds-put_entries-start c = let s = c in let r = table-room s.args.draft.now _ s.requires in omega (arith, r.0)
 
-pub slice_bounds-put_entries-end : goal.slice_bounds-put_entries-end
-slice_bounds-put_entries-end c = let s = c in let r = table-room s.args.draft.now _ s.requires in omega (arith, r.1, r.2)
+pub slice_bounds-put_entries-end-2 : goal.slice_bounds-put_entries-end-2
+slice_bounds-put_entries-end-2 c = let s = c in let r = table-room s.args.draft.now _ s.requires in omega (arith, r.1, r.2)
 
 pub put_entries-requires : goal.put_entries-requires
 put_entries-requires c = let s = c in

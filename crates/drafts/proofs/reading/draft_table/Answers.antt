@@ -38,11 +38,11 @@ overflow_add-to c = let r = room c.before in omega (arith, r.1)
 pub slice_bounds-result-count-in-Opened : goal.slice_bounds-result-count-in-Opened
 slice_bounds-result-count-in-Opened c = let r = room c.before in omega (arith, r.0)
 
--- LOST part-result-start-2 : tie.Need-slice-bounds-result-start-2
--- LOST part-result-start-2 c = let r = room c in omega (arith, r.0)
+pub slice_bounds-result-start-in-Opened : goal.slice_bounds-result-start-in-Opened
+slice_bounds-result-start-in-Opened c = let r = room c.before in omega (arith, r.0)
 
--- LOST part-result-end-2 : tie.Need-slice-bounds-result-end-2
--- LOST part-result-end-2 c = let r = room c in omega (arith, r.1, r.2)
+pub slice_bounds-result-end-in-Opened : goal.slice_bounds-result-end-in-Opened
+slice_bounds-result-end-in-Opened c = let r = room c.before in omega (arith, r.1, r.2)
 
 pub returns-in-Opened : goal.returns-in-Opened
 returns-in-Opened c = table-held c.args.draft.now _ (opened-at c.before.before)
