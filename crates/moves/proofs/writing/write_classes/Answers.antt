@@ -1,0 +1,63 @@
+-- write_classes meets its contract: d codes of the line are written.
+use borrow.Author.Rules.{rules}
+use native.Mathlib.Omega.{arith}
+use Prim.Native.Nat.{ℕ, ◌+◌, ◌-◌, ◌*◌, ◌≤◌}
+use mathlib.Core.Path.{◌≡◌, refl, ap, sym, ◌∙◌}
+use mathlib.Core.List.{List, [], ◌∷◌, ◌++◌, map, append-nil}
+use lib.ListN.{length, set, length-set}
+use Rattle.grammar.specs.Limits.{limits}
+use Rattle.moves.specs.Tables.{class_of, kept}
+use Rattle.moves.specs.Clauses.{write}
+use Rattle.moves.proofs.Writes.{Writing, writing_start, writing_more, writing-end, one-write, first-write, no_write, map-twice}
+use Rattle.moves.proofs.writing.write_classes.Goals as goal
+
+pub loop-d-init : goal.loop-d-init
+loop-d-init c = let a = c.args in (
+  omega arith,
+  refl,
+  refl,
+  writing_start (λ x. class_of limits a.m (2 * a.m) (kept a.live x)) a.codes.now (class_of limits 0 (2 * a.m) (kept a.live a.left) ∷ []) a.at a.member.now,
+  writing_start (λ x. class_of limits 0 (2 * a.m + 1) (kept a.live x)) a.codes.now [] (a.at + 1) (set a.target.now a.at c.class_of.result),
+)
+
+pub offset_bounds-target-at-in-loop-d : goal.offset_bounds-target-at-in-loop-d
+offset_bounds-target-at-in-loop-d c = let h = length-set c.args.target.now c.args.at c.class_of.result in search (rules, h)
+
+pub bounds-target-at-in-loop-d : goal.bounds-target-at-in-loop-d
+bounds-target-at-in-loop-d c = omega (arith, length-set c.args.target.now c.args.at c.class_of.result)
+
+pub loop-d-preserved : goal.loop-d-preserved
+loop-d-preserved c = let a = c.args in
+    let l = c.loop-d in (
+      omega arith,
+      simp length-set l.invariant.1,
+      length-set l.target (a.at + l.d + 1) c.class_of-in-loop-d-2.result ∙ l.invariant.2,
+      writing_more (λ x. class_of limits a.m (2 * a.m) (kept a.live x)) a.codes.now (class_of limits 0 (2 * a.m) (kept a.live a.left) ∷ []) a.at a.member.now
+          l.member l.d (a.at + l.d) c.class_of-in-loop-d.result (omega arith) c.class_of-in-loop-d.ensures refl l.invariant.3,
+      writing_more (λ x. class_of limits 0 (2 * a.m + 1) (kept a.live x)) a.codes.now [] (a.at + 1) (set a.target.now a.at c.class_of.result)
+          l.target l.d (a.at + l.d + 1) c.class_of-in-loop-d-2.result (omega arith) c.class_of-in-loop-d-2.ensures (omega arith) l.invariant.4,
+    )
+
+pub shape_of-target : goal.shape_of-target
+shape_of-target c = c.loop-d.invariant.2 ∙ length-set c.args.target.now c.args.at c.class_of.result
+
+pub returns : goal.returns
+returns c = let a = c.args in
+    let l = c.loop-d in
+    let left = c.class_of in
+    let opens : ℕ → ℕ = λ x. class_of limits a.m (2 * a.m) (kept a.live x) in
+    let closes : ℕ → ℕ = λ x. class_of limits 0 (2 * a.m + 1) (kept a.live x) in
+    let x = kept a.live a.left in
+    let e : length a.codes.now ≡ l.d = omega arith in
+    let g = writing-end opens a.codes.now (class_of limits 0 (2 * a.m) (kept a.live a.left) ∷ []) a.at a.member.now l.member l.d (omega arith) l.invariant.3 in
+    let t = writing-end closes a.codes.now [] (a.at + 1) (set a.target.now a.at left.result) l.target l.d (omega arith) l.invariant.4 in record {
+      member_after = ap (λ (v : ℕ). set l.member (a.at + length a.codes.now) v) c.class_of-2.ensures
+          ∙ ap (λ (n : ℕ). set l.member (a.at + n) (class_of limits 0 (2 * a.m) x)) e
+          ∙ sym (one-write l.member (a.at + l.d) (class_of limits 0 (2 * a.m) x)) ∙ g
+          ∙ ap (λ (vs : List ℕ). write a.member.now a.at (vs ++ (class_of limits 0 (2 * a.m) x ∷ []))) (map-twice (class_of limits a.m (2 * a.m)) (kept a.live) a.codes.now);
+      target_after = sym (no_write l.target (a.at + 1 + l.d)) ∙ t
+          ∙ ap (λ (v : ℕ). write (set a.target.now a.at v) (a.at + 1) (map closes a.codes.now ++ [])) left.ensures
+          ∙ ap (λ (vs : List ℕ). write (set a.target.now a.at (class_of limits a.m (2 * a.m + 1) x)) (a.at + 1) vs) (append-nil (map closes a.codes.now))
+          ∙ sym (first-write a.target.now a.at (class_of limits a.m (2 * a.m + 1) x) (map closes a.codes.now))
+          ∙ ap (λ (vs : List ℕ). write a.target.now a.at (class_of limits a.m (2 * a.m + 1) x ∷ vs)) (map-twice (class_of limits 0 (2 * a.m + 1)) (kept a.live) a.codes.now);
+    }

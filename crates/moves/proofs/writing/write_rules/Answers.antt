@@ -1,0 +1,108 @@
+-- write_rules meets its contract: i rules are written, whose codes end before place u.
+use borrow.Author.Rules.{rules}
+use native.Mathlib.Omega.{arith}
+use Prim.Native.Nat.{ℕ, ◌+◌, ◌-◌, ◌≤◌, ◌<◌}
+use mathlib.Core.Path.{◌≡◌, ap, ◌∙◌}
+use mathlib.Core.List.{List}
+use lib.Dec.{ltb}
+use lib.ListN.{length, get_or, take, drop, replicate}
+use Rattle.grammar.specs.Grammar.{Rule}
+use Rattle.grammar.specs.Limits.{limits}
+use Rattle.moves.specs.Tables.{member_line, target_line, number_line, blanked}
+use Rattle.moves.specs.Clauses.{write, lengths_from, ahead_line, column_states, rule_of, stored, live_line}
+use Rattle.moves.proofs.Lines.{number_full, member_full, target-full}
+use Rattle.moves.proofs.Writes.{ahead-full, lengths-start, lengths-more, part_length, Rows, rows_start, rows_more, rows_end, row-blanked, blanked-full}
+use Rattle.moves.proofs.writing.write_rules.Goals as goal
+use Rattle.moves.proofs.writing.write_rules.Invariants.{aheads, members, targets}
+use Rattle.moves.proofs.writing.write_rules.Lts as lts
+use Rattle.moves.proofs.writing.write_rules.Reads as reads
+use Rattle.moves.proofs.writing.write_rules.Tie as tie
+
+abbrev Place-After-wide : Type 0
+Place-After-wide = lts.After-wide tie.the-claims reads.Pre reads.Post goal.the-invariant-loop-i goal.the-decreases-loop-i tie.handed_clauses
+
+pub loop-i-init : goal.loop-i-init
+loop-i-init c = let a = c.args in (
+  omega arith,
+  lengths-start a.lengths.now a.count,
+  omega arith,
+  rows_start (aheads a.live.now) (blanked-full ahead_line (live_line a.live.now) ahead-full) a.lefts.now a.lengths.now a.codes.now a.count a.ahead.now,
+  rows_start number_line number_full a.lefts.now a.lengths.now a.codes.now a.count a.number.now,
+  rows_start (members a.live.now a.m) (blanked-full (member_line limits a.m) (live_line a.live.now) (member_full limits a.m)) a.lefts.now a.lengths.now a.codes.now a.count a.member.now,
+  rows_start (targets a.live.now a.m) (blanked-full (target_line limits a.m) (live_line a.live.now) (target-full limits a.m)) a.lefts.now a.lengths.now a.codes.now a.count a.target.now,
+)
+
+-- the rule at hand lies within the codes and the rows
+fits : (c : Place-After-wide) →
+    let a = c.args in
+    let l = c.loop-i in
+    (l.u + c.wide-k.result ≤ length a.codes.now) × (l.at + c.wide-k.result < column_states a.lengths.now a.count)
+    × (l.u + c.wide-k.result + lengths_from a.lengths.now (a.count - (l.i + 1)) (l.i + 1) ≡ lengths_from a.lengths.now a.count 0)
+fits c =
+    let a = c.args in
+    let l = c.loop-i in
+    let h = lengths-more a.lengths.now a.count l.i (omega arith) in
+    (omega (arith, h, c.wide-k.ensures), omega (arith, h, c.wide-k.ensures), omega (arith, h, c.wide-k.ensures))
+
+pub overflow_add-e : goal.overflow_add-e
+overflow_add-e c = let h = fits c.before in search (rules, h)
+
+pub slice_bounds-write_classes-end : goal.slice_bounds-write_classes-end
+slice_bounds-write_classes-end c = let h = fits c.before.before.before in omega arith
+
+pub write_classes-requires : goal.write_classes-requires
+write_classes-requires c = let a = c.args in
+    let l = c.loop-i in
+    let h = fits c.before.before.before.before.before.before in
+    let p = part_length a.codes.now l.u c.wide-k.result h.0 in
+    record { m_bound = omega arith; codes_in_bounds = omega (arith, p, h.1, l.invariant.5.same, c.requires.wide.member); codes_in_bounds_2 = omega (arith, p, h.1, l.invariant.6.same, c.requires.wide.target) }
+
+pub slice_bounds-write_items-end : goal.slice_bounds-write_items-end
+slice_bounds-write_items-end c = let h = fits c.before.before.before.before.before.before.before.before.before.before.before in omega arith
+
+pub write_items-requires : goal.write_items-requires
+write_items-requires c = let a = c.args in
+    let l = c.loop-i in
+    let h = fits c.before.before.before.before.before.before.before.before.before.before.before.before.before.before in
+    let p = part_length a.codes.now l.u c.wide-k.result h.0 in
+    record { codes_in_bounds = omega (arith, p, h.1, l.invariant.3.same, c.requires.wide.ahead); codes_in_bounds_2 = omega (arith, p, h.1, l.invariant.4.same, c.requires.wide.number) }
+
+pub overflow_add-at : goal.overflow_add-at
+overflow_add-at c = omega (arith, (fits c.before.before.before.before.before.before.before.before.before.before.before.before.before.before.before.before.before.before.before).1, c.requires.wide.ahead, c.well-formed.1.1.1.1.1.1.0.0)
+
+pub overflow_add-at-in-loop-i : goal.overflow_add-at-in-loop-i
+overflow_add-at-in-loop-i c = omega (arith, (fits c.before.before.before.before.before.before.before.before.before.before.before.before.before.before.before.before.before.before.before).1, c.requires.wide.ahead, c.well-formed.1.1.1.1.1.1.0.0)
+
+pub loop-i-preserved : goal.loop-i-preserved
+loop-i-preserved c = let a = c.args in
+    let l = c.loop-i in
+    let k = c.wide-k.result in
+    let e = c.wide-k.ensures in
+    let h = fits c.before.before.before.before.before.before.before.before.before.before.before.before.before.before.before.before.before.before.before in
+    let u = h.0 in
+    let v = c.write_classes.ensures in
+    let w = c.write_items.ensures in
+    let z : l.i ≡ l.i + 2 - 2 = omega arith in
+    let r = rule_of (get_or a.lefts.now l.i 0) (take (l.u + k - l.u) (drop l.u a.codes.now)) in
+    let n : l.i + 1 ≡ l.i + 2 - 1 = omega arith in (
+      omega arith,
+      h.2,
+      omega arith,
+      rows_more (aheads a.live.now) (blanked-full ahead_line (live_line a.live.now) ahead-full) a.lefts.now a.lengths.now a.codes.now a.count a.ahead.now l.ahead _ l.at l.u l.i k (omega arith) e u (w.0 ∙ ap (λ (j : ℕ). write l.ahead l.at (ahead_line 0 (blanked (ltb 0 (get_or a.live.now j 0)) r))) z) l.invariant.3,
+      rows_more number_line number_full a.lefts.now a.lengths.now a.codes.now a.count a.number.now l.number _ l.at l.u l.i k (omega arith) e u (w.1 ∙ ap (λ (i : ℕ). write l.number l.at (replicate (length (take (l.u + k - l.u) (drop l.u a.codes.now)) + 1) i)) n) l.invariant.4,
+      rows_more (members a.live.now a.m) (blanked-full (member_line limits a.m) (live_line a.live.now) (member_full limits a.m)) a.lefts.now a.lengths.now a.codes.now a.count a.member.now l.member _ l.at l.u l.i k (omega arith) e u (v.0 ∙ ap (λ (j : ℕ). write l.member l.at (member_line limits a.m 0 (blanked (ltb 0 (get_or a.live.now j 0)) r))) z) l.invariant.5,
+      rows_more (targets a.live.now a.m) (blanked-full (target_line limits a.m) (live_line a.live.now) (target-full limits a.m)) a.lefts.now a.lengths.now a.codes.now a.count a.target.now l.target _ l.at l.u l.i k (omega arith) e u (v.1 ∙ ap (λ (j : ℕ). write l.target l.at (target_line limits a.m 0 (blanked (ltb 0 (get_or a.live.now j 0)) r))) z) l.invariant.6,
+    )
+
+pub returns : goal.returns
+returns c = let a = c.args in
+    let l = c.loop-i in
+    record {
+      ahead = rows_end (aheads a.live.now) (blanked-full ahead_line (live_line a.live.now) ahead-full) a.lefts.now a.lengths.now a.codes.now a.count a.ahead.now l.ahead l.at l.u l.i (omega arith) l.invariant.3
+          ∙ ap (write a.ahead.now 4) (row-blanked ahead_line (live_line a.live.now) 2 (stored a.lefts.now a.lengths.now a.codes.now a.count));
+      number = rows_end number_line number_full a.lefts.now a.lengths.now a.codes.now a.count a.number.now l.number l.at l.u l.i (omega arith) l.invariant.4;
+      member = rows_end (members a.live.now a.m) (blanked-full (member_line limits a.m) (live_line a.live.now) (member_full limits a.m)) a.lefts.now a.lengths.now a.codes.now a.count a.member.now l.member l.at l.u l.i (omega arith) l.invariant.5
+          ∙ ap (write a.member.now 4) (row-blanked (member_line limits a.m) (live_line a.live.now) 2 (stored a.lefts.now a.lengths.now a.codes.now a.count));
+      target = rows_end (targets a.live.now a.m) (blanked-full (target_line limits a.m) (live_line a.live.now) (target-full limits a.m)) a.lefts.now a.lengths.now a.codes.now a.count a.target.now l.target l.at l.u l.i (omega arith) l.invariant.6
+          ∙ ap (write a.target.now 4) (row-blanked (target_line limits a.m) (live_line a.live.now) 2 (stored a.lefts.now a.lengths.now a.codes.now a.count));
+    }
