@@ -18,9 +18,6 @@ use Rattle.lexicon.proofs.grow.Given as goal
 abbrev pub Separate : (ℕ → List ℕ) → ℕ → Type 0
 Separate name k = (i j : ℕ) → i < j → j < k → same_name (name j) (name i) ≡ false
 
-abbrev pub name : Start → ℕ → List ℕ
-name e = name_of e.args.text.now e.args.starts.now e.args.lengths.now
-
 abbrev pub invariant-loop-k : goal.invariant-loop-k
 invariant-loop-k l = (1 ≤ l.k) × (l.k ≤ length l.starts) × (length l.links ≡ length l.initial.links) × Grown (name_of l.text l.starts l.lengths) l.links l.k × Separate (name_of l.text l.starts l.lengths) l.k
 

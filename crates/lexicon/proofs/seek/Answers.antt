@@ -33,23 +33,20 @@ name e = name_of e.args.text.now e.args.starts.now e.args.lengths.now
 -- name q lies in the text
 inside : (c : Place-After-wide2) → c.wide-a.result + c.wide.result ≤ length c.args.text.now
 inside c =
-    let l = c in let e = l in
-    omega (arith, c.wide-a.ensures, c.wide.ensures, e.requires.spans.0.inside l.loop-count.q (omega (arith, l.loop-count.invariant.0, e.requires.spans.1)))
+    omega (arith, c.wide-a.ensures, c.wide.ensures, c.requires.spans.0.inside c.loop-count.q (omega (arith, c.loop-count.invariant.0, c.requires.spans.1)))
 
-same : (c : Place-After-same_name) (t : Bool) → c.same_name.result ≡ t → let l = c in let e = l in
-    same_name e.args.x.now (name e.before.before.before.before.before.before.before.before.before.before.before.before.before l.loop-count.q) ≡ t
+same : (c : Place-After-same_name) (t : Bool) → c.same_name.result ≡ t → let l = c in let e = l in same_name e.args.x.now (name e.before.before.before.before.before.before.before.before.before.before.before.before.before l.loop-count.q) ≡ t
 same c t h =
-    let w = c in let l = w in let e = l in let a = e.args in
-    compared a.text.now a.starts.now a.lengths.now a.x.now l.loop-count.q w.wide-a.result w.wide.result c.same_name.result t
-    w.wide-a.ensures w.wide.ensures c.same_name.ensures h
+    let a = c.args in
+    compared a.text.now a.starts.now a.lengths.now a.x.now c.loop-count.q c.wide-a.result c.wide.result c.same_name.result t
+    c.wide-a.ensures c.wide.ensures c.same_name.ensures h
 
 pub loop-count-init : goal.loop-count-init
-loop-count-init c = let e = c in
-    let s = seek_start (name e.before.before.before.before.before.before.before) e.args.links.now e.args.count e.args.x.now e.requires.grown in
-    (e.requires.grown.root, omega arith, s.0, s.1)
+loop-count-init c = let s = seek_start (name c.before.before.before.before.before.before.before) c.args.links.now c.args.count c.args.x.now c.requires.grown in
+    (c.requires.grown.root, omega arith, s.0, s.1)
 
 pub bounds-lengths-q : goal.bounds-lengths-q
-bounds-lengths-q c = let l = c in let e = l in omega (arith, l.loop-count.invariant.0, e.requires.spans.1, e.requires.spans.0.paired)
+bounds-lengths-q c = omega (arith, c.loop-count.invariant.0, c.requires.spans.1, c.requires.spans.0.paired)
 
 pub overflow_add-e : goal.overflow_add-e
 overflow_add-e c = omega (arith, inside c.before)
@@ -58,45 +55,44 @@ pub slice_bounds-same_name-end : goal.slice_bounds-same_name-end
 slice_bounds-same_name-end c = omega (arith, inside c.before)
 
 pub returns-then-same_name : goal.returns-then-same_name
-returns-then-same_name c = let l = c in record { inside = l.loop-count.invariant.0; same = same c.before.before true c.if-same_name.true }
+returns-then-same_name c = record { inside = c.loop-count.invariant.0; same = same c.before.before true c.if-same_name.true }
 
 pub overflow_mul-i : goal.overflow_mul-i
-overflow_mul-i c = let l = c in omega (arith, l.loop-count.invariant.0, l.requires.spans.2)
+overflow_mul-i c = omega (arith, c.loop-count.invariant.0, c.requires.spans.2)
 
 pub overflow_add-i : goal.overflow_add-i
-overflow_add-i c = let l = c in omega (arith, l.loop-count.invariant.0, l.requires.spans.2, c.bit.ensures.1)
+overflow_add-i c = omega (arith, c.loop-count.invariant.0, c.requires.spans.2, c.bit.ensures.1)
 
 pub offset_bounds-links-i : goal.offset_bounds-links-i
-offset_bounds-links-i c = let l = c in omega (arith, l.loop-count.invariant.0, l.requires.spans.2, c.bit.ensures.1)
+offset_bounds-links-i c = omega (arith, c.loop-count.invariant.0, c.requires.spans.2, c.bit.ensures.1)
 
 pub bounds-links-i : goal.bounds-links-i
-bounds-links-i c = let l = c in omega (arith, l.loop-count.invariant.0, l.requires.spans.3, c.bit.ensures.1)
+bounds-links-i c = omega (arith, c.loop-count.invariant.0, c.requires.spans.3, c.bit.ensures.1)
 
 pub returns-then-next-eq0 : goal.returns-then-next-eq0
-returns-then-next-eq0 c = let n = c in let l = n in let e = l in let a = e.args in
+returns-then-next-eq0 c = let a = c.args in
     let b = c.bit in
-    seek_gap (name e.before.before.before.before.before.before.before.before.before.before.before.before.before.before.before.before.before.before.before) a.links.now a.count a.x.now l.loop-count.q l.loop-count.d l.loop-count.invariant.2 l.loop-count.invariant.3 (same n.before.before.before.before.before.before false c.if-same_name.false)
-    _ (ap (λ (w : ℕ). 2 * l.loop-count.q + w) b.ensures.0) l.loop-count.invariant.0 (sym c.wide_link-next.ensures ∙ c.if-next-eq0.true)
+    seek_gap (name c.before.before.before.before.before.before.before.before.before.before.before.before.before.before.before.before.before.before.before) a.links.now a.count a.x.now c.loop-count.q c.loop-count.d c.loop-count.invariant.2 c.loop-count.invariant.3 (same c.before.before.before.before.before.before false c.if-same_name.false)
+    _ (ap (λ (w : ℕ). 2 * c.loop-count.q + w) b.ensures.0) c.loop-count.invariant.0 (sym c.wide_link-next.ensures ∙ c.if-next-eq0.true)
 
 pub overflow_add-d : goal.overflow_add-d
-overflow_add-d c = let l = c in omega (arith, l.loop-count.invariant.0, l.loop-count.invariant.1, l.requires.spans.2)
+overflow_add-d c = omega (arith, c.loop-count.invariant.0, c.loop-count.invariant.1, c.requires.spans.2)
 
 -- the link goes to a later name
 later : (c : Place-Else2) → let l = c in (l.loop-count.q < c.wide_link-next.result) × (c.wide_link-next.result < l.args.count)
 later c =
-    let l = c in let e = l in
     let b = c.bit in
-    let i = 2 * l.loop-count.q + b.result in
-    let n : 0 < get_or e.args.links.now i 0 = omega (arith, c.wide_link-next.ensures, c.if-next-eq0.false) in
-    (omega (arith, e.requires.grown.forward i n, c.wide_link-next.ensures), omega (arith, e.requires.grown.link i n, c.wide_link-next.ensures))
+    let i = 2 * c.loop-count.q + b.result in
+    let n : 0 < get_or c.args.links.now i 0 = omega (arith, c.wide_link-next.ensures, c.if-next-eq0.false) in
+    (omega (arith, c.requires.grown.forward i n, c.wide_link-next.ensures), omega (arith, c.requires.grown.link i n, c.wide_link-next.ensures))
 
 pub loop-count-smaller : goal.loop-count-smaller
 loop-count-smaller c = let w = later c.before in omega (arith, w.0, w.1)
 
 pub loop-count-preserved : goal.loop-count-preserved
-loop-count-preserved c = let n = c in let l = n in let e = l in let a = e.args in
+loop-count-preserved c = let a = c.args in
     let b = c.bit in
     let w = later c.before in
-    let o = seek_on (name e.before.before.before.before.before.before.before.before.before.before.before.before.before.before.before.before.before.before.before) a.links.now a.count a.x.now l.loop-count.q l.loop-count.d l.loop-count.invariant.2 l.loop-count.invariant.3 (same n.before.before.before.before.before.before false c.if-same_name.false)
-    c.wide_link-next.result (c.wide_link-next.ensures ∙ ap (λ (w : ℕ). get_or a.links.now (2 * l.loop-count.q + w) 0) b.ensures.0) (omega (arith, w.0)) in
-    (w.1, omega (arith, w.0, l.loop-count.invariant.1), o.0, o.1)
+    let o = seek_on (name c.before.before.before.before.before.before.before.before.before.before.before.before.before.before.before.before.before.before.before) a.links.now a.count a.x.now c.loop-count.q c.loop-count.d c.loop-count.invariant.2 c.loop-count.invariant.3 (same c.before.before.before.before.before.before false c.if-same_name.false)
+    c.wide_link-next.result (c.wide_link-next.ensures ∙ ap (λ (w : ℕ). get_or a.links.now (2 * c.loop-count.q + w) 0) b.ensures.0) (omega (arith, w.0)) in
+    (w.1, omega (arith, w.0, c.loop-count.invariant.1), o.0, o.1)
