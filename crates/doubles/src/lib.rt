@@ -1,5 +1,8 @@
 // Does a name stand twice? The names of a line are tried block by block: those of a block go into a lexicon, in which the later names
 // of the line and those of the earlier line are looked up. A block has as many names as the lent rows hold, so lines of any length do.
+
+#![tactic(auto)]
+
 ghost use Rattle.std.specs.Prelude.{◌≡◌, ◌++◌, false, ℕ, ◌*◌, ◌≤◌, ◌<◌, length, take, get_or};
 ghost use Rattle.grammar.specs.Limits.{limits};
 ghost use Rattle.text.specs.Names.{has_double};

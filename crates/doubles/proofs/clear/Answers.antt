@@ -9,14 +9,7 @@ use mathlib.Core.List.{List}
 use lib.Dec.{ltb}
 use lib.ListN.{length, get_or, set, length-set, get_or-eq_default}
 use lib.Seq.{get_or-set_same, get_or-set_other}
-use Rattle.doubles.proofs.clear.Statement.{statement}
-use Rattle.doubles.proofs.clear.Tie as tie
-
-abbrev invariant-loop : tie.invariant-loop
-invariant-loop links₀ i₀ links i = (length links ≡ length links₀) × ((j : ℕ) → j < i → get_or links j 0 ≡ 0)
-
-abbrev decreases-loop : tie.decreases-loop
-decreases-loop links₀ i₀ links i = length links₀ - i
+use Rattle.doubles.proofs.clear.Goals as goal
 
 -- one entry more
 one_more : (links : List ℕ) (i : ℕ) → i < length links → ((j : ℕ) → j < i → get_or links j 0 ≡ 0) → (j : ℕ) → j < i + 1 → get_or (set links i 0) j 0 ≡ 0
@@ -36,43 +29,12 @@ none links i l h j = go (ltb j i) refl
     go true q = h j (ltb-true j i q)
     go false q = get_or-eq_default links 0 {n = j} (omega (arith, l, ltb-false j i q))
 
-loop-holds : tie.Need-loop-init invariant-loop decreases-loop
-loop-holds c = (refl, λ j h. absurd (omega arith))
+pub loop-i-init : goal.loop-i-init
+loop-i-init c = (refl, λ j h. absurd (omega arith))
 
-mul-links : tie.Need-overflow-mul-links invariant-loop decreases-loop
-mul-links c = search rules
+pub loop-i-preserved : goal.loop-i-preserved
+loop-i-preserved c = let l = c.loop-i in
+    (length-set l.links l.i 0 ∙ l.invariant.0, one_more l.links l.i c.loop-i-test.true l.invariant.1)
 
-slice-write-links : tie.Need-slice-write-links invariant-loop decreases-loop
-slice-write-links c = search rules
-
-add-i : tie.Need-overflow-add-i invariant-loop decreases-loop
-add-i c = search rules
-
-loop-less : tie.Need-loop-smaller invariant-loop decreases-loop
-loop-less c = search rules
-
-loop-again : tie.Need-loop-preserved invariant-loop decreases-loop
-loop-again c =
-    let l = c.before.loop in
-    (length-set l.links l.i 0 ∙ l.invariant.0, one_more l.links l.i c.loop-test.true l.invariant.1)
-
-same_length : tie.Need-same-length invariant-loop decreases-loop
-same_length c = search rules
-
-returns : tie.Need-returns invariant-loop decreases-loop
-returns c = let l = c.before.loop in none l.links l.i c.loop-test.false l.invariant.1
-
-pub clear_spec : {M : Type 1} → statement M
-clear_spec =
-    tie.close
-    (tie.spec
-    invariant-loop
-    decreases-loop
-    loop-holds
-    mul-links
-    slice-write-links
-    add-i
-    loop-less
-    loop-again
-    same_length
-    returns)
+pub returns : goal.returns
+returns c = let l = c.loop-i in none l.links l.i c.loop-i-test.false l.invariant.1
