@@ -34,68 +34,54 @@ recorded e = lent_record e.requires.columns_of.1
 row : (c : Place-After-write_rows) → let e = c in let g = told e.before.before.before.before.before.before.before.before.before.before.before.before.before.before.before.before.before.before in let four = c.write_rows.new.1.1.1.1.1.1.1 in
     Sortable g.states (2 * (g.nonterminals + 1) + 1) (take g.states four.1.1.1.0)
 row c =
-    let l = c in
-    let e = l in
-    let C = e.requires.columns_of.1 in
-    sortable (told e.before.before.before.before.before.before.before.before.before.before.before.before.before.before.before.before.before.before) _ C.well_formed C.same _ _ (l.live_rules-live.ensures _ _ _ C) e.args.target-1.now _ e.requires.room.target-1 c.write_rows.ensures.target-1
+    let C = c.requires.columns_of.1 in
+    sortable (told c.before.before.before.before.before.before.before.before.before.before.before.before.before.before.before.before.before.before) _ C.well_formed C.same _ _ (c.live_rules-live.ensures _ _ _ C) c.args.target.now _ c.requires.room.target c.write_rows.ensures.target
 
 pub live_rules-live-requires : goal.live_rules-live-requires
 live_rules-live-requires c = let p = c.requires.columns_of in (p.0, _, _, p.1)
 
 pub write_rows-requires : goal.write_rows-requires
-write_rows-requires c = let w = c in
-    let e = w in
-    let a = e.args in
-    let old = (tables a.ahead.now a.number.now a.member.now a.target-1.now a.first.now a.targets-1.now a.after.now) in
-    let k = columns_of (told e.before.before.before.before.before.before.before.before.before.before.before.before.before.before.before.before.before.before) (recorded e.before.before.before.before.before.before.before.before.before.before.before.before.before.before.before.before.before.before) in
-    let z : length w.live_rules-live.result.rules ≡ limits.max_rules = search rules in
-    record { n_le_max_nonterminals = few-nonterminals (told e.before.before.before.before.before.before.before.before.before.before.before.before.before.before.before.before.before.before) (recorded e.before.before.before.before.before.before.before.before.before.before.before.before.before.before.before.before.before.before); columns = k; count_in_bounds = omega (arith, z, k.few); wide = wide_of (told e.before.before.before.before.before.before.before.before.before.before.before.before.before.before.before.before.before.before) old (recorded e.before.before.before.before.before.before.before.before.before.before.before.before.before.before.before.before.before.before) e.requires.room }
+write_rows-requires c = let a = c.args in
+    let old = (tables a.ahead.now a.number.now a.member.now a.target.now a.first.now a.targets.now a.after.now) in
+    let k = columns_of (told c.before.before.before.before.before.before.before.before.before.before.before.before.before.before.before.before.before.before) (recorded c.before.before.before.before.before.before.before.before.before.before.before.before.before.before.before.before.before.before) in
+    let z : length c.live_rules-live.result.rules ≡ limits.max_rules = search rules in
+    record { n_le_max_nonterminals = few-nonterminals (told c.before.before.before.before.before.before.before.before.before.before.before.before.before.before.before.before.before.before) (recorded c.before.before.before.before.before.before.before.before.before.before.before.before.before.before.before.before.before.before); columns = k; count_in_bounds = omega (arith, z, k.few); wide = wide_of (told c.before.before.before.before.before.before.before.before.before.before.before.before.before.before.before.before.before.before) old (recorded c.before.before.before.before.before.before.before.before.before.before.before.before.before.before.before.before.before.before) c.requires.room }
 
 pub overflow_add-laid : goal.overflow_add-laid
-overflow_add-laid c = let e = c in omega (arith, c.wide.ensures, few-nonterminals (told e.before.before.before.before.before.before.before.before.before.before.before.before.before.before.before.before.before.before.before.before.before.before.before.before.before.before.before.before) (recorded e.before.before.before.before.before.before.before.before.before.before.before.before.before.before.before.before.before.before.before.before.before.before.before.before.before.before.before.before))
+overflow_add-laid c = omega (arith, c.wide.ensures, few-nonterminals (told c.before.before.before.before.before.before.before.before.before.before.before.before.before.before.before.before.before.before.before.before.before.before.before.before.before.before.before.before) (recorded c.before.before.before.before.before.before.before.before.before.before.before.before.before.before.before.before.before.before.before.before.before.before.before.before.before.before.before.before))
 
 pub overflow_mul-laid : goal.overflow_mul-laid
-overflow_mul-laid c = let e = c in omega (arith, c.wide.ensures, few-nonterminals (told e.before.before.before.before.before.before.before.before.before.before.before.before.before.before.before.before.before.before.before.before.before.before.before.before.before.before.before.before) (recorded e.before.before.before.before.before.before.before.before.before.before.before.before.before.before.before.before.before.before.before.before.before.before.before.before.before.before.before.before))
+overflow_mul-laid c = omega (arith, c.wide.ensures, few-nonterminals (told c.before.before.before.before.before.before.before.before.before.before.before.before.before.before.before.before.before.before.before.before.before.before.before.before.before.before.before.before) (recorded c.before.before.before.before.before.before.before.before.before.before.before.before.before.before.before.before.before.before.before.before.before.before.before.before.before.before.before.before))
 
 pub overflow_add-laid-2 : goal.overflow_add-laid-2
-overflow_add-laid-2 c = let e = c in omega (arith, c.wide.ensures, few-nonterminals (told e.before.before.before.before.before.before.before.before.before.before.before.before.before.before.before.before.before.before.before.before.before.before.before.before.before.before.before.before) (recorded e.before.before.before.before.before.before.before.before.before.before.before.before.before.before.before.before.before.before.before.before.before.before.before.before.before.before.before.before))
+overflow_add-laid-2 c = omega (arith, c.wide.ensures, few-nonterminals (told c.before.before.before.before.before.before.before.before.before.before.before.before.before.before.before.before.before.before.before.before.before.before.before.before.before.before.before.before) (recorded c.before.before.before.before.before.before.before.before.before.before.before.before.before.before.before.before.before.before.before.before.before.before.before.before.before.before.before.before))
 
 pub slice_bounds-sort-end : goal.slice_bounds-sort-end
-slice_bounds-sort-end c = let r = c in
-    let n = ap length r.write_rows.ensures.target-1 ∙ write-length _ _ _ in
-    omega (arith, n, r.requires.room.target-1)
+slice_bounds-sort-end c = let n = ap length c.write_rows.ensures.target ∙ write-length _ _ _ in
+    omega (arith, n, c.requires.room.target)
 
 pub slice_bounds-sort-end-2 : goal.slice_bounds-sort-end-2
 slice_bounds-sort-end-2 c = sym (row c.before.before.before.before.before.before.before.before.before.before).long
 
 pub sort-requires : goal.sort-requires
-sort-requires c = let w = c in
-    let r = w in
-    let e = r in
-    let p = e.requires in
-    let s = row r.before.before.before.before.before.before.before.before.before.before.before.before in
-    let n = few-nonterminals (told e.before.before.before.before.before.before.before.before.before.before.before.before.before.before.before.before.before.before.before.before.before.before.before.before.before.before.before.before.before.before) (recorded e.before.before.before.before.before.before.before.before.before.before.before.before.before.before.before.before.before.before.before.before.before.before.before.before.before.before.before.before.before.before) in
-    let q = few-states (told e.before.before.before.before.before.before.before.before.before.before.before.before.before.before.before.before.before.before.before.before.before.before.before.before.before.before.before.before.before.before) (recorded e.before.before.before.before.before.before.before.before.before.before.before.before.before.before.before.before.before.before.before.before.before.before.before.before.before.before.before.before.before.before) in
-    let k = w.wide.ensures in
-    record { row_len_bound = omega (arith, s.long, q); row_in_bounds = omega (arith, s.long, p.room.targets-1); n_lt_classes = omega (arith, k, n); n_in_bounds = omega (arith, k, p.room.first); by_index = (λ t h. omega (arith, k, s.small t h)) }
+sort-requires c = let p = c.requires in
+    let s = row c.before.before.before.before.before.before.before.before.before.before.before.before in
+    let n = few-nonterminals (told c.before.before.before.before.before.before.before.before.before.before.before.before.before.before.before.before.before.before.before.before.before.before.before.before.before.before.before.before.before.before) (recorded c.before.before.before.before.before.before.before.before.before.before.before.before.before.before.before.before.before.before.before.before.before.before.before.before.before.before.before.before.before.before) in
+    let q = few-states (told c.before.before.before.before.before.before.before.before.before.before.before.before.before.before.before.before.before.before.before.before.before.before.before.before.before.before.before.before.before.before) (recorded c.before.before.before.before.before.before.before.before.before.before.before.before.before.before.before.before.before.before.before.before.before.before.before.before.before.before.before.before.before.before) in
+    let k = c.wide.ensures in
+    record { row_len_bound = omega (arith, s.long, q); row_in_bounds = omega (arith, s.long, p.room.targets); n_lt_classes = omega (arith, k, n); n_in_bounds = omega (arith, k, p.room.first); by_index = (λ t h. omega (arith, k, s.small t h)) }
 
 pub write_after-requires : goal.write_after-requires
-write_after-requires c = let e = c in
-    (e.requires.room.after, few-states (told e.before.before.before.before.before.before.before.before.before.before.before.before.before.before.before.before.before.before.before.before.before.before.before.before.before.before.before.before.before.before.before.before.before.before.before.before) (recorded e.before.before.before.before.before.before.before.before.before.before.before.before.before.before.before.before.before.before.before.before.before.before.before.before.before.before.before.before.before.before.before.before.before.before.before.before))
+write_after-requires c = (c.requires.room.after, few-states (told c.before.before.before.before.before.before.before.before.before.before.before.before.before.before.before.before.before.before.before.before.before.before.before.before.before.before.before.before.before.before.before.before.before.before.before.before) (recorded c.before.before.before.before.before.before.before.before.before.before.before.before.before.before.before.before.before.before.before.before.before.before.before.before.before.before.before.before.before.before.before.before.before.before.before.before))
 
 pub returns : goal.returns
-returns c = let t = c in
-    let w = t in
-    let r = w in
-    let l = r in
-    let e = l in
-    let a = e.args in
-    let old = (tables a.ahead.now a.number.now a.member.now a.target-1.now a.first.now a.targets-1.now a.after.now) in
-    built_of (with_columns G a.n a.q a.count a.used a.lefts.now a.lengths.now a.codes.now) G C.same _ _ (l.live_rules-live.ensures G _ _ C)
-    (2 * (w.wide.result + 1) + 1) old _ e.requires.room
+returns c = let a = c.args in
+    let old = (tables a.ahead.now a.number.now a.member.now a.target.now a.first.now a.targets.now a.after.now) in
+    built_of (with_columns G a.n a.q a.count a.used a.lefts.now a.lengths.now a.codes.now) G C.same _ _ (c.live_rules-live.ensures G _ _ C)
+    (2 * (c.wide.result + 1) + 1) old _ c.requires.room
     (record {
-      rows = r.write_rows.ensures;
-      many = ap (λ (n : ℕ). 2 * (n + 1) + 1) w.wide.ensures;
-      sorted = t.sort.ensures;
+      rows = c.write_rows.ensures;
+      many = ap (λ (n : ℕ). 2 * (n + 1) + 1) c.wide.ensures;
+      sorted = c.sort.ensures;
       after = c.write_after.ensures;
     })

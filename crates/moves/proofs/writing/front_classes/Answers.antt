@@ -17,4 +17,4 @@ returns c = let a = c.args in
     let x = blanked a.live (rule_of 0 (top ∷ [])) in
     let y = blanked a.live (rule_of top (start limits ∷ [])) in
     let v = c.write_classes.ensures in
-    let w = c.write_classes-2.ensures in record { member_after = w.0 ∙ ap (λ (r : List ℕ). write r 2 (member_line limits m 1 y)) v.0 ∙ two_writes (member_line limits m) x y a.member.now 2 refl; target_after = w.1 ∙ ap (λ (r : List ℕ). write r 2 (target_line limits m 1 y)) v.1 ∙ two_writes (target_line limits m) x y a.target-1.now 2 refl }
+    let w = c.write_classes-2.ensures in record { member_after = w.member_after ∙ ap (λ (r : List ℕ). write r 2 (member_line limits m 1 y)) v.member_after ∙ two_writes (member_line limits m) x y a.member.now 2 refl; target_after = w.target_after ∙ ap (λ (r : List ℕ). write r 2 (target_line limits m 1 y)) v.target_after ∙ two_writes (target_line limits m) x y a.target.now 2 refl }

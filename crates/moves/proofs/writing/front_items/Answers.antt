@@ -17,4 +17,4 @@ returns c = let a = c.args in
     let p = blanked a.live x in
     let q = blanked a.live y in
     let v = c.write_items.ensures in
-    let w = c.write_items-2.ensures in record { ahead_after = w.0 ∙ ap (λ (r : List ℕ). write r 2 (ahead_line 1 q)) v.0 ∙ two_writes ahead_line p q a.ahead.now 2 refl; number_after = w.1 ∙ ap (λ (r : List ℕ). write r 2 (number_line 1 y)) v.1 ∙ two_writes number_line x y a.number.now 2 refl }
+    let w = c.write_items-2.ensures in record { ahead_after = w.ahead_after ∙ ap (λ (r : List ℕ). write r 2 (ahead_line 1 q)) v.ahead_after ∙ two_writes ahead_line p q a.ahead.now 2 refl; number_after = w.number_after ∙ ap (λ (r : List ℕ). write r 2 (number_line 1 y)) v.number_after ∙ two_writes number_line x y a.number.now 2 refl }

@@ -19,8 +19,8 @@ returns c = let a = c.args in
     let v = c.front_items.ensures in
     let w = c.write_rules.ensures in
     record {
-      ahead = w.ahead ∙ ap (λ (r : List ℕ). write r 4 (row_from ahead_line 2 lines)) v.0 ∙ lines_write ahead_line (map (blanked a.sentence) front_items) lines a.ahead.now 4 2 refl refl;
-      number = w.number ∙ ap (λ (r : List ℕ). write r 4 (row_from number_line 2 rules)) v.1 ∙ lines_write number_line front_items rules a.number.now 4 2 refl refl;
-      member = w.member ∙ ap (λ (r : List ℕ). write r 4 (row_from (member_line limits m) 2 lines)) u.0 ∙ lines_write (member_line limits m) (map (blanked a.sentence) (front_classes a.n)) lines a.member.now 4 2 refl refl;
-      target = w.target-1 ∙ ap (λ (r : List ℕ). write r 4 (row_from (target_line limits m) 2 lines)) u.1 ∙ lines_write (target_line limits m) (map (blanked a.sentence) (front_classes a.n)) lines a.target-1.now 4 2 refl refl;
+      ahead = w.ahead ∙ ap (λ (r : List ℕ). write r 4 (row_from ahead_line 2 lines)) v.ahead_after ∙ lines_write ahead_line (map (blanked a.sentence) front_items) lines a.ahead.now 4 2 refl refl;
+      number = w.number ∙ ap (λ (r : List ℕ). write r 4 (row_from number_line 2 rules)) v.number_after ∙ lines_write number_line front_items rules a.number.now 4 2 refl refl;
+      member = w.member ∙ ap (λ (r : List ℕ). write r 4 (row_from (member_line limits m) 2 lines)) u.member_after ∙ lines_write (member_line limits m) (map (blanked a.sentence) (front_classes a.n)) lines a.member.now 4 2 refl refl;
+      target = w.target ∙ ap (λ (r : List ℕ). write r 4 (row_from (target_line limits m) 2 lines)) u.target_after ∙ lines_write (target_line limits m) (map (blanked a.sentence) (front_classes a.n)) lines a.target.now 4 2 refl refl;
     }

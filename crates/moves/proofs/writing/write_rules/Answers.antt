@@ -68,10 +68,10 @@ write_items-requires c = let a = c.args in
     record { codes_in_bounds = omega (arith, p, h.1, l.invariant.3.same, c.requires.wide.ahead); codes_in_bounds_2 = omega (arith, p, h.1, l.invariant.4.same, c.requires.wide.number) }
 
 pub overflow_add-at : goal.overflow_add-at
-overflow_add-at c = omega (arith, (fits c.before.before.before.before.before.before.before.before.before.before.before.before.before.before.before.before.before.before.before).1, c.requires.wide.ahead, c.well-formed.1.1.1.1.1.1.0.0)
+overflow_add-at c = omega (arith, (fits c.before.before.before.before.before.before.before.before.before.before.before.before.before.before.before.before.before.before.before).1, c.requires.wide.ahead, c.well_formed.1.1.1.1.1.1.0.0)
 
 pub overflow_add-at-in-loop-i : goal.overflow_add-at-in-loop-i
-overflow_add-at-in-loop-i c = omega (arith, (fits c.before.before.before.before.before.before.before.before.before.before.before.before.before.before.before.before.before.before.before).1, c.requires.wide.ahead, c.well-formed.1.1.1.1.1.1.0.0)
+overflow_add-at-in-loop-i c = omega (arith, (fits c.before.before.before.before.before.before.before.before.before.before.before.before.before.before.before.before.before.before.before).1, c.requires.wide.ahead, c.well_formed.1.1.1.1.1.1.0.0)
 
 pub loop-i-preserved : goal.loop-i-preserved
 loop-i-preserved c = let a = c.args in
@@ -88,10 +88,10 @@ loop-i-preserved c = let a = c.args in
       omega arith,
       h.2,
       omega arith,
-      rows_more (aheads a.live.now) (blanked-full ahead_line (live_line a.live.now) ahead-full) a.lefts.now a.lengths.now a.codes.now a.count a.ahead.now l.ahead _ l.at l.u l.i k (omega arith) e u (w.0 ∙ ap (λ (j : ℕ). write l.ahead l.at (ahead_line 0 (blanked (ltb 0 (get_or a.live.now j 0)) r))) z) l.invariant.3,
-      rows_more number_line number_full a.lefts.now a.lengths.now a.codes.now a.count a.number.now l.number _ l.at l.u l.i k (omega arith) e u (w.1 ∙ ap (λ (i : ℕ). write l.number l.at (replicate (length (take (l.u + k - l.u) (drop l.u a.codes.now)) + 1) i)) n) l.invariant.4,
-      rows_more (members a.live.now a.m) (blanked-full (member_line limits a.m) (live_line a.live.now) (member_full limits a.m)) a.lefts.now a.lengths.now a.codes.now a.count a.member.now l.member _ l.at l.u l.i k (omega arith) e u (v.0 ∙ ap (λ (j : ℕ). write l.member l.at (member_line limits a.m 0 (blanked (ltb 0 (get_or a.live.now j 0)) r))) z) l.invariant.5,
-      rows_more (targets a.live.now a.m) (blanked-full (target_line limits a.m) (live_line a.live.now) (target-full limits a.m)) a.lefts.now a.lengths.now a.codes.now a.count a.target.now l.target _ l.at l.u l.i k (omega arith) e u (v.1 ∙ ap (λ (j : ℕ). write l.target l.at (target_line limits a.m 0 (blanked (ltb 0 (get_or a.live.now j 0)) r))) z) l.invariant.6,
+      rows_more (aheads a.live.now) (blanked-full ahead_line (live_line a.live.now) ahead-full) a.lefts.now a.lengths.now a.codes.now a.count a.ahead.now l.ahead _ l.at l.u l.i k (omega arith) e u (w.ahead_after ∙ ap (λ (j : ℕ). write l.ahead l.at (ahead_line 0 (blanked (ltb 0 (get_or a.live.now j 0)) r))) z) l.invariant.3,
+      rows_more number_line number_full a.lefts.now a.lengths.now a.codes.now a.count a.number.now l.number _ l.at l.u l.i k (omega arith) e u (w.number_after ∙ ap (λ (i : ℕ). write l.number l.at (replicate (length (take (l.u + k - l.u) (drop l.u a.codes.now)) + 1) i)) n) l.invariant.4,
+      rows_more (members a.live.now a.m) (blanked-full (member_line limits a.m) (live_line a.live.now) (member_full limits a.m)) a.lefts.now a.lengths.now a.codes.now a.count a.member.now l.member _ l.at l.u l.i k (omega arith) e u (v.member_after ∙ ap (λ (j : ℕ). write l.member l.at (member_line limits a.m 0 (blanked (ltb 0 (get_or a.live.now j 0)) r))) z) l.invariant.5,
+      rows_more (targets a.live.now a.m) (blanked-full (target_line limits a.m) (live_line a.live.now) (target-full limits a.m)) a.lefts.now a.lengths.now a.codes.now a.count a.target.now l.target _ l.at l.u l.i k (omega arith) e u (v.target_after ∙ ap (λ (j : ℕ). write l.target l.at (target_line limits a.m 0 (blanked (ltb 0 (get_or a.live.now j 0)) r))) z) l.invariant.6,
     )
 
 pub returns : goal.returns
