@@ -31,8 +31,7 @@ recorded : (e : Start) → IsRecord (told e)
 recorded e = lent_record e.requires.columns_of.1
 
 -- the row of targets can be sorted
-row : (c : Place-After-write_rows) → let e = c in let g = told e.before.before.before.before.before.before.before.before.before.before.before.before.before.before.before.before.before.before in let four = c.write_rows.new.1.1.1.1.1.1.1 in
-    Sortable g.states (2 * (g.nonterminals + 1) + 1) (take g.states four.1.1.1.0)
+row : (c : Place-After-write_rows) → let e = c in let g = told e.before.before.before.before.before.before.before.before.before.before.before.before.before.before.before.before.before.before in Sortable g.states (2 * (g.nonterminals + 1) + 1) (take g.states c.write_rows.new.target)
 row c =
     let C = c.requires.columns_of.1 in
     sortable (told c.before.before.before.before.before.before.before.before.before.before.before.before.before.before.before.before.before.before) _ C.well_formed C.same _ _ (c.live_rules-live.ensures _ _ _ C) c.args.target.now _ c.requires.room.target c.write_rows.ensures.target
@@ -75,7 +74,7 @@ pub write_after-requires : goal.write_after-requires
 write_after-requires c = (c.requires.room.after, few-states (told c.before.before.before.before.before.before.before.before.before.before.before.before.before.before.before.before.before.before.before.before.before.before.before.before.before.before.before.before.before.before.before.before.before.before.before.before) (recorded c.before.before.before.before.before.before.before.before.before.before.before.before.before.before.before.before.before.before.before.before.before.before.before.before.before.before.before.before.before.before.before.before.before.before.before.before))
 
 pub returns : goal.returns
-returns c = let a = c.args in
+returns c G C = let a = c.args in
     let old = (tables a.ahead.now a.number.now a.member.now a.target.now a.first.now a.targets.now a.after.now) in
     built_of (with_columns G a.n a.q a.count a.used a.lefts.now a.lengths.now a.codes.now) G C.same _ _ (c.live_rules-live.ensures G _ _ C)
     (2 * (c.wide.result + 1) + 1) old _ c.requires.room
