@@ -52,7 +52,7 @@ pub loop-a-smaller : goal.loop-a-smaller
 loop-a-smaller c = omega (arith, c.loop-a-test.true, (next c.before).0)
 
 pub loop-a-preserved : goal.loop-a-preserved
-loop-a-preserved c = (c.try_block.kept.1.1.1.0 ∙ c.loop-a.invariant.0, c.try_block.kept.1.1.1.1.0 ∙ c.loop-a.invariant.1, c.try_block.kept.1.1.1.1.1.0 ∙ c.loop-a.invariant.2, sym (next c.before).1 ∙ c.loop-a.invariant.3)
+loop-a-preserved c = (c.try_block.auto.starts ∙ c.loop-a.invariant.0, c.try_block.auto.lengths ∙ c.loop-a.invariant.1, c.try_block.auto.links ∙ c.loop-a.invariant.2, sym (next c.before).1 ∙ c.loop-a.invariant.3)
 
 pub returns : goal.returns
 returns c = let a = c.args in

@@ -46,7 +46,7 @@ slice_bounds-stand_twice-end-4 c = sym (length-take-le _ _ (lengths-room c.befor
 
 pub stand_twice-requires : goal.stand_twice-requires
 stand_twice-requires c = let r = c.requires.2 in let n = length-take-le c.keep-kept.result.count (starts c.before.before.before.before.before.before) (starts-room c.before.before.before.before.before.before) in
-    record { spans = (c.keep-kept.ensures.kept.spans, omega (arith, n, c.keep-kept.ensures.room, r.few), omega (arith, n, c.keep-kept.ensures.room, r.room, c.clear.kept.0)); by_index = c.clear.ensures }
+    record { spans = (c.keep-kept.ensures.kept.spans, omega (arith, n, c.keep-kept.ensures.room, r.few), omega (arith, n, c.keep-kept.ensures.room, r.room, c.clear.auto.links)); by_index = c.clear.ensures }
 
 pub returns-then-stand_twice : goal.returns-then-stand_twice
 returns-then-stand_twice c = told_stand (names_of c.args.earlier.now) c.args.v.now c.args.a _ _ c.keep-kept.result.next c.keep-kept.ensures.kept
