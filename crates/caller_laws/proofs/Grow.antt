@@ -52,6 +52,7 @@ module _ (L : Limits) (G : Grammar) where
     below-called (nonterminal n t c) at live (in-first u) = used-called t (at 0 (omega arith)) (λ j v. live j (in-first v)) u
     below-called (nonterminal n t c) at live (in-others u) =
         below-called c (λ d h. at (suc d) (omega (arith, h))) (λ j v. live j (in-others v)) u
+    below-called {i = i} Rattle.grammar.specs.Tree.end at live u = elim u [ ]
 
   -- a live rule other than rule 0 is called by some live item
   pub live-called : {i : ℕ} → Live L G i → 1 ≤ i → Called (rule L G i).left
