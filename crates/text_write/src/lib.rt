@@ -1,5 +1,8 @@
 // The writer of grammar text: any t, n, table and lent names to the text or to its length alone, or to the first refusal.
 // All is checked before a byte is written, so a refusal leaves the output as it was.
+
+#![tactic(auto)]
+
 mod lent;
 mod lines;
 mod put;

@@ -1,0 +1,20 @@
+use mathlib.Core.Path.{◌≡◌, refl}
+use mathlib.Core.List.{List, [], ◌∷◌, ◌++◌}
+use Prim.Native.Nat.{ℕ, ◌+◌, ◌-◌, ◌≤◌}
+use native.Mathlib.Omega.{arith}
+use lib.ListN.{get_or}
+use lib.Seq.{slice}
+use Rattle.text.specs.Pieces.{led_by}
+use Rattle.text.specs.Spelled.{spelled}
+use Rattle.text_write.proofs.Filling.{Filling, filling_start, filling_room, filling_ran, filling_done}
+use Rattle.text_write.proofs.LentLaws.{names_count}
+use Rattle.text_write.proofs.PutLaws.{led-turn, led-end}
+use Rattle.text_write.proofs.put.put_led.Given as goal
+
+abbrev pub invariant-loop-i : goal.invariant-loop-i
+invariant-loop-i l = (l.i ≤ l.to)
+    × Filling l.at l.initial.out (led_by 44 (slice l.from l.to (spelled l.bytes l.starts l.lengths))) l.j l.out
+    (led_by 44 (slice l.i l.to (spelled l.bytes l.starts l.lengths)))
+
+abbrev pub decreases-loop-i : goal.decreases-loop-i
+decreases-loop-i l = l.to - l.i

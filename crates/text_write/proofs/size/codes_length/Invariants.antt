@@ -1,0 +1,18 @@
+use mathlib.Core.Path.{◌≡◌, ap, ◌∙◌}
+use mathlib.Core.List.{map}
+use Prim.Native.Nat.{◌+◌, ◌-◌, ◌≤◌}
+use native.Mathlib.Nat.{zero-add}
+use native.Mathlib.Omega.{arith}
+use lib.ListN.{length, drop, get_or}
+use Rattle.grammar.specs.Limits.{limits}
+use Rattle.text_write.specs.Length.{led_length, code_length}
+use Rattle.text_write.proofs.LengthLaws.{codes-more, codes-none}
+use Rattle.text_write.proofs.size.codes_length.Given as goal
+
+abbrev pub invariant-loop-i : goal.invariant-loop-i
+invariant-loop-i l = (l.i ≤ length l.codes) ×
+    (l.total + led_length (map (code_length limits l.t l.lengths) (drop l.i l.codes)) ≡ led_length
+    (map (code_length limits l.t l.lengths) l.codes))
+
+abbrev pub decreases-loop-i : goal.decreases-loop-i
+decreases-loop-i l = length l.codes - l.i
