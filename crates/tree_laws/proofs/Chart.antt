@@ -111,14 +111,14 @@ module _ (L : Limits) (G : Grammar) (w : List ℕ) (P : Places L G) (C : Chart) 
       ]
     ]
 
-    -- where 1 is counted at most, one forest derives at most
-    pub unique : {α : List ℕ} {f g : Trees} {i j : ℕ} → Spans L G w α f i j → Spans L G w α g i j → (p : ℕ) → P.rest p ≡ α → C.item p i j ≤ 1 → f ≡ g
-    unique (end h) (end h') p e c = refl
-    unique (leaf {a} {α} {f} {i} {j} t h q s) (leaf t' h' q' s') p e c =
-        unique s s' (suc p) (P.on p a α e) (cap-small _ (omega (arith, S.at_leaf p a i j α e t (omega (arith, spans_rise L G w s)) (spans_within L G w s) q)))
-    unique (leaf t h q s) (node a s' u') p e c = absurd (apart _ _ a t)
-    unique (node a s u) (leaf t h q s') p e c = absurd (apart _ _ a t)
-    unique (node {r} {b} {α} {f} {g} {i} {k} {j} a s u) (node {r = r'} {f = f'} {g = g'} {k = k'} a' s' u') p e c =
+    unique_at : {α : List ℕ} {f g : Trees} {i j n : ℕ} → Spans L G w α f i j → Spans L G w α g i n → j ≡ n → (p : ℕ) → P.rest p ≡ α → C.item p i j ≤ 1 → f ≡ g
+    unique_at (end h) (end h') l p e c = refl
+    unique_at (leaf {a} {α} {f} {i} {j} t h q s) (leaf t' h' q' s') l p e c =
+        unique_at s s' l (suc p) (P.on p a α e) (cap-small _ (omega (arith, S.at_leaf p a i j α e t (omega (arith, spans_rise L G w s)) (spans_within L G w s) q)))
+    unique_at (leaf t h q s) (node a s' u') l p e c = absurd (apart _ _ a t)
+    unique_at (node a s u) (leaf t h q s') l p e c = absurd (apart _ _ a t)
+    unique_at (node {r} {b} {α} {f} {g} {i} {k} {j} a s u) (node {r = r'} {f = f'} {g = g'} {k = k'} a' s' v₀) l p e c =
+        let u' : Spans L G w α g' k' j = subst (λ z. Spans L G w α g' k' z) (sym l) v₀ in
         let h = spans_rise L G w s in
         let m = spans_rise L G w u in
         let h' = spans_rise L G w s' in
@@ -137,6 +137,10 @@ module _ (L : Limits) (G : Grammar) (w : List ℕ) (P : Places L G) (C : Chart) 
         let u₁ : Spans L G w α g' k j = subst (λ z. Spans L G w α g' z j) (sym q) u' in
         let o : r ≡ r' = same-rule b i k r r' a a' (some s (P.first r) (P.begins r a.0)) (some s₁ (P.first r') (P.begins r' a'.0)) n in
         let s₂ : Spans L G w (rule L G r).right f' i k = subst (λ z. Spans L G w (rule L G z).right f' i k) (sym o) s₁ in
-        let d : f ≡ f' = unique s s₂ (P.first r) (P.begins r a.0) (omega (arith, n, one-kin b i k (length G.rules) r a.0.0 a.0.1 a.1)) in
-        let d' : g ≡ g' = unique u u₁ (suc p) (P.on p b α e) v' in
+        let d : f ≡ f' = unique_at s s₂ refl (P.first r) (P.begins r a.0) (omega (arith, n, one-kin b i k (length G.rules) r a.0.0 a.0.1 a.1)) in
+        let d' : g ≡ g' = unique_at u u₁ refl (suc p) (P.on p b α e) v' in
         cc (o, d, d')
+
+    -- where 1 is counted at most, one forest derives at most
+    pub unique : {α : List ℕ} {f g : Trees} {i j : ℕ} → Spans L G w α f i j → Spans L G w α g i j → (p : ℕ) → P.rest p ≡ α → C.item p i j ≤ 1 → f ≡ g
+    unique s s' p e c = unique_at s s' refl p e c
