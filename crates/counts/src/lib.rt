@@ -1,4 +1,7 @@
 // Counts up to 2: 2 stands for several.
+
+#![tactic(auto)]
+
 ghost use Rattle.std.specs.Prelude.{suc, ◌+◌, ◌-◌, ◌*◌, ◌<◌, ◌≡◌, length};
 ghost use Rattle.tree_laws.specs.Chart.{cap};
 ghost use Rattle.counts.specs.Counts.{dot, splits_at, SpanOf};
