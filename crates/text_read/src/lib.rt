@@ -1,5 +1,8 @@
 // The reader of grammar text: any bytes to a table and the places of the names, or to the first refusal.
 // Everything is checked over local rows before a lent row is written.
+
+#![tactic(auto)]
+
 mod declaring;
 mod keeping;
 mod rules;

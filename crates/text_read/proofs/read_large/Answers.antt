@@ -1,0 +1,15 @@
+-- `text_read::read_large` meets its contract: its rows suffice. Assumes nothing.
+use borrow.Author.Rules.{rules}
+use native.Mathlib.Omega.{arith}
+use lib.ListN.{length}
+use Rattle.text_read.proofs.Rooms.{rows-large}
+use Rattle.text_read.proofs.read_large.Goals as goal
+
+pub keep_text-kept-requires : goal.keep_text-kept-requires
+keep_text-kept-requires c = rows-large (length c.args.text.now)
+
+pub read_in-requires : goal.read_in-requires
+read_in-requires c = let k = c.keep_text-kept in record { lines = k.ensures.0; names = k.ensures.1 }
+
+pub returns : goal.returns
+returns c = c.read_in.ensures

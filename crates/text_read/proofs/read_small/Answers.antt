@@ -1,0 +1,15 @@
+-- `text_read::read_small` meets its contract: its rows suffice. Assumes nothing.
+use borrow.Author.Rules.{rules}
+use native.Mathlib.Omega.{arith}
+use lib.ListN.{length}
+use Rattle.text_read.proofs.Rooms.{rows-small}
+use Rattle.text_read.proofs.read_small.Goals as goal
+
+pub keep_text-kept-requires : goal.keep_text-kept-requires
+keep_text-kept-requires c = rows-small (length c.args.text.now) c.requires
+
+pub read_in-requires : goal.read_in-requires
+read_in-requires c = let k = c.keep_text-kept in record { lines = k.ensures.0; names = k.ensures.1 }
+
+pub returns : goal.returns
+returns c = c.read_in.ensures

@@ -1,0 +1,25 @@
+use native.Mathlib.Omega.{arith}
+use mathlib.Core.Path.{◌≡◌, refl, sym, subst}
+use Prim.Native.Nat.{ℕ, ◌≤◌, ◌+◌, ◌-◌}
+use mathlib.Core.List.{List, [], ◌∷◌}
+use lib.ListN.{length, drop}
+use Rattle.grammar.specs.Limits.{limits}
+use Rattle.grammar.specs.Grammar.{Rule}
+use Rattle.grammar.specs.Refusal.{Answer}
+use Rattle.text.specs.Pieces.{split_on}
+use Rattle.text.specs.Read.{rule_lines}
+use Rattle.text.proofs.Pieces.{split_pos}
+use Rattle.text.specs.Spelled.{spelled}
+use Rattle.names.specs.Found.{part}
+use Rattle.names.proofs.Pieces.{piece_more, piece_last, length_piece}
+use Rattle.text_read.specs.declared.Kept.{Kept}
+use Rattle.text_read.specs.Lines.{RulesTold}
+use Rattle.text_read.proofs.RuleLines.{Passed, passed_none, passed-all, passed_open, passed_fault, passed-more, told-kept, told_fault}
+use Rattle.text_read.proofs.rules.read_rules.Given as goal
+
+abbrev pub invariant-loop-from : goal.invariant-loop-from
+invariant-loop-from l = (l.a ≤ length l.text) × (l.k ≤ l.a) × Passed (rule_lines limits 3 l.t (spelled l.text l.starts l.lengths) (split_on 10 (drop l.from l.text))) l.text l.t (spelled l.text l.starts l.lengths) l.a l.k l.end l.row
+    × (length l.row ≡ length l.initial.row)
+
+abbrev pub decreases-loop-from : goal.decreases-loop-from
+decreases-loop-from l = length l.text - l.a

@@ -1,0 +1,16 @@
+use native.Mathlib.Omega.{arith}
+use Prim.Native.Nat.{◌≤◌, ◌-◌}
+use mathlib.Core.Path.{◌≡◌, sym, ap, ◌∙◌}
+use lib.ListN.{length, drop}
+use mathlib.Core.List.{[]}
+use Rattle.text.specs.Pieces.{split_on}
+use Rattle.names.proofs.Pieces.{piece_more, piece_last, piece_first}
+use Rattle.text_read.specs.Values.{counted}
+use Rattle.text_read.proofs.Values.{counted_good, counted_bad, counted-end}
+use Rattle.text_read.proofs.value.count_pieces.Given as goal
+
+abbrev pub invariant-loop-k : goal.invariant-loop-k
+invariant-loop-k l = (l.a ≤ length l.v) × (l.k ≤ l.a) × (counted 0 (split_on l.c (drop l.from l.v)) ≡ counted l.k (split_on l.c (drop l.a l.v)))
+
+abbrev pub decreases-loop-k : goal.decreases-loop-k
+decreases-loop-k l = length l.v - l.a

@@ -1,0 +1,14 @@
+use native.Mathlib.Omega.{arith}
+use Prim.Native.Nat.{◌≤◌, ◌-◌}
+use mathlib.Core.Path.{◌≡◌, sym, ◌∙◌}
+use lib.ListN.{length, drop}
+use Rattle.text.specs.Keys.{key, value_of}
+use Rattle.names.proofs.Keys.{key-length-most, length-key, key-at}
+use Rattle.text_read.proofs.Values.{value-short, value-step, value-differ, value-equals, value-other, split-value}
+use Rattle.text_read.proofs.value.key_split.Given as goal
+
+abbrev pub invariant-loop-i : goal.invariant-loop-i
+invariant-loop-i l = (l.i ≤ l.m) × (value_of (key l.k) l.line ≡ value_of (drop l.i (key l.k)) (drop l.i l.line))
+
+abbrev pub decreases-loop-i : goal.decreases-loop-i
+decreases-loop-i l = l.m - l.i

@@ -1,0 +1,30 @@
+-- `text_read::value::rule_shape` meets its contract: the first colon is the only one, since names have none. Assumes nothing.
+use borrow.Author.Rules.{rules}
+use native.Mathlib.Omega.{arith}
+use mathlib.Core.Path.{sym, ap, ◌∙◌}
+use Prim.Native.Nat.{◌+◌, ◌-◌}
+use Rattle.text.specs.Pieces.{split_on}
+use Rattle.text_read.specs.Values.{body_counted}
+use Rattle.text_read.proofs.Values.{tail-part}
+use Rattle.text_read.proofs.Shapes.{shape-none, shape-head, shape-body, shape-found}
+use Rattle.text_read.proofs.value.rule_shape.Goals as goal
+
+pub returns-then-n-e : goal.returns-then-n-e
+returns-then-n-e c = let v = c.args.v.now in
+    let f = c.find-e in shape-none v f.result f.ensures.at c.if-n-e.true
+
+pub returns-in_default : goal.returns-in_default
+returns-in_default c = let v = c.args.v.now in
+    let f = c.find-e in
+    shape-body v f.result f.ensures.at (omega arith) (sym c.is_name.ensures ∙ c.if-is_name.true)
+    (ap (λ w. body_counted (split_on 32 w)) (sym (tail-part v (f.result + 1))) ∙ sym c.body_count.ensures ∙ c.in_default.is)
+
+pub returns-then-is_name : goal.returns-then-is_name
+returns-then-is_name c = let v = c.args.v.now in
+    let f = c.find-e in
+    shape-found v f.result f.ensures.at (omega arith) _ (sym c.is_name.ensures ∙ c.if-is_name.true)
+    (ap (λ w. body_counted (split_on 32 w)) (sym (tail-part v (f.result + 1))) ∙ sym c.body_count.ensures ∙ c.in-Names.is)
+
+pub returns : goal.returns
+returns c = let v = c.args.v.now in
+    let f = c.find-e in shape-head v f.result f.ensures.at (omega arith) (sym c.is_name.ensures ∙ c.if-is_name.false)
