@@ -3,6 +3,9 @@
 // The chains of callers of a rule at one level are the states of the level below that stand before its left side, in their order;
 // a state's class is the number, at the level below, of the state that calls it, or of what it is itself with its farthest caller
 // dropped.
+
+#![tactic(auto)]
+
 mod front;
 mod level;
 mod next;

@@ -1,0 +1,21 @@
+use native.Mathlib.Omega.{arith}
+use Prim.Native.Nat.{ℕ, ◌+◌, ◌-◌, ◌*◌, ◌≤◌}
+use mathlib.Core.Path.{◌≡◌, refl, sym, subst, ◌∙◌}
+use lib.ListN.{get_or}
+use Rattle.grammar.specs.Limits.{limits}
+use Rattle.live.specs.Marks.{before}
+use Rattle.live.proofs.PassLaws.{before-next}
+use Rattle.caller_rows.specs.Clauses.{start_of}
+use Rattle.caller_rule.specs.RuleRows.{six, Wide, Alike}
+use Rattle.caller_rows.specs.LevelRows.{RulesWritten}
+use Rattle.caller_rows.proofs.LevelRowLaws.{start_up, start-next, rule-kept, alike_none, alike_next, level_next}
+use Rattle.caller_rows.proofs.level.write_rules.Given as goal
+
+abbrev pub invariant-loop-i : goal.invariant-loop-i
+invariant-loop-i l = (l.i ≤ l.count) × (l.at ≡ start_of l.lengths l.widths l.i) × (l.low ≡ start_of l.lengths l.below l.i) × (l.u ≡ before l.lengths l.i)
+    × Wide limits.max_states (six l.ahead l.number l.member l.target l.after l.down)
+    × RulesWritten l.lefts l.lengths l.codes l.kinds l.first l.callers l.below l.widths l.ranks l.i (six l.initial.ahead l.initial.number l.initial.member l.initial.target l.initial.after l.initial.down) (six l.ahead l.number l.member l.target l.after l.down)
+    × Alike (six l.initial.ahead l.initial.number l.initial.member l.initial.target l.initial.after l.initial.down) (six l.ahead l.number l.member l.target l.after l.down)
+
+abbrev pub decreases-loop-i : goal.decreases-loop-i
+decreases-loop-i l = l.count - l.i

@@ -1,0 +1,14 @@
+use native.Mathlib.Omega.{arith}
+use lib.ListN.{get_or}
+use Rattle.caller_rows.specs.Clauses.{Filled}
+use Rattle.caller_rows.proofs.FilledLaws.{filled_none, filled_next}
+use Prim.Native.Nat.{ℕ, ◌-◌, ◌≤◌, ◌<◌}
+use mathlib.Core.Path.{◌≡◌, ap, subst}
+use Rattle.grammar.specs.Limits.{limits}
+use Rattle.caller_rows.proofs.ranks.pass_ranks.Given as goal
+
+abbrev pub invariant-loop-p : goal.invariant-loop-p
+invariant-loop-p l = (p ≤ l.q) × Filled l.initial.passed l.passed p (λ p. get_or l.ranks (get_or l.down p 0) 0)
+
+abbrev pub decreases-loop-p : goal.decreases-loop-p
+decreases-loop-p l = l.q - l.p

@@ -1,0 +1,12 @@
+use native.Mathlib.Omega.{arith}
+use Prim.Native.Nat.{◌+◌, ◌-◌, ◌*◌, ◌≤◌}
+use mathlib.Core.Path.{◌≡◌, refl, sym, ap, ◌∙◌}
+use Rattle.caller_rows.specs.Clauses.{most_product, start_of}
+use Rattle.caller_rows.proofs.LevelRowLaws.{start-next}
+use Rattle.caller_rows.proofs.widths.state_count.Given as goal
+
+abbrev pub invariant-loop-i : goal.invariant-loop-i
+invariant-loop-i l = (l.i ≤ l.count) × (l.q ≡ start_of l.lengths l.widths l.i) × (l.q ≤ 4 + l.i * most_product)
+
+abbrev pub decreases-loop-i : goal.decreases-loop-i
+decreases-loop-i l = l.count - l.i
