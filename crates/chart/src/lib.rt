@@ -1,5 +1,8 @@
 // The chart of a row of terminals: of each state how many ways, 0, 1 or 2 for more, what stands after its dot derives the terminals
 // from i to j; of each nonterminal likewise. It is filled span by span; within a span only states before what rose are looked at again.
+
+#![tactic(auto)]
+
 ghost use Rattle.std.specs.Prelude.{◌+◌, ◌-◌, ◌*◌, ◌≤◌, ◌<◌, ◌≡◌, ◌&&◌, eqb, ltb, length, get_or, set};
 ghost use Rattle.grammar.specs.Basics.{choose};
 ghost use Rattle.grammar.specs.Limits.{limits};

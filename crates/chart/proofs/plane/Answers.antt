@@ -1,0 +1,14 @@
+-- plane meets its contract: an end has the plane of state 3.
+use mathlib.Core.Path.{refl}
+use borrow.Author.Tests.{eq-eqb, ne_eqb}
+use borrow.Author.Rules.{rules}
+use Rattle.chart.specs.Rows.{plane_of}
+use Rattle.chart.proofs.plane.Goals as goal
+
+pub returns-then-ahead-p-eq0 : goal.returns-then-ahead-p-eq0
+unfolding plane_of
+returns-then-ahead-p-eq0 c = simp (eq-eqb _ _ c.if-ahead-p-eq0.true) refl
+
+pub returns : goal.returns
+unfolding plane_of
+returns c = simp (ne_eqb _ _ c.if-ahead-p-eq0.false) refl
