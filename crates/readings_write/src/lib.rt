@@ -1,5 +1,8 @@
 // The writer of readings: two strings as the lines left= and right=. The entries of a string are its letters.
 // The put functions write into the output from a place on, and return the place after what they wrote.
+
+#![tactic(auto)]
+
 ghost use Rattle.std.specs.Prelude.{[], ◌∷◌, ◌+◌, ◌≤◌, ◌<◌, length, drop};
 ghost use Rattle.grammar.specs.Limits.{limits};
 ghost use Rattle.text.specs.Numbers.{decimal};
