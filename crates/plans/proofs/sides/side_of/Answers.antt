@@ -1,0 +1,24 @@
+-- side_of meets its contract: the class, and two entries of the row of beginnings.
+use borrow.Author.Rules.{rules}
+use native.Mathlib.Omega.{arith}
+use mathlib.Core.Path.{◌≡◌, ap, ◌∙◌}
+use Prim.Native.Nat.{ℕ, ◌+◌, ◌-◌}
+use lib.ListN.{get_or}
+use Rattle.plans.proofs.PlanLaws.{side_from}
+use Rattle.plans.proofs.sides.side_of.Reads as reads
+use Rattle.plans.proofs.sides.side_of.Lts as lts
+use Rattle.plans.proofs.wide.Reads as wide-reads
+use Rattle.plans.proofs.sides.side_of.Goals as goal
+
+pub overflow_sub-result : goal.overflow_sub-result
+overflow_sub-result c = let a = c.args in
+    let x : c.wide-from.result ≡ get_or a.first.now (get_or a.member.now a.p 0) 0 = c.wide-from.ensures.0 ∙ ap (λ (n : ℕ). get_or a.first.now n 0) c.wide-c.ensures.0 in
+    let y : c.wide-end.result ≡ get_or a.first.now (get_or a.member.now a.p 0 + 1) 0 = c.wide-end.ensures.0 ∙ ap (λ (n : ℕ). get_or a.first.now (n + 1) 0) c.wide-c.ensures.0 in
+    omega (arith, x, y, c.requires.order)
+
+pub returns : goal.returns
+returns c = let a = c.args in
+    let x : c.wide-from.result ≡ get_or a.first.now (get_or a.member.now a.p 0) 0 = c.wide-from.ensures.0 ∙ ap (λ (n : ℕ). get_or a.first.now n 0) c.wide-c.ensures.0 in
+    let y : c.wide-end.result ≡ get_or a.first.now (get_or a.member.now a.p 0 + 1) 0 = c.wide-end.ensures.0 ∙ ap (λ (n : ℕ). get_or a.first.now (n + 1) 0) c.wide-c.ensures.0 in
+    ap (λ (n : ℕ). side_from (get_or a.member.now a.p 0) n (c.wide-end.result - n)) x
+    ∙ ap (λ (n : ℕ). side_from (get_or a.member.now a.p 0) (get_or a.first.now (get_or a.member.now a.p 0) 0) (n - get_or a.first.now (get_or a.member.now a.p 0) 0)) y
