@@ -43,13 +43,13 @@ states c = c.in-Read.states
 -- what is kept has what is copied
 module _ (w : Place-Past-After-known_told) where
   entries_fit : entries w ≤ length w.args.row.now
-  entries_fit = let r = w in let a = r.args in entries-kept (check_text limits a.text.now) a.row.now a.begins.now a.sizes.now r.check_kept-read.result (checked r) (t w) (n w) (entries w) (states w) w.in-Read.is
+  entries_fit = let r = w in let a = r.args in entries-kept (check_text limits a.text.now) a.row.now a.begins.now a.sizes.now r.check_kept-read.result (checked r.before) (t w) (n w) (entries w) (states w) w.in-Read.is
 
   begins_fit : t w + n w ≤ length w.args.begins.now
-  begins_fit = let r = w in let a = r.args in starts-kept (check_text limits a.text.now) a.row.now a.begins.now a.sizes.now r.check_kept-read.result (checked r) (t w) (n w) (entries w) (states w) w.in-Read.is
+  begins_fit = let r = w in let a = r.args in starts-kept (check_text limits a.text.now) a.row.now a.begins.now a.sizes.now r.check_kept-read.result (checked r.before) (t w) (n w) (entries w) (states w) w.in-Read.is
 
   sizes_fit : t w + n w ≤ length w.args.sizes.now
-  sizes_fit = let a = w.args in lengths-kept (check_text limits a.text.now) a.row.now a.begins.now a.sizes.now w.check_kept-read.result (checked w) (t w) (n w) (entries w) (states w) w.in-Read.is
+  sizes_fit = let a = w.args in lengths-kept (check_text limits a.text.now) a.row.now a.begins.now a.sizes.now w.check_kept-read.result (checked w.before) (t w) (n w) (entries w) (states w) w.in-Read.is
 
 pub check_kept-read-requires : goal.check_kept-read-requires
 check_kept-read-requires c = let a = c.args in kept-within a.text.now a.row.now a.kept c.requires.lines
@@ -58,7 +58,7 @@ pub returns-in_default : goal.returns-in_default
 returns-in_default c = let a = c.args in read-refused a.text.now a.table.now a.starts.now a.lengths.now a.row.now a.begins.now a.sizes.now c.check_kept-read.result (checked c.before.before) c.in_default.field-0 c.in_default.field-1 c.in_default.is
 
 pub overflow_add-count : goal.overflow_add-count
-overflow_add-count c = omega (arith, begins_fit c)
+overflow_add-count c = omega (arith, begins_fit c.before)
 
 pub returns-then-table-entries : goal.returns-then-table-entries
 returns-then-table-entries c = let a = c.args in
@@ -73,22 +73,22 @@ returns-then-lengths-count c = let a = c.args in
     short_lengths a.text.now a.table.now a.starts.now a.lengths.now a.row.now a.begins.now a.sizes.now c.check_kept-read.result (checked c.before.before.before.before.before) (t c.before.before.before.before) (n c.before.before.before.before) (entries c.before.before.before.before) (states c.before.before.before.before) c.in-Read.is c.if-lengths-count.true
 
 pub slice_bounds-copy_codes-end : goal.slice_bounds-copy_codes-end
-slice_bounds-copy_codes-end c = sym (length-take-le _ _ (entries_fit c))
+slice_bounds-copy_codes-end c = sym (length-take-le _ _ (entries_fit c.before.before.before.before))
 
 pub copy_codes-requires : goal.copy_codes-requires
-copy_codes-requires c = omega (arith, length-take-le (entries c.before.before.before.before.before) c.args.row.now (entries_fit c), c.if-table-entries.false)
+copy_codes-requires c = omega (arith, length-take-le (entries c.before.before.before.before.before) c.args.row.now (entries_fit c.before.before.before.before.before), c.if-table-entries.false)
 
 pub slice_bounds-copy_words-end : goal.slice_bounds-copy_words-end
-slice_bounds-copy_words-end c = sym (length-take-le _ _ (begins_fit c))
+slice_bounds-copy_words-end c = sym (length-take-le _ _ (begins_fit c.before.before.before.before.before.before.before.before))
 
 pub copy_words-requires : goal.copy_words-requires
-copy_words-requires c = omega (arith, length-take-le (t c.before.before.before.before.before.before.before.before.before + n c.before.before.before.before.before.before.before.before.before) c.args.begins.now (begins_fit c), c.if-starts-count.false)
+copy_words-requires c = omega (arith, length-take-le (t c.before.before.before.before.before.before.before.before.before + n c.before.before.before.before.before.before.before.before.before) c.args.begins.now (begins_fit c.before.before.before.before.before.before.before.before.before), c.if-starts-count.false)
 
 pub slice_bounds-copy_words-end-2 : goal.slice_bounds-copy_words-end-2
-slice_bounds-copy_words-end-2 c = sym (length-take-le _ _ (sizes_fit c))
+slice_bounds-copy_words-end-2 c = sym (length-take-le _ _ (sizes_fit c.before.before.before.before.before.before.before.before.before.before.before.before))
 
 pub copy_words-requires-2 : goal.copy_words-requires-2
-copy_words-requires-2 c = omega (arith, length-take-le (t c.before.before.before.before.before.before.before.before.before.before.before.before.before + n c.before.before.before.before.before.before.before.before.before.before.before.before.before) c.args.sizes.now (sizes_fit c), c.if-lengths-count.false)
+copy_words-requires-2 c = omega (arith, length-take-le (t c.before.before.before.before.before.before.before.before.before.before.before.before.before + n c.before.before.before.before.before.before.before.before.before.before.before.before.before) c.args.sizes.now (sizes_fit c.before.before.before.before.before.before.before.before.before.before.before.before.before), c.if-lengths-count.false)
 
 pub returns : goal.returns
 returns c = let a = c.args in

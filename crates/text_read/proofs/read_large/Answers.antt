@@ -9,7 +9,7 @@ pub keep_text-kept-requires : goal.keep_text-kept-requires
 keep_text-kept-requires c = rows-large (length c.args.text.now)
 
 pub read_in-requires : goal.read_in-requires
-read_in-requires c = let k = c.keep_text-kept in record { lines = k.ensures.0; names = k.ensures.1 }
+read_in-requires c = record { lines = c.keep_text-kept.ensures.told; names = c.keep_text-kept.ensures.names }
 
 pub returns : goal.returns
 returns c = c.read_in.ensures

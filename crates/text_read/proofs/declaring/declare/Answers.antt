@@ -38,7 +38,7 @@ abbrev Place-After-keep : Type 0
 Place-After-keep = lts.After-keep tie.the-claims reads.Pre reads.Post tie.handed_clauses
 
 -- the value at its place in the text
-value : (c : Place-Past-After-known_told) → let e = c in let a = e.args in
+value : (c : Place-Past-After-known_told) → let a = c.args in
     (a.a + c.in-Value.start ≤ a.e) × (value_of (key a.k) (part a.a a.e a.text.now) ≡ some (part (a.a + c.in-Value.start) a.e a.text.now))
 value c =
     let a = c.args in line-value a.k a.text.now a.a a.e c.in-Value.start c.in-Value.end c.requires.low c.requires.high
@@ -54,8 +54,8 @@ once : (e : Start) → has_double (names_of e.args.earlier.now) ≡ false
 once e = sym (ap has_double e.requires.spelt) ∙ lexicon_once _ _ _ _ e.requires.tree
 
 -- the names of the rows are those of the earlier value
-doubled : (w : Place-After-keep) (t : Bool) → let k = w in let a = k.args in
-    let ns = names_of (part (a.a + k.in-Value.start) a.e a.text.now) in
+doubled : (w : Place-After-keep) (t : Bool) → let a = w.args in
+    let ns = names_of (part (a.a + w.in-Value.start) a.e a.text.now) in
     has_double (spelled a.text.now (take a.from a.starts.now) (take a.from a.lengths.now) ++ ns) ≡ t → has_double (names_of a.earlier.now ++ ns) ≡ t
 doubled w t h =
     let a = w.args in

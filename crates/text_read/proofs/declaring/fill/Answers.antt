@@ -36,23 +36,21 @@ shape_of-lengths-then-n-e c = simp length-set c.loop-base.invariant.3.long
 pub returns-then-n-e : goal.returns-then-n-e
 returns-then-n-e c = let v = c.args.v.now in
     let l = c.loop-base in
-    let f = c.find-e in
     let p = split_pos 44 (drop l.a v) in
     let q : c.args.k + length (names_of v) ≡ l.j + 1
-    = omega (arith, ap length (piece_last 44 v l.a f.result (omega arith) f.ensures.at c.if-n-e.true), l.invariant.1) in record {
+    = omega (arith, ap length (piece_last 44 v l.a c.find-e.result (omega arith) c.find-e.ensures.at c.if-n-e.true), l.invariant.1) in record {
       firsts = filling_done _ refl q (filling_put _ (omega arith)
-          (starts-last v l.a f.result (omega arith) f.ensures.at c.args.base c.if-n-e.true) l.invariant.2);
+          (starts-last v l.a c.find-e.result (omega arith) c.find-e.ensures.at c.args.base c.if-n-e.true) l.invariant.2);
       sizes = filling_done _ refl q (filling_put _ (omega arith)
-          (lengths-last v l.a f.result (omega arith) f.ensures.at c.if-n-e.true) l.invariant.3);
+          (lengths-last v l.a c.find-e.result (omega arith) c.find-e.ensures.at c.if-n-e.true) l.invariant.3);
     }
 
 pub loop-base-preserved : goal.loop-base-preserved
 loop-base-preserved c = let v = c.args.v.now in
     let l = c.loop-base in
-    let f = c.find-e in
     let p = split_pos 44 (drop l.a v) in (
       omega arith,
-      omega (arith, ap length (piece_more 44 v l.a f.result (omega arith) f.ensures.at c.if-n-e.false), l.invariant.1),
-      filling_put _ (omega arith) (starts_more v l.a f.result (omega arith) f.ensures.at c.args.base c.if-n-e.false) l.invariant.2,
-      filling_put _ (omega arith) (lengths-more v l.a f.result (omega arith) f.ensures.at c.if-n-e.false) l.invariant.3,
+      omega (arith, ap length (piece_more 44 v l.a c.find-e.result (omega arith) c.find-e.ensures.at c.if-n-e.false), l.invariant.1),
+      filling_put _ (omega arith) (starts_more v l.a c.find-e.result (omega arith) c.find-e.ensures.at c.args.base c.if-n-e.false) l.invariant.2,
+      filling_put _ (omega arith) (lengths-more v l.a c.find-e.result (omega arith) c.find-e.ensures.at c.if-n-e.false) l.invariant.3,
     )

@@ -13,4 +13,4 @@ pub returns-in-Fault : goal.returns-in-Fault
 returns-in-Fault c = sym (ap (λ (k : TextKept). kept_read k c.args.row.now) c.in-Fault.is)
 
 pub returns-in-Rules : goal.returns-in-Rules
-returns-in-Rules c = c.last_tests_lem.ensures ∙ sym (ap (λ (k : TextKept). kept_read k c.args.row.now) c.in-Rules.is)
+returns-in-Rules c = c.last_tests.ensures ∙ sym (ap (λ (k : TextKept). kept_read k c.args.row.now) c.in-Rules.is)

@@ -13,9 +13,9 @@ abbrev Place-Past-After-known_told2 : Type 0
 Place-Past-After-known_told2 = lts.Past-After-known_told2 tie.the-claims reads.Pre reads.Post tie.handed_clauses
 
 -- both declaring lines are read
-heads : (c : Place-Past-After-known_told2) → let w = c in HeadsRead w.args.text.now w.check_heads.new.starts w.check_heads.new.lengths w.check_heads.new.links c.in-Names.end c.in-Names.terminals c.in-Names.nonterminals
+heads : (c : Place-Past-After-known_told2) → HeadsRead c.args.text.now c.check_heads.new.starts c.check_heads.new.lengths c.check_heads.new.links c.in-Names.end c.in-Names.terminals c.in-Names.nonterminals
 heads c =
-    told_heads c.args.text.now w.check_heads.new.starts w.check_heads.new.lengths w.check_heads.new.links c.check_heads.result c.in-Names.end c.in-Names.terminals c.in-Names.nonterminals c.in-Names.is c.check_heads.ensures
+    told_heads c.args.text.now c.check_heads.new.starts c.check_heads.new.lengths c.check_heads.new.links c.check_heads.result c.in-Names.end c.in-Names.terminals c.in-Names.nonterminals c.in-Names.is c.check_heads.ensures
 
 pub check_heads-requires : goal.check_heads-requires
 check_heads-requires c = let p = c.requires in (p.0, name-rows p.1 p.2, p.3)

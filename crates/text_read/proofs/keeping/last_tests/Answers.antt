@@ -14,10 +14,8 @@ slice_bounds-check_table-end c = sym (length-take-le _ _ (omega arith))
 
 pub returns-in-Refused : goal.returns-in-Refused
 returns-in-Refused c = let a = c.args in
-    let x = c.check_table-checked in
-    checked_refused a.t a.n a.end (check_table limits a.t a.n (take a.end a.row.now)) x.result c.in-Refused.cause c.in-Refused.at x.ensures c.in-Refused.is
+    checked_refused a.t a.n a.end (check_table limits a.t a.n (take a.end a.row.now)) c.check_table-checked.result c.in-Refused.cause c.in-Refused.at c.check_table-checked.ensures c.in-Refused.is
 
 pub returns-in-Passed : goal.returns-in-Passed
 returns-in-Passed c = let a = c.args in
-    let x = c.check_table-checked in
-    checked-passed a.t a.n a.end (check_table limits a.t a.n (take a.end a.row.now)) x.result x.ensures c.in-Passed.is
+    checked-passed a.t a.n a.end (check_table limits a.t a.n (take a.end a.row.now)) c.check_table-checked.result c.check_table-checked.ensures c.in-Passed.is

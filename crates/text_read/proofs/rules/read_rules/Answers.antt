@@ -48,18 +48,18 @@ long : (c : Place-After-rule_line) → length (row c) ≡ length c.loop-from.row
 long c = search rules
 
 -- the line at the cursor is ended
-more : (c : Place-Else1) → let f = c in let l = f.loop-from in let x = f.args.text.now in
-    split_on 10 (drop l.a x) ≡ part l.a f.find-e.result x ∷ split_on 10 (drop (f.find-e.result + 1) x)
+more : (c : Place-Else1) → let l = c.loop-from in let x = c.args.text.now in
+    split_on 10 (drop l.a x) ≡ part l.a c.find-e.result x ∷ split_on 10 (drop (c.find-e.result + 1) x)
 more c =
     let l = c.loop-from in
     piece_more 10 c.args.text.now l.a c.find-e.result l.invariant.0 c.find-e.ensures.at c.if-n-e.false
 
-line : (c : Place-Else1) → let f = c in let l = f.loop-from in length (part l.a f.find-e.result f.args.text.now) ≡ f.find-e.result - l.a
+line : (c : Place-Else1) → let l = c.loop-from in length (part l.a c.find-e.result c.args.text.now) ≡ c.find-e.result - l.a
 line c = let l = c.loop-from in length_piece 10 c.args.text.now l.a c.find-e.result l.invariant.0 c.find-e.ensures.at
 
 -- the last one is not
-last : (c : Place-Then1) → let f = c in let l = f.loop-from in let x = f.args.text.now in
-    split_on 10 (drop l.a x) ≡ part l.a f.find-e.result x ∷ []
+last : (c : Place-Then1) → let l = c.loop-from in let x = c.args.text.now in
+    split_on 10 (drop l.a x) ≡ part l.a c.find-e.result x ∷ []
 last c =
     let l = c.loop-from in
     piece_last 10 c.args.text.now l.a c.find-e.result l.invariant.0 c.find-e.ensures.at c.if-n-e.true

@@ -57,18 +57,18 @@ number c =
     let a = c.args in
     c.find-left.ensures ∙ ap (λ (x : List ℕ). place (same_name x) (names c.before.before.before.before.before.before.before.before)) (head-part a.v.now a.colon a.count c.requires.0)
 
-left-known : (c : Place-Else2) → let e = c in is_known e.args.t (names e.before.before.before.before.before.before.before.before.before.before) e.requires.0.sides.head ≡ true
+left-known : (c : Place-Else2) → is_known c.args.t (names c.before.before.before.before.before.before.before.before.before.before) c.requires.0.sides.head ≡ true
 left-known c =
     known_in c.args.t (names c.before.before.before.before.before.before.before.before.before.before) c.requires.0.sides.head c.find-left.result (number c.before.before) (omega (arith, c.if-left-t.false)) (omega (arith, as_many c.before.before.before.before.before.before.before.before.before.before, c.if-starts-left.false))
 
 -- whether the names after the colon are known
-right-known : (c : Place-After-take_codes) (b : Bool) → c.take_codes.result ≡ b → let e = c in all (is_known 0 (names e.before.before.before.before.before.before.before.before.before.before.before.before.before)) e.requires.0.sides.body ≡ b
+right-known : (c : Place-After-take_codes) (b : Bool) → c.take_codes.result ≡ b → all (is_known 0 (names c.before.before.before.before.before.before.before.before.before.before.before.before.before)) c.requires.0.sides.body ≡ b
 right-known c b q =
     let a = c.args in
     sym (body-all a.at a.t (names c.before.before.before.before.before.before.before.before.before.before.before.before.before) a.v.now a.colon a.count c.requires.0 (is_known 0 (names c.before.before.before.before.before.before.before.before.before.before.before.before.before))) ∙ sym c.take_codes.ensures.answer ∙ q
 
-value : (c : Place-After-take_codes) → c.take_codes.result ≡ true → let e = c in let a = e.args in
-    a.count ≤ 12 → rule_value a.at a.t (names e.before.before.before.before.before.before.before.before.before.before.before.before.before) a.v.now ≡ done (rule_of limits a.t (names e.before.before.before.before.before.before.before.before.before.before.before.before.before) e.requires.0.sides)
+value : (c : Place-After-take_codes) → c.take_codes.result ≡ true → let a = c.args in
+    a.count ≤ 12 → rule_value a.at a.t (names c.before.before.before.before.before.before.before.before.before.before.before.before.before) a.v.now ≡ done (rule_of limits a.t (names c.before.before.before.before.before.before.before.before.before.before.before.before.before) c.requires.0.sides)
 value c q m =
     let a = c.args in
     value-done a.at a.t (names c.before.before.before.before.before.before.before.before.before.before.before.before.before) a.v.now a.colon a.count c.requires.0 (left-known c.before.before.before) (right-known c true q) m
@@ -118,16 +118,16 @@ pub bounds-row-end : goal.bounds-row-end
 bounds-row-end c = omega (arith, long c.before.before.before.before.before.before.before, room c.before.before.before.before.before.before.before c.if-k-ge-KEPT_RULES.false (omega (arith, c.if-count-gt-MAX_LENGTH.false)))
 
 pub bounds-row-end-2 : goal.bounds-row-end-2
-bounds-row-end-2 c = omega (arith, length-set (row c.before.before.before.before.before.before.before) c.args.end c.code_of_lem.result, long c.before.before.before.before.before.before.before, room c.before.before.before.before.before.before.before c.if-k-ge-KEPT_RULES.false (omega (arith, c.if-count-gt-MAX_LENGTH.false)))
+bounds-row-end-2 c = omega (arith, length-set (row c.before.before.before.before.before.before.before) c.args.end c.code_of.result, long c.before.before.before.before.before.before.before, room c.before.before.before.before.before.before.before c.if-k-ge-KEPT_RULES.false (omega (arith, c.if-count-gt-MAX_LENGTH.false)))
 
 pub returns : goal.returns
 returns c = let a = c.args in let h = c.requires.0 in
     let k = c.if-not-take_codes.false in let m = c.if-count-gt-MAX_LENGTH.false in
-    let x = c.code_of_lem.result in
+    let x = c.code_of.result in
     let space = room c.before.before.before.before.before.before.before c.if-k-ge-KEPT_RULES.false m in
     rule-kept _ a.t (names c.before.before.before.before.before.before.before.before.before.before.before.before.before.before.before.before.before.before.before.before) h.sides c.find-left.result a.count a.k a.end (body c.before.before.before.before.before.before.before.before.before.before.before.before.before.before.before.before.before.before.before.before) a.row.now (set (set (row c.before.before.before.before.before.before.before) a.end x) (a.end + 1) a.count)
-    (body-part a.at a.t (names c.before.before.before.before.before.before.before.before.before.before.before.before.before.before.before.before.before.before.before.before) a.v.now a.colon a.count h) (value c.before.before.before.before.before.before.before (not-false _ k) m) (number c.before.before.before.before.before.before.before.before.before.before.before.before) h.counts m c.if-k-ge-KEPT_RULES.false
+    (body-part a.at a.t (names c.before.before.before.before.before.before.before.before.before.before.before.before.before.before.before.before.before.before.before.before) a.v.now a.colon a.count h) (value c.before.before.before.before.before.before.before k m) (number c.before.before.before.before.before.before.before.before.before.before.before.before) h.counts m c.if-k-ge-KEPT_RULES.false
     (omega (arith, space, long c.before.before.before.before.before.before.before, length-set (set (row c.before.before.before.before.before.before.before) a.end x) (a.end + 1) a.count, length-set (row c.before.before.before.before.before.before.before) a.end x))
     (taken-entries a.t (names c.before.before.before.before.before.before.before.before.before.before.before.before.before.before.before.before.before.before.before.before) (drop 1 (split_on 32 (body c.before.before.before.before.before.before.before.before.before.before.before.before.before.before.before.before.before.before.before.before))) a.end a.row.now (row c.before.before.before.before.before.before.before) c.take_codes.result c.take_codes.ensures
-    c.find-left.result a.count x (not-false _ k) c.code_of_lem.ensures (body_count a.at a.t (names c.before.before.before.before.before.before.before.before.before.before.before.before.before.before.before.before.before.before.before.before) a.v.now a.colon a.count h) (long c.before.before.before.before.before.before.before) space)
+    c.find-left.result a.count x k c.code_of.ensures (body_count a.at a.t (names c.before.before.before.before.before.before.before.before.before.before.before.before.before.before.before.before.before.before.before.before) a.v.now a.colon a.count h) (long c.before.before.before.before.before.before.before) space)
     _ (rule-bytes a.v.now a.colon a.count h)

@@ -14,23 +14,20 @@ use Rattle.text_read.proofs.value.count_pieces.Goals as goal
 pub returns-then-n-e : goal.returns-then-n-e
 returns-then-n-e c = let e = c.args in
     let l = c.loop-k in
-    let f = c.find-e in
-    sym (l.invariant.2 ∙ ap (counted _) (piece_last e.c e.v.now l.a f.result (omega arith) f.ensures.at c.if-n-e.true)
+    sym (l.invariant.2 ∙ ap (counted _) (piece_last e.c e.v.now l.a c.find-e.result (omega arith) c.find-e.ensures.at c.if-n-e.true)
     ∙ counted_good _ _ [] (sym c.is_name.ensures ∙ c.if-is_name.true) ∙ counted-end _)
 
 pub loop-k-preserved : goal.loop-k-preserved
 loop-k-preserved c = let e = c.args in
-    let l = c.loop-k in
-    let f = c.find-e in (
+    let l = c.loop-k in (
       omega arith,
       omega arith,
-      l.invariant.2 ∙ ap (counted _) (piece_more e.c e.v.now l.a f.result (omega arith) f.ensures.at c.if-n-e.false)
+      l.invariant.2 ∙ ap (counted _) (piece_more e.c e.v.now l.a c.find-e.result (omega arith) c.find-e.ensures.at c.if-n-e.false)
           ∙ counted_good _ _ _ (sym c.is_name.ensures ∙ c.if-is_name.true),
     )
 
 pub returns-else-is_name : goal.returns-else-is_name
 returns-else-is_name c = let e = c.args in
     let l = c.loop-k in
-    let f = c.find-e in
-    sym (l.invariant.2 ∙ ap (counted _) (piece_first e.c e.v.now l.a f.result (omega arith) f.ensures.at).1
+    sym (l.invariant.2 ∙ ap (counted _) (piece_first e.c e.v.now l.a c.find-e.result (omega arith) c.find-e.ensures.at).1
     ∙ counted_bad _ _ _ (sym c.is_name.ensures ∙ c.if-is_name.false))

@@ -11,20 +11,18 @@ use Rattle.text_read.proofs.value.rule_shape.Goals as goal
 
 pub returns-then-n-e : goal.returns-then-n-e
 returns-then-n-e c = let v = c.args.v.now in
-    let f = c.find-e in shape-none v f.result f.ensures.at c.if-n-e.true
+    shape-none v c.find-e.result c.find-e.ensures.at c.if-n-e.true
 
 pub returns-in_default : goal.returns-in_default
 returns-in_default c = let v = c.args.v.now in
-    let f = c.find-e in
-    shape-body v f.result f.ensures.at (omega arith) (sym c.is_name.ensures ∙ c.if-is_name.true)
-    (ap (λ w. body_counted (split_on 32 w)) (sym (tail-part v (f.result + 1))) ∙ sym c.body_count.ensures ∙ c.in_default.is)
+    shape-body v c.find-e.result c.find-e.ensures.at (omega arith) (sym c.is_name.ensures ∙ c.if-is_name.true)
+    (ap (λ w. body_counted (split_on 32 w)) (sym (tail-part v (c.find-e.result + 1))) ∙ sym c.body_count.ensures ∙ c.in_default.is)
 
 pub returns-then-is_name : goal.returns-then-is_name
 returns-then-is_name c = let v = c.args.v.now in
-    let f = c.find-e in
-    shape-found v f.result f.ensures.at (omega arith) _ (sym c.is_name.ensures ∙ c.if-is_name.true)
-    (ap (λ w. body_counted (split_on 32 w)) (sym (tail-part v (f.result + 1))) ∙ sym c.body_count.ensures ∙ c.in-Names.is)
+    shape-found v c.find-e.result c.find-e.ensures.at (omega arith) _ (sym c.is_name.ensures ∙ c.if-is_name.true)
+    (ap (λ w. body_counted (split_on 32 w)) (sym (tail-part v (c.find-e.result + 1))) ∙ sym c.body_count.ensures ∙ c.in-Names.is)
 
 pub returns : goal.returns
 returns c = let v = c.args.v.now in
-    let f = c.find-e in shape-head v f.result f.ensures.at (omega arith) (sym c.is_name.ensures ∙ c.if-is_name.false)
+    shape-head v c.find-e.result c.find-e.ensures.at (omega arith) (sym c.is_name.ensures ∙ c.if-is_name.false)
