@@ -36,12 +36,11 @@ pub loop-l-smaller : goal.loop-l-smaller
 loop-l-smaller c = omega (arith, c.loop-l-test.true)
 
 pub loop-l-preserved : goal.loop-l-preserved
-loop-l-preserved c = let l = c.loop-l in
-    let x = c.add_level-q in (
-      omega (arith, c.loop-l-test.true),
-      λ G S. next-at G l.l _ _ _ _ _ _ _ _ _ _ (x.ensures G l.l (l.invariant.1 G S)) c.if-q-gt-MAX_STATES.false,
-      λ G S. next-stands G l.l _ _ _ _ _ _ _ _ _ _ _ _ _ _ (l.invariant.1 G S) (x.ensures G l.l (l.invariant.1 G S)) c.if-q-gt-MAX_STATES.false,
-    )
+loop-l-preserved c = let l = c.loop-l in (
+  omega (arith, c.loop-l-test.true),
+  λ G S. next-at G l.l _ _ _ _ _ _ _ _ _ _ (c.add_level-q.ensures G l.l (l.invariant.1 G S)) c.if-q-gt-MAX_STATES.false,
+  λ G S. next-stands G l.l _ _ _ _ _ _ _ _ _ _ _ _ _ _ (l.invariant.1 G S) (c.add_level-q.ensures G l.l (l.invariant.1 G S)) c.if-q-gt-MAX_STATES.false,
+)
 
 pub returns : goal.returns
 returns c G S = let l = c.loop-l in

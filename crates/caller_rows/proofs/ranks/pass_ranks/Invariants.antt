@@ -8,7 +8,7 @@ use Rattle.grammar.specs.Limits.{limits}
 use Rattle.caller_rows.proofs.ranks.pass_ranks.Given as goal
 
 abbrev pub invariant-loop-p : goal.invariant-loop-p
-invariant-loop-p l = (p ≤ l.q) × Filled l.initial.passed l.passed p (λ p. get_or l.ranks (get_or l.down p 0) 0)
+invariant-loop-p l = (l.p ≤ l.q) × Filled l.initial.passed l.passed l.p (λ p'. get_or l.ranks (get_or l.down p' 0) 0)
 
 abbrev pub decreases-loop-p : goal.decreases-loop-p
 decreases-loop-p l = l.q - l.p

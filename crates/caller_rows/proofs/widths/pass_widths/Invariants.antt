@@ -7,7 +7,7 @@ use Rattle.caller_rows.proofs.FilledLaws.{filled_none, filled_next}
 use Rattle.caller_rows.proofs.widths.pass_widths.Given as goal
 
 abbrev pub invariant-loop-i : goal.invariant-loop-i
-invariant-loop-i l = (i ≤ l.count) × Filled l.initial.below l.below i (λ i. get_or l.widths i 0)
+invariant-loop-i l = (l.i ≤ l.count) × Filled l.initial.below l.below l.i (λ i'. get_or l.widths i' 0)
 
 abbrev pub decreases-loop-i : goal.decreases-loop-i
 decreases-loop-i l = l.count - l.i
