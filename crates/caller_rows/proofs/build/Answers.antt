@@ -33,9 +33,9 @@ returns-then-states-gt-MAX_STATES c G B = built_many G _ _ _ _ _ _ _ _ c.if-stat
 
 pub sort_targets-requires : goal.sort_targets-requires
 sort_targets-requires c = let p = c.requires in
-    let s = sortable p.begun.0 p.begun.1.columns.well_formed _ _ _ _ _ _ _ _ p.le_m (reached c.before.before.before.before.before p.begun.0 p.begun.1) c.if-states-gt-MAX_STATES.false in record { q_le_max_states = (c.if-states-gt-MAX_STATES.false, omega (arith, c.if-states-gt-MAX_STATES.false, c.sort_targets-arg-2-1.given.0), omega (arith, c.if-states-gt-MAX_STATES.false, c.sort_targets-arg-4-1.given.0.1)); kinds_le_max_states = (s.0, omega (arith, s.0, c.sort_targets-arg-3-1.given.0.1)); by_index = s.1 }
+    let s = sortable p.begun.0 p.begun.1.columns.well_formed _ _ _ _ _ _ _ _ p.le_m (reached c.before.before.before.before.before p.begun.0 p.begun.1) c.if-states-gt-MAX_STATES.false in record { q_le_max_states = (c.if-states-gt-MAX_STATES.false, omega (arith, c.if-states-gt-MAX_STATES.false, c.sort_targets-arg-2-1.given), omega (arith, c.if-states-gt-MAX_STATES.false, c.sort_targets-arg-4-1.given.1)); kinds_le_max_states = (s.0, omega (arith, s.0, c.sort_targets-arg-3-1.given.1)); by_index = s.1 }
 
 pub returns : goal.returns
 returns c G B = let z : length c.sort_targets.new.targets ≡ limits.max_states = search rules in
     built_fits G B.columns.well_formed B.sentence _ _ _ _ _ _ _ _ _ _ c.requires.le_m c.if-states-gt-MAX_STATES.false (reached c.before.before.before.before.before.before G B)
-    (omega (arith, c.if-states-gt-MAX_STATES.false, c.sort_targets-arg-2-1.given.0)) c.sort_targets.ensures z
+    (omega (arith, c.if-states-gt-MAX_STATES.false, c.sort_targets-arg-2-1.given)) c.sort_targets.ensures z

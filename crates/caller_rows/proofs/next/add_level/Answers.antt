@@ -29,7 +29,7 @@ sizes e G m L = sizable_by G m _ _ _ _ _ _ _ _ L.sizable
 
 -- what is handed in as a slice has the length of its type
 below-size : (c : Place-After-widths2) → length c.args.below.now ≡ limits.max_rules
-below-size c = c.write_level-arg-5-1.given.0
+below-size c = c.write_level-arg-5-1.given
 
 pub size_level-states-requires : goal.size_level-states-requires
 size_level-states-requires c = let p = c.requires in
@@ -63,11 +63,11 @@ write_level-requires c = let a = c.args in
     record {
       levelled = ready p.0 p.1 _ _ _ _ _ _ p.2 _ _ _ _ _ Z c.if-states-gt-MAX_STATES.false (omega (arith, k.few, Z.widths_size)) (omega (arith, k.few, below-size c.before.before.before.before.before.before.before.before));
       wide = record {
-        ahead = omega (arith, c.write_level-arg-8-1.given.0.1);
-        number = omega (arith, c.write_level-arg-9-1.given.0.1);
-        member = omega (arith, c.write_level-arg-10-1.given.0.1);
-        target = omega (arith, c.write_level-arg-11-1.given.0.1);
-        after = omega (arith, c.write_level-arg-12-1.given.0.1);
+        ahead = omega (arith, c.write_level-arg-8-1.given.1);
+        number = omega (arith, c.write_level-arg-9-1.given.1);
+        member = omega (arith, c.write_level-arg-10-1.given.1);
+        target = omega (arith, c.write_level-arg-11-1.given.1);
+        after = omega (arith, c.write_level-arg-12-1.given.1);
         down = omega arith;
       };
     }
