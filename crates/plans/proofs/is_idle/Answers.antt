@@ -14,19 +14,19 @@ pub digits_of-d-requires : goal.digits_of-d-requires
 digits_of-d-requires c = let s = c.requires.fits in (s.four, s.few, c.requires.i_bound.0, c.requires.i_bound.1)
 
 pub side_of-x-requires : goal.side_of-x-requires
-side_of-x-requires c = c.requires.fits.side c.digits_of-d.result-1.left c.digits_of-d.ensures.1
+side_of-x-requires c = c.requires.fits.side c.digits_of-d.result.left c.digits_of-d.ensures.1
 
 pub side_of-y-requires : goal.side_of-y-requires
-side_of-y-requires c = c.requires.fits.side c.digits_of-d.result-1.right c.digits_of-d.ensures.2
+side_of-y-requires c = c.requires.fits.side c.digits_of-d.result.right c.digits_of-d.ensures.2
 
 pub overflow_add-x : goal.overflow_add-x
 overflow_add-x c = let a = c.args in
-    omega (arith, span_le a.member.now a.first.now c.digits_of-d.result-1.left c.side_of-x.result-1 (c.requires.fits.side _ c.digits_of-d.ensures.1) c.side_of-x.ensures, span_le a.member.now a.first.now c.digits_of-d.result-1.right c.side_of-y.result-1 (c.requires.fits.side _ c.digits_of-d.ensures.2) c.side_of-y.ensures)
+    omega (arith, span_le a.member.now a.first.now c.digits_of-d.result.left c.side_of-x.result (c.requires.fits.side _ c.digits_of-d.ensures.1) c.side_of-x.ensures, span_le a.member.now a.first.now c.digits_of-d.result.right c.side_of-y.result (c.requires.fits.side _ c.digits_of-d.ensures.2) c.side_of-y.ensures)
 
 pub returns-then-x-y-ne0 : goal.returns-then-x-y-ne0
 returns-then-x-y-ne0 c = λ e. no_bool (sym e)
 
 pub returns : goal.returns
 returns c = let a = c.args in
-    λ k. none_idle a.ahead.now a.member.now a.first.now a.q a.i c.digits_of-d.result-1.layer c.digits_of-d.result-1.left c.digits_of-d.result-1.right c.side_of-x.result-1 c.side_of-y.result-1
+    λ k. none_idle a.ahead.now a.member.now a.first.now a.q a.i c.digits_of-d.result.layer c.digits_of-d.result.left c.digits_of-d.result.right c.side_of-x.result c.side_of-y.result
     c.digits_of-d.ensures.1 c.digits_of-d.ensures.2 c.digits_of-d.ensures.3 c.side_of-x.ensures c.side_of-y.ensures (omega (arith, c.if-x-y-ne0.false)) (codes-differ _ _ k)

@@ -46,10 +46,10 @@ spans c =
 pub pairs_of-pairs-requires : goal.pairs_of-pairs-requires
 pairs_of-pairs-requires c = (omega (arith, c.requires.f_bound.1, c.requires.fits.few), omega (arith, c.requires.f_bound.2, c.requires.fits.few), (spans c.before.before.before).0, (spans c.before.before.before).1)
 
-sizes : (c : Place-After-pairs_of) → (c.Alone-of.result ≤ limits.max_states) × (c.alone_of-right.result ≤ limits.max_states) × (c.shift_of-shift.result ≤ 1) × (c.pairs_of-pairs.result ≤ most_square)
+sizes : (c : Place-After-pairs_of) → (c.alone_of-left.result ≤ limits.max_states) × (c.alone_of-right.result ≤ limits.max_states) × (c.shift_of-shift.result ≤ 1) × (c.pairs_of-pairs.result ≤ most_square)
 sizes c =
     let n = spans c.before.before.before.before in (
-      alone-small _ _ _ _ _ _ c.Alone-of.result c.Alone-of.ensures n.0,
+      alone-small _ _ _ _ _ _ c.alone_of-left.result c.alone_of-left.ensures n.0,
       alone-small _ _ _ _ _ _ c.alone_of-right.result c.alone_of-right.ensures n.1,
       shift_small _ _ _ _ _ c.shift_of-shift.result c.shift_of-shift.ensures,
       pairs_small _ _ _ _ _ c.side_of-x.result c.side_of-y.result c.pairs_of-pairs.result c.pairs_of-pairs.ensures n.0 n.1,
@@ -93,7 +93,7 @@ index_of-requires-3 c = let n = small c.before.before.before.before.before.befor
 pub returns : goal.returns
 returns c = let a = c.args in
     plan-joined (rows a.ahead.now a.number.now a.member.now a.first.now a.after.now) a.t a.m a.q a.f a.a a.b
-    c.side_of-x.result c.side_of-y.result c.Alone-of.result c.alone_of-right.result c.shift_of-shift.result c.pairs_of-pairs.result
+    c.side_of-x.result c.side_of-y.result c.alone_of-left.result c.alone_of-right.result c.shift_of-shift.result c.pairs_of-pairs.result
     c.layer_after-on_left.result c.layer_after-on_right.result c.wide-u.result c.wide-v.result c.index_of.result c.index_of-2.result c.index_of-3.result
-    c.side_of-x.ensures c.side_of-y.ensures c.Alone-of.ensures c.alone_of-right.ensures c.shift_of-shift.ensures c.pairs_of-pairs.ensures
+    c.side_of-x.ensures c.side_of-y.ensures c.alone_of-left.ensures c.alone_of-right.ensures c.shift_of-shift.ensures c.pairs_of-pairs.ensures
     c.layer_after-on_left.ensures c.layer_after-on_right.ensures c.index_of.ensures c.index_of-2.ensures c.wide-u.ensures.0 c.wide-v.ensures.0 c.index_of-3.ensures
