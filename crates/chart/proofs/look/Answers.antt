@@ -82,7 +82,7 @@ pub mention-requires : goal.mention-requires
 mention-requires c = let a = c.args in record { linked = c.requires.wired.linked; c_lt_max_nonterminals = omega (arith, c.wide.ensures, c.requires.wired.lead_high (a.q - 1) (omega (arith, c.requires.le_q))); q_le_states = omega (arith, c.requires.le_q); states_in_bounds = (omega (arith, length-set a.flags.now a.q 0, c.requires.states_in_bounds), c.requires.states_in_bounds.2) }
 
 pub shape_of-flags : goal.shape_of-flags
-shape_of-flags c = c.mention.auto.0 ∙ length-set c.args.flags.now c.args.q 0
+shape_of-flags c = c.mention.auto.flags ∙ length-set c.args.flags.now c.args.q 0
 
 pub returns : goal.returns
 returns c = let rose = c.if-rise-eq0.false in record {

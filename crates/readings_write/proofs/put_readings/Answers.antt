@@ -56,4 +56,4 @@ pub put_line-requires : goal.put_line-requires
 put_line-requires c = (right_worded c.requires, filling_all (after_first c.before.before.before.before.before.before))
 
 pub returns : goal.returns
-returns c = filling_last {rest = second c} c.put_line.ensures (after_first c.before.before.before.before.before.before.before.before.before)
+returns c = filling_last {rest = second c.before.before.before.before.before.before.before.before.before.before.before.before.before.before.before.before.before.before.before} c.put_line.ensures (after_first c.before.before.before.before.before.before.before.before.before)

@@ -69,7 +69,7 @@ pub returns-then-kind-eq-CLOSING : goal.returns-then-kind-eq-CLOSING
 returns-then-kind-eq-CLOSING c = wrote_as (sym (is_closing c.before.before.before.before.before)) c.put_mark-then-kind-eq-CLOSING.ensures
 
 pub overflow_cast-number : goal.overflow_cast-number
-overflow_cast-number c = omega (arith, (spelt c.before).ranges)
+overflow_cast-number c = omega (arith, (spelt c.before).fits)
 
 pub symbol-s-requires : goal.symbol-s-requires
 symbol-s-requires c = ((spelt c.before).some, c.requires.0.names.few-terminals)

@@ -56,4 +56,4 @@ pub put_led-requires : goal.put_led-requires
 put_led-requires c = (c.requires.0, c.if-letters-lt1.false, filling_all (after_first c.before.before.before.before))
 
 pub returns : goal.returns
-returns c = filling_last {rest = others c} c.put_led.ensures (after_first c.before.before.before.before.before.before.before)
+returns c = filling_last {rest = others c.before.before.before.before.before.before.before.before.before.before.before.before.before.before.before.before} c.put_led.ensures (after_first c.before.before.before.before.before.before.before)
