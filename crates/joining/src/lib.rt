@@ -1,5 +1,8 @@
 // A module's grammar text joined to the robot's: the joined table, the joined text, and the name of a joined symbol as a part of the text
 // that declared it. Both texts are read into local rows before a lent row is written.
+
+#![tactic(auto)]
+
 mod gathering;
 mod joins;
 mod naming;
