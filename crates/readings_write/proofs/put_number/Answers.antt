@@ -16,7 +16,7 @@ abbrev Place-After-decimal : Type 0
 Place-After-decimal = lts.After-decimal tie.the-claims reads.Pre reads.Post tie.handed_clauses
 
 spelled : (c : Place-After-decimal) → take c.decimal-k.result c.decimal-k.new.out ≡ decimal c.args.x
-spelled c = c.decimal-k.ensures.1.1 ∙ decimal-digits c.args.x c.decimal-k.result c.decimal-k.ensures.1.0
+spelled c = c.decimal-k.ensures.digits ∙ decimal-digits c.args.x c.decimal-k.result c.decimal-k.ensures.len
 
 pub put_bytes-requires : goal.put_bytes-requires
 put_bytes-requires c = subst (λ (w : List ℕ). c.args.at + length w ≤ length c.args.out.now) (sym (spelled c.before.before)) c.requires
