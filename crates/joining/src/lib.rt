@@ -38,7 +38,7 @@ pub enum Counts {
 }
 
 // How many names each list has: t and n of the robot, u and v of the module, and the joined ones.
-#[derive(Drop)]
+#[derive(Clone, Copy)]
 pub struct ListSizes {
     pub t: usize,
     pub n: usize,
