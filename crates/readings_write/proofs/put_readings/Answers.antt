@@ -43,14 +43,8 @@ after_first c =
     filling_ran (first c.before.before.before.before.before.before.before.before.before.before) _ (lines-parts c.args.t (names c.before.before.before.before.before.before.before.before.before.before) c.args.left.now c.args.right.now) c.put_line-j.ensures
     (before-first c.before.before.before.before.before.before.before.before.before.before)
 
--- LOST slice-aggregate-put-line : tie.Need-slice-aggregate-put-line
--- LOST slice-aggregate-put-line c = search rules
-
 pub put_line-j-requires : goal.put_line-j-requires
 put_line-j-requires c = (left_worded c.requires, filling_room (first c.before.before.before.before.before.before.before.before.before.before) _ (lines-parts c.args.t (names c.before.before.before.before.before.before.before.before.before.before) c.args.left.now c.args.right.now) (before-first c.before.before.before.before.before.before.before.before.before.before))
-
--- LOST slice-aggregate-put-line-2 : tie.Need-slice-aggregate-put-line-2
--- LOST slice-aggregate-put-line-2 c = search rules
 
 pub put_line-requires : goal.put_line-requires
 put_line-requires c = (right_worded c.requires, filling_all (after_first c.before.before.before.before.before.before))
