@@ -1,5 +1,8 @@
 // What every entry over triples, and two_sides, does first: the refusals up to [11]'s 8, then the rows of moves, in rows that the caller
 // lends.
+
+#![tactic(auto)]
+
 ghost use Rattle.std.specs.Prelude.{◌≡◌, ℕ, ◌≤◌};
 ghost use Rattle.grammar.specs.Grammar.{Grammar};
 ghost use Rattle.grammar.specs.declared.TableVerdict.TheVariants.{Refused};
