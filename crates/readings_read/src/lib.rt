@@ -1,6 +1,9 @@
 // Reads two lines back: a grammar's text and the lines to the two strings, or to the first refusal.
 // Lines and strings may be of any length, so nothing of them is kept: both values are checked and their letters counted, and
 // a second pass writes.
+
+#![tactic(auto)]
+
 mod pieces;
 mod reading;
 mod values;

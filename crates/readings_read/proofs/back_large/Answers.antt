@@ -1,0 +1,15 @@
+-- `readings_read::back_large` meets its contract: its rows suffice. Assumes nothing.
+use borrow.Author.Rules.{rules}
+use native.Mathlib.Omega.{arith}
+use lib.ListN.{length}
+use Rattle.text_read.proofs.Rooms.{rows-large}
+use Rattle.readings_read.proofs.back_large.Goals as goal
+
+pub check_text-read-requires : goal.check_text-read-requires
+check_text-read-requires c = rows-large (length c.args.text.now)
+
+pub back_in-requires : goal.back_in-requires
+back_in-requires c = record { row = c.check_text-read.new.row; checks = c.check_text-read.ensures }
+
+pub returns : goal.returns
+returns c = c.back_in.ensures

@@ -1,0 +1,13 @@
+use native.Mathlib.Omega.{arith}
+use Prim.Native.Nat.{◌≤◌, ◌-◌}
+use mathlib.Core.Path.{◌≡◌, sym, ◌∙◌}
+use lib.ListN.{length, drop}
+use Rattle.readings_read.specs.Words.{mark_piece}
+use Rattle.readings_read.proofs.Marks.{mark_from, mark-none, mark-zero, mark-led, mark-start, mark-end, mark-low, mark-high, mark-more, mark_big}
+use Rattle.readings_read.proofs.pieces.mark.Given as goal
+
+abbrev pub invariant-loop-i : goal.invariant-loop-i
+invariant-loop-i l = (l.i ≤ length l.s) × (l.x ≤ l.count) × (mark_piece l.kind l.count l.s ≡ mark_from l.kind l.count l.x (drop l.i l.s))
+
+abbrev pub decreases-loop-i : goal.decreases-loop-i
+decreases-loop-i l = length l.s - l.i
