@@ -1,0 +1,19 @@
+use mathlib.Core.Path.{◌≡◌, refl, sym, subst}
+use mathlib.Core.List.{List}
+use Prim.Native.Nat.{ℕ, ◌+◌, ◌-◌, ◌*◌, ◌≤◌, ◌<◌}
+use native.Mathlib.Omega.{arith}
+use lib.ListN.{length, get_or}
+use Rattle.triples.specs.Index.{triple_count}
+use Rattle.explore.specs.State.{State, held, Pushed, Along, Grid}
+use Rattle.explore.proofs.PushLaws.{grid-start, grid-marked, line-below, grid-more, grid-end}
+use Rattle.explore.proofs.blocks.push_grid.Given as goal
+
+abbrev pub invariant-loop-k : goal.invariant-loop-k
+invariant-loop-k l = (l.left_from ≤ l.k)
+    × (l.k ≤ l.left_end)
+    × Pushed l.place (Grid l.row l.q l.left_from l.k l.right_from l.right_end (l.q * l.q)) (held l.initial.queue l.initial.parents l.count) (held l.queue l.parents l.end)
+    × (length l.queue ≡ length l.initial.queue)
+    × (length l.parents ≡ length l.initial.parents)
+
+abbrev pub decreases-loop-k : goal.decreases-loop-k
+decreases-loop-k l = l.left_end - l.k

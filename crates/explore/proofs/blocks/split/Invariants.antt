@@ -1,0 +1,13 @@
+use Prim.Native.Nat.{ℕ, ◌+◌, ◌-◌, ◌*◌, ◌≤◌, ◌<◌}
+use mathlib.Core.Path.{◌≡◌, sym, subst}
+use native.Mathlib.Decide.{ℕ_discrete}
+use lib.ListN.{get_or}
+use native.Mathlib.Omega.{arith}
+use Rattle.explore.proofs.AddsLaws.{wide_fits}
+use Rattle.explore.proofs.blocks.split.Given as goal
+
+abbrev pub invariant-loop-k : goal.invariant-loop-k
+invariant-loop-k l = (l.from ≤ l.k) × (l.k ≤ l.to) × ((j : ℕ) → l.from ≤ j → j < l.k → l.base + get_or l.row j 0 * l.stride < l.limit)
+
+abbrev pub decreases-loop-k : goal.decreases-loop-k
+decreases-loop-k l = l.to - l.k

@@ -1,0 +1,19 @@
+use mathlib.Core.Path.{◌≡◌, refl, sym, subst}
+use Prim.Native.Nat.{ℕ, ◌+◌, ◌-◌, ◌*◌, ◌≤◌, ◌<◌}
+use native.Mathlib.Omega.{arith}
+use lib.ListN.{length}
+use Rattle.triples.specs.Index.{triple_count}
+use Rattle.explore.specs.State.{State, held, Pushed, Along}
+use Rattle.explore.proofs.AddsLaws.{count_small}
+use Rattle.explore.proofs.PushLaws.{along-start, along-marked, along-more, along-end}
+use Rattle.explore.proofs.push.expand.Given as goal
+
+abbrev pub invariant-loop-k : goal.invariant-loop-k
+invariant-loop-k l = (l.from ≤ l.k)
+    × (l.k ≤ l.to)
+    × Pushed l.place (Along l.row l.from l.k l.base l.stride) (held l.initial.queue l.initial.parents l.count) (held l.queue l.parents l.end)
+    × (length l.queue ≡ length l.initial.queue)
+    × (length l.parents ≡ length l.initial.parents)
+
+abbrev pub decreases-loop-k : goal.decreases-loop-k
+decreases-loop-k l = l.to - l.k
