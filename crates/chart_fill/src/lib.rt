@@ -1,4 +1,7 @@
 // The chart of a row of terminals, filled span by span: those that end first, and of these the shortest, come first.
+
+#![tactic(auto)]
+
 ghost use Rattle.std.specs.Prelude.{ℕ, suc, ◌+◌, ◌*◌, ◌≤◌, ◌<◌, ◌≡◌, length, get_or};
 ghost use Rattle.grammar.specs.Limits.{limits};
 ghost use Rattle.chart.specs.Rows.{Wired, Span, block};

@@ -1,0 +1,24 @@
+use Prim.Native.Nat.{suc, ◌+◌, ◌-◌, ◌*◌, ◌/◌, ◌≤◌}
+use mathlib.Core.Path.{◌≡◌, refl, sym, subst, ◌∙◌}
+use native.Mathlib.Omega.{arith}
+use lib.ListN.{length}
+use Rattle.grammar.specs.Limits.{limits}
+use Rattle.grammar.specs.Grammar.{Grammar}
+use Rattle.tree_laws.specs.Chart.{Places}
+use Rattle.chart.specs.Rows.{slack, block, Covered}
+use Rattle.chart.specs.Filling.{Sheet, Filled, Working}
+use Rattle.chart.proofs.MadeLaws.{span_at}
+use Rattle.chart_fill.proofs.Laws.{span_start, span_down, span_end, all_covered}
+use Rattle.chart_fill.proofs.span.Given as goal
+
+abbrev pub invariant-loop-q : goal.invariant-loop-q
+invariant-loop-q l = (l.q ≤ l.states)
+    × (length l.work ≡ length l.initial.work)
+    × ((G : Grammar) (P : Places limits G) → Sheet G P l.states l.ahead l.lead l.home → Filled G P l.states l.home l.row l.initial.work l.initial.seen (suc l.i) l.j
+    → Working G P l.states l.home l.row l.work l.seen l.flags l.q l.i l.j × Covered l.states l.flags l.blocks)
+    × (length l.seen ≡ limits.max_states)
+    × (length l.flags ≡ limits.max_states)
+    × (length l.blocks ≡ limits.max_states / block)
+
+abbrev pub decreases-loop-q : goal.decreases-loop-q
+decreases-loop-q l = slack l.work * (limits.max_states + 1) + l.q
