@@ -13,8 +13,7 @@ abbrev Place-Past-After-known_told2 : Type 0
 Place-Past-After-known_told2 = lts.Past-After-known_told2 tie.the-claims reads.Pre reads.Post
 
 -- the grammar that is read
-within : (k : Place-Past-After-known_told2) → let a = k.args in let g = k.read-in-Read-1.given.0 in
-    InGrammar a.text.now g.0 g.1.0 g.1.1.0 g.1.1.1.0 a.starts.now a.lengths.now
+within : (k : Place-Past-After-known_told2) → let a = k.args in InGrammar a.text.now k.in-Read.terminals k.in-Read.nonterminals k.in-Read.entries k.in-Read.states a.starts.now a.lengths.now
 within k =
     let a = k.args in grammar-read a.text.now a.read a.starts.now a.lengths.now k.requires k.in-Read.terminals k.in-Read.nonterminals k.in-Read.entries k.in-Read.states k.in-Read.is
 

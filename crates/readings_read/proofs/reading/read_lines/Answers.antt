@@ -16,18 +16,16 @@ use Rattle.readings_read.proofs.reading.read_lines.Tie as tie
 abbrev Start : Type 0
 Start = lts.Start tie.the-claims reads.Pre reads.Post
 
-abbrev Place-After-first : Type 0
-Place-After-first = lts.After-first tie.the-claims reads.Pre reads.Post
+abbrev Place-Past-After-known_told2 : Type 0
+Place-Past-After-known_told2 = lts.Past-After-known_told2 tie.the-claims reads.Pre reads.Post
 
 -- the grammar's names
 abbrev names : Start → List (List ℕ)
 names e = spelled e.args.text.now e.args.starts.now e.args.lengths.now
 
 -- both lines say strings
-both : (k : Place-After-first) → let g = k.first.given.0 in
-    BothSaid k.args.t k.args.count (names k.before.before.before.before.before.before.before.before.before.before) k.args.lines.now g.0 g.1.0 g.1.1.0 g.1.1.1.0 g.1.1.1.1.0 g.1.1.1.1.1.0
-both k = let g = k.first.given.0 in
-    told-both k.args.t k.args.count (names k.before.before.before.before.before.before.before.before.before.before) k.args.lines.now k.check_lines.result g.0 g.1.0 g.1.1.0 g.1.1.1.0 g.1.1.1.1.0 g.1.1.1.1.1.0
+both : (k : Place-Past-After-known_told2) → BothSaid k.args.t k.args.count (names k.before.before.before.before.before.before.before.before.before) k.args.lines.now k.in-Said.first k.in-Said.first_end k.in-Said.m k.in-Said.second k.in-Said.second_end k.in-Said.n
+both k = told-both k.args.t k.args.count (names k.before.before.before.before.before.before.before.before.before) k.args.lines.now k.check_lines.result k.in-Said.first k.in-Said.first_end k.in-Said.m k.in-Said.second k.in-Said.second_end k.in-Said.n
     k.in-Said.is k.check_lines.ensures
 
 pub check_lines-requires : goal.check_lines-requires
@@ -35,41 +33,37 @@ check_lines-requires c = c.requires
 
 pub returns-then-left-m : goal.returns-then-left-m
 returns-then-left-m c = let a = c.args in
-    let g = c.first.given.0 in
     short-left a.t a.count (names c.before.before.before.before.before.before.before.before.before.before.before) a.lines.now a.left.now a.right.now
-    g.0 g.1.0 g.1.1.0 g.1.1.1.0 g.1.1.1.1.0 g.1.1.1.1.1.0 (both c) c.if-left-m.true
+    c.in-Said.first c.in-Said.first_end c.in-Said.m c.in-Said.second c.in-Said.second_end c.in-Said.n (both c.before.before) c.if-left-m.true
 
 pub returns-then-right-n : goal.returns-then-right-n
 returns-then-right-n c = let a = c.args in
-    let g = c.first.given.0 in
     short-right a.t a.count (names c.before.before.before.before.before.before.before.before.before.before.before.before) a.lines.now a.left.now a.right.now
-    g.0 g.1.0 g.1.1.0 g.1.1.1.0 g.1.1.1.1.0 g.1.1.1.1.1.0 (both c) c.if-right-n.true
+    c.in-Said.first c.in-Said.first_end c.in-Said.m c.in-Said.second c.in-Said.second_end c.in-Said.n (both c.before.before.before) c.if-right-n.true
 
 pub slice_bounds-put_value-count : goal.slice_bounds-put_value-count
-slice_bounds-put_value-count c = (both c).first
+slice_bounds-put_value-count c = (both c.before.before.before).first
 
 pub slice_bounds-put_value-start : goal.slice_bounds-put_value-start
-slice_bounds-put_value-start c = (both c).first
+slice_bounds-put_value-start c = (both c.before.before.before).first
 
 pub slice_bounds-put_value-end : goal.slice_bounds-put_value-end
-slice_bounds-put_value-end c = (both c).first-inside
+slice_bounds-put_value-end c = (both c.before.before.before).first-inside
 
 pub put_value-requires : goal.put_value-requires
-put_value-requires c = let g = c.first.given.0 in
-    (c.requires, omega (arith, says_count c.args.t c.args.count (names c.before.before.before.before.before.before.before.before.before.before.before.before.before.before) (part g.0 g.1.0 c.args.lines.now) (both c).left g.1.1.0 (both c).left-says, c.if-left-m.false))
+put_value-requires c = (c.requires, omega (arith, says_count c.args.t c.args.count (names c.before.before.before.before.before.before.before.before.before.before.before.before.before.before) (part c.in-Said.first c.in-Said.first_end c.args.lines.now) (both c.before.before.before.before.before).left c.in-Said.m (both c.before.before.before.before.before).left-says, c.if-left-m.false))
 
 pub slice_bounds-put_value-count-in-Said : goal.slice_bounds-put_value-count-in-Said
-slice_bounds-put_value-count-in-Said c = (both c).second
+slice_bounds-put_value-count-in-Said c = (both c.before.before.before.before.before.before.before.before).second
 
 pub slice_bounds-put_value-start-in-Said : goal.slice_bounds-put_value-start-in-Said
-slice_bounds-put_value-start-in-Said c = (both c).second
+slice_bounds-put_value-start-in-Said c = (both c.before.before.before.before.before.before.before.before).second
 
 pub slice_bounds-put_value-end-in-Said : goal.slice_bounds-put_value-end-in-Said
-slice_bounds-put_value-end-in-Said c = (both c).second-inside
+slice_bounds-put_value-end-in-Said c = (both c.before.before.before.before.before.before.before.before).second-inside
 
 pub put_value-requires-in-Said : goal.put_value-requires-in-Said
-put_value-requires-in-Said c = let g = c.first.given.0 in
-    (c.requires, omega (arith, says_count c.args.t c.args.count (names c.before.before.before.before.before.before.before.before.before.before.before.before.before.before.before.before.before.before.before) (part g.1.1.1.0 g.1.1.1.1.0 c.args.lines.now) (both c).right g.1.1.1.1.1.0 (both c).right-says, c.if-right-n.false))
+put_value-requires-in-Said c = (c.requires, omega (arith, says_count c.args.t c.args.count (names c.before.before.before.before.before.before.before.before.before.before.before.before.before.before.before.before.before.before.before) (part c.in-Said.second c.in-Said.second_end c.args.lines.now) (both c.before.before.before.before.before.before.before.before.before.before).right c.in-Said.n (both c.before.before.before.before.before.before.before.before.before.before).right-says, c.if-right-n.false))
 
 pub returns-in-Fault : goal.returns-in-Fault
 returns-in-Fault c = let a = c.args in
@@ -78,7 +72,6 @@ returns-in-Fault c = let a = c.args in
 
 pub returns-else-right-n : goal.returns-else-right-n
 returns-else-right-n c = let a = c.args in
-    let g = c.first.given.0 in
     both-written a.t a.count (names c.before.before.before.before.before.before.before.before.before.before.before.before.before.before.before.before.before.before.before.before.before.before) a.lines.now a.left.now a.right.now
-    g.0 g.1.0 g.1.1.0 g.1.1.1.0 g.1.1.1.1.0 g.1.1.1.1.1.0 (both c) c.if-left-m.false c.if-right-n.false
+    c.in-Said.first c.in-Said.first_end c.in-Said.m c.in-Said.second c.in-Said.second_end c.in-Said.n (both c.before.before.before.before.before.before.before.before.before.before.before.before.before) c.if-left-m.false c.if-right-n.false
     c.put_value.new.row c.put_value-in-Said.new.row c.put_value.ensures c.put_value-in-Said.ensures

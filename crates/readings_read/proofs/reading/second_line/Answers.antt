@@ -20,16 +20,16 @@ use Rattle.readings_read.proofs.reading.second_line.Tie as tie
 abbrev Start : Type 0
 Start = lts.Start tie.the-claims reads.Pre reads.Post
 
-abbrev Place-After-start : Type 0
-Place-After-start = lts.After-start tie.the-claims reads.Pre reads.Post
+abbrev Place-Past-After-known_told2 : Type 0
+Place-Past-After-known_told2 = lts.Past-After-known_told2 tie.the-claims reads.Pre reads.Post
 
 -- the grammar's names
 abbrev names : Start → List (List ℕ)
 names e = spelled e.args.text.now e.args.starts.now e.args.lengths.now
 
 -- the second line says a string
-says : (k : Place-After-start) → SaysAt k.args.t k.args.count (names k.before.before.before.before.before.before.before.before.before.before.before.before.before.before) 2 right_key (part (k.args.end + 1) k.find-e.result k.args.lines.now) k.in-Said.start k.in-Said.count
-says k = told-said k.args.t k.args.count (names k.before.before.before.before.before.before.before.before.before.before.before.before.before.before) 2 right_key (part (k.args.end + 1) k.find-e.result k.args.lines.now)
+says : (k : Place-Past-After-known_told2) → SaysAt k.args.t k.args.count (names k.before.before.before.before.before.before.before.before.before.before.before.before.before) 2 right_key (part (k.args.end + 1) k.find-e.result k.args.lines.now) k.in-Said.start k.in-Said.count
+says k = told-said k.args.t k.args.count (names k.before.before.before.before.before.before.before.before.before.before.before.before.before) 2 right_key (part (k.args.end + 1) k.find-e.result k.args.lines.now)
     k.check_line.result k.in-Said.start k.in-Said.count k.in-Said.is k.check_line.ensures
 
 pub overflow_add-a : goal.overflow_add-a
@@ -51,7 +51,7 @@ check_line-requires c = c.requires.0
 
 pub overflow_add-result : goal.overflow_add-result
 overflow_add-result c = let l = length-take-le (c.find-e.result - (c.args.end + 1)) (drop (c.args.end + 1) c.args.lines.now) (omega (arith, length-drop (c.args.end + 1) c.args.lines.now)) in
-    omega (arith, (says c).inside, l, c.find-e.ensures.high, c.find-e.ensures.low)
+    omega (arith, (says c.before).inside, l, c.find-e.ensures.high, c.find-e.ensures.low)
 
 pub returns-in-Fault : goal.returns-in-Fault
 returns-in-Fault c = let a = c.args in
@@ -62,4 +62,4 @@ returns-in-Fault c = let a = c.args in
 pub returns-in-Said : goal.returns-in-Said
 returns-in-Said c = let a = c.args in
     second-said a.t a.count (names c.before.before.before.before.before.before.before.before.before.before.before.before.before.before) a.lines.now a.first a.end a.left c.requires.1 c.find-e.result c.find-e.ensures.at
-    c.if-lines-e.false c.if-e-lines.false c.in-Said.start c.in-Said.count (says c)
+    c.if-lines-e.false c.if-e-lines.false c.in-Said.start c.in-Said.count (says c.before)
