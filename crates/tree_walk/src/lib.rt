@@ -1,4 +1,7 @@
 // The one tree of a chart, read off from the root, children left to right: its rules are counted, then written.
+
+#![tactic(auto)]
+
 mod shown;
 mod step;
 
