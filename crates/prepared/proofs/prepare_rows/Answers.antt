@@ -31,5 +31,5 @@ overflow_add-kinds c = let p = c.requires in
 pub returns : goal.returns
 returns c = let z : c.args.callers ≡ 0 = omega (arith, c.if-callers-gt0.false) in
     let long : length c.build.new.targets ≡ limits.max_states
-    = omega (arith, c.build.auto.1.1.1.1.1.1.1.1.1.1.1.1.0, c.build-arg-6-1.given) in
+    = omega (arith, c.build.auto.targets, c.build-arg-6-1.given) in
     λ G k. without _ _ _ _ _ _ _ _ _ k _ z _ _ _ (c.build.ensures G k.columns) refl refl refl refl long
