@@ -24,7 +24,7 @@ span-after-requires c = record { wired = c.requires.wired; span = span_at c.requ
 pub loop-i-preserved : goal.loop-i-preserved
 loop-i-preserved c = let a = c.args in (
   omega (arith, c.loop-i.invariant.0),
-  c.span-after.auto.0 ∙ c.loop-i.invariant.1,
+  c.span-after.auto.work ∙ c.loop-i.invariant.1,
   λ G P S F. c.span-after.ensures G P S
       (subst (λ z. Filled G P a.states a.home.now a.row.now c.loop-i.work c.loop-i.active z a.j) (let z : c.loop-i.i ≡ suc (c.loop-i.i - 1) = omega arith in z) (c.loop-i.invariant.2 G P S F)),
 )

@@ -24,7 +24,7 @@ overflow_add-j c = omega (arith, c.requires.span.small)
 pub loop-j-preserved : goal.loop-j-preserved
 loop-j-preserved c = let a = c.args in (
   omega arith,
-  c.column.auto.0 ∙ c.loop-j.invariant.1,
+  c.column.auto.work ∙ c.loop-j.invariant.1,
   λ G P S F. let y = c.column.ensures G P S (c.loop-j.invariant.2 G P S F) in
       subst (λ z. Filled G P a.states a.home.now a.row.now c.column.new.work c.ends-marks.result (suc z) z) (let z : suc c.loop-j.j ≡ c.loop-j.j + 1 = omega arith in z)
       (fill_more S c.ends-marks.result (λ p h z. c.ends-marks.ensures p (omega (arith, c.requires.wired.ready.few)) z) y.1),

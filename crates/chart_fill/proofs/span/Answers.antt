@@ -30,7 +30,7 @@ loop-q-init c = let a = c.args in (
       (span_down S c.find-q.result y.0 (span_start S c.requires.span.rises F), y.1),
   long c.before.before.before.before.before.before.before,
   long c.before.before.before.before.before.before.before,
-  c.find-q.auto.1.1.1.0,
+  c.find-q.auto.blocks,
 )
 
 pub slice_bounds-look-end : goal.slice_bounds-look-end
@@ -52,15 +52,15 @@ pub loop-q-preserved : goal.loop-q-preserved
 loop-q-preserved c = let k = c.loop-q in
     let a = c.args in (
       omega (arith, c.look-r.ensures.upper_bound.0, c.find-q-in-loop-q.ensures.upper_bound),
-      c.look-r.auto.0 ∙ k.invariant.1,
+      c.look-r.auto.work ∙ k.invariant.1,
       λ G P S F. let x = k.invariant.2 G P S F in
           let W = c.look-r.ensures.looks G P S
           (subst (λ z. Working G P a.states a.home.now a.row.now k.work k.seen k.flags z a.i a.j) (let z : k.q ≡ suc (k.q - 1) = omega arith in z) x.0) in
           let y = c.find-q-in-loop-q.ensures.finds W.looking.high (c.look-r.ensures.covered x.1) in
           (span_down S c.find-q-in-loop-q.result y.0 W, y.1),
-      c.look-r.auto.1.1.1.1.1.1.1.0 ∙ k.invariant.3,
-      c.look-r.auto.1.1.1.1.1.1.1.1.0 ∙ k.invariant.4,
-      c.find-q-in-loop-q.auto.1.1.1.0 ∙ c.look-r.auto.1.1.1.1.1.1.1.1.1.1.1.1.1.0 ∙ k.invariant.5,
+      c.look-r.auto.active ∙ k.invariant.3,
+      c.look-r.auto.flags ∙ k.invariant.4,
+      c.find-q-in-loop-q.auto.blocks ∙ c.look-r.auto.blocks ∙ k.invariant.5,
     )
 
 pub returns : goal.returns

@@ -20,20 +20,20 @@ pub loop-r-init : goal.loop-r-init
 loop-r-init c = (omega arith, refl, λ G P S X s. s)
 
 pub sow_rule-requires : goal.sow_rule-requires
-sow_rule-requires c = record { m_in_bounds = (omega (arith, c.requires.row_in_bounds, c.loop-r.invariant.1, c.diagonal.auto.0), omega (arith, c.requires.row_in_bounds), c.requires.ready.few, c.requires.ready.homes, omega (arith, c.requires.ready.four)); limits_bound = c.requires.count_le_max_rules.1 c.loop-r.r (omega arith) }
+sow_rule-requires c = record { m_in_bounds = (omega (arith, c.requires.row_in_bounds, c.loop-r.invariant.1, c.diagonal.auto.work), omega (arith, c.requires.row_in_bounds), c.requires.ready.few, c.requires.ready.homes, omega (arith, c.requires.ready.four)); limits_bound = c.requires.count_le_max_rules.1 c.loop-r.r (omega arith) }
 
 pub loop-r-preserved : goal.loop-r-preserved
 loop-r-preserved c = let a = c.args in
     let k = c.loop-r in
     let h : k.r < a.count = omega arith in (
       omega arith,
-      c.sow_rule.auto.0 ∙ k.invariant.1,
+      c.sow_rule.auto.work ∙ k.invariant.1,
       λ G P S X s. sown-turn S a.row.now k.work c.sow_rule.new.work a.lefts.now a.lengths.now a.count k.r _ _ X h refl refl c.sow_rule.ensures.diagonal c.sow_rule.ensures.work_unchanged
           (k.invariant.2 G P S X s),
     )
 
 pub shape_of-work : goal.shape_of-work
-shape_of-work c = c.loop-r.invariant.1 ∙ c.diagonal.auto.0
+shape_of-work c = c.loop-r.invariant.1 ∙ c.diagonal.auto.work
 
 pub returns : goal.returns
 returns c = let a = c.args in
