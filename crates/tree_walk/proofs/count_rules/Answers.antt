@@ -31,7 +31,7 @@ turned d c b =
 
 -- a turn keeps the length of what was found last
 keeps : (d : Place-After-turn) → length d.turn-after.new.found ≡ limits.max_nonterminals
-keeps d = d.turn-after.auto.1.1.1.1.1.1.1.1.0 ∙ d.loop-going.invariant.3
+keeps d = d.turn-after.auto.found ∙ d.loop-going.invariant.3
 
 pub loop-going-init : goal.loop-going-init
 loop-going-init c = (omega arith, omega arith, refl, omega arith, λ g b. counting_start (rows_of c.before.before.before.before) g c.args.work.now c.root-w.result c.root-w.ensures b)

@@ -32,7 +32,7 @@ room d f =
 
 -- a turn keeps the length of what was found last
 keeps : (d : Place-After-turn) → length d.turn-after.new.found ≡ limits.max_nonterminals
-keeps d = d.turn-after.auto.1.1.1.1.1.1.1.1.0 ∙ d.loop-going.invariant.4
+keeps d = d.turn-after.auto.found ∙ d.loop-going.invariant.4
 
 pub loop-going-init : goal.loop-going-init
 loop-going-init c = (omega arith, omega arith, refl, refl, omega arith, λ g b. listing_start (rows_of c.before.before.before.before.before) g c.args.list.now c.args.work.now c.root-w.result c.root-w.ensures b)
@@ -49,13 +49,13 @@ turn-after-requires c = let s = c.requires.fits in record {
 }
 
 pub offset_bounds-list-out : goal.offset_bounds-list-out
-offset_bounds-list-out c = omega (arith, room c.before.before.before.before.before.before c.if-after-gt0.true, c.good.1.1.1.1.1.1.1.0)
+offset_bounds-list-out c = omega (arith, room c.before.before.before.before.before.before c.if-after-gt0.true, c.well_formed.1.1.1.1.1.1.1.0)
 
 pub bounds-list-out : goal.bounds-list-out
 bounds-list-out c = omega (arith, room c.before.before.before.before.before.before c.if-after-gt0.true, c.loop-going.invariant.3)
 
 pub overflow_add-out : goal.overflow_add-out
-overflow_add-out c = omega (arith, room c.before.before.before.before.before.before c.if-after-gt0.true, c.good.1.1.1.1.1.1.1.0)
+overflow_add-out c = omega (arith, room c.before.before.before.before.before.before c.if-after-gt0.true, c.well_formed.1.1.1.1.1.1.1.0)
 
 pub loop-going-smaller-then-after-gt0 : goal.loop-going-smaller-then-after-gt0
 loop-going-smaller-then-after-gt0 c = turn_less (length c.args.list.now) c.loop-going.out 1 c.loop-going.going c.loop-going.w c.turn-after.result (omega (arith, room c.before.before.before.before.before.before c.if-after-gt0.true))

@@ -33,10 +33,10 @@ line_is c = omega (arith, c.index_of-line.ensures)
 pub loop-k-init : goal.loop-k-init
 unfolding rows
 loop-k-init c = let a = c.args in
-    let z : a.left-from ≤ a.left-from = omega arith in (
+    let z : a.left_from ≤ a.left_from = omega arith in (
       z,
       c.requires.q_le_max_states.2,
-      grid-start a.q a.place a.row.now a.left-from a.left_end a.right-from a.right_end (a.q * a.q) (rows c.before.before.before.before) c.requires.marked c.requires.by_index c.requires.grid_order,
+      grid-start a.q a.place a.row.now a.left_from a.left_end a.right_from a.right_end (a.q * a.q) (rows c.before.before.before.before) c.requires.marked c.requires.by_index c.requires.grid_order,
       refl,
       refl,
     )
@@ -48,11 +48,11 @@ pub expand-end-requires : goal.expand-end-requires
 unfolding rows
 expand-end-requires c = let a = c.args in
     let p = c.requires.q_le_max_states in record {
-      marked = grid-marked a.q a.place a.row.now a.left-from a.left_end a.right-from a.right_end (a.q * a.q) (rows c.before.before.before.before.before.before.before.before.before.before.before) c.requires.marked c.requires.by_index c.requires.grid_order
+      marked = grid-marked a.q a.place a.row.now a.left_from a.left_end a.right_from a.right_end (a.q * a.q) (rows c.before.before.before.before.before.before.before.before.before.before.before) c.requires.marked c.requires.by_index c.requires.grid_order
           c.loop-k.k c.loop-k.invariant.1 _ c.loop-k.invariant.2;
       q_le_max_states = (p.0, p.1, p.4, p.5);
       by_index = λ j g h. subst (λ (b : ℕ). b + get_or a.row.now j 0 * 1 < triple_count a.q) (line_is c.before.before.before)
-          (line-below a.q a.place a.row.now a.left-from a.left_end a.right-from a.right_end (a.q * a.q) (rows c.before.before.before.before.before.before.before.before.before.before.before) c.requires.marked c.requires.by_index c.requires.grid_order
+          (line-below a.q a.place a.row.now a.left_from a.left_end a.right_from a.right_end (a.q * a.q) (rows c.before.before.before.before.before.before.before.before.before.before.before) c.requires.marked c.requires.by_index c.requires.grid_order
           c.loop-k.k c.wide-u.result c.loop-k.invariant.0 c.loop-k-test.true c.wide-u.ensures.0 j g h);
       stride_nonzero = (omega arith, c.requires.grid_order.climbs_right);
     }
@@ -63,15 +63,15 @@ loop-k-preserved c = let t = c.loop-k-test.true in
     let a = c.args in (
       omega (arith, c.loop-k.invariant.0),
       omega (arith, t),
-      grid-more a.q a.place a.row.now a.left-from a.left_end a.right-from a.right_end (a.q * a.q) (rows c.before.before.before.before.before.before.before.before.before.before.before.before.before.before.before.before) c.requires.marked c.requires.by_index c.requires.grid_order
+      grid-more a.q a.place a.row.now a.left_from a.left_end a.right_from a.right_end (a.q * a.q) (rows c.before.before.before.before.before.before.before.before.before.before.before.before.before.before.before.before) c.requires.marked c.requires.by_index c.requires.grid_order
           c.loop-k.k c.wide-u.result c.loop-k.invariant.0 t c.wide-u.ensures.0 _ _ c.loop-k.invariant.2
           (along-from _ a.row.now _ _ _ _ _ _ (sym (line_is c.before.before.before.before.before.before.before.before)) c.expand-end.ensures),
-      omega (arith, c.expand-end.auto.0, c.loop-k.invariant.3),
-      omega (arith, c.expand-end.auto.1, c.loop-k.invariant.4),
+      omega (arith, c.expand-end.auto.queue, c.loop-k.invariant.3),
+      omega (arith, c.expand-end.auto.parents, c.loop-k.invariant.4),
     )
 
 pub returns : goal.returns
 unfolding rows
 returns c = let a = c.args in
-    grid-end a.q a.place a.row.now a.left-from a.left_end a.right-from a.right_end (a.q * a.q) (rows c.before.before.before.before.before.before) c.requires.marked c.requires.by_index c.requires.grid_order
+    grid-end a.q a.place a.row.now a.left_from a.left_end a.right_from a.right_end (a.q * a.q) (rows c.before.before.before.before.before.before) c.requires.marked c.requires.by_index c.requires.grid_order
     c.loop-k.k c.loop-k.invariant.1 c.loop-k-test.false _ c.loop-k.invariant.2

@@ -63,8 +63,8 @@ loop-k-preserved c = let t = c.loop-k-test.true in
       omega (arith, t),
       along-more a.q a.place a.row.now a.from a.to a.base a.stride (rows c.before.before.before.before.before.before.before.before.before.before.before.before.before.before.before) c.requires.marked c.requires.by_index c.requires.stride_nonzero
           c.loop-k.k c.wide-u.result c.loop-k.invariant.0 t c.wide-u.ensures.0 _ _ c.loop-k.invariant.2 c.push-end.ensures,
-      omega (arith, c.push-end.auto.0, c.loop-k.invariant.3),
-      omega (arith, c.push-end.auto.1, c.loop-k.invariant.4),
+      omega (arith, c.push-end.auto.queue, c.loop-k.invariant.3),
+      omega (arith, c.push-end.auto.parents, c.loop-k.invariant.4),
     )
 
 pub returns : goal.returns

@@ -31,12 +31,12 @@ small c =
 
 -- the flag's place, as the contract has it
 key : (c : Place-After-index_of) → let a = c.args in
-    a.flags + c.index_of-corner.result ≡ a.flags + index a.q 1 (get_or a.targets.now a.left-from 0) (get_or a.targets.now a.right-from 0)
+    a.flags + c.index_of-corner.result ≡ a.flags + index a.q 1 (get_or a.targets.now a.left_from 0) (get_or a.targets.now a.right_from 0)
 key c =
     let a = c.args in
     ap (λ (i : ℕ). a.flags + i)
     (c.index_of-corner.ensures ∙ ap (λ (u : ℕ). index a.q 1 u c.wide-v.result) c.wide-u.ensures.0
-    ∙ ap (λ (v : ℕ). index a.q 1 (get_or a.targets.now a.left-from 0) v) c.wide-v.ensures.0)
+    ∙ ap (λ (v : ℕ). index a.q 1 (get_or a.targets.now a.left_from 0) v) c.wide-v.ensures.0)
 
 inside : (c : Place-After-index_of) → let a = c.args in a.flags + c.index_of-corner.result < 8 * length a.parents.now
 inside c =
@@ -80,5 +80,5 @@ mark-requires c = omega (arith, inside c.before.before.before.before.before.befo
 pub returns : goal.returns
 returns c = let a = c.args in
     once_first a.place
-    (Grid a.targets.now a.q a.left-from (a.left-from + a.lines) a.right-from (a.right-from + a.columns) (a.q * a.q))
+    (Grid a.targets.now a.q a.left_from (a.left_from + a.lines) a.right_from (a.right_from + a.columns) (a.q * a.q))
     _ _ _ _ _ _ _ _ _ (key c.before.before.before.before.before.before.before.before.before.before.before.before.before.before) c.mark.ensures.bits c.mark.ensures.places c.push_grid-end.ensures

@@ -137,10 +137,10 @@ pub overflow_sub-pairs-3 : goal.overflow_sub-pairs-3
 overflow_sub-pairs-3 c = omega (arith, (fits c.before.before.before.before.before.before.before.before.before.before.before.before.before.before.before.before.before.before.before.before.before.before).total)
 
 pub shape_of-queue-then-pairs-eq0 : goal.shape_of-queue-then-pairs-eq0
-shape_of-queue-then-pairs-eq0 c = omega (arith, c.push_sides-end.auto.0)
+shape_of-queue-then-pairs-eq0 c = omega (arith, c.push_sides-end.auto.queue)
 
 pub shape_of-parents-then-pairs-eq0 : goal.shape_of-parents-then-pairs-eq0
-shape_of-parents-then-pairs-eq0 c = omega (arith, c.push_sides-end.auto.parents, c.open_end-left_end.auto, c.open_end-right_end.kept)
+shape_of-parents-then-pairs-eq0 c = omega (arith, c.push_sides-end.auto.parents, c.open_end-left_end.auto, c.open_end-right_end.auto.parents)
 
 pub returns-then-pairs-eq0 : goal.returns-then-pairs-eq0
 unfolding table begun
@@ -168,13 +168,13 @@ take_pairs-last-requires c = let f = fits c.before.before.before.before.before.b
     let room = c.requires.going.marked.marks_room in
     let some : 0 < pairs c.plan_at-p.result = omega (arith, c.if-pairs-eq0.false) in
     let h = (half_of (table c.before.before.before.before.before.before.before.before.before.before.before.before.before.before.before.before.before.before.before.before.before.before.before.before.before.before.before.before.before.before.before.before.before) c.args.targets.now c.args.t c.args.m c.args.q (laid c.before.before.before.before.before.before.before.before.before.before.before.before.before.before.before.before.before.before.before.before.before.before.before.before.before.before.before.before.before.before.before.before.before) (begun c.before.before.before.before.before.before.before.before.before.before.before.before.before.before.before.before.before.before.before.before.before.before.before.before.before.before.before.before.before.before.before.before.before) (going c.before.before.before.before.before.before.before.before.before.before.before.before.before.before.before.before.before.before.before.before.before.before.before.before.before.before.before.before.before.before.before.before.before) c.args.place c.requires.place_lt_count.0 c.plan_at-p.result (planned c.before.before.before.before.before.before.before.before.before.before.before.before.before.before.before.before.before.before.before.before.before.before.before.before.before.before) _ _ _ _ _ _ (let z : (2 * (c.args.q * c.args.q) + 7) / 8 * 8 ≡ flag_base c.args.q = omega arith in z) refl c.open_end-left_end.ensures.opened c.open_end-right_end.ensures.opened).1 _ (lowered (c.open_end-right_end.ensures.parents_unchanged ∙ c.open_end-left_end.ensures.parents_unchanged) c.push_sides-end.ensures) in
-    let g = h.going.marked in record { marked = g; q_le_max_states = (omega arith, omega (arith, c.requires.place_lt_count.0, c.requires.going.marked.fits), omega arith); lines_nonzero = (f.lines-some some, f.columns-some some, f.lines_fit some, f.columns_fit some, long); right_from_bound = omega (arith, f.pair-low some, room, wide_row c.before.before.before.before.before.before.before.before.before.before.before.before.before.before.before.before.before.before.before.before.before.before.before.before.before.before.before.before.before.before.before.before.before, c.push_sides-end.auto.parents, c.open_end-left_end.auto, c.open_end-right_end.kept); by_index = f.grid-low some; grid_order = (order_of (table c.before.before.before.before.before.before.before.before.before.before.before.before.before.before.before.before.before.before.before.before.before.before.before.before.before.before.before.before.before.before.before.before.before) c.args.targets.now c.args.t c.args.m c.args.q (laid c.before.before.before.before.before.before.before.before.before.before.before.before.before.before.before.before.before.before.before.before.before.before.before.before.before.before.before.before.before.before.before.before.before) (begun c.before.before.before.before.before.before.before.before.before.before.before.before.before.before.before.before.before.before.before.before.before.before.before.before.before.before.before.before.before.before.before.before.before) (going c.before.before.before.before.before.before.before.before.before.before.before.before.before.before.before.before.before.before.before.before.before.before.before.before.before.before.before.before.before.before.before.before.before) c.args.place c.requires.place_lt_count.0 c.plan_at-p.result (planned c.before.before.before.before.before.before.before.before.before.before.before.before.before.before.before.before.before.before.before.before.before.before.before.before.before.before)).grid some }
+    let g = h.going.marked in record { marked = g; q_le_max_states = (omega arith, omega (arith, c.requires.place_lt_count.0, c.requires.going.marked.fits), omega arith); lines_nonzero = (f.lines-some some, f.columns-some some, f.lines_fit some, f.columns_fit some, long); right_from_bound = omega (arith, f.pair-low some, room, wide_row c.before.before.before.before.before.before.before.before.before.before.before.before.before.before.before.before.before.before.before.before.before.before.before.before.before.before.before.before.before.before.before.before.before, c.push_sides-end.auto.parents, c.open_end-left_end.auto, c.open_end-right_end.auto.parents); by_index = f.grid-low some; grid_order = (order_of (table c.before.before.before.before.before.before.before.before.before.before.before.before.before.before.before.before.before.before.before.before.before.before.before.before.before.before.before.before.before.before.before.before.before) c.args.targets.now c.args.t c.args.m c.args.q (laid c.before.before.before.before.before.before.before.before.before.before.before.before.before.before.before.before.before.before.before.before.before.before.before.before.before.before.before.before.before.before.before.before.before) (begun c.before.before.before.before.before.before.before.before.before.before.before.before.before.before.before.before.before.before.before.before.before.before.before.before.before.before.before.before.before.before.before.before.before) (going c.before.before.before.before.before.before.before.before.before.before.before.before.before.before.before.before.before.before.before.before.before.before.before.before.before.before.before.before.before.before.before.before.before) c.args.place c.requires.place_lt_count.0 c.plan_at-p.result (planned c.before.before.before.before.before.before.before.before.before.before.before.before.before.before.before.before.before.before.before.before.before.before.before.before.before.before)).grid some }
 
 pub shape_of-queue : goal.shape_of-queue
-shape_of-queue c = omega (arith, c.push_sides-end.auto.0, c.take_pairs-last.auto.1)
+shape_of-queue c = omega (arith, c.push_sides-end.auto.queue, c.take_pairs-last.auto.queue)
 
 pub shape_of-parents : goal.shape_of-parents
-shape_of-parents c = omega (arith, c.push_sides-end.auto.parents, c.open_end-left_end.auto, c.open_end-right_end.kept, c.take_pairs-last.auto.1.1.0)
+shape_of-parents c = omega (arith, c.push_sides-end.auto.parents, c.open_end-left_end.auto, c.open_end-right_end.auto.parents, c.take_pairs-last.auto.parents)
 
 pub returns : goal.returns
 unfolding table begun

@@ -79,7 +79,7 @@ pub offset_bounds-found-c : goal.offset_bounds-found-c
 offset_bounds-found-c c = omega (arith, c.wide-c.ensures, (ready c.before.before.before.before.before.before.before.before.before.before).codes c.args.p c.requires.walks.at.here)
 
 pub bounds-found-c : goal.bounds-found-c
-bounds-found-c c = omega (arith, c.wide-c.ensures, (ready c.before.before.before.before.before.before.before.before.before.before.before).codes c.args.p c.requires.walks.at.here, c.requires.1.1)
+bounds-found-c c = omega (arith, c.wide-c.ensures, (ready c.before.before.before.before.before.before.before.before.before.before.before).codes c.args.p c.requires.walks.at.here, c.requires.limits_bound, c.requires.max_nonterminals_in_bounds)
 
 pub first_of-s-requires : goal.first_of-s-requires
 first_of-s-requires c = record {
@@ -99,7 +99,7 @@ pub offset_bounds-found-c-2 : goal.offset_bounds-found-c-2
 offset_bounds-found-c-2 c = omega (arith, c.wide-c.ensures, (ready c.before.before.before.before.before.before.before.before.before.before.before.before.before).codes c.args.p c.requires.walks.at.here)
 
 pub bounds-found-c-2 : goal.bounds-found-c-2
-bounds-found-c-2 c = omega (arith, c.wide-c.ensures, (ready c.before.before.before.before.before.before.before.before.before.before.before.before.before).codes c.args.p c.requires.walks.at.here, c.requires.1.1)
+bounds-found-c-2 c = omega (arith, c.wide-c.ensures, (ready c.before.before.before.before.before.before.before.before.before.before.before.before.before).codes c.args.p c.requires.walks.at.here, c.requires.limits_bound, c.requires.max_nonterminals_in_bounds)
 
 pub cell-f-requires : goal.cell-f-requires
 cell-f-requires c = (omega (arith, c.requires.roomy.small), omega (arith, after c.before.before.before.before.before.before.before.before.before.before.before.before.before, (ready c.before.before.before.before.before.before.before.before.before.before.before.before.before).few), omega (arith, within c.before.before.before.before.before.before.before.before.before.before.before.before.before, c.split-k.ensures.lower_bound), (within c.before.before.before.before.before.before.before.before.before.before.before.before.before).1)

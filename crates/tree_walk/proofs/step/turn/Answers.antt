@@ -52,4 +52,4 @@ pub open-requires : goal.open-requires
 open-requires c = record { walks = c.requires.walks; roomy = c.requires.roomy; limits_bound = omega (arith, c.if-x-lt-NONTERMINAL_BASE.false); max_nonterminals_in_bounds = c.requires.max_nonterminals_in_bounds }
 
 pub returns : goal.returns
-returns c = let o = c.«open».ensures in record { turns = λ g out W. more o.1.1 (at_work o.1.2 (o.0 g out W)); depth_bound = (omega (arith, o.1), omega (arith, o.1), omega (arith, o.1)); p_bound = λ q r. absurd (omega (arith, o.1)) }
+returns c = let o = c.«open».ensures in record { turns = λ g out W. more o.depth_value.1 (at_work o.depth_value.2 (o.opens g out W)); depth_bound = (omega (arith, o.depth_value), omega (arith, o.depth_value), omega (arith, o.depth_value)); p_bound = λ q r. absurd (omega (arith, o.depth_value)) }
