@@ -38,7 +38,7 @@ unfolding rows
 expand-requires-2 c = let l = c in let t = l in let e = l in let a = e.args in
     let p = e.requires.q_le_max_states in
     let o = e.requires.rest_order in
-    let g = lower_rest a.q a.place a.row.now a.from a.to a.base a.shift a.beside e.requires.by_index l.split-upper.result l.split-upper.ensures.lower_bound.0 l.split-upper.ensures.lower_bound.1 (rows e.before.before.before.before.before.before.before.before.before.before.before.before.before.before.before.before.before.before.before.before.before.before) _ e.requires.marked l.expand-lower.ensures in record { marked = both_rest a.q a.place a.row.now a.from a.to a.base a.shift a.beside e.requires.by_index l.split-upper.result l.split-upper.ensures.lower_bound.0 l.split-upper.ensures.lower_bound.1 (omega (arith, t.if-shift-eq0.false)) _ _ g c.push-both.ensures; q_le_max_states = (p.0, p.1, l.split-upper.ensures.lower_bound.1, p.3); by_index = λ k h l. rest_below a.q a.place a.row.now a.from a.to a.base a.shift a.beside e.requires.by_index k (omega (arith, h, l.split-upper.ensures.lower_bound.0)) l; stride_nonzero = (o.some, λ k l x y z. o.climbs k l (omega (arith, x, l.split-upper.ensures.lower_bound.0)) y z) }
+    let g = lower_rest a.q a.place a.row.now a.from a.to a.base a.shift a.beside e.requires.by_index l.split-upper.result l.split-upper.ensures.lower_bound.0 l.split-upper.ensures.lower_bound.1 (rows e.before.before.before.before.before.before.before.before.before.before.before.before.before.before.before.before.before.before.before.before.before.before) _ e.requires.marked l.expand-lower.ensures in record { marked = both_rest a.q a.place a.row.now a.from a.to a.base a.shift a.beside e.requires.by_index l.split-upper.result l.split-upper.ensures.lower_bound.0 l.split-upper.ensures.lower_bound.1 (omega (arith, t.if-shift-eq0.false)) _ _ g c.push-both.ensures; q_le_max_states = (p.0, p.1, l.split-upper.ensures.lower_bound.1, p.3); by_index = λ k h m. rest_below a.q a.place a.row.now a.from a.to a.base a.shift a.beside e.requires.by_index k (omega (arith, h, l.split-upper.ensures.lower_bound.0)) m; stride_nonzero = (o.some, λ k m x y z. o.climbs k m (omega (arith, x, l.split-upper.ensures.lower_bound.0)) y z) }
 
 pub shape_of-queue : goal.shape_of-queue
 shape_of-queue c = omega (arith, c.expand-2.auto.queue, c.push-both.auto.queue, c.expand-lower.auto.queue)
