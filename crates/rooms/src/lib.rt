@@ -1,4 +1,7 @@
 // What a search is to be lent, from the tables alone: no search is made.
+
+#![tactic(auto)]
+
 ghost use Rattle.std.specs.Prelude.{◌≡◌, ◌+◌, ◌≤◌};
 ghost use Rattle.grammar.specs.Limits.{limits};
 ghost use Rattle.figures.specs.Sum.{sum};

@@ -1,0 +1,14 @@
+use native.Mathlib.Omega.{arith}
+use mathlib.Core.Path.{◌≡◌, ap, ◌∙◌}
+use Prim.Native.Nat.{◌+◌, ◌-◌, ◌*◌, ◌≤◌}
+use Rattle.grammar.specs.Limits.{limits}
+use Rattle.figures.specs.Sum.{sum}
+use Rattle.figures.proofs.Sums.{sum_more}
+use Rattle.rooms.specs.Clauses.{moves_at}
+use Rattle.rooms.proofs.count_moves.Given as goal
+
+abbrev pub invariant-loop-p : goal.invariant-loop-p
+invariant-loop-p l = (l.p ≤ l.q) × (l.count ≤ (limits.max_states + 1) * l.p) × (l.count ≡ sum (moves_at l.ahead l.member l.first) l.p)
+
+abbrev pub decreases-loop-p : goal.decreases-loop-p
+decreases-loop-p l = l.q - l.p
