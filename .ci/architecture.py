@@ -13,7 +13,7 @@ import sys
 import textwrap
 
 ROOT = pathlib.Path(__file__).resolve().parent.parent
-LINE = re.compile(r"^(?:# ---- (.+)|(\w+):([^#\n]*)(?:# (.+))?)$", re.MULTILINE)
+LINE = re.compile(r"^(?:# ---- (.+)|(\w+)(?: [\w=]+)*:([^#\n]*)(?:# (.+))?)$", re.MULTILINE)
 FILE = re.compile(r"(?<![\w/.])(?:\.ci|bench|bindings|corpus|crates|docs|second)/[\w./-]*\w")
 
 

@@ -6,7 +6,7 @@ A block fenced with ```sh has commands. They are run in order by one shell, in a
 folder that shows the repository and keeps what they write. A block fenced with
 ```text behind it is what they print, standard error and standard output. `rt` is
 stood in for: the gate has run it, and the stand-in looks whether what it builds
-is there. cargo is run in the repository itself, so that it builds nothing twice. A
+is there, and runs the program. cargo is run in the repository itself, so that it builds nothing twice. A
 command that .ci/run has, word for word up to ` -- `, is run there and not again.
 """
 
@@ -20,10 +20,10 @@ from typing import List, NamedTuple, Optional
 
 ROOT = os.path.dirname(os.path.dirname(os.path.abspath(__file__)))
 RT = """#!/bin/sh
-case "$*" in
-"check ambig") test -x target/bin/ambig ;;
-"staticlib ambiguity_c") test -f target/staticlib/libambiguity_c.a ;;
-*) echo "the gate does not run: rt $*" >&2; exit 3 ;;
+case "$* ${PWD##*/crates/}" in
+"run ambig") exec out/ambig ;;
+"lib ambiguity_c") test -f out/libambiguity_c.a ;;
+*) echo "the gate does not run: rt $* in $PWD" >&2; exit 3 ;;
 esac
 """
 # What the tools end with, but for bad use.

@@ -44,8 +44,8 @@ PLACES = {
     ("witness_records/src/lib.rt", "let square = q * q;"): "half the number of triples",
     ("witness_records/src/lib.rt", "let count = 2 * square;"): "the number of triples",
 }
-NO_CODE = re.compile(r"//[^\n]*|^ghost use [^\n]*|^(?:pub )?const [^;]*;|\b(?:requires|ensures)\b[^{\n]*\{.*?⌝ \}",
-                     re.DOTALL | re.MULTILINE)
+NO_CODE = re.compile(r"//[^\n]*|^ghost use [^\n]*|^(?:pub )?const [^;]*;", re.MULTILINE)
+CLAUSE = re.compile(r"\b(?:(?:requires|ensures)\b[^{\n]*|ghost [^{;\n]*)\{")
 PLAIN = re.compile(r"\b2 \* \(q \* q\)|/ \(q \* q\)")
 PRODUCT = re.compile(r"(\S*[\w)\]])\s*\*=?\s*(?=(\S+))")
 CONSTANT = r"(?:\d\w*|(?:\w+::)*[A-Z][A-Z_0-9]*)"
@@ -57,9 +57,28 @@ def has_constant(code, product):
     return alone and re.search(rf"(?:^|[^\w)\]]){CONSTANT}$", product[1]) or re.match(rf"{CONSTANT}\b", product[2])
 
 
+def blank(part):
+    """As many lines of nothing."""
+    return re.sub(r"[^\n]", " ", part)
+
+
+def bare(text):
+    """The code alone: no comments, constants and clauses, a clause up to the bracket that closes it."""
+    code = NO_CODE.sub(lambda part: blank(part[0]), text)
+    clause = CLAUSE.search(code)
+    while clause:
+        end, depth = clause.end(), 1
+        while depth:
+            depth += (code[end] == "{") - (code[end] == "}")
+            end += 1
+        code = code[:clause.start()] + blank(code[clause.start():end]) + code[end:]
+        clause = CLAUSE.search(code, end)
+    return code
+
+
 def lines(text):
     """The lines of the code that multiply two values, or use a name of q * q; with their numbers."""
-    code = NO_CODE.sub(lambda part: re.sub(r"[^\n]", " ", part[0]), text)
+    code = bare(text)
     squares = "|".join(re.findall(r"\blet (?:mut )?(\w+)[^=;]*=\s*q\s*\*\s*q\s*;", code))
     code = PLAIN.sub(lambda part: "x" * len(part[0]), code)
     found = {code.count("\n", 0, one.end(1)) for one in PRODUCT.finditer(code) if not has_constant(code, one)}

@@ -3,7 +3,7 @@
     python3 bench/all.py        builds the archive, runs the other scripts one after the other, prints the table at the end
 
 Options: --seconds N for each grammar, text or row, in place of each script's own; --archive FILE, a static library with the library's
-functions, in place of the one that rt staticlib makes; --without SCRIPT.., scripts that are left out. The compiler is $CC or gcc, with
+functions, in place of the one that rt lib makes; --without SCRIPT.., scripts that are left out. The compiler is $CC or gcc, with
 -O3. The table is written to target/bench/table.md too. README.md beside this file says what the numbers mean.
 """
 

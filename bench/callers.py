@@ -3,7 +3,7 @@ in C: the grammars of the benchmark, where the states fit, and grammars whose ch
 certificate that is accepted is checked too.
 
 Options: --seconds N for each grammar and number of callers (0.1); --archive FILE, a static library with the library's functions, in
-place of the one that rt staticlib makes; --only WORD, the grammars whose names have it. The compiler is $CC or gcc, with -O3.
+place of the one that rt lib makes; --only WORD, the grammars whose names have it. The compiler is $CC or gcc, with -O3.
 """
 
 import argparse

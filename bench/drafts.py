@@ -1,7 +1,7 @@
 """How long a draft's edits take, beside plain C: drafts at the limits, and grammars of the benchmark.
 
 Options: --seconds N for each grammar (0.1); --archive FILE, a static library with the library's functions, in place of the one that
-rt staticlib makes. The compiler is $CC or gcc, with -O3.
+rt lib makes. The compiler is $CC or gcc, with -O3.
 """
 
 import argparse

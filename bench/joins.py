@@ -2,7 +2,7 @@
 calls, for the joined table, for the joined text, and for the name of the last symbol.
 
 Options: --seconds N for each pair (0.2); --archive FILE, a static library with the library's functions, in place of the one that rt
-staticlib makes.
+lib makes.
 """
 
 import argparse

@@ -2,7 +2,7 @@
 that are made to be slow.
 
 Options: --seconds N for each grammar (0.1); --archive FILE, a static library with the library's functions, in place of the one that
-rt staticlib makes. The compiler is $CC or gcc, with -O3.
+rt lib makes. The compiler is $CC or gcc, with -O3.
 """
 
 import argparse

@@ -5,7 +5,7 @@ unambiguous grammar the certificate that the search wrote and the largest one th
     python3 bench/search.py check         builds all, and compares each with the second program on all of its cases
 
 Options: --seconds N for each grammar (0.5); --archive FILE, a static library with the library's functions, in place of the one
-that rt staticlib makes; --stand-in, same.c in place of the library; --only WORD, the grammars whose names have it, or hostile for
+that rt lib makes; --stand-in, same.c in place of the library; --only WORD, the grammars whose names have it, or hostile for
 the certificates that are made to be slow.
 The compiler is $CC or gcc, with -O3. README.md beside this file says what the numbers mean.
 """
@@ -40,8 +40,9 @@ def archive(options):
         return []
     if options.archive:
         return [options.archive]
-    run("rt", "staticlib", "ambiguity_c", cwd=ROOT)
-    return [ROOT / "target" / "staticlib" / "libambiguity_c.a"]
+    folder = ROOT / "crates" / "ambiguity_c"
+    run("rt", "lib", cwd=folder)
+    return [folder / "out" / "libambiguity_c.a"]
 
 
 def build(options, driver):

@@ -2,7 +2,7 @@
 least time of many calls.
 
 Options: --seconds N for each text (0.2); --archive FILE, a static library with the library's functions, in place of the one that rt
-staticlib makes.
+lib makes.
 """
 
 import argparse

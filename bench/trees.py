@@ -2,7 +2,7 @@
 made to be slow, and random mixtures of these.
 
 Options: --seconds N for each row (0.1); --archive FILE, a static library with the library's functions, in place of the one that rt
-staticlib makes; --only WORD, the grammars whose names have it, or a group: real, slow, mixtures; --mixtures N, so many random ones (6).
+lib makes; --only WORD, the grammars whose names have it, or a group: real, slow, mixtures; --mixtures N, so many random ones (6).
 The compiler is $CC or gcc, with -O3. README.md beside this file says what the numbers mean.
 """
 

@@ -30,10 +30,10 @@ case $image in
 esac
 to=$image$prefix
 version=$(cat VERSION)
-archive=target/staticlib/libambiguity_c.a
+archive=crates/ambiguity_c/out/libambiguity_c.a
 tools=target/rust/release
 
-[ -f $archive ] || fail "$archive is not there: build it with 'rt staticlib ambiguity_c'"
+[ -f $archive ] || fail "$archive is not there: build it with 'rt lib' in crates/ambiguity_c"
 for tool in ambig-certify ambig-check ambig-draft ambig-join ambig-plan ambig-trees; do
     [ -f $tools/$tool ] || fail "$tools/$tool is not there: build it with cargo, see bindings/README.md, Tools"
 done
@@ -50,10 +50,10 @@ mkdir -p "$to/bin" "$to/lib/pkgconfig" "$to/lib/cmake/ambiguity" "$to/include" "
 install -m 644 "$archive" "$to/lib/"
 install -m 644 bindings/c/ambiguity.h bindings/c/ambiguity_cause_text.h bindings/c/ambiguity_shared.h "$to/include/"
 install -m 755 $tools/ambig-certify $tools/ambig-check $tools/ambig-draft $tools/ambig-join $tools/ambig-plan $tools/ambig-trees "$to/bin/"
-if [ -f target/bin/ambig ]; then
-    install -m 755 target/bin/ambig "$to/bin/"
+if [ -f crates/ambig/out/ambig ]; then
+    install -m 755 crates/ambig/out/ambig "$to/bin/"
 else
-    echo "install.sh: target/bin/ambig is not there and is left out: 'rt check ambig' builds it" >&2
+    echo "install.sh: crates/ambig/out/ambig is not there and is left out: 'rt run' in crates/ambig builds it" >&2
 fi
 shared=target/shared/libambiguity.so.$version
 if [ -f "$shared" ]; then

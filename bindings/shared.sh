@@ -6,9 +6,9 @@ set -eu
 cd "$(dirname "$0")/.."
 
 version=$(cat VERSION)
-archive=target/staticlib/libambiguity_c.a
+archive=crates/ambiguity_c/out/libambiguity_c.a
 if [ ! -f $archive ]; then
-    echo "shared.sh: $archive is not there: build it with 'rt staticlib ambiguity_c'" >&2
+    echo "shared.sh: $archive is not there: build it with 'rt lib' in crates/ambiguity_c" >&2
     exit 1
 fi
 mkdir -p target/shared
