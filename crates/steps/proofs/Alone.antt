@@ -266,9 +266,9 @@ module _ (number after ls rs : List ℕ) (s : Sides) (x : ℕ) where
         (λ u i j e. omega arith) (λ u i j. (onward u i, omega (arith, up_to u n (omega arith))))
 
     -- the shift, and what is past it
-    from_shift : 1 ≤ x → LeadsOn after p q Q → Window P (c n q + 1) (c Q Q + 1) F'
+    from_shift_lem : 1 ≤ x → LeadsOn after p q Q → Window P (c n q + 1) (c Q Q + 1) F'
     unfolding from_shift
-    from_shift h w =
+    from_shift_lem h w =
         let r = K.shift_rank h in
         let k = K.top n o (omega (arith, w.left_in)) (omega (arith, w.right_in)) in
         let j = K.col n q o w.right-on in
@@ -284,7 +284,7 @@ module _ (number after ls rs : List ℕ) (s : Sides) (x : ℕ) where
             let h = leb-true 1 x e in
             let w = on h in
             window_append (L' (p + 1) (n + 1)) F' (omega (arith, onward n (omega (arith, w.left-on))))
-            (omega (arith, K.top n q (omega (arith, w.left_in)) (omega arith))) (left_near w.left-on) (from_shift h w)
+            (omega (arith, K.top n q (omega (arith, w.left_in)) (omega arith))) (left_near w.left-on) (from_shift_lem h w)
         go false e =
             left-above (p + 1) (c (p + 1) 0) (omega arith) onward (omega (arith, K.top (p + 1) 0 (omega arith) (omega arith)))
 

@@ -1,0 +1,9 @@
+-- move_of meets its contract: one test.
+use borrow.Author.Rules.{rules}
+use Rattle.steps.proofs.target.move_of.Goals as goal
+
+pub returns-then-closes : goal.returns-then-closes
+returns-then-closes c = simp c.if-closes.true
+
+pub returns : goal.returns
+returns c = simp c.if-closes.false
