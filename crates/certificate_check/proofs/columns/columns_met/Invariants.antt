@@ -1,0 +1,15 @@
+use native.Mathlib.Omega.{arith}
+use mathlib.Core.Path.{◌≡◌, sym, subst}
+use Prim.Native.Nat.{ℕ, ◌-◌, ◌≤◌}
+use Rattle.certificate_check.specs.Columns.{ColumnsMet}
+use Rattle.certificate_check.proofs.ColumnLaws.{columns-none, columns-more}
+use Rattle.certificate_check.proofs.columns.columns_met.Reads as reads
+use Rattle.certificate_check.proofs.columns.columns_met.Lts as lts
+use Rattle.plans.proofs.wide.Reads as wide-reads
+use Rattle.certificate_check.proofs.columns.columns_met.Given as goal
+
+abbrev pub invariant-loop-h : goal.invariant-loop-h
+invariant-loop-h l = (l.h ≤ l.span) × ColumnsMet l.targets l.near l.begin l.from l.k l.h
+
+abbrev pub decreases-loop-h : goal.decreases-loop-h
+decreases-loop-h l = l.span - l.h
