@@ -1,0 +1,13 @@
+use native.Mathlib.Omega.{arith}
+use mathlib.Core.Path.{◌≡◌, refl, subst, ◌∙◌}
+use Prim.Native.Nat.{◌-◌, ◌<◌}
+use lib.ListN.{length-set}
+use Rattle.chart_rows.specs.Wiring.{Leads, Links, Homes}
+use Rattle.chart_rows.proofs.Turns.{WiredTo, leads_more, links-start, links-turn, homes_start, homes_turn}
+use Rattle.chart_rows.proofs.wire.Given as goal
+
+abbrev pub invariant-loop-p : goal.invariant-loop-p
+invariant-loop-p l = WiredTo l.ahead l.member l.target l.n l.states l.initial.lead l.initial.next l.initial.head l.initial.home l.lead l.next l.head l.home l.p
+
+abbrev pub decreases-loop-p : goal.decreases-loop-p
+decreases-loop-p l = l.states - l.p
