@@ -29,6 +29,7 @@ use Rattle.plans.proofs.digits_of.Reads as digits-of-reads
 use Rattle.plans.proofs.inverse_of.Reads as inverse-of-reads
 use Rattle.plans.proofs.plan_of.Reads as plan-of-reads
 use Rattle.certificate_check.proofs.scan.lowest_lacking.Goals as goal
+use Rattle.certificate_check.proofs.scan.lowest_lacking.Goals.{then-not-columns_closed, else-not-columns_closed}
 use Rattle.certificate_check.proofs.scan.lowest_lacking.Lts as lts
 use Rattle.certificate_check.proofs.scan.lowest_lacking.Reads as reads
 use Rattle.certificate_check.proofs.scan.lowest_lacking.Tie as tie
@@ -154,27 +155,31 @@ pub record Passed (e : Start) (i answer past : ℕ) : Type 0 where
   pub sum : past ≡ i + n
   pub closed : ClosedFrom (R e) e.args.targets.now e.args.t e.args.m e.args.q e.args.bytes.now i n
 
-passed : (c : Place-Joined1) → Passed c c.scan.i c.if-not-columns_closed.answer c.if-not-columns_closed.past
+passed : (c : Place-Joined1) → Passed c.before.before.before.before.before.before.before.before.before.before.before c.scan.i c.if-not-columns_closed.answer c.if-not-columns_closed.past
 passed c =
-    let a = c.args in let s = c.scan in let h = tried-columns c.before.before.before in
+    let a = c.args in
+    let s = c.scan in
+    let h = tried-columns c.before.before.before in
+    let x = c.digits_of-d.ensures in
+    let r = c.digits_of-d.result in
     elim c.if-not-columns_closed.branch [
-      | inl w ↦ record {
-        answer_is = w.5 ∙ w.2.invariant.0;
-        high = omega (arith, w.7, c.scan-test.true);
-        low = omega (arith, w.7);
+      | then-not-columns_closed w ↦ record {
+        answer_is = w.answer-is ∙ w.loop-k.invariant.0;
+        high = omega (arith, w.past-is, c.scan-test.true);
+        low = omega (arith, w.past-is);
         n = 1;
-        sum = w.7;
-        closed = closed-tried (R c.before.before.before.before.before.before.before.before.before.before.before) a.targets.now a.t a.m a.q a.bytes.now s.i w.2.k w.1.result
-            (of-index (record { before = record { before = c; if1 = w.0 }; plan-of = w.1 })) w.2.invariant.2 w.4.left;
+        sum = w.past-is;
+        closed = closed-tried (R c.before.before.before.before.before.before.before.before.before.before.before) a.targets.now a.t a.m a.q a.bytes.now s.i w.loop-k.k w.plan_of-plan.result
+            (plan-at (R c.before.before.before.before.before.before.before.before.before.before.before) a.t a.m a.q s.i r.layer r.left r.right w.plan_of-plan.result x.1 x.2 x.3 w.plan_of-plan.ensures) w.loop-k.invariant.2 w.loop-k-test.false;
       }
-      | inr w ↦ record {
-        answer_is = w.1 ∙ s.invariant.0;
-        high = omega (arith, w.3, h.3);
-        low = omega (arith, w.3, h.2);
+      | else-not-columns_closed w ↦ record {
+        answer_is = w.answer-is ∙ s.invariant.0;
+        high = omega (arith, w.past-is, h.3);
+        low = omega (arith, w.past-is, h.2);
         n = c.together-n.result;
-        sum = w.3;
-        closed = subst (λ (i : ℕ). ClosedFrom (R c.before.before.before.before.before.before.before.before.before.before.before) a.targets.now a.t a.m a.q a.bytes.now i c.together-n.result) c.digits_of-d.ensures.3
-            (c.columns_closed.ensures.closed_from (not-false c.columns_closed.result w.0.left));
+        sum = w.past-is;
+        closed = subst (λ (i : ℕ). ClosedFrom (R c.before.before.before.before.before.before.before.before.before.before.before) a.targets.now a.t a.m a.q a.bytes.now i c.together-n.result) x.3
+            (c.columns_closed.ensures.closed_from w.if-not-columns_closed.false);
       }
     ]
 

@@ -18,7 +18,7 @@ Start = lts.Start tie.the-claims reads.Pre reads.Post
 abbrev plan : Start → Plan
 plan e =
     let a = e.args in
-    planned a.left a.right a.shift (a.k + 1) a.left_from a.right_from a.left_base a.right_base a.beside a.columns
+    planned a.left a.right a.shift (a.k + 1) a.left_from a.right_from a.left-base a.right-base a.beside a.columns
 
 pub overflow_add-left_from : goal.overflow_add-left_from
 overflow_add-left_from c = omega (arith, c.requires.left, c.if-k-left.true)
@@ -33,7 +33,7 @@ pub overflow_mul-result : goal.overflow_mul-result
 overflow_mul-result c = omega (arith, cell_times c.wide.result c.args.q c.requires.few (omega (arith, c.wide.ensures.1)))
 
 pub overflow_add-result : goal.overflow_add-result
-overflow_add-result c = omega (arith, c.requires.left_base, cell_times c.wide.result c.args.q c.requires.few (omega (arith, c.wide.ensures.1)))
+overflow_add-result c = omega (arith, c.requires.left-base, cell_times c.wide.result c.args.q c.requires.few (omega (arith, c.wide.ensures.1)))
 
 pub returns-then-k-left : goal.returns-then-k-left
 returns-then-k-left c = next-left (plan c.before.before.before.before.before) c.args.targets.now c.args.q c.args.k c.wide.result c.if-k-left.true c.wide.ensures.0
@@ -48,7 +48,7 @@ pub bounds-targets-right_from : goal.bounds-targets-right_from
 bounds-targets-right_from c = omega (arith, c.requires.right, c.if-on_right-right.true)
 
 pub overflow_add-result-then-on_right-right : goal.overflow_add-result-then-on_right-right
-overflow_add-result-then-on_right-right c = omega (arith, c.requires.right_base, c.wide-then-on_right-right.ensures.1)
+overflow_add-result-then-on_right-right c = omega (arith, c.requires.right-base, c.wide-then-on_right-right.ensures.1)
 
 pub returns-then-on_right-right : goal.returns-then-on_right-right
 returns-then-on_right-right c = next-right (plan c.before.before.before.before.before.before) c.args.targets.now c.args.q c.args.k c.wide-then-on_right-right.result c.if-k-left.false c.if-on_right-right.true c.wide-then-on_right-right.ensures.0
