@@ -1,0 +1,30 @@
+-- `joining::writing::write_joined` meets its contract: a refusal leaves the output as it was; else the joined text is written. Assumes nothing.
+use borrow.Author.Rules.{rules}
+use mathlib.Core.Path.{subst}
+use Rattle.joining.specs.Joins.{JoinTold}
+use Rattle.joining.specs.declared.Join.{Join}
+use Rattle.joining.proofs.Rooms.{rows_both}
+use Rattle.joining.proofs.Writes.{joined-refused}
+use Rattle.joining.proofs.writing.write_joined.Goals as goal
+use Rattle.joining.proofs.writing.write_joined.Lts as lts
+use Rattle.joining.proofs.writing.write_joined.Reads as reads
+use Rattle.joining.proofs.writing.write_joined.Tie as tie
+
+abbrev Place-After-join_kept : Type 0
+Place-After-join_kept = lts.After-join_kept tie.the-claims reads.Pre reads.Post
+
+-- what is told of the join, by its answer
+abbrev Told : Place-After-join_kept → Join → Type 0
+Told k r =
+    let a = k.args in JoinTold a.robot.now a.addon.now k.join_Kept.new.1.1.0 k.join_Kept.new.1.1.1.0 k.join_Kept.new.1.1.1.1.0 k.join_Kept.new.1.1.1.1.1.1.0 k.join_Kept.new.1.1.1.1.1.1.1.0 k.join_Kept.new.1.1.1.1.1.1.1.1.0 k.join_Kept.new.1.1.1.1.1.1.1.1.1.0 r
+
+pub join_kept-requires : goal.join_kept-requires
+join_kept-requires c = let a = c.args in rows_both a.robot.now a.addon.now
+
+pub write_held-requires : goal.write_held-requires
+write_held-requires c = record { q = c.in-Joined.states; held = subst (Told c.before.before.before.before.before.before.before.before.before.before.before.before.before.before.before.before.before.before) c.in-Joined.is c.join_Kept.ensures }
+
+pub returns-in-Refused : goal.returns-in-Refused
+returns-in-Refused c = let a = c.args in
+    joined-refused a.robot.now a.addon.now a.out.now c.in-Refused.cause c.in-Refused.at
+    (subst (Told c.before.before.before.before.before.before.before.before.before.before) c.in-Refused.is c.join_Kept.ensures)
