@@ -29,7 +29,7 @@ use Rattle.plans.proofs.digits_of.Reads as digits-of-reads
 use Rattle.plans.proofs.inverse_of.Reads as inverse-of-reads
 use Rattle.plans.proofs.plan_of.Reads as plan-of-reads
 use Rattle.certificate_check.proofs.scan.lowest_lacking.Goals as goal
-use Rattle.certificate_check.proofs.scan.lowest_lacking.Goals.{then-not-columns_closed, else-not-columns_closed}
+use Rattle.certificate_check.proofs.scan.lowest_lacking.Goals.{then-not-columns_closed+else-loop-k-test, else-not-columns_closed}
 use Rattle.certificate_check.proofs.scan.lowest_lacking.Lts as lts
 use Rattle.certificate_check.proofs.scan.lowest_lacking.Reads as reads
 use Rattle.certificate_check.proofs.scan.lowest_lacking.Tie as tie
@@ -163,7 +163,7 @@ passed c =
     let x = c.digits_of-d.ensures in
     let r = c.digits_of-d.result in
     elim c.if-not-columns_closed.branch [
-      | then-not-columns_closed w ↦ record {
+      | then-not-columns_closed+else-loop-k-test w ↦ record {
         answer_is = w.answer-is ∙ w.loop-k.invariant.0;
         high = omega (arith, w.past-is, c.scan-test.true);
         low = omega (arith, w.past-is);

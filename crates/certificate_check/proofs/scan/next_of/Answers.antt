@@ -18,7 +18,7 @@ Start = lts.Start tie.the-claims reads.Pre reads.Post
 abbrev plan : Start → Plan
 plan e =
     let a = e.args in
-    planned a.left a.right a.shift (a.k + 1) a.left_from a.right_from a.left-base a.right-base a.beside a.columns
+    planned a.left a.right a.shift (a.k + 1) a.left_from a.right_from a.left_base a.right_base a.beside a.columns
 
 pub overflow_add-left_from : goal.overflow_add-left_from
 overflow_add-left_from c = omega (arith, c.requires.left, c.if-k-left.true)
@@ -56,9 +56,6 @@ returns-then-on_right-right c = next-right (plan c.before.before.before.before.b
 pub returns-then-on_both-shift : goal.returns-then-on_both-shift
 returns-then-on_both-shift c = next_shift (plan c.before.before.before) c.args.targets.now c.args.q c.args.k c.if-k-left.false c.if-on_right-right.false c.if-on_both-shift.true
 
--- LOST div_wide : tie.Need-nonzero-div-wide
--- LOST div_wide c = let e = c.before.before.before in let w = pair_fits (plan e) e.args.q e.args.k e.requires (omega arith) c.before.before.if1.false c.before.if2.false c.if3.false in omega (arith, w.0)
-
 pub overflow_add-left_from-2 : goal.overflow_add-left_from-2
 overflow_add-left_from-2 c = let w = pair_fits (plan c.before.before.before) c.args.q c.args.k c.requires (omega arith) c.if-k-left.false c.if-on_right-right.false c.if-on_both-shift.false in omega (arith, w.1)
 
@@ -67,9 +64,6 @@ offset_bounds-targets-left_from-2 c = let w = pair_fits (plan c.before.before.be
 
 pub bounds-targets-left_from-2 : goal.bounds-targets-left_from-2
 bounds-targets-left_from-2 c = let w = pair_fits (plan c.before.before.before.before.before) c.args.q c.args.k c.requires (omega arith) c.if-k-left.false c.if-on_right-right.false c.if-on_both-shift.false in omega (arith, w.1)
-
--- LOST rem_wide : tie.Need-nonzero-rem-wide
--- LOST rem_wide c = let e = c.before.before.before.before.before in let w = pair_fits (plan e) e.args.q e.args.k e.requires (omega arith) c.before.before.before.before.if1.false c.before.before.before.if2.false c.before.before.if3.false in omega (arith, w.0)
 
 pub overflow_add-right_from-2 : goal.overflow_add-right_from-2
 overflow_add-right_from-2 c = let w = pair_fits (plan c.before.before.before.before.before.before.before) c.args.q c.args.k c.requires (omega arith) c.if-k-left.false c.if-on_right-right.false c.if-on_both-shift.false in omega (arith, w.2)
