@@ -35,11 +35,11 @@ LINE = re.compile(r"(\w+)[^:#]*:([^#]*)")
 ERROR = re.compile(r"^(?:\./)?(proofs/[^:]+\.antt):\d+:\d+: error: (?:`([^`]+)`: )?(.*)$", re.MULTILINE)
 NOTE = re.compile(r"^note: (?:\./)?(src/[^:]+\.rt):(\d+):\d+: it is not proved that (.*)$", re.MULTILINE)
 IS_FALSE = "allow values at which this goal is false"
-REFUSED = re.compile(r"^(?:fn|impl|struct|enum) (\S+): not proved(?:;.*)?$", re.MULTILINE)
+REFUSED = re.compile(r"^(?:fn|impl|struct|enum) (\S+): (?:not proved(?:;.*)?|no proof: expected .*)$", re.MULTILINE)
 FUNCTION = re.compile(r"^[^/\n]*\bfn (\w+)", re.MULTILINE)
 
 # What only follows from another error, or only says that a proof no longer fits the code.
-NO_FACT = re.compile(r"was not admitted|has no (?:field )?`|can(?:not)? be named|not in scope"
+NO_FACT = re.compile(r"was not admitted|is not admitted|that depends? on|has no (?:field )?`|can(?:not)? be named|not in scope"
                      r"|is expected here|impossible case|argument\(s\) written")
 
 
