@@ -1,4 +1,7 @@
 // The trees of one sentence: none, one with its rules, or several.
+
+#![tactic(auto)]
+
 ghost use Rattle.std.specs.Prelude.{◌+◌, ◌*◌, ◌≤◌, ◌<◌, length};
 ghost use Rattle.grammar.specs.Record.{IsRecord};
 ghost use Rattle.trees.specs.Trees.{places};
