@@ -211,7 +211,7 @@ module _ (M : Moves) (W : Regular M) (R : Rows) (targets : List ℕ) (t m Q : �
       bytes_are (smallest M) s.marks (byte_count Q) 0 (omega (arith, marked.marks_room)) marked.small
       (λ i l. mark-bit i (omega arith))
 
-  ahead_accepted : {j : ℕ} {is : List ℕ} (place n : ℕ) → get_or s.queue place 0 ≡ index Q 1 1 1
+  ahead_accepted : (place n : ℕ) {j : ℕ} {is : List ℕ} → get_or s.queue place 0 ≡ index Q 1 1 1
       → Ahead s.queue s.parents s.count place j is → check_on M (get_or s.queue j 0) n is ≡ done tt
   unfolding check_on
   ahead_accepted place n e here =

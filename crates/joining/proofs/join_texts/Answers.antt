@@ -23,7 +23,7 @@ Start = lts.Start tie.the-claims reads.Pre reads.Post
 -- what is told of a join that passes
 module _ (k : Place-Past-After-known_told2) where
   abbrev e : Start
-  e = k
+  e = k.before.before.before.before.before.before.before.before.before.before.before.before.before.before.before.before.before.before.before.before.before
 
   abbrev z : ListSizes
   z = k.in-Joined.sizes
@@ -34,9 +34,9 @@ module _ (k : Place-Past-After-known_told2) where
   abbrev states : ℕ
   states = k.in-Joined.states
 
-  held : JoinedHeld e.args.robot.now e.args.addon.now k.join_Kept.last.1.1.0 k.join_Kept.last.1.1.1.0 k.join_Kept.last.1.1.1.1.0 k.join_Kept.last.1.1.1.1.1.1.0 k.join_Kept.last.1.1.1.1.1.1.1.0 k.join_Kept.last.1.1.1.1.1.1.1.1.0 k.join_Kept.last.1.1.1.1.1.1.1.1.1.0 z entries states
+  held : JoinedHeld e.args.robot.now e.args.addon.now k.join_kept.new.row k.join_kept.new.starts k.join_kept.new.lengths k.join_kept.new.firsts k.join_kept.new.sizes k.join_kept.new.terminals k.join_kept.new.nonterminals z entries states
   held =
-      let w = k.join_Kept in
+      let w = k.join_kept in
       told-joined e.args.robot.now e.args.addon.now _ _ _ _ _ _ _ w.result z entries states k.in-Joined.is w.ensures
 
 pub join_kept-requires : goal.join_kept-requires
@@ -53,12 +53,12 @@ pub slice_bounds-copy_codes-end : goal.slice_bounds-copy_codes-end
 slice_bounds-copy_codes-end c = sym (length-take-le _ _ (held_fits (held c.before.before.before)))
 
 pub copy_codes-requires : goal.copy_codes-requires
-copy_codes-requires c = omega (arith, length-take-le (entries c.before.before.before.before) c.join_Kept.new.1.1.0 (held_fits (held c.before.before.before.before)), c.if-table-entries.false)
+copy_codes-requires c = omega (arith, length-take-le (entries c.before.before.before.before) c.join_kept.new.row (held_fits (held c.before.before.before.before)), c.if-table-entries.false)
 
 pub returns-in-Refused : goal.returns-in-Refused
 returns-in-Refused c = let a = c.args in
     join-refused a.robot.now a.addon.now a.table.now c.in-Refused.cause c.in-Refused.at
-    (told-refused a.robot.now a.addon.now _ _ _ _ _ _ _ c.join_Kept.result c.in-Refused.cause c.in-Refused.at c.in-Refused.is c.join_Kept.ensures)
+    (told-refused a.robot.now a.addon.now _ _ _ _ _ _ _ c.join_kept.result c.in-Refused.cause c.in-Refused.at c.in-Refused.is c.join_kept.ensures)
 
 pub returns-else-table-entries : goal.returns-else-table-entries
 returns-else-table-entries c = let a = (e c.before.before.before.before.before.before.before).args in

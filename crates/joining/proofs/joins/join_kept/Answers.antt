@@ -18,14 +18,14 @@ pub returns-in-Refused-check_module : goal.returns-in-Refused-check_module
 returns-in-Refused-check_module c = let a = c.args in addon-refused a.robot.now a.addon.now c.check_text.ensures c.in-Read.is c.check_module.ensures c.in-Refused-check_module.is
 
 pub join_read-requires : goal.join_read-requires
-join_read-requires c = both_read c.requires c.check_text.auto.starts c.check_text.auto.starts c.check_text.auto.lengths c.check_module.auto.starts c.check_module.auto.starts c.check_module.auto.lengths
+join_read-requires c = both_read c.requires c.check_text.auto.row c.check_text.auto.starts c.check_text.auto.lengths c.check_module.auto.row c.check_module.auto.starts c.check_module.auto.lengths
     c.check_text.ensures c.in-Read.is c.check_module.ensures c.in-Read-check_module.is
 
 pub returns-in-Read-check_module : goal.returns-in-Read-check_module
 returns-in-Read-check_module c = c.join_read.ensures
 
 pub shape_of-row-in-Read-check_module : goal.shape_of-row-in-Read-check_module
-shape_of-row-in-Read-check_module c = c.join_read.auto.row ∙ c.check_text.auto.starts
+shape_of-row-in-Read-check_module c = c.join_read.auto.row ∙ c.check_text.auto.row
 
 pub shape_of-starts-in-Read-check_module : goal.shape_of-starts-in-Read-check_module
 shape_of-starts-in-Read-check_module c = c.check_text.auto.starts

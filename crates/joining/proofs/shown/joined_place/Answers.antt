@@ -8,11 +8,11 @@ pub join_kept-requires : goal.join_kept-requires
 join_kept-requires c = let a = c.args in rows_both a.robot.now a.addon.now
 
 pub place_of-requires : goal.place_of-requires
-place_of-requires c = let k = c.join_Kept in
+place_of-requires c = let k = c.join_kept in
     place_ready _ _ _ _ _ _ _ _ _ k.result k.ensures c.in-Joined.sizes c.in-Joined.entries c.in-Joined.states c.in-Joined.is
 
 pub returns-in-Refused : goal.returns-in-Refused
-returns-in-Refused c = let k = c.join_Kept in
+returns-in-Refused c = let k = c.join_kept in
     let x = place-refused _ _ _ _ _ _ _ _ _ k.result k.ensures c.in-Refused.field-0 c.in-Refused.field-1 c.args.i c.in-Refused.is in
     record { is = x.0; inside = x.1 }
 

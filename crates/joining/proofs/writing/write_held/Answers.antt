@@ -13,7 +13,7 @@ use Rattle.joining.proofs.Writes.{writes_joined}
 use Rattle.joining.proofs.writing.write_held.Goals as goal
 
 pub gather_names-requires : goal.gather_names-requires
-gather_names-requires c = record { row = c.args.row.now; c = c.args.entries; q = c.requires.q; held = c.requires.held; room = name-room }
+gather_names-requires c = record { row = c.args.row.now; e = c.args.entries; q = c.requires.q; held = c.requires.held; room = name-room }
 
 pub slice_bounds-write_text-end : goal.slice_bounds-write_text-end
 slice_bounds-write_text-end c = sym (length-take-le _ _ (entries-most c.requires.held))

@@ -16,15 +16,15 @@ Place-After-join_kept = lts.After-join_kept tie.the-claims reads.Pre reads.Post
 -- what is told of the join, by its answer
 abbrev Told : Place-After-join_kept → Join → Type 0
 Told k r =
-    let a = k.args in JoinTold a.robot.now a.addon.now k.join_Kept.new.1.1.0 k.join_Kept.new.1.1.1.0 k.join_Kept.new.1.1.1.1.0 k.join_Kept.new.1.1.1.1.1.1.0 k.join_Kept.new.1.1.1.1.1.1.1.0 k.join_Kept.new.1.1.1.1.1.1.1.1.0 k.join_Kept.new.1.1.1.1.1.1.1.1.1.0 r
+    let a = k.args in JoinTold a.robot.now a.addon.now k.join_kept.new.row k.join_kept.new.starts k.join_kept.new.lengths k.join_kept.new.firsts k.join_kept.new.sizes k.join_kept.new.terminals k.join_kept.new.nonterminals r
 
 pub join_kept-requires : goal.join_kept-requires
 join_kept-requires c = let a = c.args in rows_both a.robot.now a.addon.now
 
 pub write_held-requires : goal.write_held-requires
-write_held-requires c = record { q = c.in-Joined.states; held = subst (Told c.before.before.before.before.before.before.before.before.before.before.before.before.before.before.before.before.before.before) c.in-Joined.is c.join_Kept.ensures }
+write_held-requires c = record { q = c.in-Joined.states; held = subst (Told c.before.before.before.before.before.before.before.before.before.before.before.before.before.before.before.before.before.before) c.in-Joined.is c.join_kept.ensures }
 
 pub returns-in-Refused : goal.returns-in-Refused
 returns-in-Refused c = let a = c.args in
     joined-refused a.robot.now a.addon.now a.out.now c.in-Refused.cause c.in-Refused.at
-    (subst (Told c.before.before.before.before.before.before.before.before.before.before) c.in-Refused.is c.join_Kept.ensures)
+    (subst (Told c.before.before.before.before.before.before.before.before.before.before) c.in-Refused.is c.join_kept.ensures)
