@@ -1,0 +1,10 @@
+-- leads_beside meets its contract: the other side stays, and the class leads there.
+use borrow.Author.Rules.{rules}
+use borrow.Author.Tests.{eq-eqb, ne_eqb}
+use Rattle.witness_check.proofs.one_side.leads_beside.Goals as goal
+
+pub returns-then-v-q : goal.returns-then-v-q
+returns-then-v-q c = simp (ne_eqb _ _ c.if-v-q.true)
+
+pub returns : goal.returns
+returns c = simp (eq-eqb _ _ c.if-v-q.false) c.leads_to.ensures

@@ -1,0 +1,22 @@
+use native.Mathlib.Omega.{arith}
+use borrow.Author.Tests.{not-true, not-false}
+use mathlib.Core.Path.{◌≡◌, refl, ap, sym, ◌∙◌}
+use Prim.Native.Nat.{ℕ, ◌+◌, ◌-◌, ◌*◌, ◌≤◌, ◌<◌}
+use native.Mathlib.Nat.{mul-le-mul}
+use mathlib.Core.List.{List, [], ◌∷◌}
+use lib.ListN.{length, drop, get_or}
+use Rattle.grammar.specs.Limits.{limits}
+use Rattle.automaton.specs.Moves.{Moves}
+use Rattle.triples.specs.Index.{triple_count}
+use Rattle.triples.specs.Verdict.{check_verdict}
+use Rattle.triples.specs.Witness.{check_on, check_row}
+use Rattle.witness_check.specs.Clauses.{step_at, Ready}
+use Rattle.witness_check.proofs.WalkLaws.{walk-empty, walk_first, walk_start, walk-beyond, walk_wrong, walk_more, walk-short, walk_ends}
+use Rattle.witness_check.proofs.walk.Given as goal
+
+abbrev pub invariant-loop-place : goal.invariant-loop-place
+invariant-loop-place l = (1 ≤ l.place) × (l.place ≤ length l.row) × (l.last < triple_count l.q)
+    × ((M : Moves) → Ready M l.ahead l.after l.number l.member l.target l.t l.m l.q → check_on M l.last l.place (drop l.place l.row) ≡ check_row M l.row)
+
+abbrev pub decreases-loop-place : goal.decreases-loop-place
+decreases-loop-place l = length l.row - l.place
