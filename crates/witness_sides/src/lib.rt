@@ -1,4 +1,7 @@
 // The two strings of a row of indices: what moves on either side, step by step.
+
+#![tactic(auto)]
+
 mod leading;
 mod letter;
 

@@ -1,0 +1,20 @@
+use native.Mathlib.Omega.{arith}
+use native.Mathlib.Nat.{mod-lt, mul-le-mul}
+use Prim.Native.Nat.{◌-◌, ◌*◌, ◌/◌, ◌%◌, ◌≤◌, ◌<◌}
+use mathlib.Core.Path.{◌≡◌, refl, sym, ◌∙◌}
+use mathlib.Core.List.{List}
+use lib.ListN.{drop}
+use Rattle.grammar.specs.Limits.{limits}
+use Rattle.triples.specs.declared.Step.{Step}
+use Rattle.steps.specs.Plan.{rows_of}
+use Rattle.witness_sides.specs.Clauses.{steps_to, records_at}
+use Rattle.witness_sides.proofs.FewRecords.{few-planned}
+use Rattle.witness_sides.proofs.SearchLaws.{leads_there, passed_over, ends-none, past-none, not-refused}
+use Rattle.witness_sides.proofs.leading.step_to.Given as goal
+
+abbrev pub invariant-loop-k : goal.invariant-loop-k
+invariant-loop-k l = let l = records_at (rows_of l.ahead l.number l.member l.first l.after l.targets l.t l.m) l.q l.i in
+    (l.k ≤ limits.max_states * limits.max_states) × (steps_to l.q (drop l.k l) l.j ≡ steps_to l.q l l.j)
+
+abbrev pub decreases-loop-k : goal.decreases-loop-k
+decreases-loop-k l = limits.max_states * limits.max_states - l.k
