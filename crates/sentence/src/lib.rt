@@ -78,6 +78,10 @@ pub fn judge<'a>(
     let mut next = [0u16; MAX_STATES];
     let mut head = [0u16; MAX_NONTERMINALS];
     let mut home = [0u16; MAX_NONTERMINALS];
+    let count = g.count;
+    let states = g.states;
+    let lefts = g.lefts;
+    let lengths = g.lengths;
     prepare(
         g,
         &mut ahead,
@@ -87,10 +91,8 @@ pub fn judge<'a>(
         &mut head,
         &mut home,
     );
-    let count = g.count;
-    let states = g.states;
     sow(
-        work, &ahead, &lead, &home, row, &g.lefts, &g.lengths, count, states,
+        work, &ahead, &lead, &home, row, &lefts, &lengths, count, states,
     );
     fill(work, &ahead, &lead, &next, &head, &home, row, states);
     answer(work, &ahead, &lead, &number, &home, row, states, list)
