@@ -44,9 +44,6 @@ loop-x-init c = let a = c.args in (
   λ M g o. (letters-none M (λ s. s.on_left) a.row.now a.left.now, letters-none M (λ s. s.on_right) a.row.now a.right.now),
 )
 
-pub overflow_add-x-in-loop-x-2 : goal.overflow_add-x-in-loop-x-2
-overflow_add-x-in-loop-x-2 c = add-loop c
-
 pub loop-x-preserved : goal.loop-x-preserved
 loop-x-preserved c = let l = c.loop-x in
     let row = c.args.row.now in (
