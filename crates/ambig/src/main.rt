@@ -2,11 +2,19 @@
 //
 // One byte more than the program takes is read, so that a longer text is known as such. A failed read is not taken for the end of
 // the text: nothing is then written to standard output, and a line to standard error says so. The same line tells of a failed write.
-ghost use Rattle.std.specs.Prelude.{length};
-ghost use Rattle.ambig.specs.Input.{Within};
+#![tactic(auto)]
 
-use libc::{STDERR_FILENO, STDIN_FILENO, STDOUT_FILENO};
+ghost use Rattle.std.specs.Prelude.{length, IfSome, OnOk, IsErrOf};
+ghost use Rattle.std.specs.Bool.{OnTrue};
+ghost use Rattle.std.specs.Io.KnownBytes.{Appends, Keeps};
+ghost use Rattle.report.specs.Report.{report_of};
+ghost use Rattle.ambig.specs.Input.{Within, ReadsPart, ReadsText};
+ghost use Rattle.ambig.specs.Output.{AppendsFront};
+
 use report::{PROGRAM_TEXT, REPORT_SIZE, Reported};
+use std::io::{Read, Write};
+
+const COMPLAINT: &[u8] = b"ambig: standard input or output failed\n";
 
 // How many bytes were read; or that a read failed.
 #[derive(Drop)]
@@ -15,29 +23,58 @@ pub enum Input {
     Failed,
 }
 
-fn complain() {
-    io::write_all(STDERR_FILENO, b"ambig: standard input or output failed\n");
+// A read of the text failed, or a write of what is printed for it.
+#[derive(Clone, Copy)]
+pub enum Failure {
+    Read,
+    Write,
+}
+
+// Writes all of the bytes, or stops at the first write that takes nothing or fails.
+fn write_bytes<W: Write>(output: &mut W, bytes: &[u8]) -> bool
+    ensures all { OnTrue result (Appends (W.contents output.old) (W.contents output.new) bytes.now) }
+    ensures front { AppendsFront (W.contents output.old) (W.contents output.new) bytes.now }
+{
+    let n = bytes.len();
+    let mut at = 0;
+    while at < n {
+        let Ok(k) = output.write(&bytes[at..]) else {
+            return false;
+        };
+        if k == 0 {
+            return false;
+        }
+        at += k;
+    }
+    true
+}
+
+fn complain<W: Write>(errors: &mut W)
+    ensures { AppendsFront (W.contents errors.old) (W.contents errors.new) COMPLAINT.now }
+{
+    write_bytes(errors, COMPLAINT);
 }
 
 // One read: 0 bytes at the end of the input.
-fn read_part(part: &mut [u8]) -> Input
-    ensures { Within result (length part.new) }
+fn read_part<R: Read>(input: &mut R, part: &mut [u8]) -> Input
+    ensures within { Within result (length part.new) }
+    ensures read { ReadsPart (R.remaining input.old) (R.remaining input.new) result part.new }
 {
-    let got = libc::read(STDIN_FILENO, part);
-    if got < 0 {
-        return Input::Failed;
+    match input.read(part) {
+        Ok(k) => Input::Bytes(k),
+        Err(_) => Input::Failed,
     }
-    Input::Bytes(io::count(got, part))
 }
 
 // Reads until the text is full or the input ends.
-fn read_input(text: &mut [u8]) -> Input
-    ensures { Within result (length text.new) }
+fn read_input<R: Read>(input: &mut R, text: &mut [u8]) -> Input
+    ensures within { Within result (length text.new) }
+    ensures read { ReadsText (R.remaining input.old) (R.remaining input.new) result text.new }
 {
     let n = text.len();
     let mut at = 0;
     while at < n {
-        let Input::Bytes(k) = read_part(&mut text[at..n]) else {
+        let Input::Bytes(k) = read_part(input, &mut text[at..n]) else {
             return Input::Failed;
         };
         if k == 0 {
@@ -49,23 +86,107 @@ fn read_input(text: &mut [u8]) -> Input
 }
 
 // Writes what is printed for a text. The output lent is never too short.
-fn print_report(text: &[u8]) {
+fn print_report<W: Write>(output: &mut W, text: &[u8]) -> bool
+    ensures all { OnTrue result (Appends (W.contents output.old) (W.contents output.new) (report_of text.now)) }
+    ensures front { AppendsFront (W.contents output.old) (W.contents output.new) (report_of text.now) }
+{
     let mut out = [0u8; REPORT_SIZE];
     let reported = report::report(text, &mut out);
     let Reported::Written(n) = reported else {
-        return;
+        unreachable!()
     };
-    if !io::write_all(STDOUT_FILENO, &out[..n]) {
-        complain();
+    write_bytes(output, &out[..n])
+}
+
+// Reads the text, and writes what is printed for it. Where it is known what the input has left, however much that is, and what the
+// output holds: all of what is printed for it is appended, or a front where a write fails, or nothing where a read fails.
+pub fn judge_input<R: Read, W: Write>(input: &mut R, output: &mut W) -> Result<(), Failure>
+    ensures all { OnOk result (IfSome (R.remaining input.old)
+        (λ xs. Appends (W.contents output.old) (W.contents output.new) (report_of xs))) }
+    ensures front { IfSome (R.remaining input.old)
+        (λ xs. AppendsFront (W.contents output.old) (W.contents output.new) (report_of xs)) }
+    ensures unread { IsErrOf result Failure.Read → Keeps (W.contents output.old) (W.contents output.new) }
+{
+    let mut text = [0u8; PROGRAM_TEXT + 1];
+    let Input::Bytes(n) = read_input(input, &mut text) else {
+        return Err(Failure::Read);
+    };
+    if !print_report(output, &text[..n]) {
+        return Err(Failure::Write);
+    }
+    Ok(())
+}
+
+fn main(rt: HostRuntime) {
+    if judge_input(&mut rt.stdin(), &mut rt.stdout()).is_err() {
+        complain(&mut rt.stderr());
     }
 }
 
-fn main() {
-    let mut text = [0u8; PROGRAM_TEXT + 1];
-    let input = read_input(&mut text);
-    let Input::Bytes(n) = input else {
-        complain();
-        return;
-    };
-    print_report(&text[..n]);
+#[cfg(test)]
+mod tests {
+    use super::*;
+    use std::io;
+    use std::io::ErrorKind;
+
+    const TEXT: &[u8] = b"terminals=a\nnonterminals=S\nrule=S: a\n";
+
+    const REPORT: &[u8] = b"states=6\nverdict=unambiguous\nreached=11\n";
+
+    // Each read and each write fails.
+    #[derive(Drop)]
+    struct Broken;
+
+    impl Read for Broken {
+        fn read(&mut self, _buf: &mut [u8]) -> io::Result<usize> {
+            Err(io::Error::from(ErrorKind::Other))
+        }
+    }
+
+    impl Write for Broken {
+        fn write(&mut self, _buf: &[u8]) -> io::Result<usize> {
+            Err(io::Error::from(ErrorKind::Other))
+        }
+
+        fn flush(&mut self) -> io::Result<()> {
+            Ok(())
+        }
+    }
+
+    #[test]
+    fn text_in_two_pieces(rt: HostRuntime) {
+        let mut input = TEXT[..20].chain(&TEXT[20..]);
+        let mut output = Vec::new(rt.alloc());
+        assert!(rt; judge_input(&mut input, &mut output).is_ok());
+        assert_eq!(rt; output.as_slice(), REPORT);
+    }
+
+    // The first piece is a whole grammar.
+    #[test]
+    fn read_that_fails(rt: HostRuntime) {
+        let mut input = TEXT.chain(Broken);
+        let mut output = Vec::new(rt.alloc());
+        let read = judge_input(&mut input, &mut output);
+        assert!(rt; matches!(read, Err(Failure::Read)));
+        assert!(rt; output.is_empty());
+    }
+
+    #[test]
+    fn write_that_fails(rt: HostRuntime) {
+        let mut room = [0u8; 10];
+        let mut output = &mut room[..];
+        let short = judge_input(&mut &TEXT[..], &mut output);
+        assert!(rt; matches!(short, Err(Failure::Write)));
+        assert_eq!(rt; &room[..], &REPORT[..10]);
+        let broken = judge_input(&mut &TEXT[..], &mut Broken);
+        assert!(rt; matches!(broken, Err(Failure::Write)));
+    }
+
+    #[test]
+    fn complaint_is_a_line(rt: HostRuntime) {
+        let mut errors = Vec::new(rt.alloc());
+        complain(&mut errors);
+        let line: &[u8] = b"ambig: standard input or output failed\n";
+        assert_eq!(rt; errors.as_slice(), line);
+    }
 }
