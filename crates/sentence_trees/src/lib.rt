@@ -1,4 +1,7 @@
 // The trees of one sentence, from a table: the refusals in their order, then the answer of crate sentence.
+
+#![tactic(auto)]
+
 ghost use Rattle.std.specs.Prelude.{◌≡◌, ◌*◌, ◌≤◌, ◌<◌, length, replicate};
 ghost use Rattle.grammar.specs.Basics.{over};
 ghost use Rattle.grammar.specs.Record.{IsRecord};
