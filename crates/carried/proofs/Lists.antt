@@ -1,11 +1,10 @@
 -- Lists mapped and gathered. Assumes nothing.
-use Prim.Native.Nat.{ℕ, zero, suc}
+use Prim.Native.Nat.{ℕ}
 use mathlib.Core.Path.{◌≡◌, refl, ap, ap₂, sym, subst, ◌∙◌}
 use mathlib.Core.Bool.{Bool, true, false}
 use mathlib.Core.List.{List, [], ◌∷◌, ◌++◌, map, map-append}
 use mathlib.Core.Logic.{inl, inr}
-use lib.ListN.{length}
-use Rattle.grammar.specs.Basics.{choose, when, each, Mem, here, there, Distinct, none, more}
+use Rattle.grammar.specs.Basics.{when, each, Mem, here, there, Distinct, none, more}
 use Rattle.grammar.proofs.Plain.{mem_cases}
 
 pub map_same : {A B : Type 0} (f g : A → B) → ((a : A) → f a ≡ g a) → (l : List A) → map f l ≡ map g l

@@ -1,5 +1,5 @@
 -- The moves of a carried grammar are the old ones but for the codes ahead. Assumes nothing.
-use Prim.Native.Nat.{ℕ, zero, suc, ◌+◌, ◌-◌, ◌≤◌, ◌<◌}
+use Prim.Native.Nat.{ℕ, ◌+◌, ◌-◌, ◌<◌}
 use mathlib.Core.Path.{◌≡◌, refl, ap, ap₂, sym, ◌∙◌}
 use mathlib.Core.Bool.{Bool, true, false, ◌&&◌}
 use mathlib.Core.List.{List, [], ◌∷◌, ◌++◌, map, map-append}
@@ -8,10 +8,9 @@ use lib.Dec.{eqb}
 use lib.ListN.{length, get_or, replicate, length-map}
 use Rattle.grammar.specs.Basics.{choose, when, each}
 use Rattle.grammar.specs.Limits.{Limits}
-use Rattle.grammar.specs.Grammar.{Rule, Grammar, state_count, start, rule}
+use Rattle.grammar.specs.Grammar.{Rule, Grammar, state_count, rule}
 use Rattle.grammar.specs.Live.{is_live}
 use Rattle.automaton.specs.Items.{states}
-use Rattle.automaton.specs.Moves.{Moves}
 use Rattle.automaton.specs.PositionMoves.{shown, aheads, rules_of, completed, past, ahead_row, ahead, openings, closings, moves_of}
 use Rattle.carried.specs.Carried.{moved, moved_rule, distance, carried_grammar, Wider}
 use Rattle.carried.proofs.Codes.{moved-low, moved_same, moved-entry}

@@ -10,7 +10,7 @@ use lib.ListN.{length}
 use Rattle.grammar.specs.Basics.{over}
 use Rattle.grammar.specs.Limits.{Limits}
 use Rattle.grammar.specs.Grammar.{Grammar}
-use Rattle.grammar.specs.Refusal.{Answer, done, refused, refuse_unless, and_then, buffer_too_short}
+use Rattle.grammar.specs.Refusal.{Answer, done, refused, refuse_unless, buffer_too_short}
 use Rattle.grammar.specs.TableCheck.{check_table}
 use Rattle.grammar.proofs.Answers.{then-goes, unless_holds, unless_fails}
 use Rattle.automaton.specs.Items.{states}
@@ -24,7 +24,7 @@ use Rattle.triples.specs.Looked.{looked_at}
 use Rattle.triple_laws.proofs.CallerChecks.{zero-check}
 use Rattle.search.specs.Promise.{is_potential, unambiguous, potential, search_verdict, Lent, is_enough, searchable, cleared, Told, Answers, SearchesAt}
 use Rattle.search.specs.declared.SearchVerdict.{SearchVerdict}
-use Rattle.carried.specs.Carried.{carried_table, carried_grammar, Wider, Same}
+use Rattle.carried.specs.Carried.{carried_table, carried_grammar, Wider}
 use Rattle.carried.proofs.Theorem.{carried}
 
 -- by as many states, the same smallest set, witness and figure

@@ -6,7 +6,7 @@ use native.Mathlib.Omega.{arith}
 use native.Mathlib.Numerals.{add-one}
 use lib.ListN.{length, get_or, set, drop, length-set}
 use lib.Seq.{paste, paste-suc, length-paste, take-length}
-use Rattle.drafts.specs.Row.{block_size, block_at, draft_room, splice, put, emptied, table_room}
+use Rattle.drafts.specs.Row.{block_size, block_at, draft_room, splice, emptied, table_room}
 
 -- ---- entries put into a row
 

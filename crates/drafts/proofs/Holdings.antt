@@ -13,7 +13,7 @@ use Rattle.grammar.specs.Grammar.{Rule}
 use Rattle.grammar.specs.Table.{encode}
 use Rattle.grammar.specs.Refusal.{done, buffer_too_short}
 use Rattle.grammar.proofs.Answers.{unless_holds, unless_done, done_inj, no_answer}
-use Rattle.drafts.specs.Draft.{Draft, mark, with_mark, with_rules, marks_count}
+use Rattle.drafts.specs.Draft.{Draft, with_mark, with_rules, marks_count}
 use Rattle.drafts.specs.Row.{block_size, block_at, draft_room, block_of, end_of, rules_to, rules_in, marks_from, draft_with, draft_or, draft_in, image, put}
 use Rattle.drafts.proofs.Walks.{held-block, some_inj}
 use Rattle.drafts.proofs.Marks.{marks_at}

@@ -4,7 +4,7 @@ use mathlib.Core.List.{[], ◌∷◌}
 use mathlib.Core.Option.{none, some}
 use Rattle.grammar.specs.Limits.{limits}
 use Rattle.grammar.specs.Refusal.{done}
-use Rattle.drafts.specs.Draft.{mark, return}
+use Rattle.drafts.specs.Draft.{return}
 use Rattle.drafts.proofs.Pins.{rule, draft, step}
 
 -- the rules are those that the mark keeps, and all marks are in being

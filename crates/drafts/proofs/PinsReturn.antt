@@ -2,8 +2,8 @@
 use mathlib.Core.Path.{◌≡◌, refl}
 use Rattle.grammar.specs.Limits.{limits}
 use Rattle.grammar.specs.Refusal.{refused}
-use Rattle.drafts.specs.Draft.{mark, return}
-use Rattle.drafts.proofs.Pins.{empty, one, step}
+use Rattle.drafts.specs.Draft.{return}
+use Rattle.drafts.proofs.Pins.{one, step}
 
 return-empty : step limits one (return 3) ≡ refused 23 3
 unfolding step

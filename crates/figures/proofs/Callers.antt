@@ -1,9 +1,9 @@
 -- The automata with callers, for each m: what they enter can be left, so the search looks at no more than M² + 2×Q×M successors, and M
 -- is the number of their moves. Assumes nothing.
-use Prim.Native.Nat.{ℕ, zero, suc, ◌+◌, ◌≤◌, ◌<◌}
+use Prim.Native.Nat.{ℕ, zero, suc, ◌≤◌, ◌<◌}
 use mathlib.Core.Path.{◌≡◌, refl, sym, ap, subst, ◌∙◌}
-use mathlib.Core.Bool.{Bool, true}
-use mathlib.Core.Logic.{◌⊎◌, inl, inr, ◌↔◌}
+use mathlib.Core.Bool.{true}
+use mathlib.Core.Logic.{◌⊎◌, inl, inr}
 use mathlib.Core.List.{List, [], ◌∷◌}
 use native.Mathlib.Omega.{arith}
 use native.Mathlib.Decide.{ℕ_discrete}
@@ -14,7 +14,7 @@ use Rattle.grammar.specs.Grammar.{Grammar, WellFormed, IsRule, rule}
 use Rattle.grammar.specs.Live.{Live, is_live}
 use Rattle.grammar.proofs.Live.{is_live_lem}
 use Rattle.automaton.specs.Items.{length_of}
-use Rattle.automaton.specs.Callers.{Spot, first, last, spot, Place, Calls, SpotOpens, spot-start, spot-opens, SpotCloses, spot-ends, spot-closes, SpotShifts, spot-shifts}
+use Rattle.automaton.specs.Callers.{Spot, last, spot, Place, Calls, SpotOpens, spot-start, spot-opens, SpotCloses, spot-ends, spot-closes, SpotShifts, spot-shifts}
 use Rattle.automaton.specs.Callers.{place_of, code_at, spots, number_of, callers}
 use Rattle.automaton.specs.CallerMoves.{spot_ahead, spot_after, moves_at, moves_with}
 use Rattle.automaton.specs.Strings.{Letter, opening, closing, symbol, MovesBy}
@@ -23,9 +23,9 @@ use Rattle.automaton.proofs.Callers.{calls, none_above}
 use Rattle.triples.specs.Looked.{looked_at, looked_limit}
 use Rattle.triple_laws.proofs.Callers.{place_in, place_out}
 use Rattle.triple_laws.proofs.Spots.{place_mem_below}
-use Rattle.triple_laws.proofs.CallerMoves.{code-low, state, from-state, seen_state, last-state, number_last, first-state, after_is, callers-listed}
-use Rattle.triple_laws.proofs.CallerRegular.{Opened, opened, Closed, closed, callers-regular}
-use Rattle.triple_laws.proofs.CallerPosition.{with_listed, with_regular, with_states}
+use Rattle.triple_laws.proofs.CallerMoves.{code-low, state, seen_state, number_last, first-state, after_is, callers-listed}
+use Rattle.triple_laws.proofs.CallerRegular.{opened, closed}
+use Rattle.triple_laws.proofs.CallerPosition.{with_listed, with_regular}
 use Rattle.figures.proofs.Opened.{Entered, by-opening, by_shift, Leavable}
 use Rattle.figures.proofs.Bound.{looked_limit_lem}
 use Rattle.figures.proofs.OfAutomaton.{cardinal_of, some_list}

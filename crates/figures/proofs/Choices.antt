@@ -1,5 +1,5 @@
 -- The choices of moves of the triples reached, each once: the search's figure is their number. Assumes nothing.
-use Prim.Native.Nat.{ℕ, ◌+◌, ◌<◌}
+use Prim.Native.Nat.{ℕ, ◌<◌}
 use mathlib.Core.Path.{◌≡◌, refl, ap, sym, subst, ◌∙◌}
 use mathlib.Core.Logic.{◌↔◌}
 use mathlib.Core.List.{List, [], ◌∷◌, map}
@@ -7,8 +7,8 @@ use native.Mathlib.Omega.{arith}
 use lib.ListN.{length}
 use Rattle.grammar.specs.Basics.{each, Mem, Distinct}
 use Rattle.automaton.specs.Moves.{Moves, Regular, listed}
-use Rattle.triples.specs.Index.{index, triple_count, layer_of, left_of, right_of}
-use Rattle.triples.specs.Successor.{StepTo, Reached, Closed}
+use Rattle.triples.specs.Index.{index, layer_of, left_of, right_of}
+use Rattle.triples.specs.Successor.{StepTo, Reached}
 use Rattle.triples.specs.Records.{records, next_index}
 use Rattle.triples.specs.Smallest.{successors, smallest}
 use Rattle.triples.specs.Looked.{total, looked_at}
@@ -16,7 +16,7 @@ use Rattle.triples.specs.declared.Step.{Step}
 use Rattle.triples.proofs.Index.{digits, layer-of, left-of, right_of_lem}
 use Rattle.triples.proofs.Reached.{reached-held}
 use Rattle.triple_laws.proofs.Laws.{reached_exactly, smallest_distinct, smallest-below}
-use Rattle.triple_laws.proofs.Members.{distinct_each, distinct_map, distinct_same, of-each, of_map}
+use Rattle.triple_laws.proofs.Members.{distinct_each, distinct_map, of-each, of_map}
 use Rattle.triple_laws.proofs.Records.{records_exact, steps_in_range}
 use Rattle.triple_laws.proofs.RecordDoubles.{records_distinct}
 use Rattle.figures.specs.Choice.{Choice, choice}

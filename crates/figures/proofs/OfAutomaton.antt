@@ -1,19 +1,19 @@
 -- M is the number of an automaton's moves, whatever its states are: the length of every list that has each of them once, and there
 -- is such a list. Assumes nothing.
-use Prim.Native.Nat.{ℕ, ◌≤◌, ◌<◌}
-use mathlib.Core.Path.{◌≡◌, refl, sym, ap, subst, subst₂, ◌∙◌}
-use mathlib.Core.Logic.{inl, inr, ◌↔◌}
+use Prim.Native.Nat.{ℕ, ◌<◌}
+use mathlib.Core.Path.{◌≡◌, refl, sym, ap, subst, ◌∙◌}
+use mathlib.Core.Logic.{inl, inr}
 use mathlib.Core.List.{List, [], ◌∷◌, map}
 use native.Mathlib.Omega.{arith}
 use lib.ListN.{length}
-use Rattle.grammar.specs.Basics.{each, Mem, here, there, Distinct, none, more}
+use Rattle.grammar.specs.Basics.{Mem, here, there, Distinct, none, more}
 use Rattle.grammar.proofs.Lists.{no_element, in_map}
 use Rattle.grammar.proofs.Plain.{mem_cases}
 use Rattle.automaton.specs.Automaton.{Automaton}
 use Rattle.automaton.specs.Moves.{Moves, listed, Regular, Lists}
 use Rattle.automaton.specs.Strings.{Letter, opening, closing, symbol, MovesBy}
 use Rattle.automaton.specs.AllMoves.{Moved, moved, all_moves, move_count, MoveOf, ListsMoves}
-use Rattle.triple_laws.proofs.Members.{of-each, of_map, distinct_image, distinct_map}
+use Rattle.triple_laws.proofs.Members.{of_map, distinct_image}
 use Rattle.figures.proofs.MovesExact.{moves_exact, moves_distinct, moves_cardinal, moves-of}
 
 map-long : {A B : Type 0} (f : A → B) (l : List A) → length (map f l) ≡ length l

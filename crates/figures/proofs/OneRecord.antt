@@ -1,15 +1,12 @@
 -- Of neighbours of a row that comes before every other to the goal, the first has just one step record that leads to the second.
 -- Assumes nothing.
-use Prim.Native.Nat.{ℕ, zero, suc, ◌≤◌, ◌<◌}
-use mathlib.Core.Path.{◌≡◌, refl, sym, ap, subst, ◌∙◌}
-use mathlib.Core.Bool.{Bool, true, false}
-use mathlib.Core.Logic.{◌⊎◌, inl, inr}
-use mathlib.Core.List.{List, [], ◌∷◌, ◌++◌, map}
+use Prim.Native.Nat.{ℕ, ◌<◌}
+use mathlib.Core.Path.{◌≡◌, sym, ap, subst, ◌∙◌}
+use mathlib.Core.List.{List, [], ◌∷◌}
 use native.Mathlib.Omega.{arith}
 use lib.Dec.{eqb}
-use lib.ListN.{length}
 use borrow.Author.Tests.{eqb-true, eq-eqb}
-use Rattle.grammar.specs.Basics.{when, each, Mem, here, there, Distinct, none, more}
+use Rattle.grammar.specs.Basics.{when, each, Mem, here, there, Distinct, more}
 use Rattle.automaton.specs.Moves.{Moves, Regular}
 use Rattle.triples.specs.Index.{index, triple_count, layer_of, left_of, right_of}
 use Rattle.triples.specs.Records.{next_index, records}

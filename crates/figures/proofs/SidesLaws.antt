@@ -1,29 +1,29 @@
 -- The two sides of the shortest witness: each of its steps has one record, so the sides are determined; they are two strings of the
 -- automaton that part, and have a letter for each step at most. Assumes nothing.
-use Prim.Native.Nat.{ℕ, suc, ◌+◌, ◌≤◌, ◌<◌}
+use Prim.Native.Nat.{ℕ, ◌+◌, ◌≤◌, ◌<◌}
 use mathlib.Core.Path.{◌≡◌, refl, sym, ap, ap₂, subst, subst₂, subst₃, ◌∙◌}
 use mathlib.Core.List.{List, [], ◌∷◌, ◌++◌, append-nil}
 use native.Mathlib.Omega.{arith}
 use lib.ListN.{length, length-append}
-use Rattle.grammar.specs.Basics.{each, Mem, here, there}
+use Rattle.grammar.specs.Basics.{each, Mem, here}
 use Rattle.automaton.specs.Automaton.{Automaton}
 use Rattle.automaton.specs.Moves.{Moves, listed, Regular, Lists}
 use Rattle.automaton.specs.Strings.{Letter, PartingStrings}
 use Rattle.triples.specs.Index.{index, triple_count, layer_of, left_of, right_of}
 use Rattle.triples.specs.Successor.{StepTo}
-use Rattle.triples.specs.Records.{next_index, records}
+use Rattle.triples.specs.Records.{records}
 use Rattle.triples.specs.Smallest.{successors, smallest}
 use Rattle.triples.specs.Shortest.{shortest}
 use Rattle.triples.specs.Sides.{letters, records_to, side_of, OneEach, left_side, right_side}
 use Rattle.triples.specs.declared.Move.{Move}
 use Rattle.triples.specs.declared.Move.TheVariants.{Opening, Closing, Symbol, Still}
 use Rattle.triples.specs.declared.Step.{Step}
-use Rattle.triples.proofs.Index.{index_below, right_of_lem, left-of, layer-of, index_injective}
+use Rattle.triples.proofs.Index.{right_of_lem, left-of, layer-of, index_injective}
 use Rattle.triple_laws.proofs.CertificateCheck.{index-zero}
 use Rattle.triple_laws.proofs.Records.{steps_in_range, records_exact, successors-below}
 use Rattle.triple_laws.proofs.Numbered.{step_same}
 use Rattle.parting.proofs.Parting.{Single, Chain, done, link, left_letters, right_letters, chain_parts}
-use Rattle.figures.proofs.Shortest.{Leads, Fewest, fewest_distinct}
+use Rattle.figures.proofs.Shortest.{Leads, fewest_distinct}
 use Rattle.figures.proofs.ShortestLaws.{goal, successors_ascend, some-triples, shortest-row, leads_to_lem, potential-shortest}
 use Rattle.figures.proofs.OneRecord.{leads_to-index, one_each}
 

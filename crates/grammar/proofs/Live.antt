@@ -6,19 +6,19 @@ use mathlib.Core.List.{List, [], ◌∷◌, ◌++◌, map}
 use mathlib.Core.Logic.{◌⊎◌, inl, inr, ◌↔◌}
 use native.Mathlib.Omega.{arith}
 use lib.Dec.{leb}
-use lib.ListN.{length, get_or}
+use lib.ListN.{length}
 use borrow.Author.Tests.{le-leb, lt-leb}
 use Rattle.grammar.specs.Basics.{when, each, Mem, here, there}
 use Rattle.grammar.specs.Limits.{Limits}
 use Rattle.grammar.specs.Grammar.{Terminal, Nonterminal, Rule, Grammar, IsRule, start, rule, WellFormed}
-use Rattle.grammar.specs.Tree.{Tree, node, Trees, none, child, AppliesRuleOf, DerivationTree, applies, Children, end, terminal, nonterminal, row, HasTree}
-use Rattle.grammar.specs.Live.{HasSentence, Uses, at-root, further, UsesBelow, in-first, in-others, Live, live-start, live-rule, Clause, has, has_all, closure}
+use Rattle.grammar.specs.Tree.{Tree, node, Trees, none, child, DerivationTree, applies, Children, end, terminal, nonterminal, row}
+use Rattle.grammar.specs.Live.{HasSentence, Uses, at-root, further, UsesBelow, in-first, in-others, Live, live-start, live-rule, Clause, has}
 use Rattle.grammar.specs.Live.{nonterminals_of, derives_if, productive, is_productive, reaches_from, usable, reachable, has_sentence, is_live}
 use Rattle.grammar.proofs.Answers.{no_bool, and_both, both_and}
-use Rattle.grammar.proofs.Lists.{no_element, mem_place, mem_left, mem_right, mem_either, in_map, map_in, in_each, each_in}
+use Rattle.grammar.proofs.Lists.{no_element, mem_place, mem_right, in_map, map_in, in_each, each_in}
 use Rattle.grammar.proofs.Plain.{mem_cases}
 use Rattle.grammar.proofs.Derives.{rule-listed}
-use Rattle.grammar.proofs.Closure.{All, all_map, all_is, has_is, Kept, closure-kept, closure_least}
+use Rattle.grammar.proofs.Closure.{All, all_map, all_is, has_is, closure-kept, closure_least}
 
 module _ (L : Limits) (G : Grammar) (W : WellFormed L G) (apart : L.max_terminals < L.nonterminal_base) where
   numbered : (r : Rule) → Mem r G.rules → (i : ℕ) × IsRule G i × (rule L G i ≡ r)

@@ -8,9 +8,9 @@ use native.Mathlib.Omega.{arith}
 use Rattle.grammar.specs.Basics.{each}
 use Rattle.grammar.specs.Limits.{byte_limits}
 use Rattle.grammar.specs.Grammar.{Rule, Grammar, rule}
-use Rattle.grammar.specs.Tree.{Tree, node, Trees, none, child, DerivationTree, applies, end, terminal, nonterminal}
+use Rattle.grammar.specs.Tree.{Tree, node, none, child, DerivationTree, applies, end, terminal, nonterminal}
 use Rattle.grammar.specs.Tree.{before, after, row, HasTree}
-use Rattle.grammar.specs.Live.{Uses, at-root, further, UsesBelow, in-first, in-others, Live, live-start, live-rule}
+use Rattle.grammar.specs.Live.{at-root, further, in-first, in-others, Live, live-start, live-rule}
 use Rattle.grammar.specs.Live.{has, has_all, concluded, waiting, rounds, nonterminals_of, productive, usable, reachable, has_sentence, is_live}
 use Rattle.grammar.proofs.TreePins.{by-rule}
 

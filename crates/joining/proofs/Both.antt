@@ -12,13 +12,13 @@ use lib.ListN.{length, take, drop, get_or, length-append, length-drop, get_or-eq
 use lib.Seq.{length-take-le, take_at, drop_at, get_or-take, get_or-drop}
 use Rattle.grammar.specs.Basics.{over, Mem, here, there}
 use Rattle.grammar.specs.Limits.{limits}
-use Rattle.grammar.specs.Grammar.{Terminal, Nonterminal, Rule, Grammar, start, state_count}
+use Rattle.grammar.specs.Grammar.{Terminal, Nonterminal, Rule, Grammar, start}
 use Rattle.grammar.specs.Table.{encode}
-use Rattle.grammar.specs.Refusal.{Answer, done, refused, refuse_unless, and_then, kinds_clash}
+use Rattle.grammar.specs.Refusal.{Answer, done, refused, and_then, kinds_clash}
 use Rattle.grammar.specs.TableCheck.{check_table}
-use Rattle.grammar.proofs.Answers.{no_answer, done_inj, unless_fails, unless_holds, then-goes, then_stops}
+use Rattle.grammar.proofs.Answers.{unless_fails, unless_holds}
 use Rattle.text.specs.Names.{same_name, has_double}
-use Rattle.text.specs.Read.{Source, symbol_names, grammar_of, read_text}
+use Rattle.text.specs.Read.{Source, symbol_names, read_text}
 use Rattle.text.specs.Rules.{check_text, check_module}
 use Rattle.text.specs.Print.{printed}
 use Rattle.text.specs.Promise.{name_starts, name_lengths}
@@ -30,7 +30,7 @@ use Rattle.text.proofs.RoundTrip.{apart}
 use Rattle.lexicon.specs.Tree.{Spans}
 use Rattle.modules.specs.Joined.{meet, added, added_rules, joined_terminals, joined_nonterminals, joined_rule, joined, refuse_clash, join_texts}
 use Rattle.joining.specs.Numbers.{numbered}
-use Rattle.joining.specs.Naming.{Kind, BothNamed, refuse_names, Recoding, AllRecoding, RuleRecoding, recoded_rule}
+use Rattle.joining.specs.Naming.{BothNamed, refuse_names, Recoding, RuleRecoding, recoded_rule}
 use Rattle.modules.proofs.Meets.{double_back}
 use Rattle.modules.proofs.Named.{covered, place-some}
 use Rattle.joining.proofs.Loops.{length-numbered}

@@ -1,18 +1,18 @@
 -- Two texts that were read, from their rows to the answer of the join. Assumes nothing.
-use Prim.Native.Nat.{ℕ, ◌+◌, ◌*◌, ◌≤◌}
+use Prim.Native.Nat.{ℕ, ◌+◌, ◌≤◌}
 use mathlib.Core.Path.{◌≡◌, refl, ap, ap₂, sym, subst, ◌∙◌}
 use mathlib.Core.List.{List, ◌++◌, map}
 use native.Mathlib.Omega.{arith}
-use lib.ListN.{length, take, drop, length-append}
+use lib.ListN.{length, take, drop}
 use lib.Seq.{length-take-le}
 use Rattle.grammar.specs.Limits.{limits}
-use Rattle.grammar.specs.Grammar.{Rule, Grammar, state_count}
+use Rattle.grammar.specs.Grammar.{Grammar, state_count}
 use Rattle.grammar.specs.Table.{encode}
 use Rattle.grammar.specs.Refusal.{Answer, done, refused, and_then}
 use Rattle.grammar.specs.TableCheck.{check_table}
-use Rattle.grammar.proofs.Answers.{no_answer, done_inj, then-done, then-goes, then_stops}
+use Rattle.grammar.proofs.Answers.{done_inj, then-done, then-goes, then_stops}
 use Rattle.text.specs.Read.{Source, symbol_names, grammar_of, read_text}
-use Rattle.text.specs.Rules.{admit, last_tests, check_text, check_module}
+use Rattle.text.specs.Rules.{last_tests, check_text, check_module}
 use Rattle.text.specs.Promise.{name_starts, name_lengths}
 use Rattle.text.specs.Spelled.{spelled}
 use Rattle.text.specs.declared.TextRead.{TextRead}

@@ -1,6 +1,6 @@
 -- The lent table: a refusal changes nothing, a join that passes is written if there is room. Assumes nothing.
 use Prim.Native.Nat.{ℕ, ◌≤◌, ◌<◌}
-use mathlib.Core.Path.{◌≡◌, refl, ap, sym, subst, ◌∙◌}
+use mathlib.Core.Path.{◌≡◌, ap, sym, subst, ◌∙◌}
 use mathlib.Core.List.{List}
 use native.Mathlib.Omega.{arith}
 use borrow.Author.Tests.{le-leb, lt-leb}
@@ -9,11 +9,10 @@ use lib.ListN.{length, take}
 use Rattle.grammar.specs.Basics.{over}
 use Rattle.grammar.specs.Limits.{limits}
 use Rattle.grammar.specs.Table.{encode}
-use Rattle.grammar.specs.Refusal.{Answer, done, refused, refuse_unless, buffer_too_short}
+use Rattle.grammar.specs.Refusal.{done, refused, refuse_unless, buffer_too_short}
 use Rattle.grammar.proofs.Answers.{unless_holds, unless_fails, then-goes, then_stops}
 use Rattle.text.specs.Read.{Source}
 use Rattle.text.specs.Promise.{text_read, afterwards}
-use Rattle.text.specs.declared.TextRead.{TextRead}
 use Rattle.text.specs.declared.TextRead.TheVariants.{Read, Refused}
 use Rattle.text_read.proofs.Written.{front_fits}
 use Rattle.modules.specs.Joined.{joined, join_texts, joined_table_into}

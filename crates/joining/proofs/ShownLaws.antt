@@ -1,6 +1,6 @@
 -- Which name of the module is shown for a joined symbol: the one whose number it is. Assumes nothing.
 use Prim.Native.Nat.{ℕ, zero, suc, ◌+◌, ◌-◌, ◌≤◌, ◌<◌}
-use mathlib.Core.Path.{◌≡◌, refl, ap, sym, subst, ◌∙◌}
+use mathlib.Core.Path.{◌≡◌, refl, ap, sym, ◌∙◌}
 use mathlib.Core.Bool.{Bool, true, false}
 use mathlib.Core.List.{List, [], ◌∷◌, ◌++◌, append_assoc}
 use native.Mathlib.Omega.{arith}
@@ -8,7 +8,7 @@ use lib.ListN.{length, get_or, length-append}
 use Rattle.grammar.specs.Basics.{choose}
 use Rattle.grammar.proofs.Answers.{no_bool}
 use Rattle.grammar.proofs.Lists.{lt_or_le}
-use mathlib.Core.Logic.{◌⊎◌, inl, inr}
+use mathlib.Core.Logic.{inl, inr}
 use Rattle.text.specs.Names.{any, same_name, place}
 use Rattle.modules.specs.Joined.{added}
 use Rattle.joining.specs.Numbers.{numbered}

@@ -5,7 +5,7 @@ use mathlib.Core.Path.{◌≡◌, ap₂, sym, subst, ◌∙◌}
 use mathlib.Core.List.{List}
 use mathlib.Core.Bool.{false}
 use native.Mathlib.Omega.{arith}
-use lib.ListN.{length, drop, get_or, take}
+use lib.ListN.{length, drop, take}
 use lib.Seq.{get_or-take, length-take-le}
 use Rattle.text.specs.Names.{same_name, has_double}
 use Rattle.text.specs.Spelled.{spelled}

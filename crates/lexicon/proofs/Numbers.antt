@@ -5,10 +5,8 @@ use mathlib.Core.List.{List, [], ◌∷◌, ◌++◌}
 use mathlib.Core.Bool.{Bool, true, false, ◌||◌}
 use native.Mathlib.Omega.{arith}
 use lib.ListN.{length, get_or, take, drop}
-use Rattle.grammar.proofs.Answers.{no_bool}
 use Rattle.text.specs.Names.{any, same_name, place}
 use Rattle.text.specs.Print.{first_double}
-use Rattle.text.proofs.Names.{same-sym}
 use Rattle.text.specs.Spelled.{spelled}
 use Rattle.text.proofs.Spans.{length-spelled, spelled_at}
 use Rattle.lexicon.specs.Tree.{name_of, Spans}

@@ -1,21 +1,21 @@
 -- The columns of a record hold the rules of its grammar. Assumes nothing.
-use Prim.Native.Nat.{ℕ, zero, suc, ◌+◌, ◌-◌, ◌≤◌, ◌<◌}
+use Prim.Native.Nat.{ℕ, zero, suc, ◌+◌, ◌-◌, ◌<◌}
 use mathlib.Core.Path.{◌≡◌, refl, ap, sym, subst, ◌∙◌}
 use mathlib.Core.List.{List, [], ◌∷◌, ◌++◌, append_assoc}
-use mathlib.Core.Logic.{◌⊎◌, inl, inr, ⊎_elim}
+use mathlib.Core.Logic.{◌⊎◌, ⊎_elim}
 use native.Mathlib.Omega.{arith}
-use lib.ListN.{length, get_or, take, drop, replicate, length-append, length-replicate}
+use lib.ListN.{length, get_or, take, drop, replicate, length-append}
 use lib.Seq.{take-append_seam, drop-append-add}
 use Rattle.grammar.specs.Basics.{Mem, here, there}
 use Rattle.grammar.specs.Limits.{limits}
 use Rattle.grammar.specs.Grammar.{Rule, Grammar, WellFormed, rule}
 use Rattle.grammar.specs.Record.{padded, lefts, lengths, codes, record_of, IsRecord}
 use Rattle.grammar.specs.declared.CheckedGrammar.{CheckedGrammar}
-use Rattle.grammar.proofs.Columns.{lefts-length, lengths-length, sizes}
+use Rattle.grammar.proofs.Columns.{lefts-length, lengths-length}
 use Rattle.grammar.proofs.Derives.{rule-listed}
 use Rattle.grammar.proofs.Lists.{mem_either}
 use Rattle.grammar.proofs.Lists.{no_element}
-use Rattle.live.specs.Marks.{Small, before, left_at, right_at, Columns}
+use Rattle.live.specs.Marks.{before, left_at, right_at, Columns}
 use Rattle.live.specs.Lent.{with_columns, ColumnsOf}
 
 abbrev line : List Rule → ℕ → Rule

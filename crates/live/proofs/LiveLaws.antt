@@ -1,7 +1,7 @@
 -- What the passes leave marked is what grammar's Live.antt finds by rounds. Assumes nothing.
 use Prim.Native.Nat.{ℕ, zero, suc, ◌+◌, ◌-◌, ◌≤◌, ◌<◌}
 use mathlib.Core.Path.{◌≡◌, refl, ap, ap₂, sym, subst, ◌∙◌}
-use mathlib.Core.Bool.{Bool, true, false, ◌&&◌, ◌||◌}
+use mathlib.Core.Bool.{Bool, true, false, ◌&&◌}
 use mathlib.Core.List.{List, [], ◌∷◌, ◌++◌, map}
 use mathlib.Core.Logic.{◌⊎◌, inl, inr}
 use native.Mathlib.Omega.{arith}
@@ -12,15 +12,15 @@ use borrow.Author.Tests.{leb-true, leb-false, eqb-true, eqb-false}
 use Rattle.grammar.specs.Basics.{when, each, Mem, here, there}
 use Rattle.grammar.specs.Limits.{limits}
 use Rattle.grammar.specs.Grammar.{Rule, Grammar, IsRule, WellFormed, start, rule}
-use Rattle.grammar.specs.Live.{Clause, has, has_all, closure, nonterminals_of, derives_if, productive, is_productive, reaches_from, usable, reachable, has_sentence, is_live}
+use Rattle.grammar.specs.Live.{Clause, has, has_all, nonterminals_of, derives_if, productive, is_productive, reaches_from, usable, reachable, has_sentence, is_live}
 use Rattle.grammar.proofs.Answers.{no_bool, and_both, both_and, same_test}
 use Rattle.grammar.proofs.Lists.{no_element, mem_place, map_in, each_in}
 use Rattle.grammar.proofs.Plain.{mem_cases}
 use Rattle.grammar.proofs.Derives.{rule-listed}
-use Rattle.grammar.proofs.Closure.{All, all_map, all_is, has_is, closure_least}
+use Rattle.grammar.proofs.Closure.{All, all_is, has_is, closure_least}
 use Rattle.grammar.proofs.Live.{usable-out, clause-of, start-reached, next-reached}
 use Rattle.live.specs.Marks.{marked, all_marked, Sound, left_at, right_at, AllDerived, AllDerivedMarks, AllLed, AllLedMarks, Finished, bit, Answers}
-use Rattle.live.proofs.MarkLaws.{marked-low, marked-high, all_sound}
+use Rattle.live.proofs.MarkLaws.{marked-low, marked-high}
 
 -- ---- marks and right sides
 

@@ -1,33 +1,30 @@
 -- What the reader answers for the joined text: 1 at 1, 1 at 2, then the last tests of the joined rules; never 19. Assumes nothing.
-use Prim.Native.Nat.{ℕ, zero, suc, ◌+◌, ◌≤◌, ◌<◌}
-use mathlib.Core.Path.{◌≡◌, refl, ap, ap₂, sym, subst, ◌∙◌}
-use mathlib.Core.Bool.{Bool, true, false, not, ◌&&◌}
-use mathlib.Core.List.{List, [], ◌∷◌, ◌++◌, map}
+use Prim.Native.Nat.{ℕ, ◌+◌, ◌≤◌, ◌<◌}
+use mathlib.Core.Path.{◌≡◌, refl, ap, sym, subst, ◌∙◌}
+use mathlib.Core.Bool.{Bool, true, false}
+use mathlib.Core.List.{List, [], ◌∷◌, ◌++◌}
 use native.Mathlib.Omega.{arith}
 use borrow.Author.Tests.{le-leb, leb-true}
 use lib.Dec.{leb}
 use lib.ListN.{length, length-append}
 use Rattle.grammar.specs.Limits.{Limits}
-use Rattle.grammar.specs.Grammar.{Rule, Grammar}
 use Rattle.grammar.specs.Table.{encode, decode}
-use Rattle.grammar.specs.Live.{HasSentence, has_sentence}
+use Rattle.grammar.specs.Live.{HasSentence}
 use Rattle.grammar.specs.Refusal.{Answer, done, refused, refuse_unless, and_then, out_of_range, malformed, no_sentence}
-use Rattle.grammar.specs.TableCheck.{check_table}
-use Rattle.grammar.proofs.Answers.{unless_holds, no_answer, then-goes, then-done, unless_done, done_inj}
+use Rattle.grammar.proofs.Answers.{unless_holds}
 use Rattle.grammar.proofs.Rules.{decode-encode}
-use Rattle.grammar.proofs.WellFormed.{Taken}
-use Rattle.grammar.proofs.Sentence.{passes_exactly, refuses_exactly}
+use Rattle.grammar.proofs.Sentence.{refuses_exactly}
 use Rattle.text.specs.Pieces.{split_on, join}
 use Rattle.text.specs.Names.{within, all, is_name, has_double}
 use Rattle.text.specs.Keys.{key}
-use Rattle.text.specs.Read.{Source, symbol_names, grammar_of, refuse_none, names_of, declaration, rule_lines, whole_line, read_lines, read_text}
-use Rattle.text.specs.Rules.{admit, last_tests, check_text}
+use Rattle.text.specs.Read.{Source, grammar_of, refuse_none, names_of, declaration, rule_lines, whole_line, read_lines, read_text}
+use Rattle.text.specs.Rules.{last_tests, check_text}
 use Rattle.text.specs.Print.{print_line, printed}
-use Rattle.text.proofs.Pieces.{other, all_append, split_piece, split_pos}
+use Rattle.text.proofs.Pieces.{all_append, split_piece, split_pos}
 use Rattle.text.proofs.Names.{key-value, double_front}
 use Rattle.text.proofs.WellNamed.{WellNamedSource}
 use Rattle.text.proofs.ReadPrinted.{read_print, whole-step}
-use Rattle.text.proofs.Admit.{table_tests, text-checked}
+use Rattle.text.proofs.Admit.{table_tests}
 use Rattle.modules.specs.Joined.{meet, added, joined_terminals, joined_nonterminals, joined}
 use Rattle.modules.proofs.Named.{terminals-named, nonterminals-named, joined_once, rules_fit}
 use Rattle.modules.proofs.ReadJoined.{again, line_free, rest, heads}

@@ -1,13 +1,10 @@
 -- Lists of names of which none is the same as one of another list. Assumes nothing.
-use Prim.Native.Nat.{ℕ, zero, suc, ◌+◌, ◌≤◌, ◌<◌}
-use mathlib.Core.Path.{◌≡◌, refl, ap, ap₂, sym, subst, ◌∙◌}
-use mathlib.Core.Bool.{Bool, true, false, ◌||◌}
+use Prim.Native.Nat.{ℕ, ◌+◌}
+use mathlib.Core.Path.{◌≡◌, refl, ◌∙◌}
+use mathlib.Core.Bool.{Bool, true, false}
 use mathlib.Core.List.{List, [], ◌∷◌, ◌++◌}
-use native.Mathlib.Omega.{arith}
-use lib.ListN.{length, get_or, length-append}
 use Rattle.grammar.specs.Basics.{choose}
-use Rattle.grammar.proofs.Answers.{no_bool}
-use Rattle.text.specs.Names.{all, any, same_name, has_double, place}
+use Rattle.text.specs.Names.{all, any, same_name, has_double}
 use Rattle.text.proofs.Names.{or_neither, neither_or, same-sym}
 use Rattle.text.proofs.Pieces.{all_head, all_tail, all_cons}
 use Rattle.modules.specs.Joined.{meet, added}

@@ -1,6 +1,6 @@
 -- The joined source is well named, whatever the limits say of its size; its codes fit. Assumes nothing.
 use Prim.Native.Nat.{ℕ, zero, suc, ◌+◌, ◌-◌, ◌≤◌, ◌<◌}
-use mathlib.Core.Path.{◌≡◌, refl, ap, ap₂, sym, subst, ◌∙◌}
+use mathlib.Core.Path.{◌≡◌, refl, ap, sym, subst, ◌∙◌}
 use mathlib.Core.Bool.{Bool, true, false, ◌||◌}
 use mathlib.Core.List.{List, [], ◌∷◌, ◌++◌, map}
 use mathlib.Core.Logic.{◌⊎◌, inl, inr}
@@ -14,7 +14,7 @@ use Rattle.grammar.proofs.Answers.{no_bool}
 use Rattle.grammar.proofs.Plain.{mem_cases}
 use Rattle.grammar.proofs.Lists.{lt_or_le}
 use Rattle.text.specs.Names.{all, any, is_name, same_name, has_double, place}
-use Rattle.text.specs.Read.{Source, symbol_names, number_of, code_of, symbol_of}
+use Rattle.text.specs.Read.{Source, symbol_names, number_of, symbol_of}
 use Rattle.text.specs.Print.{name_of}
 use Rattle.text.proofs.Names.{same_refl, code-left, code-right, left_number, right_number, double_front}
 use Rattle.text.proofs.Pieces.{all_append, all-front, all_back}

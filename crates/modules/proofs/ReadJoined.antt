@@ -1,14 +1,14 @@
 -- What the reader gives for the joined text is the joined source: its lists, its rules, so its table. Assumes nothing.
 use Prim.Native.Nat.{ℕ, zero, suc, ◌+◌, ◌≤◌, ◌<◌}
-use mathlib.Core.Path.{◌≡◌, refl, ap, ap₂, sym, subst, ◌∙◌}
-use mathlib.Core.Bool.{Bool, true, false, not}
+use mathlib.Core.Path.{◌≡◌, refl, ap, sym, subst, ◌∙◌}
+use mathlib.Core.Bool.{true, false}
 use mathlib.Core.List.{List, [], ◌∷◌, ◌++◌, map}
 use native.Mathlib.Omega.{arith}
 use borrow.Author.Tests.{not-true}
-use lib.ListN.{length, get_or, drop, length-append}
+use lib.ListN.{length, get_or, drop}
 use lib.Seq.{drop-append-add}
 use Rattle.grammar.specs.Limits.{Limits}
-use Rattle.grammar.specs.Refusal.{Answer, done}
+use Rattle.grammar.specs.Refusal.{done}
 use Rattle.grammar.proofs.Answers.{done_inj, unless_done, then-done}
 use Rattle.text.specs.Pieces.{split_on, join, ended_by}
 use Rattle.text.specs.Names.{all, is_name}

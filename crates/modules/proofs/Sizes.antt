@@ -5,19 +5,19 @@ use mathlib.Core.Path.{◌≡◌, refl, ap, sym, subst, ◌∙◌}
 use mathlib.Core.Bool.{Bool, true, false, not}
 use mathlib.Core.List.{List, [], ◌∷◌, ◌++◌, map}
 use native.Mathlib.Omega.{arith}
-use borrow.Author.Tests.{not-true, leb-true}
+use borrow.Author.Tests.{leb-true}
 use lib.Dec.{leb}
 use lib.ListN.{length, length-append, length-map}
 use Rattle.grammar.specs.Basics.{choose}
 use Rattle.grammar.specs.Limits.{Limits, limits}
 use Rattle.grammar.specs.Grammar.{Rule, state_count}
 use Rattle.grammar.specs.Table.{encode}
-use Rattle.grammar.specs.Refusal.{Answer, done, refused, refuse_unless, and_then, out_of_range, rule_repeated, too_many_states, kinds_clash}
+use Rattle.grammar.specs.Refusal.{done, refuse_unless, and_then, out_of_range, rule_repeated, too_many_states, kinds_clash}
 use Rattle.grammar.specs.TableCheck.{is_among, check_table}
 use Rattle.grammar.proofs.Answers.{no_answer, done_inj, unless_holds, unless_done, then-done, then-goes}
 use Rattle.grammar.proofs.WellFormed.{states_snoc}
-use Rattle.text.specs.Names.{any, same_name, all, is_name}
-use Rattle.text.specs.Read.{Source, symbol_names}
+use Rattle.text.specs.Names.{any, same_name, is_name}
+use Rattle.text.specs.Read.{Source}
 use Rattle.text.specs.Rules.{admit, last_tests, check_text, check_module}
 use Rattle.text.specs.Print.{printed}
 use Rattle.text.proofs.Pieces.{all_append}

@@ -6,8 +6,8 @@ use mathlib.Core.List.{List, [], ◌∷◌, ◌++◌, map}
 use native.Mathlib.Omega.{arith}
 use lib.ListN.{length, get_or, length-append}
 use Rattle.grammar.specs.Limits.{Limits}
-use Rattle.grammar.specs.Grammar.{Terminal, Nonterminal, Rule, Grammar, IsRule, rule, start}
-use Rattle.grammar.specs.Tree.{Tree, Trees, node, none, child, AppliesRuleOf, DerivationTree, Children, applies, end, terminal, nonterminal, row, row_below, before, after, HasTree}
+use Rattle.grammar.specs.Grammar.{Rule, Grammar, IsRule, rule}
+use Rattle.grammar.specs.Tree.{Tree, Trees, DerivationTree, Children, applies, end, terminal, nonterminal, row, row_below, before, after, HasTree}
 use Rattle.text.specs.Read.{Source, grammar_of}
 use Rattle.modules.specs.Joined.{added, added_rules, joined_rule, joined}
 

@@ -1,22 +1,19 @@
 -- The automata with callers: dropping the farthest caller keeps moves, so an acceptable set at m gives one at m + 1; and a state
 -- before a terminal has no other move, so that parting strings exist precisely when the end is reached, for each m.
 -- Assumes nothing.
-use Prim.Native.Nat.{ℕ, zero, suc, ◌≤◌, ◌<◌}
+use Prim.Native.Nat.{ℕ, zero, suc, ◌<◌}
 use mathlib.Core.Path.{◌≡◌, refl, ap}
 use mathlib.Core.Logic.{◌↔◌}
-use mathlib.Core.List.{List, [], ◌∷◌}
-use lib.ListN.{length, take}
+use mathlib.Core.List.{[]}
+use lib.ListN.{take}
 use native.Mathlib.Omega.{arith}
 use Rattle.grammar.specs.Limits.{Limits}
-use Rattle.grammar.specs.Grammar.{Terminal, Grammar, IsRule, rule, WellFormed}
-use Rattle.grammar.specs.Live.{Live}
+use Rattle.grammar.specs.Grammar.{Terminal, Grammar, rule, WellFormed}
 use Rattle.grammar.proofs.Derives.{rule-listed}
-use Rattle.automaton.specs.Automaton.{Automaton}
-use Rattle.automaton.specs.Items.{length_of}
 use Rattle.automaton.specs.Strings.{Potential, Unambiguous}
-use Rattle.automaton.specs.Callers.{Spot, first, last, spot, Place, SpotOpens, spot-start, spot-opens, SpotCloses, spot-ends, spot-closes, SpotShifts, spot-shifts, callers}
+use Rattle.automaton.specs.Callers.{Spot, first, last, spot, SpotOpens, spot-start, spot-opens, SpotCloses, spot-ends, spot-closes, SpotShifts, spot-shifts, callers}
 use Rattle.automaton.proofs.Callers.{shorten}
-use Rattle.triples.specs.Successor.{BeforeTerminal, Reached, Acceptable}
+use Rattle.triples.specs.Successor.{Reached, Acceptable}
 use Rattle.triples.proofs.Reached.{reached-closed}
 use Rattle.parting.proofs.Parting.{Single, parting_held, parting_reached}
 use Rattle.parting.proofs.Morphism.{Morphism, back}

@@ -29,7 +29,7 @@ use Rattle.moves.proofs.Columns.{read}
 use Rattle.moves.proofs.Shows.{built_shows}
 use Rattle.caller_rows.specs.Rows.{Begun, BuiltWith}
 use Rattle.caller_rows.specs.declared.Built as callers
-use Rattle.prepared.specs.Prepared.{Sized, RowsOf, IsChecked, PreparesFor, Prepares}
+use Rattle.prepared.specs.Prepared.{Sized, IsChecked, PreparesFor, Prepares}
 use Rattle.prepared.specs.declared.Prepared.{Prepared}
 
 -- a verdict is one of two, and tells its cause and position

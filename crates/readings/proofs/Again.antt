@@ -1,30 +1,29 @@
 -- The two lines of two strings say these strings again; so different pairs of strings never give the same lines.
 -- Assumes nothing.
-use Prim.Native.Nat.{ℕ, zero, suc, ◌+◌, ◌-◌, ◌≤◌, ◌<◌}
-use mathlib.Core.Path.{◌≡◌, refl, sym, ap, subst, ◌∙◌}
-use mathlib.Core.Bool.{Bool, true, false, not, ◌&&◌, ◌||◌}
-use mathlib.Core.Logic.{◌⊎◌, inl, inr}
+use Prim.Native.Nat.{ℕ, ◌+◌, ◌-◌, ◌≤◌, ◌<◌}
+use mathlib.Core.Path.{◌≡◌, refl, sym, ap, ◌∙◌}
+use mathlib.Core.Bool.{Bool, true, false, not}
+use mathlib.Core.Logic.{◌⊎◌}
 use mathlib.Core.List.{List, [], ◌∷◌, ◌++◌, map}
-use mathlib.Core.Option.{Option, none, some}
+use mathlib.Core.Option.{none, some}
 use native.Mathlib.Omega.{arith}
-use lib.Dec.{eqb, leb, ltb}
+use lib.Dec.{eqb, leb}
 use lib.ListN.{length, get_or}
-use borrow.Author.Tests.{not-true, le-leb, leb-true, eqb-true, ne_eqb}
+use borrow.Author.Tests.{not-true, le-leb, ne_eqb}
 use Rattle.grammar.specs.Basics.{choose}
 use Rattle.grammar.specs.Limits.{Limits}
 use Rattle.grammar.specs.Grammar.{Terminal, Nonterminal, start}
-use Rattle.grammar.specs.Refusal.{Answer, done, refused, refuse_unless, and_then, malformed, name_unknown}
-use Rattle.grammar.proofs.Answers.{both_and, and_both, no_bool}
+use Rattle.grammar.specs.Refusal.{Answer, done, refused, refuse_unless, and_then}
+use Rattle.grammar.proofs.Answers.{both_and}
 use Rattle.automaton.specs.Strings.{Letter, opening, closing, symbol}
-use Rattle.text.specs.Pieces.{line_end, space, equals, split_on, join, led_by, ended_by}
+use Rattle.text.specs.Pieces.{split_on, join, led_by}
 use Rattle.text.specs.Names.{within, all, is_name, is_name_byte, same_name, has_double, place}
-use Rattle.text.specs.Keys.{value_of}
-use Rattle.text.specs.Read.{refuse_none, whole_line, number_of, is_known, code_of, symbol_of}
+use Rattle.text.specs.Read.{refuse_none, whole_line, number_of, code_of, symbol_of}
 use Rattle.text.specs.Print.{name_of}
 use Rattle.text.proofs.Pieces.{all_head, all_cons, all_none, all_append, all-at, all_weaker, other, split-join, split-ended, join_free}
-use Rattle.text.proofs.Names.{within_both, name-size, name_free, no_line-end, no_space, place-again, number_known, Numbered, right_number, key-value}
+use Rattle.text.proofs.Names.{within_both, name-size, name_free, no_line-end, no_space, place-again, number_known, right_number, key-value}
 use Rattle.text.specs.Numbers.{decimal, number_from, is_decimal}
-use Rattle.readings.specs.Readings.{opens, closes, left_key, right_key, word, words, reading_lines, Valid, AllValid, Word, bracket, name, rule_number, word_of, joined, words_of, pieces_of, at_end, known_word, letter_of, read_words, read_strings}
+use Rattle.readings.specs.Readings.{left_key, right_key, word, words, reading_lines, Valid, AllValid, Word, bracket, name, rule_number, word_of, words_of, pieces_of, known_word, letter_of, read_words, read_strings}
 use Rattle.text.proofs.Numbers.{number_decimal, decimal-digits, decimal_form}
 
 -- a digit is no byte below 48

@@ -1,12 +1,11 @@
 -- A letter's entry tells the letter, where its number is below 2^16, as all of a grammar within the limits are. Assumes nothing.
 use Prim.Native.Nat.{ℕ, ◌+◌, ◌*◌, ◌/◌, ◌%◌, ◌≤◌, ◌<◌}
 use mathlib.Core.Path.{◌≡◌, refl, ap, ap₂, ◌∙◌}
-use mathlib.Core.Logic.{◌⊎◌, inl, inr}
+use mathlib.Core.Logic.{inl, inr}
 use mathlib.Core.List.{List, [], ◌∷◌, map}
 use native.Mathlib.Omega.{arith}
 use native.Mathlib.Nat.{mul-add-div_right, mul-add-mod_self_right, div-eq_of_lt, mod-eq_of_lt}
 use Rattle.grammar.specs.Limits.{limits}
-use Rattle.grammar.specs.Grammar.{Terminal, Nonterminal}
 use Rattle.automaton.specs.Strings.{Letter, opening, closing, symbol}
 use Rattle.readings.specs.Readings.{Valid, AllValid}
 use Rattle.readings.specs.Letters.{kind_unit, letter_number, of_kind, letter_from}

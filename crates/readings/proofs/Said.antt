@@ -1,6 +1,6 @@
 -- What lines say is strings of the grammar's letters; and what lines are that say two strings. Assumes nothing.
 use Prim.Native.Nat.{ℕ, ◌+◌, ◌≤◌, ◌<◌}
-use mathlib.Core.Path.{◌≡◌, refl, sym, ap, subst, ◌∙◌}
+use mathlib.Core.Path.{◌≡◌, refl, ap, subst, ◌∙◌}
 use mathlib.Core.Bool.{Bool, true, false, ◌&&◌}
 use mathlib.Core.List.{List, [], ◌∷◌, map}
 use mathlib.Core.Option.{Option, none, some}
@@ -11,14 +11,14 @@ use lib.ListN.{length}
 use Rattle.grammar.specs.Basics.{choose}
 use Rattle.grammar.specs.Limits.{Limits}
 use Rattle.grammar.specs.Grammar.{start}
-use Rattle.grammar.specs.Refusal.{Answer, done, refuse_unless, and_then, malformed, name_unknown}
+use Rattle.grammar.specs.Refusal.{done, malformed, name_unknown}
 use Rattle.grammar.proofs.Answers.{and_both, done_inj, unless_done, then-done}
 use Rattle.automaton.specs.Strings.{Letter, opening, closing}
 use Rattle.text.specs.Pieces.{line_end, split_on}
 use Rattle.text.specs.Names.{all, is_name}
 use Rattle.text.specs.Numbers.{number_from, is_decimal}
 use Rattle.text.specs.Keys.{value_of}
-use Rattle.text.specs.Read.{number_of, is_known, code_of}
+use Rattle.text.specs.Read.{number_of}
 use Rattle.text.proofs.Names.{known_number, code-right}
 use Rattle.text.proofs.Pieces.{all_head, all_tail}
 use Rattle.text.proofs.PrintRead.{none_done, whole-done}

@@ -1,6 +1,8 @@
 // The type of what reading back answers, and the letters of strings as entries. No function stands here: specs/ has the
 // definitions, over this type.
 
+#![tactic(auto)]
+
 // An entry is this unit times the letter's kind, and its number: a rule's, or a symbol's code.
 pub const KIND_UNIT: u32 = 65536;
 

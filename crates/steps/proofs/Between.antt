@@ -9,7 +9,6 @@ use lib.Dec.{leb, ltb}
 use borrow.Author.Tests.{leb-true, le-leb, ltb-true, lt-ltb}
 use Rattle.grammar.specs.Basics.{Mem, here, there, when}
 use Rattle.grammar.proofs.Answers.{no_bool, and_both, both_and}
-use Rattle.grammar.proofs.Lists.{lt_or_le}
 use Rattle.triple_laws.proofs.Members.{no_element, first_or, element_as}
 use Rattle.moves.specs.Tables.{Ascends}
 use Rattle.steps.specs.Plan.{inside, between}

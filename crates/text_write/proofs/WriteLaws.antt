@@ -23,7 +23,6 @@ use Rattle.text.specs.Print.{gather, first_double, text_from, write_into}
 use Rattle.text.specs.Promise.{text_written, text_length, afterwards, WritesText, LengthAnswer}
 use Rattle.text.specs.declared.TextLength.{TextLength}
 use Rattle.text.specs.declared.TextLength.TheVariants as told
-use Rattle.text.specs.declared.TextWritten.{TextWritten}
 use Rattle.text.specs.declared.TextWritten.TheVariants.{Written, Refused}
 use Rattle.text.specs.Spelled.{spelled}
 use Rattle.text.proofs.Sizes.{printed-most}

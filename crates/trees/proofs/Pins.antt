@@ -4,16 +4,15 @@ use Prim.Native.Nat.{ℕ}
 use mathlib.Core.Path.{◌≡◌, refl, sym, ap, subst, ◌∙◌}
 use mathlib.Core.List.{List, [], ◌∷◌, ◌++◌}
 use native.Mathlib.Omega.{arith}
-use lib.ListN.{length, replicate}
-use Rattle.grammar.specs.Basics.{over}
+use lib.ListN.{replicate}
 use Rattle.grammar.specs.Limits.{limits}
 use Rattle.grammar.specs.Grammar.{Grammar, rule, state_count}
 use Rattle.grammar.specs.Tree.{Tree, node, Trees, none, child, HasTree, DerivationTree, Children, SameTree, SameTrees, row, row_below, before, after}
-use Rattle.grammar.specs.Refusal.{Answer, done, refused, refuse_unless, and_then}
+use Rattle.grammar.specs.Refusal.{done, refused, refuse_unless, and_then}
 use Rattle.grammar.proofs.Answers.{no_answer, done_inj}
 use Rattle.grammar.specs.TableCheck.{same_codes, is_among, declared_front, read_rule, next_rule, check_from, stored_table, check_table}
 use Rattle.grammar.specs.Live.{has_sentence, has, productive, rounds, concluded, waiting, has_all, nonterminals_of}
-use Rattle.trees.specs.Trees.{rules_of, rules_below, one, several, Agrees, count_1, count_2, row_fault, check_row, trees_room, max_row, work_size, cleared}
+use Rattle.trees.specs.Trees.{rules_of, one, several, Agrees, count_1, count_2, row_fault, check_row, trees_room, max_row, work_size, cleared}
 use Rattle.trees.specs.Promise.{FindsTrees, refuses, too_short}
 use Rattle.trees.specs.declared.TreesFound.TheVariants.{Refused}
 

@@ -1,6 +1,8 @@
 // The types of what is told of a row of terminals, and its limit. No function stands here: specs/ has the definitions, and the crate
 // sentence_trees has the code.
 
+#![tactic(auto)]
+
 // The most terminals of a row: document 02, [12]; specs/Trees.antt has the same number.
 pub const MAX_ROW: usize = 64;
 

@@ -1,18 +1,18 @@
 -- The lists of the automaton with m callers are its moves, for each m. Assumes nothing.
 use Prim.Native.Nat.{ℕ, zero, suc, ◌+◌, ◌≤◌, ◌<◌}
 use mathlib.Core.Path.{◌≡◌, refl, sym, ap, subst, ◌∙◌}
-use mathlib.Core.Bool.{Bool, true, false, ◌&&◌}
-use mathlib.Core.List.{List, [], ◌∷◌, ◌++◌, map}
-use mathlib.Core.Logic.{◌⊎◌, inl, inr, ◌↔◌}
+use mathlib.Core.Bool.{Bool, true, ◌&&◌}
+use mathlib.Core.List.{List, [], ◌∷◌, map}
+use mathlib.Core.Logic.{inl, inr, ◌↔◌}
 use native.Mathlib.Omega.{arith}
 use native.Mathlib.Decide.{ℕ_discrete, dec_lt}
 use lib.Dec.{eqb}
 use lib.ListN.{length, get_or, take}
 use borrow.Author.Tests.{eqb-true, eq-eqb}
-use Rattle.grammar.specs.Basics.{choose, when, each, Mem, here, there}
+use Rattle.grammar.specs.Basics.{when, Mem, here, there}
 use Rattle.grammar.specs.Limits.{Limits}
 use Rattle.grammar.specs.Grammar.{Rule, Grammar, IsRule, rule, WellFormed}
-use Rattle.grammar.specs.Live.{Live, is_live}
+use Rattle.grammar.specs.Live.{is_live}
 use Rattle.grammar.proofs.Live.{is_live_lem}
 use Rattle.grammar.proofs.Answers.{and_both, both_and}
 use Rattle.grammar.proofs.Derives.{rule-listed}
@@ -25,7 +25,7 @@ use Rattle.automaton.proofs.Callers.{calls, none_above}
 use Rattle.triple_laws.proofs.Members.{no_element, only_one, one_only, place_mem, mem_left, mem_right, mem_either, under-test, of-each, of_map}
 use Rattle.triple_laws.proofs.Rows.{Run, run-rules}
 use Rattle.triple_laws.proofs.Callers.{items_exact, place_out, place_in, left-code, chains_exact}
-use Rattle.triple_laws.proofs.Spots.{same-items, place-below, place_mem_below, place-most, in_rest, one_number, every_number, at, no_first, no_last}
+use Rattle.triple_laws.proofs.Spots.{same-items, place-below, place_mem_below, in_rest, one_number, every_number, at}
 
 pub past_end : (l : List Spot) (k : ℕ) → length l ≤ k → get_or l k last ≡ last
 past_end [] k h = refl

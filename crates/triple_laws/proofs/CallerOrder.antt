@@ -1,29 +1,23 @@
 -- The lists of the automaton with m callers are regular, if there is a sentence. Assumes nothing.
 use Prim.Native.Nat.{ℕ, zero, suc, ◌+◌, ◌≤◌, ◌<◌}
-use mathlib.Core.Path.{◌≡◌, refl, sym, ap, subst, subst₂, ◌∙◌}
-use mathlib.Core.Bool.{Bool, true, false, ◌&&◌}
+use mathlib.Core.Path.{◌≡◌, refl, sym, ap, subst, ◌∙◌}
+use mathlib.Core.Bool.{Bool, true, false}
 use mathlib.Core.List.{List, [], ◌∷◌, ◌++◌, map, append_assoc, append-nil}
-use mathlib.Core.Logic.{◌⊎◌, inl, inr, ◌↔◌}
+use mathlib.Core.Logic.{inl, inr}
 use native.Mathlib.Omega.{arith}
-use native.Mathlib.Decide.{ℕ_discrete, dec_lt}
-use lib.Dec.{eqb}
-use lib.ListN.{length, get_or, take, length-append}
-use Rattle.grammar.specs.Basics.{choose, when, each, Mem, here, there, Distinct, none, more}
+use native.Mathlib.Decide.{ℕ_discrete}
+use lib.ListN.{length}
+use Rattle.grammar.specs.Basics.{choose, each, Mem, here, there}
 use Rattle.grammar.specs.Limits.{Limits}
-use Rattle.grammar.specs.Grammar.{Rule, Grammar, IsRule, rule, WellFormed}
-use Rattle.grammar.specs.Live.{Live, is_live}
-use Rattle.grammar.proofs.Live.{is_live_lem}
-use Rattle.grammar.proofs.Answers.{no_bool, and_both, both_and}
+use Rattle.grammar.specs.Grammar.{Rule, Grammar, rule, WellFormed}
+use Rattle.grammar.proofs.Answers.{no_bool}
 use Rattle.grammar.proofs.Plain.{mem_cases}
 use Rattle.automaton.specs.Items.{length_of}
-use Rattle.automaton.specs.Moves.{Regular}
-use Rattle.automaton.specs.Callers.{Spot, first, last, spot, Place, Calls, up_to, items_from, same_spot, place_of, items, code_at, chains_of, spots, number_of}
-use Rattle.automaton.specs.CallerMoves.{moves_at}
-use Rattle.triple_laws.proofs.Members.{no_element, only_one, one_only, place_mem, mem_left, mem_right, mem_either, of-each, of_map}
+use Rattle.automaton.specs.Callers.{Spot, first, last, spot, up_to, items_from, same_spot, place_of, items, chains_of, spots, number_of}
+use Rattle.triple_laws.proofs.Members.{no_element, mem_right, mem_either, of-each, of_map}
 use Rattle.triple_laws.proofs.Rows.{Run, run-zero}
-use Rattle.triple_laws.proofs.Callers.{upto_in, upto-out, items_exact}
-use Rattle.triple_laws.proofs.Spots.{spot-same, spot_self, one_number, place_mem_below, same-rule, same-dot, no_first, no_last, in_rest, at}
-use Rattle.triple_laws.proofs.CallerMoves.{state, from-state}
+use Rattle.triple_laws.proofs.Callers.{upto_in, upto-out}
+use Rattle.triple_laws.proofs.Spots.{spot-same, spot_self, same-rule, same-dot, no_first, no_last, at}
 
 -- an element of the front stands before one that is not in the front
 front-place : (s t : Spot) (a b : List Spot) → Mem s a → ¬ Mem t a → place_of s (a ++ b) < place_of t (a ++ b)

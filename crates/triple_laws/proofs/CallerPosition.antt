@@ -3,21 +3,20 @@
 use Prim.Native.Nat.{ℕ, zero, suc, ◌+◌, ◌≤◌, ◌<◌}
 use mathlib.Core.Path.{◌≡◌, refl, sym, ap, subst, ◌∙◌}
 use mathlib.Core.Bool.{true}
-use mathlib.Core.List.{List, [], ◌∷◌}
+use mathlib.Core.List.{[]}
 use mathlib.Core.Logic.{◌↔◌}
 use native.Mathlib.Omega.{arith}
-use lib.ListN.{length, take}
-use Rattle.grammar.specs.Basics.{Mem}
+use lib.ListN.{length}
 use Rattle.grammar.specs.Limits.{Limits}
-use Rattle.grammar.specs.Grammar.{Grammar, IsRule, rule, WellFormed}
+use Rattle.grammar.specs.Grammar.{Grammar, rule, WellFormed}
 use Rattle.grammar.specs.Live.{Live, is_live}
 use Rattle.grammar.proofs.Live.{is_live_lem}
 use Rattle.automaton.specs.Items.{length_of, base, Item, Before}
-use Rattle.automaton.specs.Moves.{Moves, Regular, Lists}
+use Rattle.automaton.specs.Moves.{Regular, Lists}
 use Rattle.automaton.specs.Position.{Opens, opens-start, opens-rule, Closes, closes-start, closes-rule, Shifts, shifts}
 use Rattle.automaton.specs.PositionMoves.{moves_of}
-use Rattle.automaton.specs.Callers.{Spot, first, last, spot, Place, Calls, enough, SpotOpens, spot-start, spot-opens, SpotCloses, spot-ends, spot-closes, SpotShifts, spot-shifts, spots, number_of, callers}
-use Rattle.automaton.specs.CallerMoves.{moves_at, moves_with}
+use Rattle.automaton.specs.Callers.{Spot, first, last, spot, Place, enough, SpotOpens, spot-start, spot-opens, SpotCloses, spot-ends, spot-closes, SpotShifts, spot-shifts, spots, number_of, callers}
+use Rattle.automaton.specs.CallerMoves.{moves_with}
 use Rattle.triple_laws.proofs.Position.{position-listed, position-regular}
 use Rattle.triple_laws.proofs.Spots.{one_number, every_number}
 use Rattle.triple_laws.proofs.CallerMoves.{state, same-state, number_first, number_last, first-state, last-state, callers-listed}

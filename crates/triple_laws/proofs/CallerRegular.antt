@@ -2,29 +2,28 @@
 use Prim.Native.Nat.{ℕ, zero, suc, ◌+◌, ◌≤◌, ◌<◌}
 use mathlib.Core.Path.{◌≡◌, refl, sym, ap, subst, ◌∙◌}
 use mathlib.Core.Bool.{Bool, true, false, ◌&&◌}
-use mathlib.Core.List.{List, [], ◌∷◌, ◌++◌, map}
-use mathlib.Core.Logic.{◌⊎◌, inl, inr, ◌↔◌}
+use mathlib.Core.List.{List, [], ◌∷◌, map}
 use native.Mathlib.Omega.{arith}
 use native.Mathlib.Decide.{dec_lt}
 use lib.Dec.{eqb}
 use lib.ListN.{length, get_or, take}
-use Rattle.grammar.specs.Basics.{when, Mem, here, there, Distinct, none, more}
+use Rattle.grammar.specs.Basics.{when, Mem, Distinct, none, more}
 use Rattle.grammar.specs.Limits.{Limits}
 use Rattle.grammar.specs.Grammar.{Terminal, Rule, Grammar, IsRule, rule, WellFormed}
-use Rattle.grammar.specs.Live.{Live, is_live}
+use Rattle.grammar.specs.Live.{is_live}
 use Rattle.grammar.proofs.Live.{is_live_lem}
 use Rattle.grammar.proofs.Derives.{rule-listed}
 use Rattle.automaton.specs.Items.{length_of}
 use Rattle.automaton.specs.Moves.{Regular}
-use Rattle.automaton.specs.Callers.{Spot, first, last, spot, Place, Calls, SpotOpens, spot-start, spot-opens, SpotCloses, spot-ends, spot-closes, SpotShifts, spot-shifts}
-use Rattle.automaton.specs.Callers.{same_items, place_of, code_at, chains, chains_of, spots, number_of}
+use Rattle.automaton.specs.Callers.{Spot, first, last, spot, SpotOpens, spot-start, spot-opens, SpotCloses, spot-ends, spot-closes}
+use Rattle.automaton.specs.Callers.{same_items, place_of, code_at, spots, number_of}
 use Rattle.automaton.specs.CallerMoves.{spot_ahead, spot_after, live_rules, spot_openings, returns, spot_closings, moves_at}
 use Rattle.automaton.proofs.Callers.{calls, none_above}
-use Rattle.triple_laws.proofs.Members.{no_element, only_one, one_only, place_mem, mem_either, under-test, of_map}
+use Rattle.triple_laws.proofs.Members.{no_element, only_one, place_mem, under-test, of_map}
 use Rattle.triple_laws.proofs.Members.{distinct_one, distinct_append, distinct_when, distinct_image, distinct_map}
 use Rattle.triple_laws.proofs.Rows.{Run, run-rules}
 use Rattle.triple_laws.proofs.Callers.{place_out, place_in, left-code, chains_exact}
-use Rattle.triple_laws.proofs.Spots.{place_mem_below, place-of-at, spots_distinct, one_number, same-rule, same-dot, same_chain}
+use Rattle.triple_laws.proofs.Spots.{place_mem_below, place-of-at, spots_distinct, same-rule, same-dot, same_chain}
 use Rattle.triple_laws.proofs.CallerMoves.{past_end, any, rules-out, live-chains, state, from-state, same-state, opens-from, closes-from, Returns, returns-out, after_is, number_last, last-state}
 use Rattle.triple_laws.proofs.CallerOrder.{later_number}
 

@@ -14,8 +14,8 @@ use Rattle.grammar.proofs.Answers.{no_bool}
 use Rattle.grammar.proofs.Plain.{mem_cases}
 use Rattle.automaton.specs.Items.{states, length_of, base}
 use Rattle.automaton.proofs.Items.{base-end}
-use Rattle.automaton.specs.Callers.{Spot, first, last, spot, up_to, items_from, same_spot, place_of, items, chains_of, spots, number_of}
-use Rattle.triple_laws.proofs.Members.{no_element, only_one, one_only, mem_left, mem_right, mem_either, of-each, of_map}
+use Rattle.automaton.specs.Callers.{Spot, spot, up_to, items_from, same_spot, place_of, items, spots, number_of}
+use Rattle.triple_laws.proofs.Members.{no_element, only_one, of-each, of_map}
 use Rattle.triple_laws.proofs.Rows.{Run, run-zero, base-next, length_as}
 use Rattle.triple_laws.proofs.Callers.{upto_in, upto-out}
 use Rattle.triple_laws.proofs.Spots.{spot-same, spot_self}

@@ -1,9 +1,5 @@
 -- eight_bytes meets its contract: twice four bytes side by side.
-use borrow.Author.Rules.{rules}
 use Rattle.bits.proofs.WindowLaws.{word-join}
-use Rattle.bits.proofs.eight_bytes.Reads as reads
-use Rattle.bits.proofs.eight_bytes.Lts as lts
-use Rattle.bits.proofs.four_bytes.Reads as four-bytes-reads
 use Rattle.bits.proofs.eight_bytes.Goals as goal
 
 pub returns : goal.returns

@@ -1,9 +1,5 @@
 -- four_bytes meets its contract: twice two bytes side by side.
-use borrow.Author.Rules.{rules}
 use Rattle.bits.proofs.WindowLaws.{word-join}
-use Rattle.bits.proofs.four_bytes.Reads as reads
-use Rattle.bits.proofs.four_bytes.Lts as lts
-use Rattle.bits.proofs.two_bytes.Reads as two-bytes-reads
 use Rattle.bits.proofs.four_bytes.Goals as goal
 
 pub returns : goal.returns

@@ -2,8 +2,6 @@
 use native.Mathlib.Omega.{arith}
 use lib.Count.{trailing_le}
 use Rattle.bits.proofs.WindowLaws.{lowest-one}
-use Rattle.bits.proofs.lowest_one.Reads as reads
-use Rattle.bits.proofs.lowest_one.Lts as lts
 use Rattle.bits.proofs.lowest_one.Goals as goal
 
 pub overflow_cast-result : goal.overflow_cast-result

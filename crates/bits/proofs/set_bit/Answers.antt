@@ -1,5 +1,4 @@
 -- set_bit meets its contract: 1 shifted by c is 2 ^ c.
-use borrow.Author.Rules.{rules}
 use native.Mathlib.Omega.{arith}
 use Prim.Native.Nat.{ℕ, ◌/◌, ◌%◌}
 use mathlib.Core.Path.{ap}
@@ -7,8 +6,6 @@ use lib.Bits.{bit_or}
 use lib.ListN.{get_or, set}
 use Rattle.bits.specs.Bits.{with_bit}
 use Rattle.bits.proofs.Laws.{mask_bit}
-use Rattle.bits.proofs.set_bit.Reads as reads
-use Rattle.bits.proofs.set_bit.Lts as lts
 use Rattle.bits.proofs.set_bit.Goals as goal
 
 pub returns : goal.returns

@@ -1,13 +1,7 @@
 -- skip_zeros meets its contract: every bit before the byte looked at is clear.
-use borrow.Author.Rules.{rules}
 use native.Mathlib.Omega.{arith}
 use Prim.Native.Nat.{◌-◌}
-use lib.ListN.{length}
-use Rattle.bits.specs.Windows.{ClearTo}
 use Rattle.bits.proofs.WindowLaws.{clear-start, clear_eight}
-use Rattle.bits.proofs.skip_zeros.Reads as reads
-use Rattle.bits.proofs.skip_zeros.Lts as lts
-use Rattle.bits.proofs.eight_bytes.Reads as eight-bytes-reads
 use Rattle.bits.proofs.skip_zeros.Goals as goal
 
 pub loop-b-init : goal.loop-b-init

@@ -1,11 +1,6 @@
-use native.Mathlib.Omega.{arith}
 use Prim.Native.Nat.{◌-◌}
 use lib.ListN.{length}
 use Rattle.bits.specs.Windows.{ClearTo}
-use Rattle.bits.proofs.WindowLaws.{clear-start, clear_eight}
-use Rattle.bits.proofs.skip_zeros.Reads as reads
-use Rattle.bits.proofs.skip_zeros.Lts as lts
-use Rattle.bits.proofs.eight_bytes.Reads as eight-bytes-reads
 use Rattle.bits.proofs.skip_zeros.Given as goal
 
 abbrev pub invariant-loop-b : goal.invariant-loop-b

@@ -1,10 +1,6 @@
 -- two_bytes meets its contract: two bytes side by side.
-use borrow.Author.Rules.{rules}
 use Prim.Native.Nat.{◌+◌}
 use Rattle.bits.proofs.WindowLaws.{word-one, word-join}
-use Rattle.bits.proofs.two_bytes.Reads as reads
-use Rattle.bits.proofs.two_bytes.Lts as lts
-use Rattle.bits.proofs.wide.Reads as wide-reads
 use Rattle.bits.proofs.two_bytes.Goals as goal
 
 pub returns : goal.returns

@@ -1,5 +1,4 @@
 -- wide_window meets its contract: the bytes without the bits below i.
-use borrow.Author.Rules.{rules}
 use native.Mathlib.Omega.{arith}
 use Prim.Native.Nat.{◌-◌}
 use lib.ListN.{length}

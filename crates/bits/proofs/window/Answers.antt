@@ -1,12 +1,7 @@
 -- window meets its contract: the bytes without the bits below i.
-use borrow.Author.Rules.{rules}
 use Prim.Native.Nat.{◌/◌}
 use lib.ListN.{length}
 use Rattle.bits.proofs.WindowLaws.{word-one, window_eight, window_one}
-use Rattle.bits.proofs.window.Reads as reads
-use Rattle.bits.proofs.window.Lts as lts
-use Rattle.bits.proofs.eight_bytes.Reads as eight-bytes-reads
-use Rattle.bits.proofs.wide.Reads as wide-reads
 use Rattle.bits.proofs.window.Goals as goal
 
 pub returns-then-b-bytes : goal.returns-then-b-bytes

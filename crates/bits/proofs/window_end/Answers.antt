@@ -1,8 +1,5 @@
 -- window_end meets its contract: the two returns are the two cases.
-use borrow.Author.Rules.{rules}
 use borrow.Author.Tests.{le-leb, lt-leb}
-use Rattle.bits.proofs.window_end.Reads as reads
-use Rattle.bits.proofs.window_end.Lts as lts
 use Rattle.bits.proofs.window_end.Goals as goal
 
 pub returns-then-i-bytes : goal.returns-then-i-bytes

@@ -1,13 +1,10 @@
 -- add_levels meets its contract: a turn adds one level, which stands as the one below did.
 use native.Mathlib.Omega.{arith}
-use Prim.Native.Nat.{ℕ, suc, ◌-◌, ◌≤◌}
+use Prim.Native.Nat.{ℕ, ◌-◌}
 use mathlib.Core.Path.{◌≡◌, ◌∙◌}
-use Rattle.grammar.specs.Grammar.{Grammar}
 use Rattle.moves.proofs.Built.{columns_of}
-use Rattle.caller_rows.specs.Levels.{written_from, Sizable, Level, Stands}
 use Rattle.caller_rows.proofs.AddLaws.{record_of_lem, level_zero}
 use Rattle.caller_rows.proofs.BuiltLaws.{too_many, next-at, next-stands}
-use borrow.Author.Rules.{rules}
 use Rattle.caller_rows.proofs.add_levels.Goals as goal
 
 pub loop-l-init : goal.loop-l-init

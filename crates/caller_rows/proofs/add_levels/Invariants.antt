@@ -1,11 +1,7 @@
-use native.Mathlib.Omega.{arith}
 use Prim.Native.Nat.{ℕ, suc, ◌-◌, ◌≤◌}
-use mathlib.Core.Path.{◌≡◌, ◌∙◌}
+use mathlib.Core.Path.{◌≡◌}
 use Rattle.grammar.specs.Grammar.{Grammar}
-use Rattle.moves.proofs.Built.{columns_of}
 use Rattle.caller_rows.specs.Levels.{written_from, Sizable, Level, Stands}
-use Rattle.caller_rows.proofs.AddLaws.{record_of_lem, level_zero}
-use Rattle.caller_rows.proofs.BuiltLaws.{too_many, next-at, next-stands}
 use Rattle.caller_rows.proofs.add_levels.Given as goal
 
 abbrev pub invariant-loop-l : goal.invariant-loop-l

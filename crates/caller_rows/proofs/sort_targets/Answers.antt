@@ -1,5 +1,4 @@
 -- sort_targets meets its contract: it sorts the first states, by classes that are below the last.
-use borrow.Author.Rules.{rules}
 use native.Mathlib.Omega.{arith}
 use Prim.Native.Nat.{ℕ, ◌+◌, ◌*◌}
 use mathlib.Core.Path.{◌≡◌, sym, subst}

@@ -1,7 +1,6 @@
 -- code_at meets its contract: past the last code there is 0.
 use mathlib.Core.Path.{sym}
 use Rattle.caller_rule.proofs.WroteLaws.{past_end}
-use borrow.Author.Rules.{rules}
 use Rattle.caller_rule.proofs.code_at.Goals as goal
 
 pub returns : goal.returns

@@ -1,7 +1,6 @@
 -- code_before meets its contract: the code one dot earlier.
 use mathlib.Core.Path.{◌∙◌}
 use Rattle.caller_rule.proofs.RuleLaws.{before-code}
-use borrow.Author.Rules.{rules}
 use Rattle.caller_rule.proofs.code_before.Goals as goal
 
 pub returns : goal.returns

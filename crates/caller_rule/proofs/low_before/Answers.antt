@@ -1,7 +1,6 @@
 -- low_before meets its contract: there is a number earlier.
 use native.Mathlib.Omega.{arith}
 use Rattle.caller_rule.proofs.RuleLaws.{before-low}
-use borrow.Author.Rules.{rules}
 use Rattle.caller_rule.proofs.low_before.Goals as goal
 
 pub overflow_sub-result : goal.overflow_sub-result

@@ -1,5 +1,4 @@
 -- member_class meets its contract: the two tests choose.
-use borrow.Author.Rules.{rules}
 use borrow.Author.Tests.{le-leb, lt-leb}
 use Rattle.caller_rule.proofs.member_class.Goals as goal
 

@@ -1,5 +1,4 @@
 -- target_class meets its contract: the two tests choose.
-use borrow.Author.Rules.{rules}
 use borrow.Author.Tests.{le-leb, lt-leb}
 use Rattle.caller_rule.proofs.target_class.Goals as goal
 

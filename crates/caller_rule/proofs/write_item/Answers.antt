@@ -1,9 +1,8 @@
 -- write_item meets its contract: a turn writes one entry of each row.
-use Prim.Native.Nat.{ℕ, ◌+◌, ◌-◌, ◌≤◌, ◌<◌}
+use Prim.Native.Nat.{ℕ, ◌+◌, ◌-◌, ◌<◌}
 use mathlib.Core.Path.{◌≡◌, refl, ap, subst, ◌∙◌}
 use native.Mathlib.Omega.{arith}
 use lib.ListN.{length, get_or}
-use borrow.Author.Rules.{rules}
 use Rattle.grammar.specs.Limits.{limits}
 use Rattle.caller_rule.specs.RuleRows.{member_class, target_class, six, ItemWritten}
 use Rattle.caller_rule.proofs.WroteLaws.{wrote_none, wrote-next}

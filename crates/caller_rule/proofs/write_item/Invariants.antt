@@ -1,10 +1,7 @@
-use Prim.Native.Nat.{ℕ, ◌+◌, ◌-◌, ◌≤◌, ◌<◌}
-use mathlib.Core.Path.{◌≡◌, refl, ap, subst, ◌∙◌}
-use native.Mathlib.Omega.{arith}
-use lib.ListN.{length, get_or}
-use Rattle.grammar.specs.Limits.{limits}
-use Rattle.caller_rule.specs.RuleRows.{member_class, target_class, six, ItemWritten}
-use Rattle.caller_rule.proofs.WroteLaws.{wrote_none, wrote-next}
+use Prim.Native.Nat.{ℕ, ◌-◌, ◌≤◌}
+use mathlib.Core.Path.{◌≡◌}
+use lib.ListN.{length}
+use Rattle.caller_rule.specs.RuleRows.{six, ItemWritten}
 use Rattle.caller_rule.proofs.write_item.Given as goal
 
 abbrev pub invariant-loop-r : goal.invariant-loop-r

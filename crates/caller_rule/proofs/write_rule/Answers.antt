@@ -1,12 +1,11 @@
 -- write_rule meets its contract: a turn writes the states of one dot.
 use native.Mathlib.Omega.{arith}
-use Prim.Native.Nat.{ℕ, ◌+◌, ◌-◌, ◌*◌, ◌≤◌}
+use Prim.Native.Nat.{ℕ, ◌+◌, ◌-◌, ◌≤◌}
 use mathlib.Core.Path.{◌≡◌, refl, ap, subst}
 use lib.ListN.{length}
 use Rattle.caller_rule.specs.RuleRows.{six, RuleWritten}
 use Rattle.caller_rule.proofs.RuleLaws.{step_less, rule-none, rule-small, rule-room, rule-place, rule-low, rule-wide, rule-next}
 use lib.Dec.{eqb}
-use borrow.Author.Rules.{rules}
 use Rattle.caller_rule.proofs.write_rule.Goals as goal
 use Rattle.caller_rule.proofs.write_rule.Lts as lts
 use Rattle.caller_rule.proofs.write_rule.Reads as reads

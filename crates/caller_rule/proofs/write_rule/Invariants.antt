@@ -1,10 +1,7 @@
-use native.Mathlib.Omega.{arith}
 use Prim.Native.Nat.{ℕ, ◌+◌, ◌-◌, ◌*◌, ◌≤◌}
-use mathlib.Core.Path.{◌≡◌, refl, ap, subst}
+use mathlib.Core.Path.{◌≡◌}
 use lib.ListN.{length}
 use Rattle.caller_rule.specs.RuleRows.{six, RuleWritten}
-use Rattle.caller_rule.proofs.RuleLaws.{step_less, rule-none, rule-small, rule-room, rule-place, rule-low, rule-wide, rule-next}
-use lib.Dec.{eqb}
 use Rattle.caller_rule.proofs.write_rule.Given as goal
 
 abbrev pub invariant-loop-d : goal.invariant-loop-d

@@ -3,7 +3,6 @@ use native.Mathlib.Omega.{arith}
 use mathlib.Core.Bool.{true}
 use mathlib.Core.Path.{◌≡◌, sym, ◌∙◌}
 use Prim.Native.Nat.{◌*◌, ◌≤◌, ◌<◌}
-use borrow.Author.Tests.{not-true, not-false}
 use Rattle.plans.specs.Clauses.{most_square}
 use Rattle.triples.specs.Index.{index, triple_count}
 use Rattle.triples.specs.Certificate.{byte_count, is_set}

@@ -1,6 +1,5 @@
 -- cell meets its contract: the products stay small.
 use native.Mathlib.Omega.{arith}
-use borrow.Author.Rules.{rules}
 use Rattle.counts.proofs.Laws.{few-cells}
 use Rattle.chart.proofs.Cells.{few_runs}
 use Rattle.chart.proofs.cell.Goals as goal

@@ -3,7 +3,6 @@ use Prim.Native.Nat.{◌+◌, ◌-◌}
 use mathlib.Core.Path.{refl, ap, ◌∙◌}
 use native.Mathlib.Omega.{arith}
 use lib.ListN.{length, get_or}
-use borrow.Author.Rules.{rules}
 use Rattle.tree_laws.specs.Chart.{cap}
 use Rattle.chart.proofs.MadeLaws.{plane_in, home_in, span_of, made-leaf, made-node}
 use Rattle.chart.proofs.made.Goals as goal

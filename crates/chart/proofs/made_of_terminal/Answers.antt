@@ -5,7 +5,6 @@ use native.Mathlib.Omega.{arith}
 use native.Mathlib.Nat.{add-zero}
 use lib.ListN.{length, get_or}
 use borrow.Author.Tests.{lt-ltb, le-ltb, eq-eqb, ne_eqb}
-use borrow.Author.Rules.{rules}
 use Rattle.tree_laws.specs.Chart.{cap}
 use Rattle.chart.proofs.Cells.{cell_fits, few_runs}
 use Rattle.chart.proofs.made_of_terminal.Goals as goal

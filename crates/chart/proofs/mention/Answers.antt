@@ -1,10 +1,9 @@
 -- mention meets its contract: the links lead through all states before the nonterminal.
 use Prim.Native.Nat.{◌+◌, ◌/◌, ◌<◌}
-use mathlib.Core.Path.{◌≡◌, refl, subst, ◌∙◌}
+use mathlib.Core.Path.{refl, subst, ◌∙◌}
 use native.Mathlib.Omega.{arith}
-use lib.ListN.{length, get_or, length-set}
-use borrow.Author.Rules.{rules}
-use Rattle.chart.specs.Rows.{Mentioning, Flagged, block, Covered}
+use lib.ListN.{get_or, length-set}
+use Rattle.chart.specs.Rows.{Flagged, block}
 use Rattle.chart.proofs.Links.{mention_start, mention_turn, mention_end}
 use Rattle.chart.proofs.Covers.{cover_set}
 use Rattle.chart.proofs.mention.Goals as goal

@@ -1,10 +1,6 @@
-use Prim.Native.Nat.{◌+◌, ◌/◌, ◌<◌}
-use mathlib.Core.Path.{◌≡◌, refl, subst, ◌∙◌}
-use native.Mathlib.Omega.{arith}
-use lib.ListN.{length, get_or, length-set}
-use Rattle.chart.specs.Rows.{Mentioning, Flagged, block, Covered}
-use Rattle.chart.proofs.Links.{mention_start, mention_turn, mention_end}
-use Rattle.chart.proofs.Covers.{cover_set}
+use mathlib.Core.Path.{◌≡◌}
+use lib.ListN.{length}
+use Rattle.chart.specs.Rows.{Mentioning, Covered}
 use Rattle.chart.proofs.mention.Given as goal
 
 abbrev pub invariant-loop-p : goal.invariant-loop-p

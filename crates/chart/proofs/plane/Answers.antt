@@ -1,7 +1,6 @@
 -- plane meets its contract: an end has the plane of state 3.
 use mathlib.Core.Path.{refl}
 use borrow.Author.Tests.{eq-eqb, ne_eqb}
-use borrow.Author.Rules.{rules}
 use Rattle.chart.specs.Rows.{plane_of}
 use Rattle.chart.proofs.plane.Goals as goal
 

@@ -1,9 +1,6 @@
 -- below meets its contract: a flag after the other is passed.
-use Prim.Native.Nat.{ℕ, ◌≤◌, ◌<◌}
-use mathlib.Core.Path.{◌≡◌}
+use Prim.Native.Nat.{ℕ}
 use native.Mathlib.Omega.{arith}
-use lib.ListN.{get_or}
-use borrow.Author.Rules.{rules}
 use Rattle.chart_fill.proofs.Laws.{clear_more}
 use Rattle.chart_fill.proofs.below.Goals as goal
 

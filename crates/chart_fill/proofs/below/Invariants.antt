@@ -1,8 +1,6 @@
 use Prim.Native.Nat.{ℕ, ◌≤◌, ◌<◌}
 use mathlib.Core.Path.{◌≡◌}
-use native.Mathlib.Omega.{arith}
 use lib.ListN.{get_or}
-use Rattle.chart_fill.proofs.Laws.{clear_more}
 use Rattle.chart_fill.proofs.below.Given as goal
 
 abbrev pub invariant-loop-p : goal.invariant-loop-p

@@ -1,13 +1,8 @@
 -- column meets its contract: span after span.
-use Prim.Native.Nat.{suc, ◌+◌, ◌-◌, ◌≤◌}
+use Prim.Native.Nat.{suc, ◌+◌, ◌-◌}
 use mathlib.Core.Path.{◌≡◌, refl, subst, ◌∙◌}
 use native.Mathlib.Omega.{arith}
-use lib.ListN.{length}
-use borrow.Author.Rules.{rules}
-use Rattle.grammar.specs.Limits.{limits}
-use Rattle.grammar.specs.Grammar.{Grammar}
-use Rattle.tree_laws.specs.Chart.{Places}
-use Rattle.chart.specs.Filling.{Sheet, Filled}
+use Rattle.chart.specs.Filling.{Filled}
 use Rattle.chart.proofs.MadeLaws.{span_at}
 use Rattle.chart_fill.proofs.column.Goals as goal
 

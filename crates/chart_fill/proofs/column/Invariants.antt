@@ -1,12 +1,10 @@
 use Prim.Native.Nat.{suc, ◌+◌, ◌-◌, ◌≤◌}
-use mathlib.Core.Path.{◌≡◌, refl, subst, ◌∙◌}
-use native.Mathlib.Omega.{arith}
+use mathlib.Core.Path.{◌≡◌}
 use lib.ListN.{length}
 use Rattle.grammar.specs.Limits.{limits}
 use Rattle.grammar.specs.Grammar.{Grammar}
 use Rattle.tree_laws.specs.Chart.{Places}
 use Rattle.chart.specs.Filling.{Sheet, Filled}
-use Rattle.chart.proofs.MadeLaws.{span_at}
 use Rattle.chart_fill.proofs.column.Given as goal
 
 abbrev pub invariant-loop-i : goal.invariant-loop-i

@@ -1,10 +1,8 @@
 -- ends meets its contract: a state after the other is marked.
-use Prim.Native.Nat.{ℕ, ◌-◌, ◌≤◌, ◌<◌}
-use mathlib.Core.Path.{◌≡◌, refl, ◌∙◌}
+use Prim.Native.Nat.{ℕ, ◌-◌}
+use mathlib.Core.Path.{refl, ◌∙◌}
 use native.Mathlib.Omega.{arith}
-use lib.ListN.{length, get_or, length-set}
-use borrow.Author.Rules.{rules}
-use Rattle.grammar.specs.Limits.{limits}
+use lib.ListN.{length-set}
 use Rattle.chart_fill.proofs.Laws.{mark-more}
 use Rattle.chart_fill.proofs.ends.Goals as goal
 

@@ -1,9 +1,7 @@
 use Prim.Native.Nat.{ℕ, ◌-◌, ◌≤◌, ◌<◌}
-use mathlib.Core.Path.{◌≡◌, refl, ◌∙◌}
-use native.Mathlib.Omega.{arith}
-use lib.ListN.{length, get_or, length-set}
+use mathlib.Core.Path.{◌≡◌}
+use lib.ListN.{length, get_or}
 use Rattle.grammar.specs.Limits.{limits}
-use Rattle.chart_fill.proofs.Laws.{mark-more}
 use Rattle.chart_fill.proofs.ends.Given as goal
 
 abbrev pub invariant-loop-p : goal.invariant-loop-p

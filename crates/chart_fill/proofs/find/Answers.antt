@@ -1,11 +1,9 @@
 -- find meets its contract: block after block is passed, from the last.
-use Prim.Native.Nat.{◌-◌, ◌*◌, ◌/◌, ◌≤◌}
-use mathlib.Core.Path.{◌≡◌, refl, ◌∙◌}
+use Prim.Native.Nat.{◌-◌, ◌*◌, ◌/◌}
+use mathlib.Core.Path.{refl, ◌∙◌}
 use native.Mathlib.Omega.{arith}
-use lib.ListN.{length, length-set}
-use borrow.Author.Rules.{rules}
+use lib.ListN.{length-set}
 use Rattle.chart.specs.Rows.{block}
-use Rattle.chart_fill.specs.Scan.{Finds}
 use Rattle.chart_fill.proofs.Laws.{clear_from, block-passed, block-cleared}
 use Rattle.chart_fill.proofs.find.Goals as goal
 

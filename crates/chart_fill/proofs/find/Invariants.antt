@@ -1,10 +1,7 @@
-use Prim.Native.Nat.{◌-◌, ◌*◌, ◌/◌, ◌≤◌}
-use mathlib.Core.Path.{◌≡◌, refl, ◌∙◌}
-use native.Mathlib.Omega.{arith}
-use lib.ListN.{length, length-set}
-use Rattle.chart.specs.Rows.{block}
+use Prim.Native.Nat.{◌-◌, ◌≤◌}
+use mathlib.Core.Path.{◌≡◌}
+use lib.ListN.{length}
 use Rattle.chart_fill.specs.Scan.{Finds}
-use Rattle.chart_fill.proofs.Laws.{clear_from, block-passed, block-cleared}
 use Rattle.chart_fill.proofs.find.Given as goal
 
 abbrev pub invariant-loop-p : goal.invariant-loop-p

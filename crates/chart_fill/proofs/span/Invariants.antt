@@ -1,14 +1,11 @@
 use Prim.Native.Nat.{suc, ◌+◌, ◌-◌, ◌*◌, ◌/◌, ◌≤◌}
-use mathlib.Core.Path.{◌≡◌, refl, sym, subst, ◌∙◌}
-use native.Mathlib.Omega.{arith}
+use mathlib.Core.Path.{◌≡◌}
 use lib.ListN.{length}
 use Rattle.grammar.specs.Limits.{limits}
 use Rattle.grammar.specs.Grammar.{Grammar}
 use Rattle.tree_laws.specs.Chart.{Places}
 use Rattle.chart.specs.Rows.{slack, block, Covered}
 use Rattle.chart.specs.Filling.{Sheet, Filled, Working}
-use Rattle.chart.proofs.MadeLaws.{span_at}
-use Rattle.chart_fill.proofs.Laws.{span_start, span_down, span_end, all_covered}
 use Rattle.chart_fill.proofs.span.Given as goal
 
 abbrev pub invariant-loop-q : goal.invariant-loop-q

@@ -1,5 +1,4 @@
 -- house meets its contract: one entry is written, or none.
-use borrow.Author.Rules.{rules}
 use mathlib.Core.Path.{refl, ap}
 use native.Mathlib.Omega.{arith}
 use lib.ListN.{set}

@@ -1,5 +1,4 @@
 -- lead_of meets its contract: each return is one case of the definition.
-use borrow.Author.Rules.{rules}
 use mathlib.Core.Path.{refl}
 use borrow.Author.Tests.{le-leb, lt-leb, lt-ltb, le-ltb}
 use Rattle.chart_rows.specs.Wiring.{lead_of}

@@ -1,5 +1,4 @@
 -- link meets its contract: two entries are written, or none.
-use borrow.Author.Rules.{rules}
 use mathlib.Core.Path.{refl, ap}
 use native.Mathlib.Omega.{arith}
 use lib.ListN.{get_or, set}

@@ -1,11 +1,10 @@
 -- wire meets its contract: before turn p the states below p have their leads, links and homes.
-use borrow.Author.Rules.{rules}
 use native.Mathlib.Omega.{arith}
 use mathlib.Core.Path.{◌≡◌, refl, subst, ◌∙◌}
 use Prim.Native.Nat.{◌-◌, ◌<◌}
 use lib.ListN.{length-set}
 use Rattle.chart_rows.specs.Wiring.{Leads, Links, Homes}
-use Rattle.chart_rows.proofs.Turns.{WiredTo, leads_more, links-start, links-turn, homes_start, homes_turn}
+use Rattle.chart_rows.proofs.Turns.{leads_more, links-start, links-turn, homes_start, homes_turn}
 use Rattle.chart_rows.proofs.wire.Goals as goal
 
 pub loop-p-init : goal.loop-p-init

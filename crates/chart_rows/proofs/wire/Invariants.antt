@@ -1,9 +1,5 @@
-use native.Mathlib.Omega.{arith}
-use mathlib.Core.Path.{◌≡◌, refl, subst, ◌∙◌}
-use Prim.Native.Nat.{◌-◌, ◌<◌}
-use lib.ListN.{length-set}
-use Rattle.chart_rows.specs.Wiring.{Leads, Links, Homes}
-use Rattle.chart_rows.proofs.Turns.{WiredTo, leads_more, links-start, links-turn, homes_start, homes_turn}
+use Prim.Native.Nat.{◌-◌}
+use Rattle.chart_rows.proofs.Turns.{WiredTo}
 use Rattle.chart_rows.proofs.wire.Given as goal
 
 abbrev pub invariant-loop-p : goal.invariant-loop-p

@@ -1,14 +1,7 @@
 -- sow meets its contract: rule by rule.
-use Prim.Native.Nat.{◌+◌, ◌-◌, ◌≤◌, ◌<◌}
-use mathlib.Core.Path.{◌≡◌, refl, ◌∙◌}
+use Prim.Native.Nat.{◌-◌, ◌<◌}
+use mathlib.Core.Path.{refl, ◌∙◌}
 use native.Mathlib.Omega.{arith}
-use lib.ListN.{length}
-use borrow.Author.Rules.{rules}
-use Rattle.grammar.specs.Limits.{limits}
-use Rattle.grammar.specs.Grammar.{Grammar}
-use Rattle.tree_laws.specs.Chart.{Places}
-use Rattle.chart.specs.Filling.{Sheet}
-use Rattle.chart_start.specs.Sown.{Columned, Sown}
 use Rattle.chart_start.proofs.SowLaws.{sown-start, sown-turn}
 use Rattle.chart_start.proofs.BegunLaws.{sown-begun}
 use Rattle.chart_start.proofs.sow.Goals as goal

@@ -1,14 +1,11 @@
-use Prim.Native.Nat.{◌+◌, ◌-◌, ◌≤◌, ◌<◌}
-use mathlib.Core.Path.{◌≡◌, refl, ◌∙◌}
-use native.Mathlib.Omega.{arith}
+use Prim.Native.Nat.{◌+◌, ◌-◌, ◌≤◌}
+use mathlib.Core.Path.{◌≡◌}
 use lib.ListN.{length}
 use Rattle.grammar.specs.Limits.{limits}
 use Rattle.grammar.specs.Grammar.{Grammar}
 use Rattle.tree_laws.specs.Chart.{Places}
 use Rattle.chart.specs.Filling.{Sheet}
 use Rattle.chart_start.specs.Sown.{Columned, Sown}
-use Rattle.chart_start.proofs.SowLaws.{sown-start, sown-turn}
-use Rattle.chart_start.proofs.BegunLaws.{sown-begun}
 use Rattle.chart_start.proofs.sow.Given as goal
 
 abbrev pub invariant-loop-r : goal.invariant-loop-r

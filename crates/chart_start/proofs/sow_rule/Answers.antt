@@ -1,7 +1,6 @@
 -- sow_rule meets its contract: only an empty rule is seen to.
 use mathlib.Core.Path.{subst}
 use native.Mathlib.Omega.{arith}
-use borrow.Author.Rules.{rules}
 use Rattle.chart.proofs.MadeLaws.{home_in}
 use Rattle.chart_start.specs.Sown.{Diagonal}
 use Rattle.chart_start.proofs.sow_rule.Goals as goal

@@ -1,12 +1,11 @@
 -- clear meets its contract: before turn i the first i entries are 0 and the others as they were.
-use borrow.Author.Rules.{rules}
 use mathlib.Core.Path.{◌≡◌, refl, ap, subst, ◌∙◌}
 use mathlib.Core.List.{List, ◌++◌}
-use Prim.Native.Nat.{ℕ, ◌-◌, ◌≤◌, zero-le}
+use Prim.Native.Nat.{ℕ, ◌-◌, zero-le}
 use native.Mathlib.Nat.{le_antisymm}
 use native.Mathlib.Numerals.{add-one-le}
 use native.Mathlib.Omega.{arith}
-use lib.ListN.{length, set, drop, replicate, length-set, length-replicate}
+use lib.ListN.{set, drop, replicate, length-set, length-replicate}
 use borrow.Author.Fill.{fill_more}
 use Rattle.clearing.proofs.Laws.{over_is}
 use Rattle.clearing.proofs.clear.Goals as goal

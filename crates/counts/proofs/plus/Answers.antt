@@ -1,7 +1,6 @@
 -- plus meets its contract: past 1 the sum is several.
 use mathlib.Core.Path.{sym}
 use native.Mathlib.Omega.{arith}
-use borrow.Author.Rules.{rules}
 use Rattle.tree_laws.proofs.Cap.{cap-same, cap_many}
 use Rattle.counts.proofs.plus.Goals as goal
 

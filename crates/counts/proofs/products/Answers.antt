@@ -1,10 +1,8 @@
 -- products meets its contract: what the sum and the rest of the rows give stays.
-use Prim.Native.Nat.{◌+◌, ◌-◌, ◌≤◌}
-use mathlib.Core.Path.{◌≡◌, ap}
+use Prim.Native.Nat.{◌-◌}
+use mathlib.Core.Path.{ap}
 use native.Mathlib.Omega.{arith}
 use native.Mathlib.Nat.{zero-add}
-use lib.ListN.{length, drop}
-use borrow.Author.Rules.{rules}
 use Rattle.tree_laws.specs.Chart.{cap}
 use Rattle.counts.specs.Counts.{dot}
 use Rattle.counts.proofs.Laws.{again, full, ended, small}

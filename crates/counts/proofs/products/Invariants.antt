@@ -1,11 +1,8 @@
 use Prim.Native.Nat.{◌+◌, ◌-◌, ◌≤◌}
-use mathlib.Core.Path.{◌≡◌, ap}
-use native.Mathlib.Omega.{arith}
-use native.Mathlib.Nat.{zero-add}
+use mathlib.Core.Path.{◌≡◌}
 use lib.ListN.{length, drop}
 use Rattle.tree_laws.specs.Chart.{cap}
 use Rattle.counts.specs.Counts.{dot}
-use Rattle.counts.proofs.Laws.{again, full, ended, small}
 use Rattle.counts.proofs.products.Given as goal
 
 abbrev pub invariant-loop-k : goal.invariant-loop-k

@@ -1,7 +1,6 @@
 -- ways meets its contract: the splits are the products of two parts of the row.
 use mathlib.Core.Path.{ap, ◌∙◌}
 use native.Mathlib.Omega.{arith}
-use borrow.Author.Rules.{rules}
 use Rattle.tree_laws.specs.Chart.{cap}
 use Rattle.counts.proofs.Laws.{parts_all, few-cells}
 use Rattle.counts.proofs.ways.Goals as goal

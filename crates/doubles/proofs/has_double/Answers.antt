@@ -1,10 +1,8 @@
 -- `doubles::has_double` meets its contract: what is left after a block has a name twice if all has. Assumes nothing.
-use borrow.Author.Rules.{rules}
 use native.Mathlib.Omega.{arith}
 use Prim.Native.Nat.{ℕ, ◌+◌, ◌-◌, ◌<◌}
 use mathlib.Core.Path.{◌≡◌, refl, ap, sym, ◌∙◌}
 use mathlib.Core.List.{List, ◌++◌}
-use lib.ListN.{length}
 use Rattle.text.specs.Names.{has_double}
 use Rattle.text.specs.Read.{names_of}
 use Rattle.names.proofs.Pieces.{names-none}

@@ -1,13 +1,10 @@
-use native.Mathlib.Omega.{arith}
-use Prim.Native.Nat.{ℕ, ◌+◌, ◌-◌, ◌<◌}
-use mathlib.Core.Path.{◌≡◌, refl, ap, sym, ◌∙◌}
-use mathlib.Core.List.{List, ◌++◌}
+use Prim.Native.Nat.{ℕ, ◌+◌, ◌-◌}
+use mathlib.Core.Path.{◌≡◌}
+use mathlib.Core.List.{◌++◌}
 use lib.ListN.{length}
 use Rattle.text.specs.Names.{has_double}
 use Rattle.text.specs.Read.{names_of}
-use Rattle.names.proofs.Pieces.{names-none}
 use Rattle.doubles.specs.Blocks.{names_from}
-use Rattle.doubles.proofs.Blocks.{names-past, names-all, told-twice, told-next, none_left}
 use Rattle.doubles.proofs.has_double.Given as goal
 
 abbrev pub invariant-loop-a : goal.invariant-loop-a

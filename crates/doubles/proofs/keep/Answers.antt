@@ -1,10 +1,8 @@
 -- `doubles::keep` meets its contract: the names kept, and those from the next place on, are all from place a on. Assumes nothing.
-use borrow.Author.Rules.{rules}
 use native.Mathlib.Omega.{arith}
-use Prim.Native.Nat.{◌+◌, ◌-◌, ◌≤◌}
-use mathlib.Core.Path.{◌≡◌, refl, ◌∙◌}
-use lib.ListN.{length, take, length-set}
-use Rattle.doubles.specs.Blocks.{Block}
+use Prim.Native.Nat.{◌-◌}
+use mathlib.Core.Path.{refl, ◌∙◌}
+use lib.ListN.{length-set}
 use Rattle.doubles.proofs.Blocks.{block_none, block_more}
 use Rattle.doubles.proofs.keep.Goals as goal
 

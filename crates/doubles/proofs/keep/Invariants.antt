@@ -1,9 +1,7 @@
-use native.Mathlib.Omega.{arith}
 use Prim.Native.Nat.{◌+◌, ◌-◌, ◌≤◌}
-use mathlib.Core.Path.{◌≡◌, refl, ◌∙◌}
-use lib.ListN.{length, take, length-set}
+use mathlib.Core.Path.{◌≡◌}
+use lib.ListN.{length, take}
 use Rattle.doubles.specs.Blocks.{Block}
-use Rattle.doubles.proofs.Blocks.{block_none, block_more}
 use Rattle.doubles.proofs.keep.Given as goal
 
 abbrev pub invariant-loop-k : goal.invariant-loop-k

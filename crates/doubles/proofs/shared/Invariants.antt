@@ -1,10 +1,8 @@
-use native.Mathlib.Omega.{arith}
 use Prim.Native.Nat.{◌+◌, ◌-◌}
-use mathlib.Core.Path.{◌≡◌, refl, sym, ◌∙◌}
+use mathlib.Core.Path.{◌≡◌}
 use lib.ListN.{length}
 use Rattle.text.specs.Spelled.{spelled}
 use Rattle.doubles.specs.Blocks.{meet, names_from}
-use Rattle.doubles.proofs.Blocks.{meet-found, meet-on, meet-past}
 use Rattle.doubles.proofs.shared.Given as goal
 
 abbrev pub invariant-loop-next : goal.invariant-loop-next

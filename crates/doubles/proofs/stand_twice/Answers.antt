@@ -1,5 +1,4 @@
 -- `doubles::stand_twice` meets its contract: where all names were planted, the lexicon has the block. Assumes nothing.
-use borrow.Author.Rules.{rules}
 use native.Mathlib.Omega.{arith}
 use Prim.Native.Nat.{ℕ}
 use mathlib.Core.Path.{◌≡◌, ap, sym, ◌∙◌}

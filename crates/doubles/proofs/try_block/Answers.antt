@@ -1,5 +1,4 @@
 -- `doubles::try_block` meets its contract: a name of the block stands twice, or the block does not count. Assumes nothing.
-use borrow.Author.Rules.{rules}
 use native.Mathlib.Omega.{arith}
 use Prim.Native.Nat.{ℕ, ◌≤◌}
 use mathlib.Core.Path.{sym, ◌∙◌}

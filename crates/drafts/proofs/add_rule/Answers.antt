@@ -1,6 +1,5 @@
 -- `drafts::add_rule` meets its contract: the rule is tried, then written past the last one.
 -- Assumes nothing.
-use borrow.Author.Rules.{rules}
 use Prim.Native.Nat.{◌-◌}
 use mathlib.Core.Path.{◌≡◌, sym, ◌∙◌}
 use Rattle.grammar.specs.Refusal.{done}
@@ -12,9 +11,6 @@ use Rattle.drafts.proofs.Adds.{Added, add_fault, add_done}
 use Rattle.drafts.proofs.Opens.{opened-told, shut-told, shut_steps, leaves_refused, leaves_done}
 use Rattle.drafts.proofs.add_rule.Reads as reads
 use Rattle.drafts.proofs.add_rule.Lts as lts
-use Rattle.drafts.proofs.adding.append.Reads as append-reads
-use Rattle.drafts.proofs.adding.try_rule.Reads as try-rule-reads
-use Rattle.drafts.proofs.reading.open_draft.Reads as open-draft-reads
 use Rattle.drafts.proofs.add_rule.Goals as goal
 use Rattle.drafts.proofs.add_rule.Lts as lts
 use Rattle.drafts.proofs.add_rule.Reads as reads

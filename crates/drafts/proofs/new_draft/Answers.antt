@@ -1,6 +1,5 @@
 -- `drafts::new_draft` meets its contract: the table check decides, then the row is begun.
 -- Assumes nothing.
-use borrow.Author.Rules.{rules}
 use Prim.Native.Nat.{◌-◌}
 use native.Mathlib.Omega.{arith}
 use Rattle.grammar.specs.TableCheck.{stored_table}
@@ -12,8 +11,6 @@ use Rattle.drafts.proofs.Begins.{Starts, starts, new-refused}
 use Rattle.drafts.proofs.Opens.{leaves_refused, leaves_done}
 use Rattle.drafts.proofs.new_draft.Reads as reads
 use Rattle.drafts.proofs.new_draft.Lts as lts
-use Rattle.drafts.proofs.edits.begin.Reads as begin-reads
-use Rattle.table_check.proofs.check_up_to.Reads as check-up-to-reads
 use Rattle.drafts.proofs.new_draft.Goals as goal
 use Rattle.drafts.proofs.new_draft.Lts as lts
 use Rattle.drafts.proofs.new_draft.Reads as reads

@@ -1,6 +1,5 @@
 -- `drafts::return_to_mark` meets its contract: the front of the mark's block is copied to block 0.
 -- Assumes nothing.
-use borrow.Author.Rules.{rules}
 use Prim.Native.Nat.{◌-◌}
 use mathlib.Core.Path.{◌≡◌, sym, ◌∙◌}
 use mathlib.Core.Logic.{inl, inr}
@@ -13,9 +12,6 @@ use Rattle.drafts.proofs.Opens.{opened-told, shut-told, shut_steps, leaves_refus
 use Rattle.drafts.proofs.Marks.{return_unknown, return-nothing, return-done, return_apart, open_holds}
 use Rattle.drafts.proofs.return_to_mark.Reads as reads
 use Rattle.drafts.proofs.return_to_mark.Lts as lts
-use Rattle.drafts.proofs.blocks.copy_within.Reads as copy-within-reads
-use Rattle.drafts.proofs.blocks.held.Reads as held_reads
-use Rattle.drafts.proofs.reading.open_draft.Reads as open-draft-reads
 use Rattle.drafts.proofs.return_to_mark.Goals as goal
 use Rattle.drafts.proofs.return_to_mark.Lts as lts
 use Rattle.drafts.proofs.return_to_mark.Reads as reads

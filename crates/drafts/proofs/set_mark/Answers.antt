@@ -1,6 +1,5 @@
 -- `drafts::set_mark` meets its contract: the front of block 0 is copied to the block of the mark.
 -- Assumes nothing.
-use borrow.Author.Rules.{rules}
 use Prim.Native.Nat.{◌-◌}
 use mathlib.Core.Path.{◌≡◌, sym, ◌∙◌}
 use mathlib.Core.Logic.{inl, inr}
@@ -13,8 +12,6 @@ use Rattle.drafts.proofs.Opens.{opened-told, shut-told, shut_steps, leaves_refus
 use Rattle.drafts.proofs.Marks.{mark_unknown, mark-done, mark_apart}
 use Rattle.drafts.proofs.set_mark.Reads as reads
 use Rattle.drafts.proofs.set_mark.Lts as lts
-use Rattle.drafts.proofs.blocks.copy_within.Reads as copy-within-reads
-use Rattle.drafts.proofs.reading.open_draft.Reads as open-draft-reads
 use Rattle.drafts.proofs.set_mark.Goals as goal
 use Rattle.drafts.proofs.set_mark.Lts as lts
 use Rattle.drafts.proofs.set_mark.Reads as reads

@@ -1,6 +1,5 @@
 -- `drafts::withdraw_rule` meets its contract: the walk leads to the rule, and the entries past it move down.
 -- Assumes nothing.
-use borrow.Author.Rules.{rules}
 use Prim.Native.Nat.{◌-◌, ◌≤◌, ◌<◌}
 use mathlib.Core.Path.{◌≡◌, sym, ◌∙◌}
 use mathlib.Core.Logic.{inl, inr}
@@ -15,10 +14,6 @@ use Rattle.drafts.proofs.Readouts.{table-room}
 use Rattle.drafts.proofs.Opens.{opened-told, shut-told, shut_steps, leaves_refused, leaves_done}
 use Rattle.drafts.proofs.withdraw_rule.Reads as reads
 use Rattle.drafts.proofs.withdraw_rule.Lts as lts
-use Rattle.drafts.proofs.blocks.wide.Reads as wide-reads
-use Rattle.drafts.proofs.edits.remove.Reads as remove-reads
-use Rattle.drafts.proofs.edits.rule_place.Reads as rule-place-reads
-use Rattle.drafts.proofs.reading.open_draft.Reads as open-draft-reads
 use Rattle.drafts.proofs.withdraw_rule.Goals as goal
 use Rattle.drafts.proofs.withdraw_rule.Lts as lts
 use Rattle.drafts.proofs.withdraw_rule.Reads as reads

@@ -1,23 +1,20 @@
 -- explore meets its contract: each turn takes up the index at the head, and what is found is never more than 2Q².
 use native.Mathlib.Omega.{arith}
-use Prim.Native.Nat.{ℕ, ◌-◌, ◌*◌, ◌≤◌, ◌<◌}
-use mathlib.Core.Path.{◌≡◌, refl, ap, sym, subst, subst₂, ◌∙◌}
+use Prim.Native.Nat.{ℕ, ◌-◌, ◌≤◌, ◌<◌}
+use mathlib.Core.Path.{◌≡◌, refl, ap, sym, subst₂, ◌∙◌}
 use mathlib.Core.List.{List}
-use lib.ListN.{length, set, length-map, length-set}
+use lib.ListN.{set, length-map, length-set}
 use Rattle.grammar.specs.Limits.{limits}
 use Rattle.triples.specs.Index.{triple_count}
 use Rattle.plans.specs.Plan.{Rows, rows}
 use Rattle.bits.specs.Bits.{with_bit}
 use Rattle.tops.specs.Tops.{low, tops, lows}
-use Rattle.explore.specs.State.{State, state, held, most_next, looked_in, Laid, Explored}
+use Rattle.explore.specs.State.{State, state, most_next, looked_in, Laid, Explored}
 use Rattle.explore.proofs.AddsLaws.{count_small}
 use Rattle.explore.proofs.FlagLaws.{entry-below}
 use Rattle.explore.proofs.ExploreLaws.{Turn, some-triples, turn-start, turn-next, turn_end, total-small, looked_fits, looked-none, looked-next}
 use Rattle.explore.proofs.explore.Reads as reads
 use Rattle.explore.proofs.explore.Lts as lts
-use Rattle.tops.proofs.mark.Reads as mark-reads
-use Rattle.plans.proofs.inverse_of.Reads as inverse-of-reads
-use Rattle.explore.proofs.take_up.take_up.Reads as take-up-reads
 use Rattle.explore.proofs.explore.Goals as goal
 use Rattle.explore.proofs.explore.Lts as lts
 use Rattle.explore.proofs.explore.Reads as reads

@@ -1,22 +1,11 @@
-use native.Mathlib.Omega.{arith}
-use Prim.Native.Nat.{ℕ, ◌-◌, ◌*◌, ◌≤◌, ◌<◌}
-use mathlib.Core.Path.{◌≡◌, refl, ap, sym, subst, subst₂, ◌∙◌}
-use mathlib.Core.List.{List}
-use lib.ListN.{length, set, length-map, length-set}
-use Rattle.grammar.specs.Limits.{limits}
+use Prim.Native.Nat.{ℕ, ◌-◌, ◌*◌, ◌≤◌}
+use mathlib.Core.Path.{◌≡◌}
+use lib.ListN.{length}
 use Rattle.triples.specs.Index.{triple_count}
-use Rattle.plans.specs.Plan.{Rows, rows}
-use Rattle.bits.specs.Bits.{with_bit}
-use Rattle.tops.specs.Tops.{low, tops, lows}
-use Rattle.explore.specs.State.{State, state, held, most_next, looked_in, Laid, Explored}
-use Rattle.explore.proofs.AddsLaws.{count_small}
-use Rattle.explore.proofs.FlagLaws.{entry-below}
-use Rattle.explore.proofs.ExploreLaws.{Turn, some-triples, turn-start, turn-next, turn_end, total-small, looked_fits, looked-none, looked-next}
-use Rattle.explore.proofs.explore.Reads as reads
-use Rattle.explore.proofs.explore.Lts as lts
-use Rattle.tops.proofs.mark.Reads as mark-reads
-use Rattle.plans.proofs.inverse_of.Reads as inverse-of-reads
-use Rattle.explore.proofs.take_up.take_up.Reads as take-up-reads
+use Rattle.plans.specs.Plan.{rows}
+use Rattle.tops.specs.Tops.{tops, lows}
+use Rattle.explore.specs.State.{held, most_next, looked_in}
+use Rattle.explore.proofs.ExploreLaws.{Turn}
 use Rattle.explore.proofs.explore.Given as goal
 
 abbrev pub invariant-loop-head : goal.invariant-loop-head

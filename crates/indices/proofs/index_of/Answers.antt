@@ -1,5 +1,4 @@
 -- index_of meets its contract: of at most so many states, a byte and two cells of 16 bits every product fits.
-use borrow.Author.Rules.{rules}
 use native.Mathlib.Omega.{arith}
 use native.Mathlib.Nat.{mul-le-mul}
 use Prim.Native.Nat.{ℕ, ◌*◌, ◌^◌, ◌≤◌, ◌<◌}

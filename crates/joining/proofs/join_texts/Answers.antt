@@ -1,9 +1,7 @@
 -- `joining::join_texts` meets its contract: a refusal leaves the table as it was; else the front of the row is copied. Assumes nothing.
-use borrow.Author.Rules.{rules}
 use native.Mathlib.Omega.{arith}
-use Prim.Native.Nat.{ℕ, ◌≤◌}
-use mathlib.Core.Path.{◌≡◌, sym, ap, ◌∙◌}
-use lib.ListN.{length}
+use Prim.Native.Nat.{ℕ}
+use mathlib.Core.Path.{sym}
 use lib.Seq.{length-take-le}
 use Rattle.joining.specs.Joins.{JoinedHeld}
 use Rattle.joining.specs.declared.ListSizes.{ListSizes}

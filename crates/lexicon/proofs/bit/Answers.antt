@@ -1,5 +1,4 @@
 -- `lexicon::bit` meets its contract: `>>` and `% 2` take the bit that `turn` asks for. Assumes nothing.
-use borrow.Author.Rules.{rules}
 use native.Mathlib.Omega.{arith}
 use Prim.Native.Nat.{ℕ, ◌-◌, ◌/◌, ◌%◌, ◌^◌}
 use mathlib.Core.Path.{sym, ap, ◌∙◌}

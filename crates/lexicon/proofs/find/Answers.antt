@@ -1,8 +1,7 @@
 -- `lexicon::find` meets its contract: no two names are the same, so the one that is met is the lowest. Assumes nothing.
-use borrow.Author.Rules.{rules}
 use native.Mathlib.Omega.{arith}
-use Prim.Native.Nat.{ℕ, ◌<◌}
-use mathlib.Core.Path.{◌≡◌, sym}
+use Prim.Native.Nat.{ℕ}
+use mathlib.Core.Path.{sym}
 use mathlib.Core.List.{List}
 use lib.ListN.{length}
 use Rattle.lexicon.specs.Tree.{name_of}

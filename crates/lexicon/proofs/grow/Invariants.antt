@@ -1,17 +1,11 @@
-use native.Mathlib.Omega.{arith}
-use Prim.Native.Nat.{ℕ, ◌+◌, ◌-◌, ◌≤◌, ◌<◌}
-use mathlib.Core.Path.{◌≡◌, refl, ap, sym, subst, ◌∙◌}
-use mathlib.Core.Bool.{Bool, true, false}
+use Prim.Native.Nat.{ℕ, ◌-◌, ◌≤◌, ◌<◌}
+use mathlib.Core.Path.{◌≡◌}
+use mathlib.Core.Bool.{false}
 use mathlib.Core.List.{List}
 use mathlib.Core.Logic.{⊎_elim}
-use borrow.Author.Tests.{eqb-true, eqb-false}
-use lib.Dec.{eqb}
-use lib.ListN.{length, length-set}
+use lib.ListN.{length}
 use Rattle.text.specs.Names.{same_name}
-use Rattle.lexicon.specs.Tree.{name_of, Grown, Gap}
-use Rattle.lexicon.proofs.Tree.{grow, told_same, told_free}
-use Rattle.lexicon.proofs.Numbers.{part_is, double_at}
-use Rattle.lexicon.proofs.Growth.{Begun, begun-root, begun-later}
+use Rattle.lexicon.specs.Tree.{name_of, Grown}
 use Rattle.lexicon.proofs.grow.Given as goal
 
 -- the first names are apart

@@ -1,10 +1,7 @@
 -- `lexicon::key_of` meets its contract: the key of the bytes before i, and those from i on, make that of all. Assumes nothing.
-use borrow.Author.Rules.{rules}
 use native.Mathlib.Omega.{arith}
-use Prim.Native.Nat.{◌-◌, ◌≤◌}
-use mathlib.Core.Path.{◌≡◌, sym, ◌∙◌}
-use lib.ListN.{length, drop}
-use Rattle.lexicon.specs.Tree.{folded_name, key_from, key_of}
+use Prim.Native.Nat.{◌-◌}
+use mathlib.Core.Path.{sym, ◌∙◌}
 use Rattle.lexicon.proofs.Tree.{key-start, key_more, key-end}
 use Rattle.lexicon.proofs.key_of.Goals as goal
 

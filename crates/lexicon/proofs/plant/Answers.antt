@@ -1,5 +1,4 @@
 -- `lexicon::plant` meets its contract: an empty tree has the names before number 0. Assumes nothing.
-use borrow.Author.Rules.{rules}
 use native.Mathlib.Omega.{arith}
 use Rattle.lexicon.proofs.plant.Goals as goal
 

@@ -1,5 +1,4 @@
 -- `lexicon::seek` meets its contract: each name that is x is still ahead, and links go to later names, so the search ends. Assumes nothing.
-use borrow.Author.Rules.{rules}
 use native.Mathlib.Omega.{arith}
 use Prim.Native.Nat.{ℕ, ◌≤◌, ◌<◌, ◌+◌, ◌-◌, ◌*◌}
 use mathlib.Core.Path.{◌≡◌, sym, ap, ◌∙◌}
@@ -8,7 +7,7 @@ use mathlib.Core.List.{List}
 use lib.ListN.{length, get_or}
 use Rattle.text.specs.Names.{same_name}
 use Rattle.lexicon.specs.Tree.{name_of}
-use Rattle.lexicon.proofs.Tree.{Still, Led, seek_start, seek_on, seek_gap}
+use Rattle.lexicon.proofs.Tree.{seek_start, seek_on, seek_gap}
 use Rattle.lexicon.proofs.Numbers.{compared}
 use Rattle.lexicon.proofs.seek.Goals as goal
 use Rattle.lexicon.proofs.seek.Lts as lts

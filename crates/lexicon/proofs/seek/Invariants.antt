@@ -1,13 +1,6 @@
-use native.Mathlib.Omega.{arith}
-use Prim.Native.Nat.{ℕ, ◌≤◌, ◌<◌, ◌+◌, ◌-◌, ◌*◌}
-use mathlib.Core.Path.{◌≡◌, sym, ap, ◌∙◌}
-use mathlib.Core.Bool.{Bool, true, false}
-use mathlib.Core.List.{List}
-use lib.ListN.{length, get_or}
-use Rattle.text.specs.Names.{same_name}
+use Prim.Native.Nat.{ℕ, ◌≤◌, ◌<◌, ◌-◌}
 use Rattle.lexicon.specs.Tree.{name_of}
-use Rattle.lexicon.proofs.Tree.{Still, Led, seek_start, seek_on, seek_gap}
-use Rattle.lexicon.proofs.Numbers.{compared}
+use Rattle.lexicon.proofs.Tree.{Still, Led}
 use Rattle.lexicon.proofs.seek.Given as goal
 
 abbrev pub invariant-loop-count : goal.invariant-loop-count

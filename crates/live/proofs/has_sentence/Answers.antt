@@ -1,5 +1,4 @@
 -- has_sentence meets its contract: the row is that of the nonterminals that have a tree.
-use borrow.Author.Rules.{rules}
 use mathlib.Core.Path.{refl}
 use Rattle.live.proofs.ColumnLaws.{held, columns_of, lent_record}
 use Rattle.live.proofs.LiveLaws.{sentence_is}

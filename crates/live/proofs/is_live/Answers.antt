@@ -1,10 +1,6 @@
 -- is_live_lem meets its contract: the tests are the definition's.
-use borrow.Author.Rules.{rules}
-use native.Mathlib.Omega.{arith}
-use borrow.Author.Tests.{not-true, not-false}
-use mathlib.Core.Path.{◌≡◌, refl, sym, ◌∙◌}
-use mathlib.Core.Bool.{false, ◌&&◌}
-use Rattle.live.specs.Marks.{bit}
+use mathlib.Core.Path.{refl, sym, ◌∙◌}
+use mathlib.Core.Bool.{false}
 use Rattle.grammar.proofs.Answers.{and_false}
 use Rattle.live.proofs.is_live.Goals as goal
 

@@ -1,5 +1,4 @@
 -- live_rules meets its contract: the rows are those of the productive and of the reached nonterminals.
-use borrow.Author.Rules.{rules}
 use mathlib.Core.Path.{refl}
 use Rattle.live.proofs.ColumnLaws.{held, columns_of, lent_record}
 use Rattle.live.proofs.LiveLaws.{answers_of}

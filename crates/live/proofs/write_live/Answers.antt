@@ -1,13 +1,12 @@
 -- write_live meets its contract: the entries of the rules before i are written, whose codes end before place u.
 use borrow.Author.Rules.{rules}
 use native.Mathlib.Omega.{arith}
-use Prim.Native.Nat.{ℕ, ◌+◌, ◌-◌, ◌≤◌, ◌<◌}
+use Prim.Native.Nat.{ℕ, ◌+◌, ◌-◌, ◌≤◌}
 use mathlib.Core.Path.{◌≡◌, refl, ap, sym, subst, ◌∙◌}
 use mathlib.Core.Bool.{◌&&◌}
-use mathlib.Core.List.{List}
-use lib.ListN.{length, get_or, take, drop, length-set}
+use lib.ListN.{length, take, drop, length-set}
 use Rattle.grammar.specs.Limits.{limits}
-use Rattle.live.specs.Marks.{Small, before, left_at, right_at, marked, all_marked, bit}
+use Rattle.live.specs.Marks.{Small, before, left_at, marked, all_marked, bit}
 use Rattle.live.proofs.PassLaws.{small-part, before-start, part_is, rule_fits, written-more}
 use Rattle.live.proofs.write_live.Goals as goal
 use Rattle.live.proofs.write_live.Invariants.{live_at}

@@ -1,12 +1,9 @@
-use native.Mathlib.Omega.{arith}
-use Prim.Native.Nat.{ℕ, ◌+◌, ◌-◌, ◌≤◌, ◌<◌}
-use mathlib.Core.Path.{◌≡◌, refl, ap, sym, subst, ◌∙◌}
+use Prim.Native.Nat.{ℕ, ◌-◌, ◌≤◌, ◌<◌}
+use mathlib.Core.Path.{◌≡◌}
 use mathlib.Core.Bool.{◌&&◌}
 use mathlib.Core.List.{List}
-use lib.ListN.{length, get_or, take, drop, length-set}
-use Rattle.grammar.specs.Limits.{limits}
-use Rattle.live.specs.Marks.{Small, before, left_at, right_at, marked, all_marked, bit}
-use Rattle.live.proofs.PassLaws.{small-part, before-start, part_is, rule_fits, written-more}
+use lib.ListN.{length, get_or}
+use Rattle.live.specs.Marks.{before, left_at, right_at, marked, all_marked, bit}
 use Rattle.live.proofs.write_live.Given as goal
 
 -- the entry of rule j

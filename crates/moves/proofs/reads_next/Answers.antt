@@ -1,5 +1,4 @@
 -- reads_next meets its contract: the code ahead is from 1 to t.
-use borrow.Author.Rules.{rules}
 use borrow.Author.Tests.{le-leb, lt-leb}
 use Rattle.moves.proofs.reads_next.Goals as goal
 

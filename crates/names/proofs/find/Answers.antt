@@ -1,10 +1,6 @@
 -- `names::find` meets its contract: the first c from the cursor on is the first from the start on. Assumes nothing.
-use borrow.Author.Rules.{rules}
 use native.Mathlib.Omega.{arith}
-use mathlib.Core.Path.{◌≡◌}
-use Prim.Native.Nat.{◌≤◌, ◌+◌, ◌-◌}
-use lib.ListN.{length, drop}
-use Rattle.names.specs.Found.{index}
+use Prim.Native.Nat.{◌-◌}
 use Rattle.names.proofs.Pieces.{index-hit, index_miss, index-end}
 use Rattle.names.proofs.find.Goals as goal
 

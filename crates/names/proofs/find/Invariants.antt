@@ -1,9 +1,7 @@
-use native.Mathlib.Omega.{arith}
 use mathlib.Core.Path.{◌≡◌}
 use Prim.Native.Nat.{◌≤◌, ◌+◌, ◌-◌}
 use lib.ListN.{length, drop}
 use Rattle.names.specs.Found.{index}
-use Rattle.names.proofs.Pieces.{index-hit, index_miss, index-end}
 use Rattle.names.proofs.find.Given as goal
 
 abbrev pub invariant-loop-i : goal.invariant-loop-i

@@ -1,10 +1,8 @@
 -- `names::is_name_lem` meets its contract: all bytes pass if those from the cursor on do. Assumes nothing.
-use borrow.Author.Rules.{rules}
 use native.Mathlib.Omega.{arith}
-use mathlib.Core.Path.{◌≡◌, sym, ◌∙◌}
-use Prim.Native.Nat.{◌≤◌, ◌-◌}
-use lib.ListN.{length, drop}
-use Rattle.text.specs.Names.{is_name_byte, all}
+use mathlib.Core.Path.{sym, ◌∙◌}
+use Prim.Native.Nat.{◌-◌}
+use Rattle.text.specs.Names.{is_name_byte}
 use Rattle.names.proofs.Pieces.{all_pass, all_fail, all_end}
 use Rattle.names.proofs.Names.{name-short, name-long, name-bytes}
 use Rattle.names.proofs.is_name.Goals as goal

@@ -1,10 +1,7 @@
-use native.Mathlib.Omega.{arith}
-use mathlib.Core.Path.{◌≡◌, sym, ◌∙◌}
+use mathlib.Core.Path.{◌≡◌}
 use Prim.Native.Nat.{◌≤◌, ◌-◌}
 use lib.ListN.{length, drop}
 use Rattle.text.specs.Names.{is_name_byte, all}
-use Rattle.names.proofs.Pieces.{all_pass, all_fail, all_end}
-use Rattle.names.proofs.Names.{name-short, name-long, name-bytes}
 use Rattle.names.proofs.is_name.Given as goal
 
 abbrev pub invariant-loop-i : goal.invariant-loop-i

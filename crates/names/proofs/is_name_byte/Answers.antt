@@ -1,5 +1,4 @@
 -- `names::is_name_byte` meets its contract: the four tests of `is_name_byte`, in its order. Assumes nothing.
-use borrow.Author.Rules.{rules}
 use mathlib.Core.Path.{sym, ◌∙◌}
 use Rattle.text.specs.Names.{is_name_byte}
 use Rattle.names.proofs.is_name_byte.Goals as goal

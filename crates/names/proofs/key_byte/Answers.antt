@@ -1,5 +1,4 @@
 -- `names::key_byte` meets its contract: the constant is the table of the definitions. Assumes nothing.
-use borrow.Author.Rules.{rules}
 use mathlib.Core.Path.{refl}
 use Rattle.text.specs.Keys.{key_table}
 use Rattle.names.proofs.key_byte.Goals as goal

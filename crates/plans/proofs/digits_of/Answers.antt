@@ -1,5 +1,4 @@
 -- digits_of meets its contract: one division gives the digits of the index.
-use borrow.Author.Rules.{rules}
 use native.Mathlib.Omega.{arith}
 use mathlib.Core.Path.{◌≡◌, refl}
 use Prim.Native.Nat.{ℕ, ◌-◌, ◌*◌, ◌%◌, ◌≤◌, ◌<◌}
@@ -7,9 +6,6 @@ use Rattle.triples.specs.Index.{index}
 use Rattle.plans.proofs.PlanLaws.{by_digits, layer-of-row, layer-bit}
 use Rattle.plans.proofs.digits_of.Reads as reads
 use Rattle.plans.proofs.digits_of.Lts as lts
-use Rattle.plans.proofs.column_of.Reads as column-of-reads
-use Rattle.plans.proofs.layer_of.Reads as layer-of-reads
-use Rattle.plans.proofs.row_of.Reads as row-of-reads
 use Rattle.plans.proofs.digits_of.Goals as goal
 use Rattle.plans.proofs.digits_of.Lts as lts
 use Rattle.plans.proofs.digits_of.Reads as reads

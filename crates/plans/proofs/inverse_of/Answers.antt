@@ -1,9 +1,6 @@
 -- inverse_of meets its contract: its line is the definition.
-use borrow.Author.Rules.{rules}
 use native.Mathlib.Omega.{arith}
 use native.Mathlib.Nat.{div-le_self}
-use Rattle.plans.proofs.inverse_of.Reads as reads
-use Rattle.plans.proofs.inverse_of.Lts as lts
 use Rattle.plans.proofs.inverse_of.Goals as goal
 
 pub overflow_add-result : goal.overflow_add-result

@@ -1,13 +1,8 @@
 -- is_idle meets its contract: no block has a target, and no symbol is shifted.
-use borrow.Author.Rules.{rules}
 use native.Mathlib.Omega.{arith}
 use mathlib.Core.Path.{sym}
 use Rattle.grammar.proofs.Answers.{no_bool}
 use Rattle.plans.proofs.PlanLaws.{span_le, codes-differ, none_idle}
-use Rattle.plans.proofs.is_idle.Reads as reads
-use Rattle.plans.proofs.is_idle.Lts as lts
-use Rattle.plans.proofs.digits_of.Reads as digits-of-reads
-use Rattle.plans.proofs.sides.side_of.Reads as side-of-reads
 use Rattle.plans.proofs.is_idle.Goals as goal
 
 pub digits_of-d-requires : goal.digits_of-d-requires

@@ -1,7 +1,5 @@
 -- layer_of meets its contract: the two returns are the two cases.
 use borrow.Author.Tests.{lt-ltb, le-ltb}
-use Rattle.plans.proofs.layer_of.Reads as reads
-use Rattle.plans.proofs.layer_of.Lts as lts
 use Rattle.plans.proofs.layer_of.Goals as goal
 
 pub returns-then-row-q : goal.returns-then-row-q

@@ -1,5 +1,4 @@
 -- plan_of meets its contract: each part is what a call promises.
-use borrow.Author.Rules.{rules}
 use native.Mathlib.Omega.{arith}
 use Prim.Native.Nat.{◌≤◌, ◌<◌}
 use Rattle.plans.specs.Clauses.{most_square}

@@ -3,8 +3,6 @@ use native.Mathlib.Omega.{arith}
 use Prim.Native.Nat.{ℕ, ◌*◌, ◌/◌}
 use mathlib.Core.Path.{ap, ◌∙◌}
 use Rattle.plans.proofs.PlanLaws.{by_inverse}
-use Rattle.plans.proofs.row_of.Reads as reads
-use Rattle.plans.proofs.row_of.Lts as lts
 use Rattle.plans.proofs.row_of.Goals as goal
 
 pub overflow_mul-result : goal.overflow_mul-result

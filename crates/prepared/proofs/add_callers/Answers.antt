@@ -1,5 +1,4 @@
 -- add_callers meets its contract: what is built fits, and then the rows show the moves, or there are too many states.
-use borrow.Author.Rules.{rules}
 use mathlib.Core.Path.{refl}
 use Rattle.grammar.specs.Refusal.{too_many_states}
 use Rattle.prepared.proofs.Rows.{stopped_for, too_many, with_callers}

@@ -1,5 +1,4 @@
 -- prepare meets its contract: the table check answers first; its record stands for the definition's grammar, whose rows are prepared.
-use borrow.Author.Rules.{rules}
 use Rattle.table_check.proofs.Callers.{PassedTable, passed-table, refused-table}
 use Rattle.prepared.proofs.Rows.{stopped_by, prepares_of, checked-of}
 use Rattle.prepared.proofs.prepare.Goals as goal

@@ -1,5 +1,4 @@
 -- `readings_read::back_in` meets its contract: the lines are read in the text's grammar. Assumes nothing.
-use borrow.Author.Rules.{rules}
 use native.Mathlib.Omega.{arith}
 use mathlib.Core.Path.{sym}
 use lib.Seq.{length-take-le}

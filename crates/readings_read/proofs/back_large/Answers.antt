@@ -1,6 +1,4 @@
 -- `readings_read::back_large` meets its contract: its rows suffice. Assumes nothing.
-use borrow.Author.Rules.{rules}
-use native.Mathlib.Omega.{arith}
 use lib.ListN.{length}
 use Rattle.text_read.proofs.Rooms.{rows-large}
 use Rattle.readings_read.proofs.back_large.Goals as goal

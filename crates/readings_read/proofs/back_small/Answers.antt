@@ -1,6 +1,4 @@
 -- `readings_read::back_small` meets its contract: its rows suffice. Assumes nothing.
-use borrow.Author.Rules.{rules}
-use native.Mathlib.Omega.{arith}
 use lib.ListN.{length}
 use Rattle.text_read.proofs.Rooms.{rows-small}
 use Rattle.readings_read.proofs.back_small.Goals as goal

@@ -1,5 +1,4 @@
 -- `readings_read::read_back` meets its contract: both ways do. Assumes nothing.
-use borrow.Author.Rules.{rules}
 use native.Mathlib.Omega.{arith}
 use Rattle.readings_read.proofs.read_back.Goals as goal
 

@@ -1,5 +1,4 @@
 -- `readings_read::read_planted` meets its contract: no two names are the same, so the planting ends past the last. Assumes nothing.
-use borrow.Author.Rules.{rules}
 use native.Mathlib.Omega.{arith}
 use Prim.Native.Nat.{ℕ, ◌+◌, ◌*◌}
 use mathlib.Core.Path.{◌∙◌}

@@ -1,15 +1,9 @@
-use mathlib.Core.Path.{◌≡◌, refl}
-use mathlib.Core.List.{List, [], ◌∷◌, ◌++◌}
-use Prim.Native.Nat.{ℕ, ◌+◌, ◌-◌, ◌≤◌}
-use native.Mathlib.Omega.{arith}
-use lib.ListN.{length, drop, get_or}
-use Rattle.grammar.specs.Limits.{limits}
+use mathlib.Core.List.{[]}
+use Prim.Native.Nat.{ℕ, ◌-◌, ◌≤◌}
+use lib.ListN.{length, drop}
 use Rattle.text.specs.Spelled.{spelled}
-use Rattle.text_write.proofs.Filling.{Filling, filling_start, filling_room, filling_ran, filling_done}
-use Rattle.readings.specs.Readings.{word}
-use Rattle.readings.specs.Letters.{letter_from}
+use Rattle.text_write.proofs.Filling.{Filling}
 use Rattle.readings_write.specs.Clauses.{led_of}
-use Rattle.readings_write.proofs.Words.{worded_at, led-turn, led-end}
 use Rattle.readings_write.proofs.put_led.Given as goal
 
 abbrev pub invariant-loop-i : goal.invariant-loop-i

@@ -1,5 +1,4 @@
 -- `readings_write::put_line` meets its contract: the key, the words, the end. Assumes nothing.
-use borrow.Author.Rules.{rules}
 use mathlib.Core.Path.{refl}
 use mathlib.Core.List.{List, [], ◌∷◌, ◌++◌}
 use Prim.Native.Nat.{ℕ}

@@ -1,5 +1,4 @@
 -- `readings_write::put_mark` meets its contract: the parenthesis, then the number. Assumes nothing.
-use borrow.Author.Rules.{rules}
 use mathlib.Core.Path.{refl}
 use mathlib.Core.List.{[], ◌∷◌}
 use Rattle.text.specs.Numbers.{decimal}

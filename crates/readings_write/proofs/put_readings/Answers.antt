@@ -1,5 +1,4 @@
 -- `readings_write::put_readings` meets its contract: the left line, then the right one. Assumes nothing.
-use borrow.Author.Rules.{rules}
 use mathlib.Core.List.{List, [], ◌∷◌, ◌++◌}
 use Prim.Native.Nat.{ℕ}
 use Rattle.text.specs.Spelled.{spelled}

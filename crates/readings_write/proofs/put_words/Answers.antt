@@ -1,5 +1,4 @@
 -- `readings_write::put_words` meets its contract: no space stands before the first word. Assumes nothing.
-use borrow.Author.Rules.{rules}
 use mathlib.Core.Path.{◌≡◌}
 use mathlib.Core.List.{List, ◌++◌}
 use Prim.Native.Nat.{ℕ}

@@ -1,9 +1,8 @@
 -- count_moves meets its contract: before each turn the count is that of the states before p.
 use borrow.Author.Rules.{rules}
 use native.Mathlib.Omega.{arith}
-use mathlib.Core.Path.{◌≡◌, ap, ◌∙◌}
-use Prim.Native.Nat.{◌+◌, ◌-◌, ◌*◌, ◌≤◌}
-use Rattle.grammar.specs.Limits.{limits}
+use mathlib.Core.Path.{ap, ◌∙◌}
+use Prim.Native.Nat.{◌-◌}
 use Rattle.figures.specs.Sum.{sum}
 use Rattle.figures.proofs.Sums.{sum_more}
 use Rattle.rooms.specs.Clauses.{moves_at}

@@ -1,9 +1,7 @@
-use native.Mathlib.Omega.{arith}
-use mathlib.Core.Path.{◌≡◌, ap, ◌∙◌}
+use mathlib.Core.Path.{◌≡◌}
 use Prim.Native.Nat.{◌+◌, ◌-◌, ◌*◌, ◌≤◌}
 use Rattle.grammar.specs.Limits.{limits}
 use Rattle.figures.specs.Sum.{sum}
-use Rattle.figures.proofs.Sums.{sum_more}
 use Rattle.rooms.specs.Clauses.{moves_at}
 use Rattle.rooms.proofs.count_moves.Given as goal
 

@@ -1,5 +1,4 @@
 -- moves_at meets its contract: each return is one case of the definition.
-use borrow.Author.Rules.{rules}
 use native.Mathlib.Omega.{arith}
 use mathlib.Core.Path.{sym}
 use Rattle.plans.proofs.PlanLaws.{span_le}

@@ -1,5 +1,4 @@
 -- search meets its contract: the table check answers first, then the four lengths are compared; a refusal changes nothing.
-use borrow.Author.Rules.{rules}
 use native.Mathlib.Omega.{arith}
 use Prim.Native.Nat.{ℕ, ◌*◌, ◌≤◌}
 use mathlib.Core.Path.{◌≡◌, refl, sym, subst}

@@ -1,5 +1,4 @@
 -- answer meets its contract: the root's count tells; the walk counts the one tree's rules, then writes them.
-use borrow.Author.Rules.{rules}
 use native.Mathlib.Omega.{arith}
 use mathlib.Core.Path.{◌≡◌, refl, ap}
 use mathlib.Core.Logic.{inl, inr}

@@ -1,5 +1,4 @@
 -- judge meets its contract: the rows are prepared, the chart is begun and filled, and the answer is read off it.
-use borrow.Author.Rules.{rules}
 use native.Mathlib.Omega.{arith}
 use mathlib.Core.Path.{◌≡◌}
 use Rattle.grammar.specs.Limits.{limits}

@@ -1,5 +1,4 @@
 -- nth_step meets its contract: the table's refusal stays the answer; the rows are those of the definition's grammar.
-use borrow.Author.Rules.{rules}
 use native.Mathlib.Omega.{arith}
 use Prim.Native.Nat.{ℕ, ◌<◌}
 use mathlib.Core.Path.{ap, sym, ◌∙◌}

@@ -1,5 +1,4 @@
 -- next_rule meets its contract: 7 first, then the rule alone, then 6 and 8.
-use borrow.Author.Rules.{rules}
 use native.Mathlib.Omega.{arith}
 use Prim.Native.Nat.{◌-◌, ◌≤◌}
 use mathlib.Core.Path.{◌≡◌, ap, sym, ◌∙◌}

@@ -1,5 +1,4 @@
 -- refuse meets its contract: the record beside a refusal is the blank one.
-use borrow.Author.Rules.{rules}
 use mathlib.Core.Path.{ap}
 use Rattle.grammar.specs.declared.CheckedGrammar.{CheckedGrammar}
 use Rattle.grammar.specs.declared.TableVerdict.TheVariants.{Refused}

@@ -1,9 +1,7 @@
-use native.Mathlib.Omega.{arith}
-use mathlib.Core.Path.{◌≡◌, ap, ◌∙◌}
+use mathlib.Core.Path.{◌≡◌}
 use Prim.Native.Nat.{◌≤◌, ◌+◌, ◌-◌}
 use mathlib.Core.List.{◌++◌}
-use lib.ListN.{length, take, drop, get_or, set, length-set}
-use Rattle.text_read.proofs.Rows.{copy_more, copy_all}
+use lib.ListN.{length, take, drop}
 use Rattle.text_read.proofs.copy_codes.Given as goal
 
 abbrev pub invariant-loop-i : goal.invariant-loop-i

@@ -1,10 +1,8 @@
 -- `text_read::copy_words` meets its contract: up to the cursor the row has what is copied. Assumes nothing.
-use borrow.Author.Rules.{rules}
 use native.Mathlib.Omega.{arith}
-use mathlib.Core.Path.{◌≡◌, ap, ◌∙◌}
-use Prim.Native.Nat.{◌≤◌, ◌+◌, ◌-◌}
-use mathlib.Core.List.{◌++◌}
-use lib.ListN.{length, take, drop, get_or, set, length-set}
+use mathlib.Core.Path.{ap, ◌∙◌}
+use Prim.Native.Nat.{◌-◌}
+use lib.ListN.{get_or, set, length-set}
 use Rattle.text_read.proofs.Rows.{copy_more, copy_all}
 use Rattle.text_read.proofs.copy_words.Goals as goal
 

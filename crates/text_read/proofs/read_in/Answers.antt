@@ -1,5 +1,4 @@
 -- `text_read::read_in` meets its contract: a refusal leaves the rows as they were; else the fronts of what is kept are copied. Assumes nothing.
-use borrow.Author.Rules.{rules}
 use native.Mathlib.Omega.{arith}
 use mathlib.Core.Path.{sym}
 use Prim.Native.Nat.{ℕ, ◌+◌, ◌≤◌}

@@ -1,6 +1,4 @@
 -- `text_read::read_small` meets its contract: its rows suffice. Assumes nothing.
-use borrow.Author.Rules.{rules}
-use native.Mathlib.Omega.{arith}
 use lib.ListN.{length}
 use Rattle.text_read.proofs.Rooms.{rows-small}
 use Rattle.text_read.proofs.read_small.Goals as goal

@@ -1,5 +1,4 @@
 -- `text_read::read_text` meets its contract: both ways do. Assumes nothing.
-use borrow.Author.Rules.{rules}
 use native.Mathlib.Omega.{arith}
 use Rattle.text_read.proofs.read_text.Goals as goal
 

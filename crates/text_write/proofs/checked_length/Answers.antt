@@ -1,7 +1,6 @@
 -- `text_write::checked_length` meets its contract: 16, then what is answered for the rows cut after the last name. Assumes nothing.
 use mathlib.Core.Path.{sym}
 use native.Mathlib.Omega.{arith}
-use borrow.Author.Rules.{rules}
 use lib.Seq.{length-take-le}
 use Rattle.text_write.proofs.TableLaws.{symbols-most}
 use Rattle.text_write.proofs.WriteLaws.{length_bad, Lent, lent, ready, length-named}

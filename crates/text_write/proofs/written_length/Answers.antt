@@ -1,5 +1,4 @@
 -- `text_write::written_length` meets its contract: table faults, then what is answered for a checked table. Assumes nothing.
-use borrow.Author.Rules.{rules}
 use Rattle.text_write.proofs.WriteLaws.{length-table, check-passed, check-refused}
 use Rattle.text_write.proofs.written_length.Goals as goal
 

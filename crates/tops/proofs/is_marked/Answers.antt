@@ -4,9 +4,6 @@ use mathlib.Core.Path.{refl, ap, sym}
 use lib.Dec.{eqb}
 use Rattle.tops.specs.Tops.{top}
 use Rattle.tops.proofs.Laws.{get_d_map}
-use borrow.Author.Rules.{rules}
-use Rattle.tops.proofs.is_marked.Reads as reads
-use Rattle.tops.proofs.is_marked.Lts as lts
 use Rattle.tops.proofs.is_marked.Goals as goal
 
 pub returns : goal.returns

@@ -1,15 +1,11 @@
 -- `tops::mark` meets its contract: the mask has one bit, which lies in the top byte. Assumes nothing.
 use Prim.Native.Nat.{ℕ, ◌/◌, ◌%◌}
-use mathlib.Core.Path.{◌≡◌, ap, sym, ◌∙◌}
-use mathlib.Core.List.{List}
+use mathlib.Core.Path.{ap, ◌∙◌}
 use native.Mathlib.Omega.{arith}
 use lib.Bits.{bit_or}
 use lib.ListN.{get_or, set}
 use Rattle.tops.specs.Tops.{tops, lows}
 use Rattle.tops.proofs.Laws.{mask_top, tops-marked, lows-marked}
-use borrow.Author.Rules.{rules}
-use Rattle.tops.proofs.mark.Reads as reads
-use Rattle.tops.proofs.mark.Lts as lts
 use Rattle.tops.proofs.mark.Goals as goal
 
 pub returns : goal.returns

@@ -2,9 +2,6 @@
 use mathlib.Core.Path.{refl, sym}
 use Rattle.tops.specs.Tops.{low}
 use Rattle.tops.proofs.Laws.{get_d_map}
-use borrow.Author.Rules.{rules}
-use Rattle.tops.proofs.place_at.Reads as reads
-use Rattle.tops.proofs.place_at.Lts as lts
 use Rattle.tops.proofs.place_at.Goals as goal
 
 pub returns : goal.returns

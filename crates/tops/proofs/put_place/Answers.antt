@@ -4,10 +4,6 @@ use mathlib.Core.Path.{ap, ◌∙◌}
 use lib.ListN.{set}
 use Rattle.tops.specs.Tops.{tops, lows}
 use Rattle.tops.proofs.Laws.{tops-placed, lows-placed}
-use borrow.Author.Rules.{rules}
-use Rattle.tops.proofs.put_place.Reads as reads
-use Rattle.tops.proofs.put_place.Lts as lts
-use Rattle.tops.proofs.with_place.Reads as with-place-reads
 use Rattle.tops.proofs.put_place.Goals as goal
 
 pub returns : goal.returns

@@ -1,13 +1,12 @@
 -- count_rules meets its contract: before each turn so many rules are written as are counted.
-use borrow.Author.Rules.{rules}
 use native.Mathlib.Omega.{arith}
 use mathlib.Core.Path.{◌≡◌, refl, sym, ◌∙◌}
-use Prim.Native.Nat.{◌+◌, ◌≤◌}
+use Prim.Native.Nat.{◌+◌}
 use lib.ListN.{length}
 use Rattle.grammar.specs.Limits.{limits}
 use Rattle.tree_walk.specs.Charted.{Rows, rows}
 use Rattle.tree_walk.specs.Walking.{Course, Begun}
-use Rattle.tree_walk.proofs.Totals.{Counting, measure, turn_less, counting_start, counting_walks, counting_turn, counting_over, counting_end}
+use Rattle.tree_walk.proofs.Totals.{Counting, turn_less, counting_start, counting_walks, counting_turn, counting_over, counting_end}
 use Rattle.tree_walk.proofs.count_rules.Goals as goal
 use Rattle.tree_walk.proofs.count_rules.Lts as lts
 use Rattle.tree_walk.proofs.count_rules.Reads as reads

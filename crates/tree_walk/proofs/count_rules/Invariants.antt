@@ -1,11 +1,10 @@
-use native.Mathlib.Omega.{arith}
-use mathlib.Core.Path.{◌≡◌, refl, sym, ◌∙◌}
-use Prim.Native.Nat.{◌+◌, ◌≤◌}
+use mathlib.Core.Path.{◌≡◌}
+use Prim.Native.Nat.{◌≤◌}
 use lib.ListN.{length}
 use Rattle.grammar.specs.Limits.{limits}
-use Rattle.tree_walk.specs.Charted.{Rows, rows}
+use Rattle.tree_walk.specs.Charted.{rows}
 use Rattle.tree_walk.specs.Walking.{Course, Begun}
-use Rattle.tree_walk.proofs.Totals.{Counting, measure, turn_less, counting_start, counting_walks, counting_turn, counting_over, counting_end}
+use Rattle.tree_walk.proofs.Totals.{Counting, measure}
 use Rattle.tree_walk.proofs.count_rules.Given as goal
 
 abbrev pub invariant-loop-going : goal.invariant-loop-going

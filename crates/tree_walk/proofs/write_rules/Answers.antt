@@ -1,13 +1,11 @@
 -- write_rules meets its contract: before each turn the rules written stand in front of the list.
-use borrow.Author.Rules.{rules}
 use native.Mathlib.Omega.{arith}
 use mathlib.Core.Path.{◌≡◌, refl, sym, ◌∙◌}
 use Prim.Native.Nat.{◌≤◌, ◌<◌}
 use lib.ListN.{length, length-set}
 use Rattle.grammar.specs.Limits.{limits}
 use Rattle.tree_walk.specs.Charted.{Rows, rows}
-use Rattle.tree_walk.specs.Walking.{Course, Begun}
-use Rattle.tree_walk.proofs.Totals.{Listing, measure, turn_less, listing_start, listing_walks, listing_on, listing_room, listing_more, listing_end}
+use Rattle.tree_walk.proofs.Totals.{turn_less, listing_start, listing_walks, listing_on, listing_room, listing_more, listing_end}
 use Rattle.tree_walk.proofs.write_rules.Goals as goal
 use Rattle.tree_walk.proofs.write_rules.Lts as lts
 use Rattle.tree_walk.proofs.write_rules.Reads as reads

@@ -1,11 +1,10 @@
-use native.Mathlib.Omega.{arith}
-use mathlib.Core.Path.{◌≡◌, refl, sym, ◌∙◌}
-use Prim.Native.Nat.{◌≤◌, ◌<◌}
-use lib.ListN.{length, length-set}
+use mathlib.Core.Path.{◌≡◌}
+use Prim.Native.Nat.{◌≤◌}
+use lib.ListN.{length}
 use Rattle.grammar.specs.Limits.{limits}
-use Rattle.tree_walk.specs.Charted.{Rows, rows}
+use Rattle.tree_walk.specs.Charted.{rows}
 use Rattle.tree_walk.specs.Walking.{Course, Begun}
-use Rattle.tree_walk.proofs.Totals.{Listing, measure, turn_less, listing_start, listing_walks, listing_on, listing_room, listing_more, listing_end}
+use Rattle.tree_walk.proofs.Totals.{Listing, measure}
 use Rattle.tree_walk.proofs.write_rules.Given as goal
 
 abbrev pub invariant-loop-going : goal.invariant-loop-going

@@ -1,5 +1,4 @@
 -- check_witness meets its contract: the table's refusal stays the answer; the rows are those of the definition's grammar.
-use borrow.Author.Rules.{rules}
 use mathlib.Core.Path.{ap, sym, ◌∙◌}
 use Rattle.grammar.specs.Limits.{limits}
 use Rattle.grammar.proofs.Answers.{then-goes, then_stops}

@@ -1,5 +1,4 @@
 -- is_successor meets its contract: the triples of both indices are tested.
-use borrow.Author.Rules.{rules}
 use native.Mathlib.Omega.{arith}
 use mathlib.Core.Path.{ap, sym, subst, ◌∙◌}
 use native.Mathlib.Nat.{mod-lt}

@@ -1,7 +1,6 @@
 -- triple_at meets its contract: the square of so many states fits, and is not 0.
-use borrow.Author.Rules.{rules}
 use native.Mathlib.Omega.{arith}
-use Prim.Native.Nat.{◌*◌, ◌≤◌, ◌<◌}
+use Prim.Native.Nat.{◌*◌, ◌≤◌}
 use native.Mathlib.Nat.{mul-le-mul}
 use Rattle.grammar.specs.Limits.{limits}
 use Rattle.witness_check.proofs.triple_at.Goals as goal

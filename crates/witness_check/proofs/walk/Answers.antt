@@ -1,18 +1,14 @@
 -- walk meets its contract: the rest of the row is checked from the entry before, so each turn is one step of the definition.
-use borrow.Author.Rules.{rules}
 use native.Mathlib.Omega.{arith}
-use borrow.Author.Tests.{not-true, not-false}
 use mathlib.Core.Path.{◌≡◌, refl, ap, sym, ◌∙◌}
-use Prim.Native.Nat.{ℕ, ◌+◌, ◌-◌, ◌*◌, ◌≤◌, ◌<◌}
+use Prim.Native.Nat.{ℕ, ◌+◌, ◌-◌, ◌*◌, ◌≤◌}
 use native.Mathlib.Nat.{mul-le-mul}
 use mathlib.Core.List.{List, [], ◌∷◌}
 use lib.ListN.{length, drop, get_or}
 use Rattle.grammar.specs.Limits.{limits}
-use Rattle.automaton.specs.Moves.{Moves}
-use Rattle.triples.specs.Index.{triple_count}
 use Rattle.triples.specs.Verdict.{check_verdict}
-use Rattle.triples.specs.Witness.{check_on, check_row}
-use Rattle.witness_check.specs.Clauses.{step_at, Ready}
+use Rattle.triples.specs.Witness.{check_on}
+use Rattle.witness_check.specs.Clauses.{step_at}
 use Rattle.witness_check.proofs.WalkLaws.{walk-empty, walk_first, walk_start, walk-beyond, walk_wrong, walk_more, walk-short, walk_ends}
 use Rattle.witness_check.proofs.walk.Goals as goal
 use Rattle.witness_check.proofs.walk.Lts as lts

@@ -1,17 +1,11 @@
-use native.Mathlib.Omega.{arith}
-use borrow.Author.Tests.{not-true, not-false}
-use mathlib.Core.Path.{◌≡◌, refl, ap, sym, ◌∙◌}
-use Prim.Native.Nat.{ℕ, ◌+◌, ◌-◌, ◌*◌, ◌≤◌, ◌<◌}
-use native.Mathlib.Nat.{mul-le-mul}
-use mathlib.Core.List.{List, [], ◌∷◌}
-use lib.ListN.{length, drop, get_or}
-use Rattle.grammar.specs.Limits.{limits}
+use mathlib.Core.Path.{◌≡◌}
+use Prim.Native.Nat.{ℕ, ◌-◌, ◌≤◌, ◌<◌}
+use mathlib.Core.List.{[]}
+use lib.ListN.{length, drop}
 use Rattle.automaton.specs.Moves.{Moves}
 use Rattle.triples.specs.Index.{triple_count}
-use Rattle.triples.specs.Verdict.{check_verdict}
 use Rattle.triples.specs.Witness.{check_on, check_row}
-use Rattle.witness_check.specs.Clauses.{step_at, Ready}
-use Rattle.witness_check.proofs.WalkLaws.{walk-empty, walk_first, walk_start, walk-beyond, walk_wrong, walk_more, walk-short, walk_ends}
+use Rattle.witness_check.specs.Clauses.{Ready}
 use Rattle.witness_check.proofs.walk.Given as goal
 
 abbrev pub invariant-loop-place : goal.invariant-loop-place

@@ -1,5 +1,4 @@
 -- two_sides meets its contract: the table passes, so the rows are those of its grammar.
-use borrow.Author.Rules.{rules}
 use Prim.Native.Nat.{ℕ}
 use mathlib.Core.Path.{◌≡◌, sym, subst, ◌∙◌}
 use mathlib.Core.List.{List}

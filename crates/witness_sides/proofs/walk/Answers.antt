@@ -1,17 +1,12 @@
 -- walk meets its contract: at each step the letters of the record that was found stand at the fronts too.
-use borrow.Author.Rules.{rules}
 use native.Mathlib.Omega.{arith}
-use Prim.Native.Nat.{ℕ, ◌+◌, ◌-◌, ◌≤◌}
+use Prim.Native.Nat.{ℕ, ◌+◌, ◌-◌}
 use mathlib.Core.Path.{◌≡◌, refl, ap₂, ◌∙◌}
-use mathlib.Core.List.{List}
-use lib.ListN.{length, take, get_or}
-use Rattle.automaton.specs.Moves.{Moves}
-use Rattle.triples.specs.Sides.{OneEach, left_side, right_side}
+use lib.ListN.{get_or}
 use Rattle.steps.specs.Plan.{Rows, rows_of}
-use Rattle.witness_sides.specs.Clauses.{FrontLetters, step_found, GivesRecords}
+use Rattle.witness_sides.specs.Clauses.{step_found}
 use Rattle.witness_sides.proofs.WalkLaws.{letters-none, letters-more, letters-all}
 use Rattle.witness_sides.proofs.walk.Goals as goal
-use Rattle.witness_sides.proofs.walk.Invariants.{Fronts}
 use Rattle.witness_sides.proofs.walk.Lts as lts
 use Rattle.witness_sides.proofs.walk.Reads as reads
 use Rattle.witness_sides.proofs.walk.Tie as tie

@@ -1,13 +1,11 @@
-use native.Mathlib.Omega.{arith}
 use Prim.Native.Nat.{ℕ, ◌+◌, ◌-◌, ◌≤◌}
-use mathlib.Core.Path.{◌≡◌, refl, ap₂, ◌∙◌}
+use mathlib.Core.Path.{◌≡◌}
 use mathlib.Core.List.{List}
-use lib.ListN.{length, take, get_or}
+use lib.ListN.{length, take}
 use Rattle.automaton.specs.Moves.{Moves}
 use Rattle.triples.specs.Sides.{OneEach, left_side, right_side}
 use Rattle.steps.specs.Plan.{Rows, rows_of}
-use Rattle.witness_sides.specs.Clauses.{FrontLetters, step_found, GivesRecords}
-use Rattle.witness_sides.proofs.WalkLaws.{letters-none, letters-more, letters-all}
+use Rattle.witness_sides.specs.Clauses.{FrontLetters, GivesRecords}
 use Rattle.witness_sides.proofs.walk.Given as goal
 
 -- the letters of the first x steps stand at the fronts

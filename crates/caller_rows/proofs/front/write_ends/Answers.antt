@@ -1,6 +1,5 @@
 -- write_ends meets its contract: two entries of each row.
 use Rattle.caller_rows.proofs.LevelRowLaws.{ends-written}
-use borrow.Author.Rules.{rules}
 use Rattle.caller_rows.proofs.front.write_ends.Goals as goal
 
 pub returns : goal.returns

@@ -1,6 +1,5 @@
 -- write_front meets its contract: states 0 and 1, then rule 0.
 use Rattle.caller_rows.proofs.LevelRowLaws.{ends-wide}
-use borrow.Author.Rules.{rules}
 use Rattle.caller_rows.proofs.front.write_front.Goals as goal
 
 pub write_start-requires : goal.write_start-requires

@@ -1,6 +1,5 @@
 -- write_start meets its contract: rule 0 is a rule with one code and one caller.
 use Rattle.caller_rows.proofs.LevelRowLaws.{start_ruled}
-use borrow.Author.Rules.{rules}
 use Rattle.caller_rows.proofs.front.write_start.Goals as goal
 
 pub write_rule-requires : goal.write_rule-requires

@@ -2,7 +2,6 @@
 use native.Mathlib.Omega.{arith}
 use Rattle.grammar.specs.Limits.{limits}
 use Rattle.caller_rows.proofs.LevelRowLaws.{wide_less, front-wide, level_start}
-use borrow.Author.Rules.{rules}
 use Rattle.caller_rows.proofs.level.write_level.Goals as goal
 
 pub write_front-requires : goal.write_front-requires

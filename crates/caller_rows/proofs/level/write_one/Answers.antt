@@ -4,7 +4,6 @@ use Prim.Native.Nat.{◌+◌, ◌≤◌}
 use lib.ListN.{length}
 use Rattle.grammar.specs.Limits.{limits}
 use Rattle.caller_rows.proofs.LevelRowLaws.{part_is, one_ruled, one_written, wide_less}
-use borrow.Author.Rules.{rules}
 use Rattle.caller_rows.proofs.level.write_one.Goals as goal
 use Rattle.caller_rows.proofs.level.write_one.Lts as lts
 use Rattle.caller_rows.proofs.level.write_one.Reads as reads

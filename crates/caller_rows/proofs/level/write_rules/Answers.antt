@@ -7,10 +7,9 @@ use Rattle.grammar.specs.Limits.{limits}
 use Rattle.live.specs.Marks.{before}
 use Rattle.live.proofs.PassLaws.{before-next}
 use Rattle.caller_rows.specs.Clauses.{start_of}
-use Rattle.caller_rule.specs.RuleRows.{six, Wide, Alike}
+use Rattle.caller_rule.specs.RuleRows.{six}
 use Rattle.caller_rows.specs.LevelRows.{RulesWritten}
 use Rattle.caller_rows.proofs.LevelRowLaws.{start_up, start-next, rule-kept, alike_none, alike_next, level_next}
-use borrow.Author.Rules.{rules}
 use Rattle.caller_rows.proofs.level.write_rules.Goals as goal
 use Rattle.caller_rows.proofs.level.write_rules.Lts as lts
 use Rattle.caller_rows.proofs.level.write_rules.Reads as reads

@@ -1,14 +1,10 @@
-use native.Mathlib.Omega.{arith}
-use Prim.Native.Nat.{ℕ, ◌+◌, ◌-◌, ◌*◌, ◌≤◌}
-use mathlib.Core.Path.{◌≡◌, refl, sym, subst, ◌∙◌}
-use lib.ListN.{get_or}
+use Prim.Native.Nat.{ℕ, ◌-◌, ◌≤◌}
+use mathlib.Core.Path.{◌≡◌}
 use Rattle.grammar.specs.Limits.{limits}
 use Rattle.live.specs.Marks.{before}
-use Rattle.live.proofs.PassLaws.{before-next}
 use Rattle.caller_rows.specs.Clauses.{start_of}
 use Rattle.caller_rule.specs.RuleRows.{six, Wide, Alike}
 use Rattle.caller_rows.specs.LevelRows.{RulesWritten}
-use Rattle.caller_rows.proofs.LevelRowLaws.{start_up, start-next, rule-kept, alike_none, alike_next, level_next}
 use Rattle.caller_rows.proofs.level.write_rules.Given as goal
 
 abbrev pub invariant-loop-i : goal.invariant-loop-i

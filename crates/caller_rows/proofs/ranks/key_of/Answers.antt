@@ -1,6 +1,5 @@
 -- key_of meets its contract: the test chooses.
 use borrow.Author.Tests.{le-leb, lt-leb}
-use borrow.Author.Rules.{rules}
 use Rattle.caller_rows.proofs.ranks.key_of.Goals as goal
 
 pub returns-then-x-ge-NONTERMINAL_BASE : goal.returns-then-x-ge-NONTERMINAL_BASE

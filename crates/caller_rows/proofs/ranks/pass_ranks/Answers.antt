@@ -3,10 +3,9 @@ use native.Mathlib.Omega.{arith}
 use lib.ListN.{get_or}
 use Rattle.caller_rows.specs.Clauses.{Filled}
 use Rattle.caller_rows.proofs.FilledLaws.{filled_none, filled_next}
-use Prim.Native.Nat.{ℕ, ◌-◌, ◌≤◌, ◌<◌}
+use Prim.Native.Nat.{ℕ, ◌-◌, ◌<◌}
 use mathlib.Core.Path.{◌≡◌, ap, subst}
 use Rattle.grammar.specs.Limits.{limits}
-use borrow.Author.Rules.{rules}
 use Rattle.caller_rows.proofs.ranks.pass_ranks.Goals as goal
 use Rattle.caller_rows.proofs.ranks.pass_ranks.Lts as lts
 use Rattle.caller_rows.proofs.ranks.pass_ranks.Reads as reads

@@ -1,10 +1,6 @@
-use native.Mathlib.Omega.{arith}
 use lib.ListN.{get_or}
 use Rattle.caller_rows.specs.Clauses.{Filled}
-use Rattle.caller_rows.proofs.FilledLaws.{filled_none, filled_next}
-use Prim.Native.Nat.{ℕ, ◌-◌, ◌≤◌, ◌<◌}
-use mathlib.Core.Path.{◌≡◌, ap, subst}
-use Rattle.grammar.specs.Limits.{limits}
+use Prim.Native.Nat.{ℕ, ◌-◌, ◌≤◌}
 use Rattle.caller_rows.proofs.ranks.pass_ranks.Given as goal
 
 abbrev pub invariant-loop-p : goal.invariant-loop-p

@@ -1,11 +1,10 @@
 -- rank_segment meets its contract: a turn ranks one state.
 use native.Mathlib.Omega.{arith}
-use Prim.Native.Nat.{ℕ, ◌-◌, ◌≤◌, ◌<◌}
+use Prim.Native.Nat.{ℕ, ◌-◌, ◌<◌}
 use mathlib.Core.Path.{◌≡◌, refl, subst}
 use Rattle.grammar.specs.Limits.{limits}
 use Rattle.caller_rows.specs.Clauses.{SegmentRanked}
 use Rattle.caller_rows.proofs.RankLaws.{ranked_none, ranked_next}
-use borrow.Author.Rules.{rules}
 use Rattle.caller_rows.proofs.ranks.rank_segment.Goals as goal
 use Rattle.caller_rows.proofs.ranks.rank_segment.Lts as lts
 use Rattle.caller_rows.proofs.ranks.rank_segment.Reads as reads

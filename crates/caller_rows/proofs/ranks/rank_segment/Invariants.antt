@@ -1,9 +1,5 @@
-use native.Mathlib.Omega.{arith}
-use Prim.Native.Nat.{ℕ, ◌-◌, ◌≤◌, ◌<◌}
-use mathlib.Core.Path.{◌≡◌, refl, subst}
-use Rattle.grammar.specs.Limits.{limits}
+use Prim.Native.Nat.{ℕ, ◌-◌, ◌≤◌}
 use Rattle.caller_rows.specs.Clauses.{SegmentRanked}
-use Rattle.caller_rows.proofs.RankLaws.{ranked_none, ranked_next}
 use Rattle.caller_rows.proofs.ranks.rank_segment.Given as goal
 
 abbrev pub invariant-loop-k : goal.invariant-loop-k

@@ -1,11 +1,10 @@
 -- write_keys meets its contract: a turn writes one entry, and then the first is written again.
 use native.Mathlib.Omega.{arith}
-use Prim.Native.Nat.{ℕ, ◌-◌, ◌≤◌}
+use Prim.Native.Nat.{ℕ, ◌-◌}
 use lib.ListN.{get_or}
 use Rattle.caller_rows.specs.Clauses.{Filled, key_of}
 use Rattle.caller_rows.proofs.FilledLaws.{filled_none, filled_next, filled-first}
 use mathlib.Core.Path.{◌≡◌, subst}
-use borrow.Author.Rules.{rules}
 use Rattle.caller_rows.proofs.ranks.write_keys.Goals as goal
 
 pub loop-p-init : goal.loop-p-init

@@ -1,9 +1,6 @@
-use native.Mathlib.Omega.{arith}
 use Prim.Native.Nat.{ℕ, ◌-◌, ◌≤◌}
 use lib.ListN.{get_or}
 use Rattle.caller_rows.specs.Clauses.{Filled, key_of}
-use Rattle.caller_rows.proofs.FilledLaws.{filled_none, filled_next, filled-first}
-use mathlib.Core.Path.{◌≡◌, subst}
 use Rattle.caller_rows.proofs.ranks.write_keys.Given as goal
 
 abbrev pub invariant-loop-p : goal.invariant-loop-p

@@ -1,10 +1,9 @@
 -- write_ranks meets its contract: a turn ranks one segment.
 use native.Mathlib.Omega.{arith}
-use Prim.Native.Nat.{ℕ, ◌+◌, ◌-◌, ◌≤◌, ◌<◌}
+use Prim.Native.Nat.{ℕ, ◌+◌, ◌-◌, ◌<◌}
 use mathlib.Core.Path.{◌≡◌, ap, subst}
 use Rattle.caller_rows.specs.Clauses.{RanksWritten}
 use Rattle.caller_rows.proofs.RankLaws.{rankable_less, ranks_none, ranks_next}
-use borrow.Author.Rules.{rules}
 use Rattle.caller_rows.proofs.ranks.write_ranks.Goals as goal
 
 pub loop-b-init : goal.loop-b-init

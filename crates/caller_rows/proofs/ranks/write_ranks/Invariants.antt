@@ -1,8 +1,6 @@
-use native.Mathlib.Omega.{arith}
-use Prim.Native.Nat.{ℕ, ◌+◌, ◌-◌, ◌≤◌, ◌<◌}
-use mathlib.Core.Path.{◌≡◌, ap, subst}
+use Prim.Native.Nat.{ℕ, ◌+◌, ◌-◌, ◌≤◌}
+use mathlib.Core.Path.{◌≡◌}
 use Rattle.caller_rows.specs.Clauses.{RanksWritten}
-use Rattle.caller_rows.proofs.RankLaws.{rankable_less, ranks_none, ranks_next}
 use Rattle.caller_rows.proofs.ranks.write_ranks.Given as goal
 
 abbrev pub invariant-loop-b : goal.invariant-loop-b

@@ -3,7 +3,6 @@ use mathlib.Core.Path.{ap, sym, ◌∙◌}
 use Rattle.grammar.specs.Basics.{choose}
 use Rattle.caller_rows.specs.Clauses.{width_of}
 use borrow.Author.Tests.{lt-ltb, le-ltb}
-use borrow.Author.Rules.{rules}
 use Rattle.caller_rows.proofs.widths.live_width.Goals as goal
 
 pub returns-then-on-gt0 : goal.returns-then-on-gt0

@@ -1,11 +1,10 @@
 -- pass_widths meets its contract: a turn writes one entry.
 use native.Mathlib.Omega.{arith}
-use Prim.Native.Nat.{ℕ, ◌-◌, ◌≤◌}
+use Prim.Native.Nat.{ℕ, ◌-◌}
 use mathlib.Core.Path.{◌≡◌, refl, subst}
 use lib.ListN.{get_or}
 use Rattle.caller_rows.specs.Clauses.{Filled}
 use Rattle.caller_rows.proofs.FilledLaws.{filled_none, filled_next}
-use borrow.Author.Rules.{rules}
 use Rattle.caller_rows.proofs.widths.pass_widths.Goals as goal
 
 pub loop-i-init : goal.loop-i-init

@@ -1,9 +1,6 @@
-use native.Mathlib.Omega.{arith}
 use Prim.Native.Nat.{ℕ, ◌-◌, ◌≤◌}
-use mathlib.Core.Path.{◌≡◌, refl, subst}
 use lib.ListN.{get_or}
 use Rattle.caller_rows.specs.Clauses.{Filled}
-use Rattle.caller_rows.proofs.FilledLaws.{filled_none, filled_next}
 use Rattle.caller_rows.proofs.widths.pass_widths.Given as goal
 
 abbrev pub invariant-loop-i : goal.invariant-loop-i

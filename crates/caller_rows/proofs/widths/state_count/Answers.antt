@@ -1,10 +1,9 @@
 -- state_count meets its contract: a turn adds the states of one rule.
 use native.Mathlib.Omega.{arith}
-use Prim.Native.Nat.{◌+◌, ◌-◌, ◌*◌, ◌≤◌}
+use Prim.Native.Nat.{◌+◌, ◌-◌}
 use mathlib.Core.Path.{◌≡◌, refl, sym, ap, ◌∙◌}
-use Rattle.caller_rows.specs.Clauses.{most_product, start_of}
+use Rattle.caller_rows.specs.Clauses.{start_of}
 use Rattle.caller_rows.proofs.LevelRowLaws.{start-next}
-use borrow.Author.Rules.{rules}
 use Rattle.caller_rows.proofs.widths.state_count.Goals as goal
 
 pub loop-i-init : goal.loop-i-init

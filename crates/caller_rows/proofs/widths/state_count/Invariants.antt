@@ -1,8 +1,6 @@
-use native.Mathlib.Omega.{arith}
 use Prim.Native.Nat.{◌+◌, ◌-◌, ◌*◌, ◌≤◌}
-use mathlib.Core.Path.{◌≡◌, refl, sym, ap, ◌∙◌}
+use mathlib.Core.Path.{◌≡◌}
 use Rattle.caller_rows.specs.Clauses.{most_product, start_of}
-use Rattle.caller_rows.proofs.LevelRowLaws.{start-next}
 use Rattle.caller_rows.proofs.widths.state_count.Given as goal
 
 abbrev pub invariant-loop-i : goal.invariant-loop-i

@@ -1,10 +1,9 @@
 -- write_widths meets its contract: a turn writes one entry.
 use native.Mathlib.Omega.{arith}
-use Prim.Native.Nat.{ℕ, ◌-◌, ◌≤◌}
+use Prim.Native.Nat.{ℕ, ◌-◌}
 use Rattle.caller_rows.specs.Clauses.{Filled, width_at}
 use Rattle.caller_rows.proofs.FilledLaws.{filled_none, filled_next}
 use mathlib.Core.Path.{◌≡◌, subst}
-use borrow.Author.Rules.{rules}
 use Rattle.caller_rows.proofs.widths.write_widths.Goals as goal
 
 pub loop-i-init : goal.loop-i-init

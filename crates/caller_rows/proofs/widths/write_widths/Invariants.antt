@@ -1,8 +1,5 @@
-use native.Mathlib.Omega.{arith}
 use Prim.Native.Nat.{ℕ, ◌-◌, ◌≤◌}
 use Rattle.caller_rows.specs.Clauses.{Filled, width_at}
-use Rattle.caller_rows.proofs.FilledLaws.{filled_none, filled_next}
-use mathlib.Core.Path.{◌≡◌, subst}
 use Rattle.caller_rows.proofs.widths.write_widths.Given as goal
 
 abbrev pub invariant-loop-i : goal.invariant-loop-i

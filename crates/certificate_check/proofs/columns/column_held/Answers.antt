@@ -1,8 +1,6 @@
 -- column_held meets its contract: of each of the four blocks it is known that it is empty or held.
-use borrow.Author.Rules.{rules}
 use native.Mathlib.Omega.{arith}
 use mathlib.Core.Path.{sym, subst}
-use borrow.Author.Tests.{not-false}
 use Prim.Native.Nat.{ℕ, ◌+◌, ◌*◌, ◌≤◌, ◌<◌}
 use Rattle.grammar.proofs.Answers.{no_bool}
 use Rattle.triples.proofs.Index.{pair_lt}

@@ -1,13 +1,7 @@
 -- columns_met meets its contract: one target more in each turn.
-use borrow.Author.Rules.{rules}
 use native.Mathlib.Omega.{arith}
-use mathlib.Core.Path.{◌≡◌, sym, subst}
-use Prim.Native.Nat.{ℕ, ◌-◌, ◌≤◌}
-use Rattle.certificate_check.specs.Columns.{ColumnsMet}
+use Prim.Native.Nat.{ℕ, ◌-◌}
 use Rattle.certificate_check.proofs.ColumnLaws.{columns-none, columns-more}
-use Rattle.certificate_check.proofs.columns.columns_met.Reads as reads
-use Rattle.certificate_check.proofs.columns.columns_met.Lts as lts
-use Rattle.plans.proofs.wide.Reads as wide-reads
 use Rattle.certificate_check.proofs.columns.columns_met.Goals as goal
 
 pub loop-h-init : goal.loop-h-init

@@ -1,11 +1,5 @@
-use native.Mathlib.Omega.{arith}
-use mathlib.Core.Path.{◌≡◌, sym, subst}
 use Prim.Native.Nat.{ℕ, ◌-◌, ◌≤◌}
 use Rattle.certificate_check.specs.Columns.{ColumnsMet}
-use Rattle.certificate_check.proofs.ColumnLaws.{columns-none, columns-more}
-use Rattle.certificate_check.proofs.columns.columns_met.Reads as reads
-use Rattle.certificate_check.proofs.columns.columns_met.Lts as lts
-use Rattle.plans.proofs.wide.Reads as wide-reads
 use Rattle.certificate_check.proofs.columns.columns_met.Given as goal
 
 abbrev pub invariant-loop-h : goal.invariant-loop-h

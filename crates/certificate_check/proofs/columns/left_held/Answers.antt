@@ -1,5 +1,4 @@
 -- left_held meets its contract: without left moves there is nothing to be held.
-use borrow.Author.Rules.{rules}
 use native.Mathlib.Omega.{arith}
 use Rattle.certificate_check.proofs.columns.left_held.Goals as goal
 

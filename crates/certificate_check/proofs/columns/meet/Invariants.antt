@@ -1,11 +1,5 @@
-use native.Mathlib.Omega.{arith}
-use mathlib.Core.Path.{◌≡◌, sym, subst}
-use Prim.Native.Nat.{ℕ, ◌+◌, ◌-◌, ◌*◌, ◌≤◌, ◌<◌}
-use lib.ListN.{length}
-use Rattle.grammar.specs.Limits.{limits}
-use Rattle.plans.proofs.PlanLaws.{cell_times}
+use Prim.Native.Nat.{ℕ, ◌-◌, ◌≤◌}
 use Rattle.certificate_check.specs.Columns.{Met}
-use Rattle.certificate_check.proofs.ColumnLaws.{met_none, met_more}
 use Rattle.certificate_check.proofs.columns.meet.Given as goal
 
 abbrev pub invariant-loop-k : goal.invariant-loop-k

@@ -1,20 +1,14 @@
 -- pairs_held meets its contract: a window of columns more in each turn.
-use borrow.Author.Rules.{rules}
 use native.Mathlib.Omega.{arith}
-use mathlib.Core.Path.{◌≡◌, refl, ap, sym, subst, ◌∙◌}
-use Prim.Native.Nat.{ℕ, ◌+◌, ◌-◌, ◌*◌, ◌≤◌, ◌<◌}
+use mathlib.Core.Path.{◌≡◌, ap, sym, subst, ◌∙◌}
+use Prim.Native.Nat.{ℕ, ◌+◌, ◌-◌, ◌*◌, ◌<◌}
 use mathlib.Core.List.{List}
 use lib.ListN.{length, get_or}
 use Rattle.grammar.proofs.Answers.{no_bool}
-use Rattle.triples.specs.Index.{index}
-use Rattle.certificate_check.specs.Columns.{span_of, target_of, Placed, PairsTo, Met, ColumnsMet}
+use Rattle.certificate_check.specs.Columns.{span_of, target_of, PairsTo, Met, ColumnsMet}
 use Rattle.certificate_check.proofs.ColumnLaws.{pairs-none, pairs-more, rows_fit}
 use Rattle.certificate_check.proofs.columns.pairs_held.Reads as reads
 use Rattle.certificate_check.proofs.columns.pairs_held.Lts as lts
-use Rattle.certificate_check.proofs.columns.columns_met.Reads as columns-met-reads
-use Rattle.certificate_check.proofs.columns.meet.Reads as meet-reads
-use Rattle.indices.proofs.index_of.Reads as index-of-reads
-use Rattle.plans.proofs.wide.Reads as wide-reads
 use Rattle.certificate_check.proofs.columns.pairs_held.Goals as goal
 use Rattle.certificate_check.proofs.columns.pairs_held.Lts as lts
 use Rattle.certificate_check.proofs.columns.pairs_held.Reads as reads

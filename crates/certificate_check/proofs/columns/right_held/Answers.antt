@@ -1,17 +1,11 @@
 -- right_held meets its contract: a note says what was found held, and is taken only then.
-use borrow.Author.Rules.{rules}
 use native.Mathlib.Omega.{arith}
 use mathlib.Core.Path.{◌≡◌, refl, ap, sym, subst, ◌∙◌}
-use borrow.Author.Tests.{not-false}
 use Prim.Native.Nat.{ℕ, ◌+◌}
 use lib.ListN.{get_or}
 use Rattle.grammar.proofs.Answers.{no_bool}
 use Rattle.certificate_check.specs.Columns.{Noting}
 use Rattle.certificate_check.proofs.ColumnLaws.{note_more, note_row}
-use Rattle.certificate_check.proofs.columns.right_held.Reads as reads
-use Rattle.certificate_check.proofs.columns.right_held.Lts as lts
-use Rattle.certificate_check.proofs.columns.row_held.Reads as row-held-reads
-use Rattle.plans.proofs.wide.Reads as wide-reads
 use Rattle.certificate_check.proofs.columns.right_held.Goals as goal
 
 pub returns-then-right-eq0 : goal.returns-then-right-eq0

@@ -1,9 +1,7 @@
 -- row_held meets its contract: one target more in each turn.
-use borrow.Author.Rules.{rules}
 use native.Mathlib.Omega.{arith}
 use mathlib.Core.Path.{◌≡◌, refl, ap, sym, subst, ◌∙◌}
-use borrow.Author.Tests.{not-false}
-use Prim.Native.Nat.{ℕ, ◌+◌, ◌-◌, ◌*◌, ◌≤◌, ◌<◌}
+use Prim.Native.Nat.{ℕ, ◌+◌, ◌-◌, ◌≤◌, ◌<◌}
 use lib.ListN.{get_or}
 use Rattle.grammar.proofs.Answers.{no_bool}
 use Rattle.triples.specs.Certificate.{is_set}
@@ -11,8 +9,6 @@ use Rattle.certificate_check.specs.Columns.{span_of, target_of, RowTo}
 use Rattle.certificate_check.proofs.ColumnLaws.{row-none, row_more, row-bit, row_times}
 use Rattle.certificate_check.proofs.columns.row_held.Reads as reads
 use Rattle.certificate_check.proofs.columns.row_held.Lts as lts
-use Rattle.bits.proofs.is_set.Reads as is-set-reads
-use Rattle.plans.proofs.wide.Reads as wide-reads
 use Rattle.certificate_check.proofs.columns.row_held.Goals as goal
 use Rattle.certificate_check.proofs.columns.row_held.Lts as lts
 use Rattle.certificate_check.proofs.columns.row_held.Reads as reads

@@ -1,16 +1,7 @@
-use native.Mathlib.Omega.{arith}
-use mathlib.Core.Path.{◌≡◌, refl, ap, sym, subst, ◌∙◌}
-use borrow.Author.Tests.{not-false}
-use Prim.Native.Nat.{ℕ, ◌+◌, ◌-◌, ◌*◌, ◌≤◌, ◌<◌}
+use mathlib.Core.Path.{◌≡◌}
+use Prim.Native.Nat.{ℕ, ◌-◌, ◌*◌, ◌≤◌}
 use lib.ListN.{get_or}
-use Rattle.grammar.proofs.Answers.{no_bool}
-use Rattle.triples.specs.Certificate.{is_set}
-use Rattle.certificate_check.specs.Columns.{span_of, target_of, RowTo}
-use Rattle.certificate_check.proofs.ColumnLaws.{row-none, row_more, row-bit, row_times}
-use Rattle.certificate_check.proofs.columns.row_held.Reads as reads
-use Rattle.certificate_check.proofs.columns.row_held.Lts as lts
-use Rattle.bits.proofs.is_set.Reads as is-set-reads
-use Rattle.plans.proofs.wide.Reads as wide-reads
+use Rattle.certificate_check.specs.Columns.{span_of, RowTo}
 use Rattle.certificate_check.proofs.columns.row_held.Given as goal
 
 abbrev pub invariant-loop-k : goal.invariant-loop-k

@@ -1,5 +1,4 @@
 -- shift_held meets its contract: without a shift there is nothing to be held; with one the states that are looked up are those after it.
-use borrow.Author.Rules.{rules}
 use native.Mathlib.Omega.{arith}
 use mathlib.Core.Path.{◌≡◌, ap, ap₂, sym, subst, ◌∙◌}
 use Prim.Native.Nat.{ℕ, ◌*◌, ◌<◌}

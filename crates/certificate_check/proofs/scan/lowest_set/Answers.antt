@@ -1,5 +1,4 @@
 -- lowest_set meets its contract: every bit before the window looked at is clear.
-use borrow.Author.Rules.{rules}
 use native.Mathlib.Omega.{arith}
 use mathlib.Core.Path.{◌≡◌, subst, sym}
 use Prim.Native.Nat.{ℕ, ◌+◌, ◌-◌, ◌*◌, ◌/◌, ◌≤◌, ◌<◌}
@@ -11,10 +10,6 @@ use Rattle.bits.proofs.WindowLaws.{window_near, window_whole, window_clear, lowe
 use Rattle.certificate_check.proofs.BitLaws.{clear_more, clear_past, set_found, set-none}
 use Rattle.certificate_check.proofs.scan.lowest_set.Reads as reads
 use Rattle.certificate_check.proofs.scan.lowest_set.Lts as lts
-use Rattle.bits.proofs.lowest_one.Reads as lowest-one-reads
-use Rattle.bits.proofs.skip_zeros.Reads as skip-zeros-reads
-use Rattle.bits.proofs.window.Reads as window-reads
-use Rattle.bits.proofs.window_end.Reads as window-end-reads
 use Rattle.certificate_check.proofs.scan.lowest_set.Goals as goal
 use Rattle.certificate_check.proofs.scan.lowest_set.Lts as lts
 use Rattle.certificate_check.proofs.scan.lowest_set.Reads as reads

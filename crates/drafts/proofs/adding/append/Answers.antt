@@ -1,12 +1,8 @@
 -- `drafts::adding::append` meets its contract: the entries go past the last rule, and the number of rules is one more.
 -- Assumes nothing.
-use borrow.Author.Rules.{rules}
 use Prim.Native.Nat.{◌-◌}
 use native.Mathlib.Omega.{arith}
 use Rattle.drafts.proofs.Adds.{append_cell, append_row}
-use Rattle.drafts.proofs.adding.append.Reads as reads
-use Rattle.drafts.proofs.adding.append.Lts as lts
-use Rattle.drafts.proofs.edits.put_entries.Reads as put-entries-reads
 use Rattle.drafts.proofs.adding.append.Goals as goal
 
 pub overflow_add-row : goal.overflow_add-row

@@ -3,8 +3,6 @@
 use Prim.Native.Nat.{◌-◌}
 use native.Mathlib.Omega.{arith}
 use Rattle.drafts.proofs.Adds.{looked_cut, looked-all}
-use Rattle.drafts.proofs.adding.at_most.Reads as reads
-use Rattle.drafts.proofs.adding.at_most.Lts as lts
 use Rattle.drafts.proofs.adding.at_most.Goals as goal
 
 pub returns-then-m-gt-LONGEST : goal.returns-then-m-gt-LONGEST

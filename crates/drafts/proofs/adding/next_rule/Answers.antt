@@ -1,6 +1,5 @@
 -- `drafts::adding::next_rule` meets its contract: 7 first, then the rule alone, then 6 and 8.
 -- Assumes nothing.
-use borrow.Author.Rules.{rules}
 use Prim.Native.Nat.{ℕ, ◌+◌, ◌-◌, ◌≤◌}
 use mathlib.Core.Path.{◌≡◌, ap, sym, ◌∙◌}
 use native.Mathlib.Omega.{arith}
@@ -13,8 +12,6 @@ use Rattle.table_check.proofs.WalkLaws.{next-full, next_fault, next-repeated, ne
 use Rattle.drafts.proofs.Earlier.{led_leading, led-few, led-states}
 use Rattle.drafts.proofs.adding.next_rule.Reads as reads
 use Rattle.drafts.proofs.adding.next_rule.Lts as lts
-use Rattle.drafts.proofs.adding.stands_before.Reads as stands-before-reads
-use Rattle.table_check.proofs.read_rule.Reads as read-rule-reads
 use Rattle.drafts.proofs.adding.next_rule.Goals as goal
 use Rattle.drafts.proofs.adding.next_rule.Lts as lts
 use Rattle.drafts.proofs.adding.next_rule.Reads as reads

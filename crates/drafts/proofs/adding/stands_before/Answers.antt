@@ -1,16 +1,11 @@
 -- `drafts::adding::stands_before` meets its contract: the rules up to the offset are compared one by one.
 -- Assumes nothing.
-use borrow.Author.Rules.{rules}
 use Prim.Native.Nat.{ℕ, ◌-◌}
 use mathlib.Core.Path.{ap, sym, ◌∙◌}
 use native.Mathlib.Omega.{arith}
 use Rattle.grammar.specs.Table.{rule_at}
 use Rattle.grammar.specs.TableCheck.{same_rule}
-use Rattle.drafts.proofs.Earlier.{Behind, behind_start, behind_whole, behind_found, behind_more, behind_end}
-use Rattle.drafts.proofs.adding.stands_before.Reads as reads
-use Rattle.drafts.proofs.adding.stands_before.Lts as lts
-use Rattle.drafts.proofs.blocks.wide.Reads as wide-reads
-use Rattle.table_check.proofs.same_rule.Reads as same-rule-reads
+use Rattle.drafts.proofs.Earlier.{behind_start, behind_whole, behind_found, behind_more, behind_end}
 use Rattle.drafts.proofs.adding.stands_before.Goals as goal
 
 pub loop-o-init : goal.loop-o-init

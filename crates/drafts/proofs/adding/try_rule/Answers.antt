@@ -1,6 +1,5 @@
 -- `drafts::adding::try_rule` meets its contract: the draft's table and the entries past it lie in one row, where the rule is the next one.
 -- Assumes nothing.
-use borrow.Author.Rules.{rules}
 use Prim.Native.Nat.{ℕ, ◌-◌}
 use mathlib.Core.Path.{ap, ◌∙◌}
 use native.Mathlib.Omega.{arith}
@@ -9,12 +8,6 @@ use Rattle.table_check.specs.Clauses.{rule_read}
 use Rattle.drafts.specs.Edits.{try_room}
 use Rattle.drafts.proofs.Tries.{gathered, trying, part_fits, prefix_size}
 use Rattle.drafts.proofs.Readouts.{table-room, counts-held}
-use Rattle.drafts.proofs.adding.try_rule.Reads as reads
-use Rattle.drafts.proofs.adding.try_rule.Lts as lts
-use Rattle.drafts.proofs.adding.at_most.Reads as at-most-reads
-use Rattle.drafts.proofs.adding.next_rule.Reads as next-rule-reads
-use Rattle.drafts.proofs.blocks.wide.Reads as wide-reads
-use Rattle.drafts.proofs.edits.put_entries.Reads as put-entries-reads
 use Rattle.drafts.proofs.adding.try_rule.Goals as goal
 
 pub overflow_sub-at : goal.overflow_sub-at

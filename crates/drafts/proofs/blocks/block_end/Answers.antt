@@ -1,16 +1,11 @@
 -- `drafts::blocks::block_end` meets its contract: what is left of the walk from the place reached is the walk from the start.
 -- Assumes nothing.
-use borrow.Author.Rules.{rules}
 use Prim.Native.Nat.{◌+◌, ◌-◌, ◌≤◌}
 use mathlib.Core.Path.{◌≡◌, ap, sym, ◌∙◌}
 use native.Mathlib.Omega.{arith}
 use lib.ListN.{length}
-use Rattle.drafts.specs.Row.{walk, end_of}
 use Rattle.drafts.specs.Edits.{ending}
 use Rattle.drafts.proofs.Walks.{walk_start, walk-on, walk-short, walk_cut, walk_end, end_none, no_entry}
-use Rattle.drafts.proofs.blocks.block_end.Reads as reads
-use Rattle.drafts.proofs.blocks.block_end.Lts as lts
-use Rattle.drafts.proofs.blocks.wide.Reads as wide-reads
 use Rattle.drafts.proofs.blocks.block_end.Goals as goal
 
 pub returns-then-block-lt1 : goal.returns-then-block-lt1

@@ -1,13 +1,7 @@
-use Prim.Native.Nat.{◌+◌, ◌-◌, ◌≤◌}
-use mathlib.Core.Path.{◌≡◌, ap, sym, ◌∙◌}
-use native.Mathlib.Omega.{arith}
+use Prim.Native.Nat.{◌-◌, ◌≤◌}
+use mathlib.Core.Path.{◌≡◌}
 use lib.ListN.{length}
 use Rattle.drafts.specs.Row.{walk, end_of}
-use Rattle.drafts.specs.Edits.{ending}
-use Rattle.drafts.proofs.Walks.{walk_start, walk-on, walk-short, walk_cut, walk_end, end_none, no_entry}
-use Rattle.drafts.proofs.blocks.block_end.Reads as reads
-use Rattle.drafts.proofs.blocks.block_end.Lts as lts
-use Rattle.drafts.proofs.blocks.wide.Reads as wide-reads
 use Rattle.drafts.proofs.blocks.block_end.Given as goal
 
 abbrev pub invariant-loop-i : goal.invariant-loop-i

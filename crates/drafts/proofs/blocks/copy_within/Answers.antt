@@ -1,14 +1,11 @@
 -- `drafts::blocks::copy_within` meets its contract: the entries are pasted one by one, and what is read has not been written.
 -- Assumes nothing.
-use borrow.Author.Rules.{rules}
-use Prim.Native.Nat.{◌-◌, ◌≤◌}
+use Prim.Native.Nat.{◌-◌}
 use mathlib.Core.Path.{◌≡◌, ap, ◌∙◌}
 use native.Mathlib.Omega.{arith}
 use lib.ListN.{length, drop}
 use lib.Seq.{paste, paste-zero}
 use Rattle.drafts.proofs.Copies.{copy_more, copy_length}
-use Rattle.drafts.proofs.blocks.copy_within.Reads as reads
-use Rattle.drafts.proofs.blocks.copy_within.Lts as lts
 use Rattle.drafts.proofs.blocks.copy_within.Goals as goal
 
 pub loop-i-init : goal.loop-i-init

@@ -1,11 +1,7 @@
 use Prim.Native.Nat.{◌-◌, ◌≤◌}
-use mathlib.Core.Path.{◌≡◌, ap, ◌∙◌}
-use native.Mathlib.Omega.{arith}
-use lib.ListN.{length, drop}
-use lib.Seq.{paste, paste-zero}
-use Rattle.drafts.proofs.Copies.{copy_more, copy_length}
-use Rattle.drafts.proofs.blocks.copy_within.Reads as reads
-use Rattle.drafts.proofs.blocks.copy_within.Lts as lts
+use mathlib.Core.Path.{◌≡◌}
+use lib.ListN.{drop}
+use lib.Seq.{paste}
 use Rattle.drafts.proofs.blocks.copy_within.Given as goal
 
 abbrev pub invariant-loop-i : goal.invariant-loop-i

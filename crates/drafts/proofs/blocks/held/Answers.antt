@@ -1,15 +1,11 @@
 -- `drafts::blocks::held` meets its contract: the part that is lent is the block.
 -- Assumes nothing.
-use borrow.Author.Rules.{rules}
 use Prim.Native.Nat.{ℕ, ◌+◌, ◌-◌, ◌*◌}
 use mathlib.Core.Path.{◌≡◌, ap, ◌∙◌}
 use native.Mathlib.Omega.{arith}
 use lib.ListN.{take, drop}
 use Rattle.drafts.specs.Edits.{ending}
 use Rattle.drafts.specs.Row.{block_size, end_of}
-use Rattle.drafts.proofs.blocks.held.Reads as reads
-use Rattle.drafts.proofs.blocks.held.Lts as lts
-use Rattle.drafts.proofs.blocks.block_end.Reads as block-end-reads
 use Rattle.drafts.proofs.blocks.held.Goals as goal
 
 pub returns : goal.returns

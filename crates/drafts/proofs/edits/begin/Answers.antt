@@ -1,6 +1,5 @@
 -- `drafts::edits::begin` meets its contract: the table, then the three entries before it, then the marks.
 -- Assumes nothing.
-use borrow.Author.Rules.{rules}
 use Prim.Native.Nat.{ℕ, ◌-◌}
 use mathlib.Core.Path.{ap, ◌∙◌}
 use mathlib.Core.List.{List}
@@ -9,10 +8,6 @@ use lib.ListN.{length, set}
 use Rattle.drafts.specs.Row.{emptied}
 use Rattle.drafts.specs.Draft.{marks_count}
 use Rattle.drafts.proofs.Entries.{begin-row, begin-lengths, emptied-length}
-use Rattle.drafts.proofs.edits.begin.Reads as reads
-use Rattle.drafts.proofs.edits.begin.Lts as lts
-use Rattle.drafts.proofs.edits.empty_marks.Reads as empty-marks-reads
-use Rattle.drafts.proofs.edits.put_entries.Reads as put-entries-reads
 use Rattle.drafts.proofs.edits.begin.Goals as goal
 
 pub bounds-row-1 : goal.bounds-row-1

@@ -1,15 +1,12 @@
 -- `drafts::edits::empty_marks` meets its contract: the marks up to the one reached are empty.
 -- Assumes nothing.
-use borrow.Author.Rules.{rules}
-use Prim.Native.Nat.{ℕ, ◌-◌, ◌≤◌}
+use Prim.Native.Nat.{ℕ, ◌-◌}
 use mathlib.Core.Path.{◌≡◌, ap, ◌∙◌}
 use native.Mathlib.Omega.{arith}
 use lib.ListN.{length}
 use Rattle.drafts.specs.Row.{emptied}
 use Rattle.drafts.specs.Draft.{marks_count}
 use Rattle.drafts.proofs.Entries.{emptied-length, emptied-more, emptied-none}
-use Rattle.drafts.proofs.edits.empty_marks.Reads as reads
-use Rattle.drafts.proofs.edits.empty_marks.Lts as lts
 use Rattle.drafts.proofs.edits.empty_marks.Goals as goal
 
 pub loop-k-init : goal.loop-k-init

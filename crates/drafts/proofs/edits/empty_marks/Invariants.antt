@@ -1,12 +1,7 @@
 use Prim.Native.Nat.{ℕ, ◌-◌, ◌≤◌}
-use mathlib.Core.Path.{◌≡◌, ap, ◌∙◌}
-use native.Mathlib.Omega.{arith}
-use lib.ListN.{length}
+use mathlib.Core.Path.{◌≡◌}
 use Rattle.drafts.specs.Row.{emptied}
 use Rattle.drafts.specs.Draft.{marks_count}
-use Rattle.drafts.proofs.Entries.{emptied-length, emptied-more, emptied-none}
-use Rattle.drafts.proofs.edits.empty_marks.Reads as reads
-use Rattle.drafts.proofs.edits.empty_marks.Lts as lts
 use Rattle.drafts.proofs.edits.empty_marks.Given as goal
 
 abbrev pub invariant-loop-k : goal.invariant-loop-k

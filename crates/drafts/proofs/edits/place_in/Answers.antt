@@ -9,7 +9,6 @@ use Rattle.drafts.specs.Row.{walk}
 use Rattle.drafts.proofs.Walks.{walk-whole, walk-next, walk_end}
 use Rattle.drafts.proofs.edits.place_in.Reads as reads
 use Rattle.drafts.proofs.edits.place_in.Lts as lts
-use Rattle.drafts.proofs.blocks.wide.Reads as wide-reads
 use Rattle.drafts.proofs.edits.place_in.Goals as goal
 use Rattle.drafts.proofs.edits.place_in.Lts as lts
 use Rattle.drafts.proofs.edits.place_in.Reads as reads

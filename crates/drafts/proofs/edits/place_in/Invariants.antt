@@ -1,12 +1,7 @@
-use Prim.Native.Nat.{ℕ, ◌+◌, ◌-◌, ◌≤◌}
-use mathlib.Core.Path.{◌≡◌, ap, sym, ◌∙◌}
-use native.Mathlib.Omega.{arith}
-use lib.ListN.{length, get_or}
+use Prim.Native.Nat.{ℕ, ◌-◌, ◌≤◌}
+use mathlib.Core.Path.{◌≡◌}
+use lib.ListN.{length}
 use Rattle.drafts.specs.Row.{walk}
-use Rattle.drafts.proofs.Walks.{walk-whole, walk-next, walk_end}
-use Rattle.drafts.proofs.edits.place_in.Reads as reads
-use Rattle.drafts.proofs.edits.place_in.Lts as lts
-use Rattle.drafts.proofs.blocks.wide.Reads as wide-reads
 use Rattle.drafts.proofs.edits.place_in.Given as goal
 
 abbrev pub invariant-loop-i : goal.invariant-loop-i

@@ -1,14 +1,11 @@
 -- `drafts::edits::put_entries` meets its contract: the entries are pasted one by one.
 -- Assumes nothing.
-use borrow.Author.Rules.{rules}
-use Prim.Native.Nat.{◌-◌, ◌≤◌}
+use Prim.Native.Nat.{◌-◌}
 use mathlib.Core.Path.{◌≡◌, ap, ◌∙◌}
 use native.Mathlib.Omega.{arith}
 use lib.ListN.{length}
 use lib.Seq.{paste, paste-zero, length-paste}
 use Rattle.drafts.proofs.Entries.{put-more}
-use Rattle.drafts.proofs.edits.put_entries.Reads as reads
-use Rattle.drafts.proofs.edits.put_entries.Lts as lts
 use Rattle.drafts.proofs.edits.put_entries.Goals as goal
 
 pub loop-i-init : goal.loop-i-init

@@ -1,11 +1,6 @@
 use Prim.Native.Nat.{◌-◌, ◌≤◌}
-use mathlib.Core.Path.{◌≡◌, ap, ◌∙◌}
-use native.Mathlib.Omega.{arith}
-use lib.ListN.{length}
-use lib.Seq.{paste, paste-zero, length-paste}
-use Rattle.drafts.proofs.Entries.{put-more}
-use Rattle.drafts.proofs.edits.put_entries.Reads as reads
-use Rattle.drafts.proofs.edits.put_entries.Lts as lts
+use mathlib.Core.Path.{◌≡◌}
+use lib.Seq.{paste}
 use Rattle.drafts.proofs.edits.put_entries.Given as goal
 
 abbrev pub invariant-loop-i : goal.invariant-loop-i

@@ -1,13 +1,8 @@
 -- `drafts::edits::remove` meets its contract: what follows the rule is copied down, and the number of rules is one less.
 -- Assumes nothing.
-use borrow.Author.Rules.{rules}
 use Prim.Native.Nat.{◌+◌, ◌-◌}
 use native.Mathlib.Omega.{arith}
 use Rattle.drafts.proofs.Removals.{remove_apart, remove_cell, remove_row}
-use Rattle.drafts.proofs.edits.remove.Reads as reads
-use Rattle.drafts.proofs.edits.remove.Lts as lts
-use Rattle.drafts.proofs.blocks.copy_within.Reads as copy-within-reads
-use Rattle.drafts.proofs.blocks.wide.Reads as wide-reads
 use Rattle.drafts.proofs.edits.remove.Goals as goal
 
 pub copy_within-requires : goal.copy_within-requires

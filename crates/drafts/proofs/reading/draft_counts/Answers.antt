@@ -1,6 +1,5 @@
 -- `drafts::reading::draft_counts` meets its contract: t and n lead the row; the first entry of block 0 and where its rules end tell the rest.
 -- Assumes nothing.
-use borrow.Author.Rules.{rules}
 use Prim.Native.Nat.{ℕ, ◌+◌, ◌-◌}
 use mathlib.Core.Path.{◌≡◌, ap, ap₂, sym, ◌∙◌}
 use native.Mathlib.Omega.{arith}
@@ -13,8 +12,6 @@ use Rattle.drafts.proofs.Opens.{opened-told, shut-told, open_refused}
 use Rattle.drafts.proofs.Readouts.{Counted, counts-held, table-room}
 use Rattle.drafts.proofs.reading.draft_counts.Reads as reads
 use Rattle.drafts.proofs.reading.draft_counts.Lts as lts
-use Rattle.drafts.proofs.reading.open_draft.Reads as open-draft-reads
-use Rattle.drafts.proofs.blocks.wide.Reads as wide-reads
 use Rattle.drafts.proofs.reading.draft_counts.Goals as goal
 use Rattle.drafts.proofs.reading.draft_counts.Lts as lts
 use Rattle.drafts.proofs.reading.draft_counts.Reads as reads

@@ -1,6 +1,5 @@
 -- `drafts::reading::draft_table` meets its contract: the part of block 0 past its first entry, up to where the rules end.
 -- Assumes nothing.
-use borrow.Author.Rules.{rules}
 use Prim.Native.Nat.{◌-◌, ◌≤◌}
 use mathlib.Core.Path.{◌≡◌, sym, ◌∙◌}
 use native.Mathlib.Omega.{arith}
@@ -12,7 +11,6 @@ use Rattle.drafts.proofs.Readouts.{table_none, table-held, table-room}
 use Rattle.drafts.proofs.Opens.{opened-told, shut-told}
 use Rattle.drafts.proofs.reading.draft_table.Reads as reads
 use Rattle.drafts.proofs.reading.draft_table.Lts as lts
-use Rattle.drafts.proofs.reading.open_draft.Reads as open-draft-reads
 use Rattle.drafts.proofs.reading.draft_table.Goals as goal
 use Rattle.drafts.proofs.reading.draft_table.Lts as lts
 use Rattle.drafts.proofs.reading.draft_table.Reads as reads

@@ -1,14 +1,10 @@
 -- `drafts::reading::open_draft` meets its contract: 14, then 23, then where the rules end.
 -- Assumes nothing.
-use borrow.Author.Rules.{rules}
 use Prim.Native.Nat.{◌-◌}
 use mathlib.Core.Path.{ap, sym, ◌∙◌}
 use native.Mathlib.Omega.{arith}
 use Rattle.drafts.specs.Edits.{opening}
 use Rattle.drafts.proofs.Opens.{open_short, open_ends, open_nothing}
-use Rattle.drafts.proofs.reading.open_draft.Reads as reads
-use Rattle.drafts.proofs.reading.open_draft.Lts as lts
-use Rattle.drafts.proofs.blocks.held.Reads as held_reads
 use Rattle.drafts.proofs.reading.open_draft.Goals as goal
 
 pub returns-then-draft-lt-DRAFT_ROOM : goal.returns-then-draft-lt-DRAFT_ROOM

@@ -1,6 +1,5 @@
 -- `drafts::reading::table_place` meets its contract: where the rules of block 0 end tells how many entries stand there.
 -- Assumes nothing.
-use borrow.Author.Rules.{rules}
 use Prim.Native.Nat.{◌-◌}
 use mathlib.Core.Path.{◌≡◌, ap, sym, ◌∙◌}
 use native.Mathlib.Omega.{arith}
@@ -11,7 +10,6 @@ use Rattle.drafts.proofs.Opens.{opened-told, shut-told, open_refused}
 use Rattle.drafts.proofs.Readouts.{counts-held, table-room}
 use Rattle.drafts.proofs.reading.table_place.Reads as reads
 use Rattle.drafts.proofs.reading.table_place.Lts as lts
-use Rattle.drafts.proofs.reading.open_draft.Reads as open-draft-reads
 use Rattle.drafts.proofs.reading.table_place.Goals as goal
 use Rattle.drafts.proofs.reading.table_place.Lts as lts
 use Rattle.drafts.proofs.reading.table_place.Reads as reads

@@ -1,5 +1,4 @@
 -- open_end meets its contract: its two tests are the cases of the definition.
-use borrow.Author.Rules.{rules}
 use native.Mathlib.Omega.{arith}
 use Prim.Native.Nat.{ℕ, ◌+◌, ◌*◌, ◌≤◌, ◌<◌}
 use mathlib.Core.Path.{refl, ap, sym, subst, ◌∙◌}
@@ -12,9 +11,6 @@ use Rattle.explore.specs.State.{Opened, short, shut, fresh}
 use Rattle.explore.proofs.AddsLaws.{wide_fits}
 use Rattle.explore.proofs.blocks.open_end.Reads as reads
 use Rattle.explore.proofs.blocks.open_end.Lts as lts
-use Rattle.tops.proofs.is_marked.Reads as is-marked-reads
-use Rattle.tops.proofs.mark.Reads as mark-reads
-use Rattle.plans.proofs.wide.Reads as wide-reads
 use Rattle.explore.proofs.blocks.open_end.Goals as goal
 use Rattle.explore.proofs.blocks.open_end.Lts as lts
 use Rattle.explore.proofs.blocks.open_end.Reads as reads

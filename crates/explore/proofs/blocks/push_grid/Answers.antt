@@ -3,11 +3,10 @@ use mathlib.Core.Path.{◌≡◌, refl, sym, subst}
 use mathlib.Core.List.{List}
 use Prim.Native.Nat.{ℕ, ◌+◌, ◌-◌, ◌*◌, ◌≤◌, ◌<◌}
 use native.Mathlib.Omega.{arith}
-use lib.ListN.{length, get_or}
+use lib.ListN.{get_or}
 use Rattle.triples.specs.Index.{triple_count}
-use Rattle.explore.specs.State.{State, held, Pushed, Along, Grid}
+use Rattle.explore.specs.State.{State, held, Pushed, Along}
 use Rattle.explore.proofs.PushLaws.{grid-start, grid-marked, line-below, grid-more, grid-end}
-use borrow.Author.Rules.{rules}
 use Rattle.explore.proofs.blocks.push_grid.Goals as goal
 use Rattle.explore.proofs.blocks.push_grid.Lts as lts
 use Rattle.explore.proofs.blocks.push_grid.Reads as reads

@@ -1,11 +1,7 @@
-use mathlib.Core.Path.{◌≡◌, refl, sym, subst}
-use mathlib.Core.List.{List}
-use Prim.Native.Nat.{ℕ, ◌+◌, ◌-◌, ◌*◌, ◌≤◌, ◌<◌}
-use native.Mathlib.Omega.{arith}
-use lib.ListN.{length, get_or}
-use Rattle.triples.specs.Index.{triple_count}
-use Rattle.explore.specs.State.{State, held, Pushed, Along, Grid}
-use Rattle.explore.proofs.PushLaws.{grid-start, grid-marked, line-below, grid-more, grid-end}
+use mathlib.Core.Path.{◌≡◌}
+use Prim.Native.Nat.{ℕ, ◌-◌, ◌*◌, ◌≤◌}
+use lib.ListN.{length}
+use Rattle.explore.specs.State.{held, Pushed, Grid}
 use Rattle.explore.proofs.blocks.push_grid.Given as goal
 
 abbrev pub invariant-loop-k : goal.invariant-loop-k

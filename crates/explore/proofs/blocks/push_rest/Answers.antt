@@ -2,7 +2,6 @@
 use native.Mathlib.Omega.{arith}
 use Rattle.explore.specs.State.{State, held}
 use Rattle.explore.proofs.PushLaws.{rest_below, shift_below, rest-alone, lower_rest, both_rest, rest-pushed}
-use borrow.Author.Rules.{rules}
 use Rattle.explore.proofs.blocks.push_rest.Goals as goal
 use Rattle.explore.proofs.blocks.push_rest.Lts as lts
 use Rattle.explore.proofs.blocks.push_rest.Reads as reads

@@ -2,7 +2,6 @@
 use native.Mathlib.Omega.{arith}
 use Rattle.explore.specs.State.{State, held}
 use Rattle.explore.proofs.PushLaws.{left_below, right-below, lower_marked, right-marked, rest_bounded, rest_order, sides-pushed}
-use borrow.Author.Rules.{rules}
 use Rattle.explore.proofs.blocks.push_sides.Goals as goal
 use Rattle.explore.proofs.blocks.push_sides.Lts as lts
 use Rattle.explore.proofs.blocks.push_sides.Reads as reads

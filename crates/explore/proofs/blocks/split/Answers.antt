@@ -1,11 +1,10 @@
 -- split meets its contract: the place stays between the two, and what is before it is below the limit.
 use Prim.Native.Nat.{ℕ, ◌+◌, ◌-◌, ◌*◌, ◌≤◌, ◌<◌}
-use mathlib.Core.Path.{◌≡◌, sym, subst}
+use mathlib.Core.Path.{sym, subst}
 use native.Mathlib.Decide.{ℕ_discrete}
 use lib.ListN.{get_or}
 use native.Mathlib.Omega.{arith}
 use Rattle.explore.proofs.AddsLaws.{wide_fits}
-use borrow.Author.Rules.{rules}
 use Rattle.explore.proofs.blocks.split.Goals as goal
 
 pub loop-k-init : goal.loop-k-init

@@ -1,9 +1,6 @@
 use Prim.Native.Nat.{ℕ, ◌+◌, ◌-◌, ◌*◌, ◌≤◌, ◌<◌}
-use mathlib.Core.Path.{◌≡◌, sym, subst}
 use native.Mathlib.Decide.{ℕ_discrete}
 use lib.ListN.{get_or}
-use native.Mathlib.Omega.{arith}
-use Rattle.explore.proofs.AddsLaws.{wide_fits}
 use Rattle.explore.proofs.blocks.split.Given as goal
 
 abbrev pub invariant-loop-k : goal.invariant-loop-k

@@ -1,13 +1,11 @@
 -- expand meets its contract: after each turn the entries up to there are pushed.
-use mathlib.Core.Path.{◌≡◌, refl, sym, subst}
+use mathlib.Core.Path.{refl, sym, subst}
 use Prim.Native.Nat.{ℕ, ◌+◌, ◌-◌, ◌*◌, ◌≤◌, ◌<◌}
 use native.Mathlib.Omega.{arith}
-use lib.ListN.{length}
 use Rattle.triples.specs.Index.{triple_count}
-use Rattle.explore.specs.State.{State, held, Pushed, Along}
+use Rattle.explore.specs.State.{State, held}
 use Rattle.explore.proofs.AddsLaws.{count_small}
 use Rattle.explore.proofs.PushLaws.{along-start, along-marked, along-more, along-end}
-use borrow.Author.Rules.{rules}
 use Rattle.explore.proofs.push.expand.Goals as goal
 use Rattle.explore.proofs.push.expand.Lts as lts
 use Rattle.explore.proofs.push.expand.Reads as reads

@@ -1,11 +1,7 @@
-use mathlib.Core.Path.{◌≡◌, refl, sym, subst}
-use Prim.Native.Nat.{ℕ, ◌+◌, ◌-◌, ◌*◌, ◌≤◌, ◌<◌}
-use native.Mathlib.Omega.{arith}
+use mathlib.Core.Path.{◌≡◌}
+use Prim.Native.Nat.{ℕ, ◌-◌, ◌≤◌}
 use lib.ListN.{length}
-use Rattle.triples.specs.Index.{triple_count}
-use Rattle.explore.specs.State.{State, held, Pushed, Along}
-use Rattle.explore.proofs.AddsLaws.{count_small}
-use Rattle.explore.proofs.PushLaws.{along-start, along-marked, along-more, along-end}
+use Rattle.explore.specs.State.{held, Pushed, Along}
 use Rattle.explore.proofs.push.expand.Given as goal
 
 abbrev pub invariant-loop-k : goal.invariant-loop-k

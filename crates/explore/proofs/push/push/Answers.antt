@@ -1,5 +1,5 @@
 -- push meets its contract: an index that is not marked is added, and there is room for it; the marks are the top bytes of the parents.
-use mathlib.Core.Path.{◌≡◌, sym, ap, ◌∙◌, subst, subst₂}
+use mathlib.Core.Path.{◌≡◌, sym, ap, ◌∙◌, subst₂}
 use mathlib.Core.Bool.{false}
 use mathlib.Core.List.{List}
 use Prim.Native.Nat.{ℕ, ◌+◌, ◌≤◌, ◌<◌}
@@ -9,8 +9,7 @@ use Rattle.triples.specs.Index.{triple_count}
 use Rattle.triples.specs.Certificate.{is_set}
 use Rattle.explore.specs.State.{State, state, Pushed}
 use Rattle.explore.proofs.AddsLaws.{added-room, count_small, pushed-old, pushed-new}
-use Rattle.tops.specs.Tops.{top, low, tops, lows}
-use borrow.Author.Rules.{rules}
+use Rattle.tops.specs.Tops.{low, tops, lows}
 use Rattle.explore.proofs.push.push.Goals as goal
 use Rattle.explore.proofs.push.push.Lts as lts
 use Rattle.explore.proofs.push.push.Reads as reads

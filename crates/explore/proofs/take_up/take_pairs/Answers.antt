@@ -10,7 +10,6 @@ use Rattle.bits.specs.Bits.{with_bit}
 use Rattle.tops.specs.Tops.{tops}
 use Rattle.explore.specs.State.{State, state, Pushed, Grid, Once, again, first}
 use Rattle.explore.proofs.AddsLaws.{wide_fits}
-use borrow.Author.Rules.{rules}
 use Rattle.explore.proofs.take_up.take_pairs.Goals as goal
 use Rattle.explore.proofs.take_up.take_pairs.Lts as lts
 use Rattle.explore.proofs.take_up.take_pairs.Reads as reads

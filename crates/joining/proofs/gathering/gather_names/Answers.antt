@@ -1,5 +1,4 @@
 -- `joining::gathering::gather_names` meets its contract: the rows hold the names of each kind. Assumes nothing.
-use borrow.Author.Rules.{rules}
 use native.Mathlib.Omega.{arith}
 use mathlib.Core.Path.{sym, ◌∙◌}
 use lib.Seq.{length-take-le}

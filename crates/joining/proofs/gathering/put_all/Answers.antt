@@ -1,10 +1,8 @@
 -- `joining::gathering::put_all` meets its contract: up to the cursor the names are put. Assumes nothing.
-use borrow.Author.Rules.{rules}
 use native.Mathlib.Omega.{arith}
-use Prim.Native.Nat.{ℕ, ◌-◌, ◌≤◌}
-use mathlib.Core.Path.{◌≡◌, refl, subst, ◌∙◌}
+use Prim.Native.Nat.{ℕ, ◌-◌}
+use mathlib.Core.Path.{refl, subst, ◌∙◌}
 use mathlib.Core.List.{List}
-use lib.ListN.{length, take}
 use lib.Seq.{take_all}
 use Rattle.text.specs.Spelled.{spelled}
 use Rattle.joining.specs.Gathering.{Puts}

@@ -1,12 +1,8 @@
-use native.Mathlib.Omega.{arith}
 use Prim.Native.Nat.{ℕ, ◌-◌, ◌≤◌}
-use mathlib.Core.Path.{◌≡◌, refl, subst, ◌∙◌}
-use mathlib.Core.List.{List}
+use mathlib.Core.Path.{◌≡◌}
 use lib.ListN.{length, take}
-use lib.Seq.{take_all}
 use Rattle.text.specs.Spelled.{spelled}
 use Rattle.joining.specs.Gathering.{Puts}
-use Rattle.joining.proofs.GatherLaws.{room-kept, puts_none, puts_next, listed_count}
 use Rattle.joining.proofs.gathering.put_all.Given as goal
 
 abbrev pub invariant-loop-i : goal.invariant-loop-i

@@ -1,11 +1,9 @@
-use native.Mathlib.Omega.{arith}
 use Prim.Native.Nat.{ℕ, ◌+◌, ◌-◌, ◌≤◌}
-use mathlib.Core.Path.{◌≡◌, refl, ap, sym, subst, ◌∙◌}
-use mathlib.Core.List.{List, [], ◌∷◌}
-use lib.ListN.{length, take, get_or, length-append}
+use mathlib.Core.Path.{◌≡◌}
+use mathlib.Core.List.{[]}
+use lib.ListN.{length, take}
 use Rattle.text.specs.Spelled.{spelled}
 use Rattle.joining.specs.Gathering.{fresh, Puts}
-use Rattle.joining.proofs.GatherLaws.{room-kept, puts_none, puts_more, listed_count, fresh-none, fresh-next, fresh-room, fresh-all}
 use Rattle.joining.proofs.gathering.put_fresh.Given as goal
 
 abbrev pub invariant-loop-i : goal.invariant-loop-i

@@ -1,5 +1,4 @@
 -- `joining::gathering::put_if_fresh` meets its contract: a name with a low number is left out. Assumes nothing.
-use borrow.Author.Rules.{rules}
 use native.Mathlib.Omega.{arith}
 use Prim.Native.Nat.{ℕ}
 use mathlib.Core.Path.{ap, sym, subst}

@@ -1,5 +1,4 @@
 -- `joining::gathering::put_kind` meets its contract: the module's names follow the robot's. Assumes nothing.
-use borrow.Author.Rules.{rules}
 use native.Mathlib.Omega.{arith}
 use Prim.Native.Nat.{ℕ, ◌+◌}
 use mathlib.Core.Path.{◌≡◌, ap, ◌∙◌}

@@ -1,5 +1,4 @@
 -- `joining::gathering::put_one` meets its contract: the name stands in its place, those before it stay. Assumes nothing.
-use borrow.Author.Rules.{rules}
 use Rattle.joining.proofs.GatherLaws.{one-room, one-put}
 use Rattle.joining.proofs.gathering.put_one.Goals as goal
 

@@ -1,6 +1,4 @@
 -- `joining::joins::join_kept` meets its contract: the robot's text, the module's, then the join. Assumes nothing.
-use borrow.Author.Rules.{rules}
-use native.Mathlib.Omega.{arith}
 use mathlib.Core.Path.{◌∙◌}
 use Rattle.joining.proofs.JoinLaws.{robot-refused, addon-refused, both_read}
 use Rattle.joining.proofs.joins.join_kept.Goals as goal

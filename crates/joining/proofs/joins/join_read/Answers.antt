@@ -1,5 +1,4 @@
 -- `joining::joins::join_read` meets its contract: names, rules and last tests, one after the other. Assumes nothing.
-use borrow.Author.Rules.{rules}
 use native.Mathlib.Omega.{arith}
 use mathlib.Core.Path.{sym}
 use lib.Seq.{length-take-le}

@@ -1,5 +1,4 @@
 -- `joining::naming::count_kinds` meets its contract: what either kind tells, and the refusal that follows. Assumes nothing.
-use borrow.Author.Rules.{rules}
 use native.Mathlib.Omega.{arith}
 use Prim.Native.Nat.{ℕ}
 use mathlib.Core.Path.{◌≡◌}

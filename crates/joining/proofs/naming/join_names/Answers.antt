@@ -1,8 +1,7 @@
 -- `joining::naming::join_names` meets its contract: the parts of the rows are the terminals' and the nonterminals'. Assumes nothing.
-use borrow.Author.Rules.{rules}
 use native.Mathlib.Omega.{arith}
 use Prim.Native.Nat.{ℕ}
-use mathlib.Core.Path.{◌≡◌, refl, sym, ap₂}
+use mathlib.Core.Path.{refl, sym, ap₂}
 use lib.ListN.{take, drop}
 use lib.Seq.{length-take-le}
 use Rattle.text.specs.Spelled.{spelled}

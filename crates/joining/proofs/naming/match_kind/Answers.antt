@@ -1,9 +1,7 @@
 -- `joining::naming::match_kind` meets its contract: the robot's names are all different, so the tree has them all. Assumes nothing.
-use borrow.Author.Rules.{rules}
 use native.Mathlib.Omega.{arith}
 use Prim.Native.Nat.{ℕ, ◌+◌, ◌*◌}
-use mathlib.Core.Path.{◌≡◌, sym, ap, ◌∙◌}
-use mathlib.Core.List.{◌++◌}
+use mathlib.Core.Path.{sym, ap, ◌∙◌}
 use lib.ListN.{length, length-append, length-replicate}
 use Rattle.grammar.specs.Basics.{over}
 use Rattle.text.specs.Spelled.{spelled}

@@ -1,12 +1,9 @@
 -- `joining::naming::meets` meets its contract: no name before the cursor is among the robot's. Assumes nothing.
-use borrow.Author.Rules.{rules}
 use native.Mathlib.Omega.{arith}
-use mathlib.Core.Path.{◌≡◌, sym, ap, refl, ◌∙◌}
-use Prim.Native.Nat.{◌≤◌, ◌<◌, ◌+◌, ◌-◌}
-use lib.ListN.{length, drop}
+use mathlib.Core.Path.{sym, refl, ◌∙◌}
+use Prim.Native.Nat.{◌-◌}
 use Rattle.text.specs.Spelled.{spelled}
 use Rattle.text.proofs.Spans.{length-spelled}
-use Rattle.modules.specs.Joined.{meet}
 use Rattle.joining.proofs.Loops.{meet-here, meet-later, meet-end}
 use Rattle.joining.proofs.naming.meets.Goals as goal
 

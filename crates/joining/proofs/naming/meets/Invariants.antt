@@ -1,11 +1,8 @@
-use native.Mathlib.Omega.{arith}
-use mathlib.Core.Path.{◌≡◌, sym, ap, refl, ◌∙◌}
-use Prim.Native.Nat.{◌≤◌, ◌<◌, ◌+◌, ◌-◌}
+use mathlib.Core.Path.{◌≡◌}
+use Prim.Native.Nat.{◌≤◌, ◌-◌}
 use lib.ListN.{length, drop}
 use Rattle.text.specs.Spelled.{spelled}
-use Rattle.text.proofs.Spans.{length-spelled}
 use Rattle.modules.specs.Joined.{meet}
-use Rattle.joining.proofs.Loops.{meet-here, meet-later, meet-end}
 use Rattle.joining.proofs.naming.meets.Given as goal
 
 abbrev pub invariant-loop-i : goal.invariant-loop-i

@@ -1,5 +1,4 @@
 -- `joining::naming::next_after` meets its contract: by the test. Assumes nothing.
-use borrow.Author.Rules.{rules}
 use borrow.Author.Tests.{lt-ltb, le-ltb}
 use Rattle.joining.proofs.naming.next_after.Goals as goal
 

@@ -1,5 +1,4 @@
 -- `joining::naming::number_for` meets its contract: by the test. Assumes nothing.
-use borrow.Author.Rules.{rules}
 use borrow.Author.Tests.{lt-ltb, le-ltb}
 use Rattle.joining.proofs.naming.number_for.Goals as goal
 

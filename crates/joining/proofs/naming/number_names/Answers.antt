@@ -1,17 +1,14 @@
 -- `joining::naming::number_names` meets its contract: up to the cursor the row has the numbers, and `next` follows what was added.
 -- Assumes nothing.
-use borrow.Author.Rules.{rules}
 use native.Mathlib.Omega.{arith}
 use mathlib.Core.Path.{◌≡◌, sym, ap, ap₂, refl, ◌∙◌}
-use mathlib.Core.List.{List, ◌++◌}
-use Prim.Native.Nat.{ℕ, ◌≤◌, ◌<◌, ◌+◌, ◌-◌}
+use mathlib.Core.List.{List}
+use Prim.Native.Nat.{ℕ, ◌<◌, ◌+◌, ◌-◌}
 use lib.Dec.{ltb}
-use lib.ListN.{length, take, drop, get_or, set, length-set}
+use lib.ListN.{length, set, length-set}
 use Rattle.grammar.specs.Basics.{choose}
 use Rattle.text.specs.Spelled.{spelled}
 use Rattle.text.proofs.Spans.{length-spelled}
-use Rattle.modules.specs.Joined.{added}
-use Rattle.joining.specs.Numbers.{numbered}
 use Rattle.joining.proofs.Loops.{next_more, number_more, number_all, added-all, none-added, choose-small, choose-next}
 use Rattle.joining.proofs.naming.number_names.Goals as goal
 

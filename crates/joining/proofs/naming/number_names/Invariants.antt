@@ -1,15 +1,10 @@
-use native.Mathlib.Omega.{arith}
-use mathlib.Core.Path.{◌≡◌, sym, ap, ap₂, refl, ◌∙◌}
-use mathlib.Core.List.{List, ◌++◌}
-use Prim.Native.Nat.{ℕ, ◌≤◌, ◌<◌, ◌+◌, ◌-◌}
-use lib.Dec.{ltb}
-use lib.ListN.{length, take, drop, get_or, set, length-set}
-use Rattle.grammar.specs.Basics.{choose}
+use mathlib.Core.Path.{◌≡◌}
+use mathlib.Core.List.{◌++◌}
+use Prim.Native.Nat.{ℕ, ◌≤◌, ◌+◌, ◌-◌}
+use lib.ListN.{length, take, drop}
 use Rattle.text.specs.Spelled.{spelled}
-use Rattle.text.proofs.Spans.{length-spelled}
 use Rattle.modules.specs.Joined.{added}
 use Rattle.joining.specs.Numbers.{numbered}
-use Rattle.joining.proofs.Loops.{next_more, number_more, number_all, added-all, none-added, choose-small, choose-next}
 use Rattle.joining.proofs.naming.number_names.Given as goal
 
 abbrev pub invariant-loop-i : goal.invariant-loop-i

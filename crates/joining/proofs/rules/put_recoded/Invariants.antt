@@ -1,12 +1,10 @@
-use native.Mathlib.Omega.{arith}
-use mathlib.Core.Path.{◌≡◌, ap, ◌∙◌}
+use mathlib.Core.Path.{◌≡◌}
 use mathlib.Core.List.{map}
-use Prim.Native.Nat.{◌≤◌, ◌+◌, ◌-◌}
-use lib.ListN.{length, set, length-set}
-use lib.Seq.{paste, paste-zero}
+use Prim.Native.Nat.{◌≤◌, ◌-◌}
+use lib.ListN.{length}
+use lib.Seq.{paste}
 use Rattle.grammar.specs.Limits.{limits}
 use Rattle.joining.specs.Naming.{recoded}
-use Rattle.joining.proofs.Loops.{paste_more}
 use Rattle.joining.proofs.rules.put_recoded.Given as goal
 
 abbrev pub invariant-loop-i : goal.invariant-loop-i

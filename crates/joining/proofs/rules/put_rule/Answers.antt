@@ -1,5 +1,4 @@
 -- `joining::rules::put_rule` meets its contract: the left code, the length, then the codes behind them. Assumes nothing.
-use borrow.Author.Rules.{rules}
 use native.Mathlib.Omega.{arith}
 use mathlib.Core.Path.{ap, sym, subst, ◌∙◌}
 use mathlib.Core.List.{List}

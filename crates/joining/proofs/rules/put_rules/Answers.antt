@@ -1,10 +1,9 @@
 -- `joining::rules::put_rules` meets its contract: up to the cursor the module's rules are put, those that the robot has written over.
 -- Assumes nothing.
-use borrow.Author.Rules.{rules}
 use native.Mathlib.Omega.{arith}
 use Prim.Native.Nat.{◌+◌, ◌-◌, ◌≤◌}
 use lib.ListN.{length, get_or}
-use Rattle.joining.proofs.Putting.{Putting, put-start, put_whole, put_ready, put-before, put-more, put-end}
+use Rattle.joining.proofs.Putting.{put-start, put_whole, put_ready, put-before, put-more, put-end}
 use Rattle.joining.proofs.rules.put_rules.Goals as goal
 use Rattle.joining.proofs.rules.put_rules.Lts as lts
 use Rattle.joining.proofs.rules.put_rules.Reads as reads

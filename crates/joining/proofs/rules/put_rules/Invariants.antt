@@ -1,7 +1,6 @@
-use native.Mathlib.Omega.{arith}
-use Prim.Native.Nat.{◌+◌, ◌-◌, ◌≤◌}
-use lib.ListN.{length, get_or}
-use Rattle.joining.proofs.Putting.{Putting, put-start, put_whole, put_ready, put-before, put-more, put-end}
+use Prim.Native.Nat.{◌-◌}
+use lib.ListN.{length}
+use Rattle.joining.proofs.Putting.{Putting}
 use Rattle.joining.proofs.rules.put_rules.Given as goal
 
 abbrev pub invariant-loop-at : goal.invariant-loop-at

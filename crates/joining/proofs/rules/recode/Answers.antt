@@ -1,5 +1,4 @@
 -- `joining::rules::recode` meets its contract: a code below the start is a terminal's. Assumes nothing.
-use borrow.Author.Rules.{rules}
 use borrow.Author.Tests.{lt-ltb, le-ltb}
 use native.Mathlib.Omega.{arith}
 use mathlib.Core.Path.{ap, ◌∙◌}

@@ -1,10 +1,9 @@
 -- `joining::rules::stands_before` meets its contract: no rule before the cursor is the one looked for. Assumes nothing.
-use borrow.Author.Rules.{rules}
 use native.Mathlib.Omega.{arith}
 use mathlib.Core.Path.{sym, ◌∙◌}
 use Prim.Native.Nat.{◌+◌, ◌-◌, ◌≤◌}
 use lib.ListN.{length, get_or}
-use Rattle.joining.proofs.Seeking.{Seeking, seek_start, seek_whole, seek_found, seek_more, seek_end}
+use Rattle.joining.proofs.Seeking.{seek_start, seek_whole, seek_found, seek_more, seek_end}
 use Rattle.joining.proofs.rules.stands_before.Goals as goal
 use Rattle.joining.proofs.rules.stands_before.Lts as lts
 use Rattle.joining.proofs.rules.stands_before.Reads as reads

@@ -1,8 +1,5 @@
-use native.Mathlib.Omega.{arith}
-use mathlib.Core.Path.{sym, ◌∙◌}
-use Prim.Native.Nat.{◌+◌, ◌-◌, ◌≤◌}
-use lib.ListN.{length, get_or}
-use Rattle.joining.proofs.Seeking.{Seeking, seek_start, seek_whole, seek_found, seek_more, seek_end}
+use Prim.Native.Nat.{◌-◌}
+use Rattle.joining.proofs.Seeking.{Seeking}
 use Rattle.joining.proofs.rules.stands_before.Given as goal
 
 abbrev pub invariant-loop-o : goal.invariant-loop-o

@@ -1,11 +1,8 @@
 -- `joining::shown::entry_of` meets its contract: no entry before the cursor is i. Assumes nothing.
 use borrow.Author.Rules.{rules}
 use native.Mathlib.Omega.{arith}
-use mathlib.Core.Path.{◌≡◌, sym, ◌∙◌}
-use Prim.Native.Nat.{ℕ, ◌≤◌, ◌+◌, ◌-◌}
-use lib.Dec.{eqb}
-use lib.ListN.{length, drop}
-use Rattle.text.specs.Names.{place}
+use mathlib.Core.Path.{sym, ◌∙◌}
+use Prim.Native.Nat.{ℕ, ◌-◌}
 use Rattle.joining.proofs.Places.{entry_here, entry-after, entry-none}
 use Rattle.joining.proofs.shown.entry_of.Goals as goal
 

@@ -1,10 +1,8 @@
-use native.Mathlib.Omega.{arith}
-use mathlib.Core.Path.{◌≡◌, sym, ◌∙◌}
+use mathlib.Core.Path.{◌≡◌}
 use Prim.Native.Nat.{ℕ, ◌≤◌, ◌+◌, ◌-◌}
 use lib.Dec.{eqb}
 use lib.ListN.{length, drop}
 use Rattle.text.specs.Names.{place}
-use Rattle.joining.proofs.Places.{entry_here, entry-after, entry-none}
 use Rattle.joining.proofs.shown.entry_of.Given as goal
 
 abbrev pub invariant-loop-j : goal.invariant-loop-j

@@ -1,5 +1,4 @@
 -- `joining::shown::joined_name` meets its contract: the part at the place that is shown. Assumes nothing.
-use borrow.Author.Rules.{rules}
 use mathlib.Core.Path.{ap, ◌∙◌}
 use Rattle.modules.specs.Shown.{part_of}
 use Rattle.joining.proofs.shown.joined_name.Goals as goal

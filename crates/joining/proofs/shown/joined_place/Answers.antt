@@ -1,5 +1,4 @@
 -- `joining::shown::joined_place` meets its contract: nowhere for a refusal, else where the rows say. Assumes nothing.
-use borrow.Author.Rules.{rules}
 use Rattle.joining.proofs.Places.{place_ready, place-refused}
 use Rattle.joining.proofs.Rooms.{rows_both}
 use Rattle.joining.proofs.shown.joined_place.Goals as goal

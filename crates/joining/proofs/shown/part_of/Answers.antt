@@ -1,6 +1,5 @@
 -- `joining::shown::part_of` meets its contract: case by case, a part of one text or an empty one. Assumes nothing.
-use mathlib.Core.Path.{◌≡◌, ap, sym, subst, ◌∙◌}
-use borrow.Author.Rules.{rules}
+use mathlib.Core.Path.{ap, sym, subst, ◌∙◌}
 use Rattle.modules.specs.Shown.{part_of, Inside}
 use Rattle.modules.specs.declared.Place.{Place}
 use Rattle.joining.proofs.shown.part_of.Goals as goal

@@ -1,5 +1,4 @@
 -- `joining::shown::place_of` meets its contract: case by case, the rows have the place of the robot's name or of the module's. Assumes nothing.
-use borrow.Author.Rules.{rules}
 use native.Mathlib.Omega.{arith}
 use mathlib.Core.Path.{◌≡◌, sym, ap, subst}
 use Prim.Native.Nat.{ℕ, ◌+◌, ◌-◌}

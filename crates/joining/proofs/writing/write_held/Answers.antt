@@ -1,5 +1,4 @@
 -- `joining::writing::write_held` meets its contract: the writer writes the joined text from the names that are gathered. Assumes nothing.
-use borrow.Author.Rules.{rules}
 use Prim.Native.Nat.{ℕ, ◌*◌}
 use native.Mathlib.Omega.{arith}
 use mathlib.Core.Path.{sym}

@@ -1,5 +1,4 @@
 -- `joining::writing::write_joined` meets its contract: a refusal leaves the output as it was; else the joined text is written. Assumes nothing.
-use borrow.Author.Rules.{rules}
 use mathlib.Core.Path.{subst}
 use Rattle.joining.specs.Joins.{JoinTold}
 use Rattle.joining.specs.declared.Join.{Join}

@@ -1,11 +1,9 @@
 -- all_marked meets its contract: d codes are marked.
-use borrow.Author.Rules.{rules}
 use native.Mathlib.Omega.{arith}
-use borrow.Author.Tests.{not-true, not-false}
-use Prim.Native.Nat.{ℕ, ◌-◌, ◌≤◌, ◌<◌}
+use Prim.Native.Nat.{ℕ, ◌-◌}
 use mathlib.Core.Path.{◌≡◌, sym, ◌∙◌}
 use mathlib.Core.Bool.{true}
-use lib.ListN.{length, get_or}
+use lib.ListN.{get_or}
 use Rattle.live.specs.Marks.{marked}
 use Rattle.live.proofs.MarkLaws.{each-marked, one-unmarked, one_more}
 use Rattle.live.proofs.marks.all_marked.Goals as goal

@@ -1,11 +1,8 @@
-use native.Mathlib.Omega.{arith}
-use borrow.Author.Tests.{not-true, not-false}
 use Prim.Native.Nat.{ℕ, ◌-◌, ◌≤◌, ◌<◌}
-use mathlib.Core.Path.{◌≡◌, sym, ◌∙◌}
+use mathlib.Core.Path.{◌≡◌}
 use mathlib.Core.Bool.{true}
 use lib.ListN.{length, get_or}
 use Rattle.live.specs.Marks.{marked}
-use Rattle.live.proofs.MarkLaws.{each-marked, one-unmarked, one_more}
 use Rattle.live.proofs.marks.all_marked.Given as goal
 
 abbrev pub invariant-loop-d : goal.invariant-loop-d

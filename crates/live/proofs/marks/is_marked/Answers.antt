@@ -1,5 +1,4 @@
 -- is_marked meets its contract: the tests are the definition's.
-use borrow.Author.Rules.{rules}
 use native.Mathlib.Omega.{arith}
 use Rattle.live.proofs.MarkLaws.{marked-low, marked-high}
 use mathlib.Core.Path.{sym}

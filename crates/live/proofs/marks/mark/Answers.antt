@@ -1,5 +1,4 @@
 -- mark meets its contract: the test is the definition's.
-use borrow.Author.Rules.{rules}
 use native.Mathlib.Omega.{arith}
 use mathlib.Core.Path.{refl, sym, ◌∙◌}
 use Rattle.live.specs.Marks.{with_mark, new_mark}

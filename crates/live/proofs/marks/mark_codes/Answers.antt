@@ -1,8 +1,7 @@
 -- mark_codes meets its contract: d codes are marked, n marks are new.
 use borrow.Author.Rules.{rules}
 use native.Mathlib.Omega.{arith}
-use Prim.Native.Nat.{ℕ, ◌+◌, ◌-◌, ◌≤◌, ◌<◌}
-use lib.ListN.{length}
+use Prim.Native.Nat.{ℕ, ◌+◌, ◌-◌}
 use Rattle.live.proofs.MarkLaws.{CodesMarked, codes-start, codes-more, codes-end, passed-few}
 use Rattle.live.proofs.marks.mark_codes.Goals as goal
 use Rattle.live.proofs.marks.mark_codes.Lts as lts

@@ -1,7 +1,6 @@
-use native.Mathlib.Omega.{arith}
-use Prim.Native.Nat.{ℕ, ◌+◌, ◌-◌, ◌≤◌, ◌<◌}
+use Prim.Native.Nat.{ℕ, ◌-◌, ◌≤◌}
 use lib.ListN.{length}
-use Rattle.live.proofs.MarkLaws.{CodesMarked, codes-start, codes-more, codes-end, passed-few}
+use Rattle.live.proofs.MarkLaws.{CodesMarked}
 use Rattle.live.proofs.marks.mark_codes.Given as goal
 
 abbrev pub invariant-loop-d : goal.invariant-loop-d

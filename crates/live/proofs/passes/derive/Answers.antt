@@ -1,7 +1,4 @@
 -- derive meets its contract: a rule that waits is left alone.
-use borrow.Author.Rules.{rules}
-use native.Mathlib.Omega.{arith}
-use borrow.Author.Tests.{not-true, not-false}
 use mathlib.Core.Path.{sym, ◌∙◌}
 use Rattle.live.proofs.MarkLaws.{derive_waits, derive_marks}
 use Rattle.live.proofs.passes.derive.Goals as goal

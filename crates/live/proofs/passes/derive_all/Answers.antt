@@ -1,11 +1,11 @@
 -- derive_all meets its contract: the rules from i on are done, whose codes begin at place u.
 use borrow.Author.Rules.{rules}
 use native.Mathlib.Omega.{arith}
-use Prim.Native.Nat.{ℕ, ◌+◌, ◌-◌, ◌≤◌, ◌<◌}
+use Prim.Native.Nat.{ℕ, ◌+◌, ◌-◌, ◌≤◌}
 use mathlib.Core.Path.{◌≡◌, refl, ap, sym, subst, ◌∙◌}
-use lib.ListN.{length, get_or, take, drop}
+use lib.ListN.{length, take, drop}
 use Rattle.grammar.specs.Limits.{limits}
-use Rattle.live.specs.Marks.{Small, before, left_at}
+use Rattle.live.specs.Marks.{Small, before}
 use Rattle.live.proofs.MarkLaws.{passed-few}
 use Rattle.live.proofs.PassLaws.{small-part, before-step, before-most, part_is, DerivedFrom, derived-start, derived-more}
 use Rattle.live.proofs.passes.derive_all.Goals as goal

@@ -1,11 +1,7 @@
-use native.Mathlib.Omega.{arith}
-use Prim.Native.Nat.{ℕ, ◌+◌, ◌-◌, ◌≤◌, ◌<◌}
-use mathlib.Core.Path.{◌≡◌, refl, ap, sym, subst, ◌∙◌}
-use lib.ListN.{length, get_or, take, drop}
-use Rattle.grammar.specs.Limits.{limits}
-use Rattle.live.specs.Marks.{Small, before, left_at}
-use Rattle.live.proofs.MarkLaws.{passed-few}
-use Rattle.live.proofs.PassLaws.{small-part, before-step, before-most, part_is, DerivedFrom, derived-start, derived-more}
+use Prim.Native.Nat.{ℕ, ◌-◌, ◌≤◌}
+use mathlib.Core.Path.{◌≡◌}
+use Rattle.live.specs.Marks.{before}
+use Rattle.live.proofs.PassLaws.{DerivedFrom}
 use Rattle.live.proofs.passes.derive_all.Given as goal
 
 abbrev pub invariant-loop-i : goal.invariant-loop-i

@@ -1,7 +1,4 @@
 -- lead meets its contract: a rule whose left side is not marked, or that stands in no tree, is left alone.
-use borrow.Author.Rules.{rules}
-use native.Mathlib.Omega.{arith}
-use borrow.Author.Tests.{not-true, not-false}
 use mathlib.Core.Path.{sym, ◌∙◌}
 use Rattle.live.proofs.MarkLaws.{lead_waits, lead_barren, lead_marks}
 use Rattle.live.proofs.passes.lead.Goals as goal

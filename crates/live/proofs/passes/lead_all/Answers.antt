@@ -1,11 +1,11 @@
 -- lead_all meets its contract: the rules before i are done, whose codes end before place u.
 use borrow.Author.Rules.{rules}
 use native.Mathlib.Omega.{arith}
-use Prim.Native.Nat.{ℕ, ◌+◌, ◌-◌, ◌≤◌, ◌<◌}
-use mathlib.Core.Path.{◌≡◌, refl, ap, sym, subst, ◌∙◌}
-use lib.ListN.{length, get_or, take, drop}
+use Prim.Native.Nat.{ℕ, ◌+◌, ◌-◌, ◌≤◌}
+use mathlib.Core.Path.{◌≡◌, refl, sym, subst, ◌∙◌}
+use lib.ListN.{length, take, drop}
 use Rattle.grammar.specs.Limits.{limits}
-use Rattle.live.specs.Marks.{Small, before, left_at}
+use Rattle.live.specs.Marks.{Small, before}
 use Rattle.live.proofs.MarkLaws.{passed-few}
 use Rattle.live.proofs.PassLaws.{small-part, before-start, before-next, before-most, part_is, LedTo, led-start, led-more}
 use Rattle.live.proofs.passes.lead_all.Goals as goal

@@ -1,8 +1,6 @@
-use native.Mathlib.Omega.{arith}
 use Prim.Native.Nat.{◌+◌, ◌*◌}
-use mathlib.Core.Path.{◌∙◌}
 use Rattle.live.specs.Marks.{unmarked, AllDerived, AllDerivedMarks}
-use Rattle.live.proofs.PassLaws.{Going, going_start, going_more, going_end}
+use Rattle.live.proofs.PassLaws.{Going}
 use Rattle.live.proofs.passes.mark_productive.Given as goal
 
 abbrev pub invariant-loop-fresh : goal.invariant-loop-fresh

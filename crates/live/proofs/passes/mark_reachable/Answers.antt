@@ -1,10 +1,7 @@
 -- mark_reachable meets its contract: what is marked follows, and a pass that marks nothing has nothing left to mark.
-use borrow.Author.Rules.{rules}
 use native.Mathlib.Omega.{arith}
-use Prim.Native.Nat.{◌+◌, ◌*◌}
 use mathlib.Core.Path.{◌∙◌}
-use Rattle.live.specs.Marks.{unmarked, AllLed, AllLedMarks}
-use Rattle.live.proofs.PassLaws.{Going, going_start, going_more, going_end}
+use Rattle.live.proofs.PassLaws.{going_start, going_more, going_end}
 use Rattle.live.proofs.passes.mark_reachable.Goals as goal
 
 pub loop-fresh-init : goal.loop-fresh-init

@@ -1,14 +1,14 @@
 -- write_classes meets its contract: d codes of the line are written.
 use borrow.Author.Rules.{rules}
 use native.Mathlib.Omega.{arith}
-use Prim.Native.Nat.{ℕ, ◌+◌, ◌-◌, ◌*◌, ◌≤◌}
+use Prim.Native.Nat.{ℕ, ◌+◌, ◌-◌, ◌*◌}
 use mathlib.Core.Path.{◌≡◌, refl, ap, sym, ◌∙◌}
 use mathlib.Core.List.{List, [], ◌∷◌, ◌++◌, map, append-nil}
 use lib.ListN.{length, set, length-set}
 use Rattle.grammar.specs.Limits.{limits}
 use Rattle.moves.specs.Tables.{class_of, kept}
 use Rattle.moves.specs.Clauses.{write}
-use Rattle.moves.proofs.Writes.{Writing, writing_start, writing_more, writing-end, one-write, first-write, no_write, map-twice}
+use Rattle.moves.proofs.Writes.{writing_start, writing_more, writing-end, one-write, first-write, no_write, map-twice}
 use Rattle.moves.proofs.writing.write_classes.Goals as goal
 
 pub loop-d-init : goal.loop-d-init

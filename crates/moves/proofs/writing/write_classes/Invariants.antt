@@ -1,12 +1,10 @@
-use native.Mathlib.Omega.{arith}
 use Prim.Native.Nat.{ℕ, ◌+◌, ◌-◌, ◌*◌, ◌≤◌}
-use mathlib.Core.Path.{◌≡◌, refl, ap, sym, ◌∙◌}
-use mathlib.Core.List.{List, [], ◌∷◌, ◌++◌, map, append-nil}
-use lib.ListN.{length, set, length-set}
+use mathlib.Core.Path.{◌≡◌}
+use mathlib.Core.List.{[], ◌∷◌}
+use lib.ListN.{length}
 use Rattle.grammar.specs.Limits.{limits}
 use Rattle.moves.specs.Tables.{class_of, kept}
-use Rattle.moves.specs.Clauses.{write}
-use Rattle.moves.proofs.Writes.{Writing, writing_start, writing_more, writing-end, one-write, first-write, no_write, map-twice}
+use Rattle.moves.proofs.Writes.{Writing}
 use Rattle.moves.proofs.writing.write_classes.Given as goal
 
 abbrev pub invariant-loop-d : goal.invariant-loop-d

@@ -1,13 +1,12 @@
 -- write_items meets its contract: d codes of the line are written.
-use borrow.Author.Rules.{rules}
 use native.Mathlib.Omega.{arith}
-use Prim.Native.Nat.{ℕ, ◌+◌, ◌-◌, ◌≤◌}
+use Prim.Native.Nat.{ℕ, ◌+◌, ◌-◌}
 use mathlib.Core.Path.{◌≡◌, refl, ap, sym, ◌∙◌}
-use mathlib.Core.List.{List, [], ◌∷◌, ◌++◌}
-use lib.ListN.{length, get_or, set, length-set}
+use mathlib.Core.List.{List, [], ◌∷◌}
+use lib.ListN.{length, set, length-set}
 use Rattle.moves.specs.Tables.{kept}
 use Rattle.moves.specs.Clauses.{write}
-use Rattle.moves.proofs.Writes.{Writing, writing_start, writing_more, writing-end, one-write, map_constant}
+use Rattle.moves.proofs.Writes.{writing_start, writing_more, writing-end, one-write, map_constant}
 use Rattle.moves.proofs.writing.write_items.Goals as goal
 
 pub loop-d-init : goal.loop-d-init

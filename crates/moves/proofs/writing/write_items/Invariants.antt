@@ -1,11 +1,9 @@
-use native.Mathlib.Omega.{arith}
-use Prim.Native.Nat.{ℕ, ◌+◌, ◌-◌, ◌≤◌}
-use mathlib.Core.Path.{◌≡◌, refl, ap, sym, ◌∙◌}
-use mathlib.Core.List.{List, [], ◌∷◌, ◌++◌}
-use lib.ListN.{length, get_or, set, length-set}
+use Prim.Native.Nat.{ℕ, ◌-◌, ◌≤◌}
+use mathlib.Core.Path.{◌≡◌}
+use mathlib.Core.List.{[], ◌∷◌}
+use lib.ListN.{length}
 use Rattle.moves.specs.Tables.{kept}
-use Rattle.moves.specs.Clauses.{write}
-use Rattle.moves.proofs.Writes.{Writing, writing_start, writing_more, writing-end, one-write, map_constant}
+use Rattle.moves.proofs.Writes.{Writing}
 use Rattle.moves.proofs.writing.write_items.Given as goal
 
 abbrev pub invariant-loop-d : goal.invariant-loop-d

@@ -1,15 +1,11 @@
-use native.Mathlib.Omega.{arith}
-use Prim.Native.Nat.{ℕ, ◌+◌, ◌-◌, ◌≤◌, ◌<◌}
-use mathlib.Core.Path.{◌≡◌, ap, ◌∙◌}
+use Prim.Native.Nat.{ℕ, ◌+◌, ◌-◌, ◌≤◌}
+use mathlib.Core.Path.{◌≡◌}
 use mathlib.Core.List.{List}
-use lib.Dec.{ltb}
-use lib.ListN.{length, get_or, take, drop, replicate}
 use Rattle.grammar.specs.Grammar.{Rule}
 use Rattle.grammar.specs.Limits.{limits}
 use Rattle.moves.specs.Tables.{member_line, target_line, number_line, blanked}
-use Rattle.moves.specs.Clauses.{write, lengths_from, ahead_line, column_states, rule_of, stored, live_line}
-use Rattle.moves.proofs.Lines.{number_full, member_full, target-full}
-use Rattle.moves.proofs.Writes.{ahead-full, lengths-start, lengths-more, part_length, Rows, rows_start, rows_more, rows_end, row-blanked, blanked-full}
+use Rattle.moves.specs.Clauses.{lengths_from, ahead_line, live_line}
+use Rattle.moves.proofs.Writes.{Rows}
 use Rattle.moves.proofs.writing.write_rules.Given as goal
 
 -- what is written of a line

@@ -1,11 +1,7 @@
 -- alone_of meets its contract: each return is one case of the definition.
-use borrow.Author.Rules.{rules}
 use mathlib.Core.Path.{sym, ◌∙◌}
 use borrow.Author.Tests.{lt-ltb, le-ltb, eq-eqb, ne_eqb}
 use Rattle.plans.specs.Plan.{alone_of}
-use Rattle.plans.proofs.sides.alone_of.Reads as reads
-use Rattle.plans.proofs.sides.alone_of.Lts as lts
-use Rattle.moves.proofs.reads_next.Reads as reads-next-reads
 use Rattle.plans.proofs.sides.alone_of.Goals as goal
 
 pub returns-then-f-ne0 : goal.returns-then-f-ne0

@@ -1,8 +1,6 @@
 -- layer_after meets its contract: each return is one case of the definition.
 use borrow.Author.Tests.{le-leb, lt-leb, eq-eqb, ne_eqb}
 use Rattle.plans.specs.Plan.{layer_after}
-use Rattle.plans.proofs.sides.layer_after.Reads as reads
-use Rattle.plans.proofs.sides.layer_after.Lts as lts
 use Rattle.plans.proofs.sides.layer_after.Goals as goal
 
 pub returns-then-f-ne0 : goal.returns-then-f-ne0

@@ -1,11 +1,8 @@
 -- pairs_of meets its contract: each return is one case of the definition.
-use borrow.Author.Rules.{rules}
 use native.Mathlib.Omega.{arith}
 use borrow.Author.Tests.{lt-ltb, le-ltb, eq-eqb, ne_eqb}
 use Rattle.plans.specs.Plan.{pairs_of}
 use Rattle.plans.proofs.PlanLaws.{product_le}
-use Rattle.plans.proofs.sides.pairs_of.Reads as reads
-use Rattle.plans.proofs.sides.pairs_of.Lts as lts
 use Rattle.plans.proofs.sides.pairs_of.Goals as goal
 
 pub returns-then-f-ne0 : goal.returns-then-f-ne0

@@ -1,13 +1,9 @@
 -- shift_of meets its contract: each return is one case of the definition.
-use borrow.Author.Rules.{rules}
 use mathlib.Core.Path.{sym, ◌∙◌}
 use borrow.Author.Tests.{le-leb, lt-leb, eq-eqb, ne_eqb}
 use Rattle.plans.specs.Plan.{shift_of}
 use mathlib.Core.Bool.{true, false}
 use Rattle.plans.proofs.PlanLaws.{shift_reads}
-use Rattle.plans.proofs.sides.shift_of.Reads as reads
-use Rattle.plans.proofs.sides.shift_of.Lts as lts
-use Rattle.moves.proofs.reads_next.Reads as reads-next-reads
 use Rattle.plans.proofs.sides.shift_of.Goals as goal
 
 pub returns-then-ahead-a-lt1 : goal.returns-then-ahead-a-lt1

@@ -1,13 +1,9 @@
 -- side_of meets its contract: the class, and two entries of the row of beginnings.
-use borrow.Author.Rules.{rules}
 use native.Mathlib.Omega.{arith}
 use mathlib.Core.Path.{◌≡◌, ap, ◌∙◌}
 use Prim.Native.Nat.{ℕ, ◌+◌, ◌-◌}
 use lib.ListN.{get_or}
 use Rattle.plans.proofs.PlanLaws.{side_from}
-use Rattle.plans.proofs.sides.side_of.Reads as reads
-use Rattle.plans.proofs.sides.side_of.Lts as lts
-use Rattle.plans.proofs.wide.Reads as wide-reads
 use Rattle.plans.proofs.sides.side_of.Goals as goal
 
 pub overflow_sub-result : goal.overflow_sub-result

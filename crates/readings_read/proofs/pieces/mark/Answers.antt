@@ -1,12 +1,9 @@
 -- `readings_read::pieces::mark` meets its contract: the digits up to the cursor say x, which is at most the number of rules.
 -- Assumes nothing.
-use borrow.Author.Rules.{rules}
 use native.Mathlib.Omega.{arith}
-use Prim.Native.Nat.{◌≤◌, ◌-◌}
-use mathlib.Core.Path.{◌≡◌, sym, ◌∙◌}
-use lib.ListN.{length, drop}
-use Rattle.readings_read.specs.Words.{mark_piece}
-use Rattle.readings_read.proofs.Marks.{mark_from, mark-none, mark-zero, mark-led, mark-start, mark-end, mark-low, mark-high, mark-more, mark_big}
+use Prim.Native.Nat.{◌-◌}
+use mathlib.Core.Path.{sym, ◌∙◌}
+use Rattle.readings_read.proofs.Marks.{mark-none, mark-zero, mark-led, mark-start, mark-end, mark-low, mark-high, mark-more, mark_big}
 use Rattle.readings_read.proofs.pieces.mark.Goals as goal
 
 pub returns-then-n-eq0 : goal.returns-then-n-eq0

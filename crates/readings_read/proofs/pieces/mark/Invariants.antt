@@ -1,9 +1,8 @@
-use native.Mathlib.Omega.{arith}
 use Prim.Native.Nat.{◌≤◌, ◌-◌}
-use mathlib.Core.Path.{◌≡◌, sym, ◌∙◌}
+use mathlib.Core.Path.{◌≡◌}
 use lib.ListN.{length, drop}
 use Rattle.readings_read.specs.Words.{mark_piece}
-use Rattle.readings_read.proofs.Marks.{mark_from, mark-none, mark-zero, mark-led, mark-start, mark-end, mark-low, mark-high, mark-more, mark_big}
+use Rattle.readings_read.proofs.Marks.{mark_from}
 use Rattle.readings_read.proofs.pieces.mark.Given as goal
 
 abbrev pub invariant-loop-i : goal.invariant-loop-i

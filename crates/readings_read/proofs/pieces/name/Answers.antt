@@ -1,5 +1,4 @@
 -- `readings_read::pieces::name` meets its contract: no name, an unknown one, or the code of its number. Assumes nothing.
-use borrow.Author.Rules.{rules}
 use native.Mathlib.Omega.{arith}
 use mathlib.Core.Path.{◌≡◌, sym, ap, ◌∙◌}
 use mathlib.Core.Bool.{true}

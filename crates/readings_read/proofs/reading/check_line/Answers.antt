@@ -1,5 +1,4 @@
 -- `readings_read::reading::check_line` meets its contract: the key, then the form of the value's words. Assumes nothing.
-use borrow.Author.Rules.{rules}
 use native.Mathlib.Omega.{arith}
 use mathlib.Core.Path.{sym, ◌∙◌}
 use Prim.Native.Nat.{ℕ}

@@ -1,5 +1,4 @@
 -- `readings_read::reading::check_lines` meets its contract: the first line read; the rest is that of `second_line`. Assumes nothing.
-use borrow.Author.Rules.{rules}
 use Prim.Native.Nat.{ℕ}
 use mathlib.Core.List.{List}
 use Rattle.text.specs.Spelled.{spelled}

@@ -1,5 +1,4 @@
 -- `readings_read::reading::read_lines` meets its contract: the lines' faults, 14, and both strings written. Assumes nothing.
-use borrow.Author.Rules.{rules}
 use native.Mathlib.Omega.{arith}
 use Prim.Native.Nat.{ℕ}
 use mathlib.Core.List.{List}

@@ -1,6 +1,5 @@
 -- `readings_read::reading::second_line` meets its contract: what `FirstSaid` leaves of the lines, with the second line read.
 -- Assumes nothing.
-use borrow.Author.Rules.{rules}
 use native.Mathlib.Omega.{arith}
 use Prim.Native.Nat.{ℕ, ◌+◌, ◌-◌}
 use mathlib.Core.List.{List}

@@ -1,11 +1,9 @@
 -- `readings_read::reading::value_start` meets its contract: the line has the key up to the cursor. Assumes nothing.
-use borrow.Author.Rules.{rules}
 use native.Mathlib.Omega.{arith}
-use Prim.Native.Nat.{◌≤◌, ◌-◌, ◌+◌}
+use Prim.Native.Nat.{◌-◌, ◌+◌}
 use mathlib.Core.Path.{◌≡◌, sym, ap, ◌∙◌}
 use mathlib.Core.Option.{some}
-use lib.ListN.{length, drop}
-use Rattle.text.specs.Keys.{value_of}
+use lib.ListN.{length}
 use Rattle.text_read.proofs.Values.{value-short, value-step, value-differ, value-equals, value-other, tail-part}
 use Rattle.readings_read.proofs.reading.value_start.Goals as goal
 

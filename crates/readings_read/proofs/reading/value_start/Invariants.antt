@@ -1,10 +1,7 @@
-use native.Mathlib.Omega.{arith}
-use Prim.Native.Nat.{◌≤◌, ◌-◌, ◌+◌}
-use mathlib.Core.Path.{◌≡◌, sym, ap, ◌∙◌}
-use mathlib.Core.Option.{some}
+use Prim.Native.Nat.{◌≤◌, ◌-◌}
+use mathlib.Core.Path.{◌≡◌}
 use lib.ListN.{length, drop}
 use Rattle.text.specs.Keys.{value_of}
-use Rattle.text_read.proofs.Values.{value-short, value-step, value-differ, value-equals, value-other, tail-part}
 use Rattle.readings_read.proofs.reading.value_start.Given as goal
 
 abbrev pub invariant-loop-i : goal.invariant-loop-i

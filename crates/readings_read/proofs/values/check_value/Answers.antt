@@ -1,7 +1,6 @@
 -- `readings_read::values::check_value` meets its contract: `Checking` holds at the cursor. Assumes nothing.
-use borrow.Author.Rules.{rules}
 use native.Mathlib.Omega.{arith}
-use Prim.Native.Nat.{◌≤◌, ◌-◌}
+use Prim.Native.Nat.{◌-◌}
 use mathlib.Core.Path.{sym, ap, ◌∙◌}
 use lib.ListN.{length, drop}
 use Rattle.text.specs.Pieces.{split_on}
@@ -11,7 +10,7 @@ use Rattle.names.proofs.Pieces.{piece_more, piece_last}
 use Rattle.readings.specs.Readings.{words_of}
 use Rattle.readings_read.specs.Words.{form_of}
 use Rattle.readings_read.proofs.Words.{form_none, pieces_none}
-use Rattle.readings_read.proofs.Passes.{Checking, checking_start, checking_more, checking_form, checking_count}
+use Rattle.readings_read.proofs.Passes.{checking_start, checking_more, checking_form, checking_count}
 use Rattle.readings_read.proofs.values.check_value.Goals as goal
 
 pub returns-then-n-eq0 : goal.returns-then-n-eq0

@@ -1,15 +1,8 @@
-use native.Mathlib.Omega.{arith}
 use Prim.Native.Nat.{◌≤◌, ◌-◌}
-use mathlib.Core.Path.{sym, ap, ◌∙◌}
 use lib.ListN.{length, drop}
 use Rattle.text.specs.Pieces.{split_on}
 use Rattle.text.specs.Spelled.{spelled}
-use Rattle.names.specs.Found.{part}
-use Rattle.names.proofs.Pieces.{piece_more, piece_last}
-use Rattle.readings.specs.Readings.{words_of}
-use Rattle.readings_read.specs.Words.{form_of}
-use Rattle.readings_read.proofs.Words.{form_none, pieces_none}
-use Rattle.readings_read.proofs.Passes.{Checking, checking_start, checking_more, checking_form, checking_count}
+use Rattle.readings_read.proofs.Passes.{Checking}
 use Rattle.readings_read.proofs.values.check_value.Given as goal
 
 abbrev pub invariant-loop-form : goal.invariant-loop-form

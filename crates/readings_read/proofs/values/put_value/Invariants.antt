@@ -1,16 +1,11 @@
-use native.Mathlib.Omega.{arith}
-use Prim.Native.Nat.{◌≤◌, ◌+◌, ◌-◌}
-use mathlib.Core.Path.{sym, ap, subst, ◌∙◌}
-use mathlib.Core.List.{[], ◌∷◌, map}
-use lib.ListN.{length, drop, length-map}
+use Prim.Native.Nat.{◌≤◌, ◌-◌}
+use mathlib.Core.List.{[], map}
+use lib.ListN.{length, drop}
 use Rattle.text.specs.Pieces.{split_on}
 use Rattle.text.specs.Spelled.{spelled}
-use Rattle.names.specs.Found.{part}
-use Rattle.names.proofs.Pieces.{piece_more, piece_last, piece_first}
 use Rattle.readings.specs.Readings.{pieces_of}
 use Rattle.readings_read.specs.Words.{entry_at}
-use Rattle.readings_read.proofs.Words.{pieces_none, pieces_some}
-use Rattle.readings_read.proofs.Passes.{entry-at, Writing, writing_start, writing-room, writing-put, writing-done}
+use Rattle.readings_read.proofs.Passes.{Writing}
 use Rattle.readings_read.proofs.values.put_value.Given as goal
 
 abbrev pub invariant-loop-t : goal.invariant-loop-t

@@ -1,5 +1,4 @@
 -- `readings_read::values::with_piece` meets its contract: the cases of `worse`. Assumes nothing.
-use borrow.Author.Rules.{rules}
 use mathlib.Core.Path.{sym, ap, ap₂, ◌∙◌}
 use Rattle.readings_read.specs.Words.{worse, piece_form}
 use Rattle.readings_read.proofs.Words.{worse-known, worse-malformed}

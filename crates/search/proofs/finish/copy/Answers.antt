@@ -1,12 +1,11 @@
 -- copy meets its contract: before turn i the first i bytes are the top bytes of `from` and the others as they were.
-use borrow.Author.Rules.{rules}
 use mathlib.Core.Path.{◌≡◌, refl, ap, sym, subst, ◌∙◌}
 use mathlib.Core.List.{List, ◌++◌}
-use Prim.Native.Nat.{ℕ, ◌-◌, ◌≤◌, zero-le}
+use Prim.Native.Nat.{ℕ, ◌-◌, zero-le}
 use native.Mathlib.Nat.{le_antisymm}
 use native.Mathlib.Numerals.{add-one-le}
 use native.Mathlib.Omega.{arith}
-use lib.ListN.{length, get_or, set, take, drop, length-map, length-set}
+use lib.ListN.{get_or, set, take, drop, length-map, length-set}
 use lib.Seq.{length-take-le}
 use Rattle.tops.specs.Tops.{top, tops}
 use Rattle.tops.proofs.Laws.{get_d_map}

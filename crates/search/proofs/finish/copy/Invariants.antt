@@ -1,15 +1,8 @@
-use mathlib.Core.Path.{◌≡◌, refl, ap, sym, subst, ◌∙◌}
-use mathlib.Core.List.{List, ◌++◌}
-use Prim.Native.Nat.{ℕ, ◌-◌, ◌≤◌, zero-le}
-use native.Mathlib.Nat.{le_antisymm}
-use native.Mathlib.Numerals.{add-one-le}
-use native.Mathlib.Omega.{arith}
-use lib.ListN.{length, get_or, set, take, drop, length-map, length-set}
-use lib.Seq.{length-take-le}
-use Rattle.tops.specs.Tops.{top, tops}
-use Rattle.tops.proofs.Laws.{get_d_map}
-use Rattle.clearing.proofs.Laws.{over_is}
-use Rattle.search.proofs.FinishLaws.{copy_more}
+use mathlib.Core.Path.{◌≡◌}
+use mathlib.Core.List.{◌++◌}
+use Prim.Native.Nat.{ℕ, ◌-◌, ◌≤◌}
+use lib.ListN.{length, take, drop}
+use Rattle.tops.specs.Tops.{tops}
 use Rattle.search.proofs.finish.copy.Given as goal
 
 abbrev pub invariant-loop-i : goal.invariant-loop-i

@@ -1,7 +1,6 @@
 -- depth_of meets its contract: what leads back from `at` to place 0 in x steps makes a way of x + d steps from the place.
-use borrow.Author.Rules.{rules}
 use mathlib.Core.Path.{◌≡◌, subst}
-use Prim.Native.Nat.{ℕ, ◌+◌, ◌≤◌, ◌<◌}
+use Prim.Native.Nat.{ℕ, ◌+◌, ◌<◌}
 use native.Mathlib.Omega.{arith}
 use lib.ListN.{get_or}
 use Rattle.tops.specs.Tops.{lows}

@@ -1,9 +1,6 @@
-use mathlib.Core.Path.{◌≡◌, subst}
-use Prim.Native.Nat.{ℕ, ◌+◌, ◌≤◌, ◌<◌}
-use native.Mathlib.Omega.{arith}
-use lib.ListN.{get_or}
+use Prim.Native.Nat.{ℕ, ◌+◌, ◌≤◌}
 use Rattle.tops.specs.Tops.{lows}
-use Rattle.search.specs.Finish.{Depth, root, step}
+use Rattle.search.specs.Finish.{Depth}
 use Rattle.search.proofs.finish.depth_of.Given as goal
 
 abbrev pub invariant-loop-at : goal.invariant-loop-at

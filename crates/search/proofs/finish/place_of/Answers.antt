@@ -1,8 +1,6 @@
 -- place_of meets its contract: the place of the index is not passed, so the walk ends at the latest there.
-use borrow.Author.Rules.{rules}
-use mathlib.Core.Path.{◌≡◌, ◌∙◌}
-use Prim.Native.Nat.{ℕ, ◌-◌, ◌≤◌, ◌<◌}
-use lib.ListN.{get_or}
+use mathlib.Core.Path.{◌∙◌}
+use Prim.Native.Nat.{ℕ, ◌-◌}
 use Rattle.search.proofs.FinishLaws.{not-here}
 use Rattle.search.proofs.finish.place_of.Goals as goal
 

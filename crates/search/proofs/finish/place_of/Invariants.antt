@@ -1,7 +1,6 @@
-use mathlib.Core.Path.{◌≡◌, ◌∙◌}
+use mathlib.Core.Path.{◌≡◌}
 use Prim.Native.Nat.{ℕ, ◌-◌, ◌≤◌, ◌<◌}
 use lib.ListN.{get_or}
-use Rattle.search.proofs.FinishLaws.{not-here}
 use Rattle.search.proofs.finish.place_of.Given as goal
 
 abbrev pub invariant-loop-k : goal.invariant-loop-k

@@ -6,7 +6,7 @@ use Prim.Native.Nat.{ℕ, ◌-◌, ◌<◌}
 use native.Mathlib.Omega.{arith}
 use lib.ListN.{length, get_or, set, length-set}
 use Rattle.tops.specs.Tops.{lows}
-use Rattle.search.proofs.FinishLaws.{Way, way_start, way_next, way_end, depth_back}
+use Rattle.search.proofs.FinishLaws.{way_start, way_next, way_end, depth_back}
 use Rattle.search.proofs.finish.write_way.Goals as goal
 use Rattle.search.proofs.finish.write_way.Lts as lts
 use Rattle.search.proofs.finish.write_way.Reads as reads

@@ -1,10 +1,6 @@
-use mathlib.Core.Path.{◌≡◌, ◌∙◌}
-use mathlib.Core.List.{List}
-use Prim.Native.Nat.{ℕ, ◌-◌, ◌<◌}
-use native.Mathlib.Omega.{arith}
-use lib.ListN.{length, get_or, set, length-set}
+use Prim.Native.Nat.{ℕ, ◌-◌}
 use Rattle.tops.specs.Tops.{lows}
-use Rattle.search.proofs.FinishLaws.{Way, way_start, way_next, way_end, depth_back}
+use Rattle.search.proofs.FinishLaws.{Way}
 use Rattle.search.proofs.finish.write_way.Given as goal
 
 abbrev pub invariant-loop-k : goal.invariant-loop-k

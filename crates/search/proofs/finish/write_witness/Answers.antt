@@ -1,5 +1,4 @@
 -- write_witness meets its contract: the way that is written is the one to the place of the index.
-use borrow.Author.Rules.{rules}
 use Rattle.search.proofs.FinishLaws.{written_as}
 use Rattle.search.proofs.finish.write_witness.Goals as goal
 

@@ -1,5 +1,4 @@
 -- search_rows meets its contract: what is explored is the smallest closed set, the answer is by its marks, and the rows are cleared.
-use borrow.Author.Rules.{rules}
 use native.Mathlib.Omega.{arith}
 use Prim.Native.Nat.{ℕ, ◌+◌, ◌*◌, ◌≤◌}
 use mathlib.Core.Path.{◌≡◌, ap, sym, subst₂, ◌∙◌}
@@ -16,9 +15,6 @@ use Rattle.search.proofs.WorkLaws.{rest_is, zero_marks}
 use Rattle.search.proofs.AnswerLaws.{told, looked_is}
 use Rattle.search.proofs.work.search_rows.Reads as reads
 use Rattle.search.proofs.work.search_rows.Lts as lts
-use Rattle.explore.proofs.explore.Reads as explore-reads
-use Rattle.search.proofs.finish.answer.Reads as answer-reads
-use Rattle.clearing.proofs.clear.Reads as clear_reads
 use Rattle.search.proofs.work.search_rows.Goals as goal
 use Rattle.search.proofs.work.search_rows.Lts as lts
 use Rattle.search.proofs.work.search_rows.Reads as reads

@@ -1,5 +1,4 @@
 -- shared_terminal meets its contract: one test, and the code that both pass.
-use borrow.Author.Rules.{rules}
 use borrow.Author.Tests.{le-leb, lt-leb}
 use Rattle.steps.proofs.ahead.shared_terminal.Goals as goal
 

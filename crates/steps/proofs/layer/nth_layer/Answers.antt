@@ -1,5 +1,4 @@
 -- nth_layer meets its contract: one of the two layers, or none.
-use borrow.Author.Rules.{rules}
 use mathlib.Core.Path.{ap, ◌∙◌}
 use Rattle.steps.specs.Steps.{record_answer}
 use Rattle.steps.proofs.Layers.{layer-zero, layer-one, layer-none}

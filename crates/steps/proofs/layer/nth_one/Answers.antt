@@ -1,5 +1,4 @@
 -- nth_one meets its contract: all moves alone, and the shared terminal.
-use borrow.Author.Rules.{rules}
 use mathlib.Core.Path.{ap, ◌∙◌}
 use Prim.Native.Nat.{ℕ}
 use Rattle.steps.specs.declared.Sides.{Sides}

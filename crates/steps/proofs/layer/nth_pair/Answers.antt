@@ -1,5 +1,4 @@
 -- nth_pair meets its contract: the place in the grid is a row and a column.
-use borrow.Author.Rules.{rules}
 use native.Mathlib.Omega.{arith}
 use native.Mathlib.Nat.{mod-lt}
 use mathlib.Core.Option.{none, some}

@@ -1,5 +1,4 @@
 -- nth_right meets its contract: the target at the place.
-use borrow.Author.Rules.{rules}
 use mathlib.Core.Path.{ap, sym, ◌∙◌}
 use Rattle.triples.specs.declared.Step.{Step}
 use Rattle.steps.specs.declared.StepAnswer.TheVariants.{Record}

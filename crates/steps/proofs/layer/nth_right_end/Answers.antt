@@ -1,5 +1,4 @@
 -- nth_right_end meets its contract: before a terminal the end closes, else the other side opens.
-use borrow.Author.Rules.{rules}
 use mathlib.Core.Path.{ap, sym, ◌∙◌}
 use Prim.Native.Nat.{ℕ}
 use mathlib.Core.List.{[], ◌++◌, map}

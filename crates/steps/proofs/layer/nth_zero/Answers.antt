@@ -1,5 +1,4 @@
 -- nth_zero meets its contract: the four cases of two ends.
-use borrow.Author.Rules.{rules}
 use mathlib.Core.Path.{ap, ◌∙◌}
 use Prim.Native.Nat.{ℕ}
 use mathlib.Core.Bool.{true, false}

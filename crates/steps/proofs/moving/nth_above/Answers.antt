@@ -1,5 +1,4 @@
 -- nth_above meets its contract: the search for the target, and nothing after it.
-use borrow.Author.Rules.{rules}
 use mathlib.Core.List.{[]}
 use Rattle.grammar.specs.Limits.{limits}
 use Rattle.steps.specs.declared.StepAnswer.TheVariants.{NoMore}

@@ -1,5 +1,4 @@
 -- nth_alone meets its contract: two searches for a way back, then the rest.
-use borrow.Author.Rules.{rules}
 use Prim.Native.Nat.{◌+◌}
 use mathlib.Core.List.{◌++◌}
 use Rattle.steps.specs.declared.StepAnswer.TheVariants.{Record}

@@ -1,5 +1,4 @@
 -- nth_below meets its contract: three searches, one after the other, then the rest.
-use borrow.Author.Rules.{rules}
 use Prim.Native.Nat.{◌+◌}
 use mathlib.Core.List.{◌++◌}
 use Rattle.grammar.specs.Limits.{limits}

@@ -1,5 +1,4 @@
 -- nth_shift meets its contract: the shift itself, or what follows it.
-use borrow.Author.Rules.{rules}
 use mathlib.Core.Path.{ap, ◌∙◌}
 use Rattle.triples.specs.declared.Step.{Step}
 use Rattle.steps.specs.declared.StepAnswer.TheVariants.{Record}

@@ -1,5 +1,4 @@
 -- nth_shifted meets its contract: no shift, or moves up to where it leads, and then the shift and what follows it.
-use borrow.Author.Rules.{rules}
 use Prim.Native.Nat.{ℕ, ◌+◌}
 use mathlib.Core.Path.{ap, ◌∙◌}
 use lib.ListN.{get_or}

@@ -1,5 +1,4 @@
 -- begin_of meets its contract: the class, and its entry.
-use borrow.Author.Rules.{rules}
 use mathlib.Core.Path.{ap, ◌∙◌}
 use Prim.Native.Nat.{ℕ}
 use lib.ListN.{get_or}

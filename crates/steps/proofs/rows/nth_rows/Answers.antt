@@ -1,5 +1,4 @@
 -- nth_rows meets its contract: the two segments of targets and the two ends.
-use borrow.Author.Rules.{rules}
 use mathlib.Core.Path.{ap, ◌∙◌}
 use Rattle.steps.specs.Steps.{record_answer}
 use Rattle.steps.proofs.Layers.{part_low, rows-read}

@@ -1,9 +1,8 @@
 -- find_target meets its contract: the entries before i that count are passed, so the rest of the row has the place that is left.
-use borrow.Author.Rules.{rules}
 use native.Mathlib.Omega.{arith}
 use mathlib.Core.Path.{◌≡◌, refl, ap, sym, ◌∙◌}
-use Prim.Native.Nat.{ℕ, ◌+◌, ◌-◌, ◌≤◌}
-use lib.ListN.{length, get_or, drop}
+use Prim.Native.Nat.{ℕ, ◌+◌, ◌-◌}
+use lib.ListN.{get_or, drop}
 use Rattle.steps.specs.Plan.{weight, between, pick_of}
 use Rattle.steps.proofs.Nth.{pick-here, pick-on, pick_end}
 use Rattle.steps.proofs.target.find_target.Goals as goal

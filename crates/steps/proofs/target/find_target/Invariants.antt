@@ -1,9 +1,7 @@
-use native.Mathlib.Omega.{arith}
-use mathlib.Core.Path.{◌≡◌, refl, ap, sym, ◌∙◌}
-use Prim.Native.Nat.{ℕ, ◌+◌, ◌-◌, ◌≤◌}
-use lib.ListN.{length, get_or, drop}
-use Rattle.steps.specs.Plan.{weight, between, pick_of}
-use Rattle.steps.proofs.Nth.{pick-here, pick-on, pick_end}
+use mathlib.Core.Path.{◌≡◌}
+use Prim.Native.Nat.{ℕ, ◌-◌, ◌≤◌}
+use lib.ListN.{length, drop}
+use Rattle.steps.specs.Plan.{between, pick_of}
 use Rattle.steps.proofs.target.find_target.Given as goal
 
 abbrev pub invariant-loop-i : goal.invariant-loop-i

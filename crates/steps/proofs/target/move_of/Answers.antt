@@ -1,5 +1,4 @@
 -- move_of meets its contract: one test.
-use borrow.Author.Rules.{rules}
 use Rattle.steps.proofs.target.move_of.Goals as goal
 
 pub returns-then-closes : goal.returns-then-closes

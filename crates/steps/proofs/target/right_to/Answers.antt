@@ -1,5 +1,4 @@
 -- right_to meets its contract: the move is that of its contract.
-use borrow.Author.Rules.{rules}
 use mathlib.Core.Path.{ap, ◌∙◌}
 use Rattle.triples.specs.Records.{step}
 use Rattle.triples.specs.declared.Move.{Move}

@@ -1,5 +1,4 @@
 -- is_repeat meets its contract: rules with different left codes differ, and else the rules themselves are compared.
-use borrow.Author.Rules.{rules}
 use borrow.Author.Tests.{ne_eqb}
 use native.Mathlib.Omega.{arith}
 use mathlib.Core.Path.{◌≡◌, ap, sym, subst, ◌∙◌}
@@ -9,12 +8,6 @@ use lib.Dec.{eqb}
 use lib.ListN.{get_or, take, drop}
 use Rattle.grammar.specs.Table.{rule_at}
 use Rattle.grammar.specs.TableCheck.{same_codes, same_rule}
-use Rattle.table_check.proofs.earlier.is_repeat.Reads as reads
-use Rattle.table_check.proofs.earlier.is_repeat.Lts as lts
-use Rattle.table_check.proofs.reading.code.Reads as code_Reads
-use Rattle.table_check.proofs.earlier.place.Reads as place-reads
-use Rattle.table_check.proofs.earlier.same_rule.Reads as same-rule-reads
-use Rattle.table_check.proofs.reading.wide.Reads as wide-reads
 use Rattle.table_check.proofs.earlier.is_repeat.Goals as goal
 
 other-left : (x y : ℕ) (b : Bool) → (x ≡ y → ⊥) → false ≡ eqb x y && b

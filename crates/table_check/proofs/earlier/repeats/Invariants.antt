@@ -1,10 +1,5 @@
-use native.Mathlib.Omega.{arith}
 use Prim.Native.Nat.{◌-◌}
-use mathlib.Core.Path.{sym, ◌∙◌}
-use Rattle.table_check.proofs.EarlierLaws.{Behind, behind_start, behind_here, behind_found, behind_more, behind_end}
-use Rattle.table_check.proofs.earlier.repeats.Reads as reads
-use Rattle.table_check.proofs.earlier.repeats.Lts as lts
-use Rattle.table_check.proofs.earlier.is_repeat.Reads as is-repeat-reads
+use Rattle.table_check.proofs.EarlierLaws.{Behind}
 use Rattle.table_check.proofs.earlier.repeats.Given as goal
 
 abbrev pub invariant-loop-i : goal.invariant-loop-i

@@ -1,11 +1,8 @@
 -- same_codes_lem meets its contract: the codes before i are equal, so the rest decides.
-use borrow.Author.Rules.{rules}
 use native.Mathlib.Omega.{arith}
 use borrow.Author.Tests.{eq-eqb, ne_eqb}
-use Prim.Native.Nat.{◌-◌, ◌≤◌}
-use mathlib.Core.Path.{◌≡◌, ◌∙◌}
-use lib.ListN.{length, drop}
-use Rattle.grammar.specs.TableCheck.{same_codes}
+use Prim.Native.Nat.{◌-◌}
+use mathlib.Core.Path.{◌∙◌}
 use Rattle.grammar.proofs.Scans.{same_more, same_differs, same_ends, same-lengths}
 use Rattle.table_check.proofs.earlier.same_codes.Goals as goal
 

@@ -1,10 +1,7 @@
-use native.Mathlib.Omega.{arith}
-use borrow.Author.Tests.{eq-eqb, ne_eqb}
 use Prim.Native.Nat.{◌-◌, ◌≤◌}
-use mathlib.Core.Path.{◌≡◌, ◌∙◌}
+use mathlib.Core.Path.{◌≡◌}
 use lib.ListN.{length, drop}
 use Rattle.grammar.specs.TableCheck.{same_codes}
-use Rattle.grammar.proofs.Scans.{same_more, same_differs, same_ends, same-lengths}
 use Rattle.table_check.proofs.earlier.same_codes.Given as goal
 
 abbrev pub invariant-loop-i : goal.invariant-loop-i

@@ -1,12 +1,10 @@
 -- declared_front meets its contract: the codes before i are declared, so the count is i and the count of the rest.
-use borrow.Author.Rules.{rules}
 use native.Mathlib.Omega.{arith}
-use borrow.Author.Tests.{not-true, not-false}
-use Prim.Native.Nat.{◌+◌, ◌-◌, ◌≤◌}
+use Prim.Native.Nat.{◌-◌}
 use mathlib.Core.Path.{◌≡◌, ap, sym, ◌∙◌}
-use lib.ListN.{length, get_or, drop}
+use lib.ListN.{get_or}
 use Rattle.grammar.specs.Limits.{limits}
-use Rattle.grammar.specs.TableCheck.{is_declared, declared_front}
+use Rattle.grammar.specs.TableCheck.{is_declared}
 use Rattle.grammar.proofs.Scans.{front-more, front_stops, front_ends}
 use Rattle.table_check.proofs.reading.declared_front.Goals as goal
 use Rattle.table_check.proofs.reading.declared_front.Lts as lts

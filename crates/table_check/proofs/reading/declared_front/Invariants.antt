@@ -1,11 +1,8 @@
-use native.Mathlib.Omega.{arith}
-use borrow.Author.Tests.{not-true, not-false}
 use Prim.Native.Nat.{◌+◌, ◌-◌, ◌≤◌}
-use mathlib.Core.Path.{◌≡◌, ap, sym, ◌∙◌}
-use lib.ListN.{length, get_or, drop}
+use mathlib.Core.Path.{◌≡◌}
+use lib.ListN.{length, drop}
 use Rattle.grammar.specs.Limits.{limits}
-use Rattle.grammar.specs.TableCheck.{is_declared, declared_front}
-use Rattle.grammar.proofs.Scans.{front-more, front_stops, front_ends}
+use Rattle.grammar.specs.TableCheck.{declared_front}
 use Rattle.table_check.proofs.reading.declared_front.Given as goal
 
 abbrev pub invariant-loop-i : goal.invariant-loop-i

@@ -1,5 +1,4 @@
 -- `text_read::declaring::check_heads` meets its contract: the first line read; the rest is that of `second_head`. Assumes nothing.
-use borrow.Author.Rules.{rules}
 use native.Mathlib.Omega.{arith}
 use mathlib.Core.Path.{refl, subst}
 use mathlib.Core.List.{[]}

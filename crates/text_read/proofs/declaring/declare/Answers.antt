@@ -1,6 +1,5 @@
 -- `text_read::declaring::declare` meets its contract: the tests of `declaration` in its order: the key, the names, doubles, the count.
 -- Assumes nothing.
-use borrow.Author.Rules.{rules}
 use borrow.Author.Tests.{not-true, not-false}
 use native.Mathlib.Omega.{arith}
 use mathlib.Core.Path.{◌≡◌, ap, sym, ◌∙◌}

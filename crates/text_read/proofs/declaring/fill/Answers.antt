@@ -1,16 +1,14 @@
 -- `text_read::declaring::fill` meets its contract: the entries put so far, and those of the names from the cursor on, make up all. Assumes nothing.
-use borrow.Author.Rules.{rules}
 use native.Mathlib.Omega.{arith}
 use mathlib.Core.Path.{◌≡◌, refl, ap, ◌∙◌}
-use Prim.Native.Nat.{◌≤◌, ◌+◌, ◌-◌}
+use Prim.Native.Nat.{◌+◌, ◌-◌}
 use lib.ListN.{length, drop, length-set}
 use native.Mathlib.Nat.{add-zero}
-use Rattle.text.specs.Pieces.{split_on}
 use Rattle.text.specs.Read.{names_of}
 use Rattle.text.specs.Promise.{starts_from, name_lengths}
 use Rattle.text.proofs.Pieces.{split_pos}
 use Rattle.names.proofs.Pieces.{piece_more, piece_last, names-split, names-none}
-use Rattle.text_read.proofs.Rows.{Filling, filling_start, filling_put, filling_done, filling_none, starts_more, starts-last, lengths-more, lengths-last, starts_none, lengths_none}
+use Rattle.text_read.proofs.Rows.{filling_start, filling_put, filling_done, filling_none, starts_more, starts-last, lengths-more, lengths-last, starts_none, lengths_none}
 use Rattle.text_read.proofs.declaring.fill.Goals as goal
 
 pub returns-then-n-eq0 : goal.returns-then-n-eq0

@@ -1,14 +1,10 @@
-use native.Mathlib.Omega.{arith}
-use mathlib.Core.Path.{◌≡◌, refl, ap, ◌∙◌}
+use mathlib.Core.Path.{◌≡◌}
 use Prim.Native.Nat.{◌≤◌, ◌+◌, ◌-◌}
-use lib.ListN.{length, drop, length-set}
-use native.Mathlib.Nat.{add-zero}
+use lib.ListN.{length, drop}
 use Rattle.text.specs.Pieces.{split_on}
 use Rattle.text.specs.Read.{names_of}
 use Rattle.text.specs.Promise.{starts_from, name_lengths}
-use Rattle.text.proofs.Pieces.{split_pos}
-use Rattle.names.proofs.Pieces.{piece_more, piece_last, names-split, names-none}
-use Rattle.text_read.proofs.Rows.{Filling, filling_start, filling_put, filling_done, filling_none, starts_more, starts-last, lengths-more, lengths-last, starts_none, lengths_none}
+use Rattle.text_read.proofs.Rows.{Filling}
 use Rattle.text_read.proofs.declaring.fill.Given as goal
 
 abbrev pub invariant-loop-base : goal.invariant-loop-base

@@ -1,6 +1,5 @@
 -- `text_read::declaring::keep` meets its contract: the rows that are filled have the tree's names in front, so planting goes on there.
 -- Assumes nothing.
-use borrow.Author.Rules.{rules}
 use native.Mathlib.Omega.{arith}
 use mathlib.Core.Path.{sym}
 use lib.Seq.{length-take-le}

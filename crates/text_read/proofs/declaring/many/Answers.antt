@@ -1,6 +1,4 @@
 -- `text_read::declaring::many` meets its contract: the cause by whether a name stands twice. Assumes nothing.
-use borrow.Author.Rules.{rules}
-use native.Mathlib.Omega.{arith}
 use mathlib.Core.Path.{ap, sym, ◌∙◌}
 use Rattle.grammar.specs.Basics.{choose}
 use Rattle.text_read.proofs.declaring.many.Goals as goal

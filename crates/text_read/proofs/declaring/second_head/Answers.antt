@@ -1,5 +1,4 @@
 -- `text_read::declaring::second_head` meets its contract: what `FirstHead` leaves of the text, with the second line read. Assumes nothing.
-use borrow.Author.Rules.{rules}
 use native.Mathlib.Omega.{arith}
 use Prim.Native.Nat.{◌+◌}
 use Rattle.grammar.specs.Limits.{limits}

@@ -1,6 +1,4 @@
 -- `text_read::keeping::check_kept` meets its contract: a fault stays as it is. Assumes nothing.
-use borrow.Author.Rules.{rules}
-use native.Mathlib.Omega.{arith}
 use mathlib.Core.Path.{sym, ap, subst, ◌∙◌}
 use Rattle.text_read.specs.declared.TextKept.{TextKept}
 use Rattle.text_read.specs.Texts.{KeptWithin, kept_read}

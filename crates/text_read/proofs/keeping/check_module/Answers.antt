@@ -1,6 +1,4 @@
 -- `text_read::keeping::check_module` meets its contract: the lines, then the table. Assumes nothing.
-use borrow.Author.Rules.{rules}
-use native.Mathlib.Omega.{arith}
 use Rattle.text_read.proofs.Whole.{kept-within, checks_module}
 use Rattle.text_read.proofs.keeping.check_module.Goals as goal
 

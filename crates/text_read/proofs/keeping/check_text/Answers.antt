@@ -1,6 +1,4 @@
 -- `text_read::keeping::check_text` meets its contract: the lines, then the table. Assumes nothing.
-use borrow.Author.Rules.{rules}
-use native.Mathlib.Omega.{arith}
 use Rattle.text_read.proofs.Whole.{kept-within, checks}
 use Rattle.text_read.proofs.keeping.check_text.Goals as goal
 

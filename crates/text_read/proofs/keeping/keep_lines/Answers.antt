@@ -1,5 +1,4 @@
 -- `text_read::keeping::keep_lines` meets its contract: the declaring lines, then the rule lines. Assumes nothing.
-use borrow.Author.Rules.{rules}
 use native.Mathlib.Omega.{arith}
 use Rattle.text_read.specs.Texts.{HeadsRead}
 use Rattle.text_read.proofs.Rooms.{name-rows}

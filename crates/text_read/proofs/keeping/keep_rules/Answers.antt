@@ -1,5 +1,4 @@
 -- `text_read::keeping::keep_rules` meets its contract: the rules that are kept are the first of those that are read. Assumes nothing.
-use borrow.Author.Rules.{rules}
 use native.Mathlib.Omega.{arith}
 use mathlib.Core.Path.{sym}
 use Prim.Native.Nat.{ℕ}

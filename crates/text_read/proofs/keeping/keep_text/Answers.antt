@@ -1,5 +1,4 @@
 -- `text_read::keeping::keep_text` meets its contract: the length; then a row of zeros has no link. Assumes nothing.
-use borrow.Author.Rules.{rules}
 use native.Mathlib.Omega.{arith}
 use Prim.Native.Nat.{ℕ, ◌*◌}
 use lib.ListN.{length-replicate}

@@ -1,6 +1,4 @@
 -- `text_read::keeping::module_tests` meets its contract: a fault stays as it is. Assumes nothing.
-use borrow.Author.Rules.{rules}
-use native.Mathlib.Omega.{arith}
 use mathlib.Core.Path.{sym, ap, subst, ◌∙◌}
 use Rattle.text_read.specs.declared.TextKept.{TextKept}
 use Rattle.text_read.specs.Texts.{KeptWithin, module_read}

@@ -1,5 +1,4 @@
 -- `text_read::keeping::rule_tests` meets its contract: the answer of the table check up to 8. Assumes nothing.
-use borrow.Author.Rules.{rules}
 use native.Mathlib.Omega.{arith}
 use mathlib.Core.Path.{sym}
 use lib.ListN.{take}

@@ -1,5 +1,4 @@
 -- `text_read::rules::put_entry` meets its contract: an entry past a row's end changes nothing. Assumes nothing.
-use borrow.Author.Rules.{rules}
 use mathlib.Core.Path.{sym}
 use lib.Seq.{set_out}
 use Rattle.text_read.proofs.rules.put_entry.Goals as goal

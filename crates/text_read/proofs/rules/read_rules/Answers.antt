@@ -2,7 +2,7 @@
 use borrow.Author.Rules.{rules}
 use native.Mathlib.Omega.{arith}
 use mathlib.Core.Path.{◌≡◌, refl, sym, subst}
-use Prim.Native.Nat.{ℕ, ◌≤◌, ◌+◌, ◌-◌}
+use Prim.Native.Nat.{ℕ, ◌+◌, ◌-◌}
 use mathlib.Core.List.{List, [], ◌∷◌}
 use lib.ListN.{length, drop}
 use Rattle.grammar.specs.Limits.{limits}
@@ -16,7 +16,7 @@ use Rattle.names.specs.Found.{part}
 use Rattle.names.proofs.Pieces.{piece_more, piece_last, length_piece}
 use Rattle.text_read.specs.declared.Kept.{Kept}
 use Rattle.text_read.specs.Lines.{RulesTold}
-use Rattle.text_read.proofs.RuleLines.{Passed, passed_none, passed-all, passed_open, passed_fault, passed-more, told-kept, told_fault}
+use Rattle.text_read.proofs.RuleLines.{passed_none, passed-all, passed_open, passed_fault, passed-more, told-kept, told_fault}
 use Rattle.text_read.proofs.rules.read_rules.Goals as goal
 use Rattle.text_read.proofs.rules.read_rules.Lts as lts
 use Rattle.text_read.proofs.rules.read_rules.Reads as reads

@@ -1,20 +1,12 @@
-use native.Mathlib.Omega.{arith}
-use mathlib.Core.Path.{◌≡◌, refl, sym, subst}
-use Prim.Native.Nat.{ℕ, ◌≤◌, ◌+◌, ◌-◌}
-use mathlib.Core.List.{List, [], ◌∷◌}
+use mathlib.Core.Path.{◌≡◌}
+use Prim.Native.Nat.{ℕ, ◌≤◌, ◌-◌}
+use mathlib.Core.List.{[]}
 use lib.ListN.{length, drop}
 use Rattle.grammar.specs.Limits.{limits}
-use Rattle.grammar.specs.Grammar.{Rule}
-use Rattle.grammar.specs.Refusal.{Answer}
 use Rattle.text.specs.Pieces.{split_on}
 use Rattle.text.specs.Read.{rule_lines}
-use Rattle.text.proofs.Pieces.{split_pos}
 use Rattle.text.specs.Spelled.{spelled}
-use Rattle.names.specs.Found.{part}
-use Rattle.names.proofs.Pieces.{piece_more, piece_last, length_piece}
-use Rattle.text_read.specs.declared.Kept.{Kept}
-use Rattle.text_read.specs.Lines.{RulesTold}
-use Rattle.text_read.proofs.RuleLines.{Passed, passed_none, passed-all, passed_open, passed_fault, passed-more, told-kept, told_fault}
+use Rattle.text_read.proofs.RuleLines.{Passed}
 use Rattle.text_read.proofs.rules.read_rules.Given as goal
 
 abbrev pub invariant-loop-from : goal.invariant-loop-from

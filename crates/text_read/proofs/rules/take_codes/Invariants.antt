@@ -1,15 +1,9 @@
-use native.Mathlib.Omega.{arith}
-use mathlib.Core.Path.{◌≡◌, refl}
 use Prim.Native.Nat.{ℕ, ◌≤◌, ◌<◌, ◌+◌, ◌-◌}
-use mathlib.Core.List.{List, [], ◌∷◌}
-use mathlib.Core.Bool.{true, false}
-use lib.ListN.{length, drop, set}
+use mathlib.Core.List.{[]}
+use lib.ListN.{length, drop}
 use Rattle.text.specs.Pieces.{split_on}
 use Rattle.text.specs.Spelled.{spelled}
-use Rattle.text.proofs.Spans.{length-spelled}
-use Rattle.names.specs.Found.{part}
-use Rattle.names.proofs.Pieces.{piece_more, piece_last, piece_first}
-use Rattle.text_read.proofs.Codes.{Looking, looking_start, looking_unknown, looking_more, looking_all, taken_none, taken-led}
+use Rattle.text_read.proofs.Codes.{Looking}
 use Rattle.text_read.proofs.rules.take_codes.Given as goal
 
 abbrev pub invariant-loop-t : goal.invariant-loop-t

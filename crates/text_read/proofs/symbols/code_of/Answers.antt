@@ -1,5 +1,4 @@
 -- `text_read::symbols::code_of` meets its contract: the two cases of `code_of`. Assumes nothing.
-use borrow.Author.Rules.{rules}
 use mathlib.Core.Path.{sym}
 use Rattle.text_read.proofs.Lookups.{code-low, code-high}
 use Rattle.text_read.proofs.symbols.code_of.Goals as goal

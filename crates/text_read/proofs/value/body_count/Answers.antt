@@ -1,5 +1,4 @@
 -- `text_read::value::body_count` meets its contract: nothing, or a space and the pieces after it. Assumes nothing.
-use borrow.Author.Rules.{rules}
 use native.Mathlib.Omega.{arith}
 use mathlib.Core.Path.{sym, ◌∙◌}
 use Rattle.text_read.proofs.Values.{body-none, body-other, body-space}

@@ -1,5 +1,4 @@
 -- `text_read::value::count_names` meets its contract: no bytes are no names, else the pieces between commas. Assumes nothing.
-use borrow.Author.Rules.{rules}
 use native.Mathlib.Omega.{arith}
 use mathlib.Core.Path.{sym, ap, ◌∙◌}
 use Rattle.names.proofs.Pieces.{names-split, names-none}

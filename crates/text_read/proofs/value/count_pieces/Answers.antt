@@ -1,11 +1,8 @@
 -- `text_read::value::count_pieces` meets its contract: the count so far and the pieces from the cursor on make up all. Assumes nothing.
-use borrow.Author.Rules.{rules}
 use native.Mathlib.Omega.{arith}
-use Prim.Native.Nat.{◌≤◌, ◌-◌}
-use mathlib.Core.Path.{◌≡◌, sym, ap, ◌∙◌}
-use lib.ListN.{length, drop}
+use Prim.Native.Nat.{◌-◌}
+use mathlib.Core.Path.{sym, ap, ◌∙◌}
 use mathlib.Core.List.{[]}
-use Rattle.text.specs.Pieces.{split_on}
 use Rattle.names.proofs.Pieces.{piece_more, piece_last, piece_first}
 use Rattle.text_read.specs.Values.{counted}
 use Rattle.text_read.proofs.Values.{counted_good, counted_bad, counted-end}

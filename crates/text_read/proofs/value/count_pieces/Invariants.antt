@@ -1,12 +1,9 @@
-use native.Mathlib.Omega.{arith}
 use Prim.Native.Nat.{◌≤◌, ◌-◌}
-use mathlib.Core.Path.{◌≡◌, sym, ap, ◌∙◌}
+use mathlib.Core.Path.{◌≡◌}
 use lib.ListN.{length, drop}
 use mathlib.Core.List.{[]}
 use Rattle.text.specs.Pieces.{split_on}
-use Rattle.names.proofs.Pieces.{piece_more, piece_last, piece_first}
 use Rattle.text_read.specs.Values.{counted}
-use Rattle.text_read.proofs.Values.{counted_good, counted_bad, counted-end}
 use Rattle.text_read.proofs.value.count_pieces.Given as goal
 
 abbrev pub invariant-loop-k : goal.invariant-loop-k

@@ -1,10 +1,9 @@
 -- `text_read::value::key_split` meets its contract: the line has the key up to the cursor. Assumes nothing.
-use borrow.Author.Rules.{rules}
 use native.Mathlib.Omega.{arith}
-use Prim.Native.Nat.{◌≤◌, ◌-◌}
+use Prim.Native.Nat.{◌-◌}
 use mathlib.Core.Path.{◌≡◌, sym, ◌∙◌}
-use lib.ListN.{length, drop}
-use Rattle.text.specs.Keys.{key, value_of}
+use lib.ListN.{length}
+use Rattle.text.specs.Keys.{key}
 use Rattle.names.proofs.Keys.{key-length-most, length-key, key-at}
 use Rattle.text_read.proofs.Values.{value-short, value-step, value-differ, value-equals, value-other, split-value}
 use Rattle.text_read.proofs.value.key_split.Goals as goal

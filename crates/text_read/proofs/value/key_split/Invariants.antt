@@ -1,10 +1,7 @@
-use native.Mathlib.Omega.{arith}
 use Prim.Native.Nat.{◌≤◌, ◌-◌}
-use mathlib.Core.Path.{◌≡◌, sym, ◌∙◌}
-use lib.ListN.{length, drop}
+use mathlib.Core.Path.{◌≡◌}
+use lib.ListN.{drop}
 use Rattle.text.specs.Keys.{key, value_of}
-use Rattle.names.proofs.Keys.{key-length-most, length-key, key-at}
-use Rattle.text_read.proofs.Values.{value-short, value-step, value-differ, value-equals, value-other, split-value}
 use Rattle.text_read.proofs.value.key_split.Given as goal
 
 abbrev pub invariant-loop-i : goal.invariant-loop-i

@@ -1,5 +1,4 @@
 -- `text_read::value::rule_shape` meets its contract: the first colon is the only one, since names have none. Assumes nothing.
-use borrow.Author.Rules.{rules}
 use native.Mathlib.Omega.{arith}
 use mathlib.Core.Path.{sym, ap, ◌∙◌}
 use Prim.Native.Nat.{◌+◌, ◌-◌}

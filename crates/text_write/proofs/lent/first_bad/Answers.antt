@@ -1,10 +1,8 @@
 -- `text_write::lent::first_bad` meets its contract: gathering on from the cursor stops where gathering from the start does. Assumes nothing.
-use mathlib.Core.Path.{◌≡◌, ap, sym, ◌∙◌}
-use Prim.Native.Nat.{◌-◌, ◌≤◌}
+use mathlib.Core.Path.{ap, sym, ◌∙◌}
+use Prim.Native.Nat.{◌-◌}
 use native.Mathlib.Nat.{sub-zero}
 use native.Mathlib.Omega.{arith}
-use borrow.Author.Rules.{rules}
-use borrow.Author.Tests.{not-true, not-false}
 use Rattle.text.specs.Print.{gather}
 use Rattle.text_write.specs.Clauses.{stops_at}
 use Rattle.text_write.proofs.LentLaws.{gather-more, gather_stops, gather-ends}

@@ -1,11 +1,7 @@
-use mathlib.Core.Path.{◌≡◌, ap, sym, ◌∙◌}
+use mathlib.Core.Path.{◌≡◌}
 use Prim.Native.Nat.{◌-◌, ◌≤◌}
-use native.Mathlib.Nat.{sub-zero}
-use native.Mathlib.Omega.{arith}
-use borrow.Author.Tests.{not-true, not-false}
 use Rattle.text.specs.Print.{gather}
 use Rattle.text_write.specs.Clauses.{stops_at}
-use Rattle.text_write.proofs.LentLaws.{gather-more, gather_stops, gather-ends}
 use Rattle.text_write.proofs.lent.first_bad.Given as goal
 
 abbrev pub invariant-loop-i : goal.invariant-loop-i

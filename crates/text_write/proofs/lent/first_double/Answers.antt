@@ -1,5 +1,4 @@
 -- `text_write::lent::first_double` meets its contract: the planting answers the lowest name that an earlier one is. Assumes nothing.
-use borrow.Author.Rules.{rules}
 use native.Mathlib.Omega.{arith}
 use Prim.Native.Nat.{ℕ, ◌+◌, ◌*◌}
 use lib.ListN.{length-replicate}

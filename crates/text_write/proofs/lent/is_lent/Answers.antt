@@ -2,7 +2,6 @@
 use mathlib.Core.Path.{ap₂, sym, ◌∙◌}
 use Prim.Native.Nat.{◌+◌, ◌-◌}
 use native.Mathlib.Omega.{arith}
-use borrow.Author.Rules.{rules}
 use lib.ListN.{take, drop}
 use Rattle.text.specs.Names.{is_name}
 use Rattle.text_write.proofs.LentLaws.{no_start, no_length, not-inside, whole-name}

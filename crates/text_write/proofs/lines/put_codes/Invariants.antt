@@ -1,12 +1,9 @@
-use mathlib.Core.Path.{◌≡◌, refl}
-use mathlib.Core.List.{List, [], ◌∷◌, ◌++◌}
-use Prim.Native.Nat.{ℕ, ◌+◌, ◌-◌, ◌≤◌}
-use native.Mathlib.Omega.{arith}
-use lib.ListN.{length, drop, get_or}
+use mathlib.Core.List.{[]}
+use Prim.Native.Nat.{ℕ, ◌-◌, ◌≤◌}
+use lib.ListN.{length, drop}
 use Rattle.text.specs.Spelled.{spelled}
 use Rattle.text_write.specs.Clauses.{codes_text}
-use Rattle.text_write.proofs.Filling.{Filling, filling_start, filling_room, filling_ran, filling_done}
-use Rattle.text_write.proofs.PutLaws.{codes-turn, codes-end}
+use Rattle.text_write.proofs.Filling.{Filling}
 use Rattle.text_write.proofs.lines.put_codes.Given as goal
 
 abbrev pub invariant-loop-i : goal.invariant-loop-i

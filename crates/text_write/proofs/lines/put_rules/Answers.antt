@@ -1,13 +1,13 @@
 -- `text_write::lines::put_rules` meets its contract: the lines of the rules from the offset on are still to come. Assumes nothing.
 use mathlib.Core.Path.{refl}
 use mathlib.Core.List.{List}
-use Prim.Native.Nat.{ℕ, ◌+◌, ◌-◌, ◌≤◌}
+use Prim.Native.Nat.{ℕ, ◌+◌, ◌-◌}
 use native.Mathlib.Omega.{arith}
 use borrow.Author.Rules.{rules}
 use lib.ListN.{length, take, drop, get_or}
 use Rattle.text.specs.Spelled.{spelled}
-use Rattle.text_write.specs.Clauses.{Coded, rule_text, rules_text}
-use Rattle.text_write.proofs.Filling.{Filling, filling_start, filling_room, filling_ran, filling_done}
+use Rattle.text_write.specs.Clauses.{rule_text}
+use Rattle.text_write.proofs.Filling.{filling_start, filling_room, filling_ran, filling_done}
 use Rattle.text_write.proofs.TableLaws.{Turn, turn, no_rules}
 use Rattle.text_write.proofs.PutLaws.{rules-turn, rules-end}
 use Rattle.text_write.proofs.lines.put_rules.Goals as goal

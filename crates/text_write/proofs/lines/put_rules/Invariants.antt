@@ -1,13 +1,8 @@
-use mathlib.Core.Path.{refl}
-use mathlib.Core.List.{List}
-use Prim.Native.Nat.{ℕ, ◌+◌, ◌-◌, ◌≤◌}
-use native.Mathlib.Omega.{arith}
-use lib.ListN.{length, take, drop, get_or}
+use Prim.Native.Nat.{ℕ, ◌-◌, ◌≤◌}
+use lib.ListN.{length, drop}
 use Rattle.text.specs.Spelled.{spelled}
-use Rattle.text_write.specs.Clauses.{Coded, rule_text, rules_text}
-use Rattle.text_write.proofs.Filling.{Filling, filling_start, filling_room, filling_ran, filling_done}
-use Rattle.text_write.proofs.TableLaws.{Turn, turn, no_rules}
-use Rattle.text_write.proofs.PutLaws.{rules-turn, rules-end}
+use Rattle.text_write.specs.Clauses.{Coded, rules_text}
+use Rattle.text_write.proofs.Filling.{Filling}
 use Rattle.text_write.proofs.lines.put_rules.Given as goal
 
 abbrev pub invariant-loop-o : goal.invariant-loop-o

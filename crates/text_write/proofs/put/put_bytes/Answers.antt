@@ -1,10 +1,9 @@
 -- `text_write::put::put_bytes` meets its contract: what the source has from the cursor on is still to come. Assumes nothing.
-use Prim.Native.Nat.{◌+◌, ◌-◌, ◌≤◌}
+use Prim.Native.Nat.{◌+◌, ◌-◌}
 use mathlib.Core.Path.{◌≡◌, refl}
 use native.Mathlib.Omega.{arith}
-use borrow.Author.Rules.{rules}
-use lib.ListN.{length, drop, drop_of_length-le}
-use Rattle.text_write.proofs.Filling.{Filling, filling_start, filling_put, filling_at, filling_done}
+use lib.ListN.{drop_of_length-le}
+use Rattle.text_write.proofs.Filling.{filling_start, filling_put, filling_at, filling_done}
 use Rattle.grammar.proofs.Lists.{drop-next}
 use Rattle.text_write.proofs.put.put_bytes.Goals as goal
 

@@ -1,9 +1,6 @@
 use Prim.Native.Nat.{◌+◌, ◌-◌, ◌≤◌}
-use mathlib.Core.Path.{◌≡◌, refl}
-use native.Mathlib.Omega.{arith}
-use lib.ListN.{length, drop, drop_of_length-le}
-use Rattle.text_write.proofs.Filling.{Filling, filling_start, filling_put, filling_at, filling_done}
-use Rattle.grammar.proofs.Lists.{drop-next}
+use lib.ListN.{length, drop}
+use Rattle.text_write.proofs.Filling.{Filling}
 use Rattle.text_write.proofs.put.put_bytes.Given as goal
 
 abbrev pub invariant-loop-i : goal.invariant-loop-i

@@ -1,14 +1,9 @@
-use mathlib.Core.Path.{◌≡◌, refl}
-use mathlib.Core.List.{List, [], ◌∷◌, ◌++◌}
-use Prim.Native.Nat.{ℕ, ◌+◌, ◌-◌, ◌≤◌}
-use native.Mathlib.Omega.{arith}
-use lib.ListN.{get_or}
+use mathlib.Core.List.{[]}
+use Prim.Native.Nat.{ℕ, ◌-◌, ◌≤◌}
 use lib.Seq.{slice}
 use Rattle.text.specs.Pieces.{led_by}
 use Rattle.text.specs.Spelled.{spelled}
-use Rattle.text_write.proofs.Filling.{Filling, filling_start, filling_room, filling_ran, filling_done}
-use Rattle.text_write.proofs.LentLaws.{names_count}
-use Rattle.text_write.proofs.PutLaws.{led-turn, led-end}
+use Rattle.text_write.proofs.Filling.{Filling}
 use Rattle.text_write.proofs.put.put_led.Given as goal
 
 abbrev pub invariant-loop-i : goal.invariant-loop-i

@@ -1,7 +1,6 @@
 -- `text_write::put::put_name` meets its contract: the part of the bytes is the name. Assumes nothing.
 use mathlib.Core.Path.{ap}
 use native.Mathlib.Omega.{arith}
-use borrow.Author.Rules.{rules}
 use lib.ListN.{length}
 use Rattle.text_write.proofs.Filling.{wrote_as}
 use Rattle.text_write.proofs.LentLaws.{name-taken}

@@ -1,13 +1,12 @@
 -- `text_write::put::put_word` meets its contract: what the key has from the cursor on is still to come. Assumes nothing.
 use mathlib.Core.Path.{◌≡◌, ap, sym, ◌∙◌}
 use mathlib.Core.List.{[], ◌∷◌, ◌++◌}
-use Prim.Native.Nat.{◌+◌, ◌-◌, ◌≤◌}
+use Prim.Native.Nat.{◌+◌, ◌-◌}
 use native.Mathlib.Omega.{arith}
-use borrow.Author.Rules.{rules}
 use lib.ListN.{drop, length-drop, drop_of_length-le}
 use Rattle.text.specs.Keys.{key}
 use Rattle.names.proofs.Keys.{key-length-most, length-key, key-at}
-use Rattle.text_write.proofs.Filling.{Filling, filling_start, filling_room, filling_ran, filling_done}
+use Rattle.text_write.proofs.Filling.{filling_start, filling_room, filling_ran, filling_done}
 use Rattle.grammar.proofs.Lists.{drop-next}
 use Rattle.text_write.proofs.put.put_word.Goals as goal
 use Rattle.text_write.proofs.put.put_word.Lts as lts

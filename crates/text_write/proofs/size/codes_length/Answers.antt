@@ -1,11 +1,10 @@
 -- `text_write::size::codes_length` meets its contract: the total and what the codes from the cursor on give are the whole. Assumes nothing.
-use mathlib.Core.Path.{◌≡◌, ap, ◌∙◌}
+use mathlib.Core.Path.{ap, ◌∙◌}
 use mathlib.Core.List.{map}
-use Prim.Native.Nat.{◌+◌, ◌-◌, ◌≤◌}
+use Prim.Native.Nat.{◌-◌}
 use native.Mathlib.Nat.{zero-add}
 use native.Mathlib.Omega.{arith}
-use borrow.Author.Rules.{rules}
-use lib.ListN.{length, drop, get_or}
+use lib.ListN.{get_or}
 use Rattle.grammar.specs.Limits.{limits}
 use Rattle.text_write.specs.Length.{led_length, code_length}
 use Rattle.text_write.proofs.LengthLaws.{codes-more, codes-none}

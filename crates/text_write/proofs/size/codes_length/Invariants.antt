@@ -1,12 +1,9 @@
-use mathlib.Core.Path.{◌≡◌, ap, ◌∙◌}
+use mathlib.Core.Path.{◌≡◌}
 use mathlib.Core.List.{map}
 use Prim.Native.Nat.{◌+◌, ◌-◌, ◌≤◌}
-use native.Mathlib.Nat.{zero-add}
-use native.Mathlib.Omega.{arith}
-use lib.ListN.{length, drop, get_or}
+use lib.ListN.{length, drop}
 use Rattle.grammar.specs.Limits.{limits}
 use Rattle.text_write.specs.Length.{led_length, code_length}
-use Rattle.text_write.proofs.LengthLaws.{codes-more, codes-none}
 use Rattle.text_write.proofs.size.codes_length.Given as goal
 
 abbrev pub invariant-loop-i : goal.invariant-loop-i

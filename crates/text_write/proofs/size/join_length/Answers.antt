@@ -1,7 +1,6 @@
 -- `text_write::size::join_length` meets its contract: no byte stands before the first name. Assumes nothing.
 use mathlib.Core.Path.{sym}
 use native.Mathlib.Omega.{arith}
-use borrow.Author.Rules.{rules}
 use Rattle.text_write.proofs.LengthLaws.{join_more, join-none}
 use Rattle.text_write.proofs.size.join_length.Goals as goal
 

@@ -1,9 +1,7 @@
 -- `text_write::size::led_length` meets its contract: the total and what the entries from the cursor on give are the whole. Assumes nothing.
-use mathlib.Core.Path.{◌≡◌}
-use Prim.Native.Nat.{◌+◌, ◌-◌, ◌≤◌}
+use Prim.Native.Nat.{◌-◌}
 use native.Mathlib.Nat.{zero-add}
 use native.Mathlib.Omega.{arith}
-use borrow.Author.Rules.{rules}
 use lib.Seq.{slice}
 use Rattle.text_write.specs.Length.{led_length}
 use Rattle.text_write.proofs.LengthLaws.{led-more, led-none}

@@ -1,10 +1,7 @@
 use mathlib.Core.Path.{◌≡◌}
 use Prim.Native.Nat.{◌+◌, ◌-◌, ◌≤◌}
-use native.Mathlib.Nat.{zero-add}
-use native.Mathlib.Omega.{arith}
 use lib.Seq.{slice}
 use Rattle.text_write.specs.Length.{led_length}
-use Rattle.text_write.proofs.LengthLaws.{led-more, led-none}
 use Rattle.text_write.proofs.size.led_length.Given as goal
 
 abbrev pub invariant-loop-i : goal.invariant-loop-i

@@ -1,14 +1,13 @@
 -- `text_write::size::rules_length` meets its contract: the total and what the rules from the offset on give are the whole. Assumes nothing.
-use mathlib.Core.Path.{◌≡◌, refl, ap, ◌∙◌}
-use Prim.Native.Nat.{◌+◌, ◌-◌, ◌≤◌}
+use mathlib.Core.Path.{refl, ap, ◌∙◌}
+use Prim.Native.Nat.{◌+◌, ◌-◌}
 use native.Mathlib.Nat.{zero-add}
 use native.Mathlib.Omega.{arith}
 use borrow.Author.Rules.{rules}
-use lib.ListN.{length, drop, get_or}
+use lib.ListN.{length, get_or}
 use Rattle.grammar.specs.Limits.{limits}
 use Rattle.grammar.specs.Table.{decode}
 use Rattle.text_write.specs.Length.{rules_length}
-use Rattle.text_write.specs.Clauses.{Coded}
 use Rattle.text_write.proofs.TableLaws.{Turn, turn, known-right, no_rules}
 use Rattle.text_write.proofs.LengthLaws.{rules-more, rules-none}
 use Rattle.text_write.proofs.size.rules_length.Goals as goal

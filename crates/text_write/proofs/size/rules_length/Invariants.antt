@@ -1,14 +1,10 @@
-use mathlib.Core.Path.{◌≡◌, refl, ap, ◌∙◌}
+use mathlib.Core.Path.{◌≡◌}
 use Prim.Native.Nat.{◌+◌, ◌-◌, ◌≤◌}
-use native.Mathlib.Nat.{zero-add}
-use native.Mathlib.Omega.{arith}
-use lib.ListN.{length, drop, get_or}
+use lib.ListN.{length, drop}
 use Rattle.grammar.specs.Limits.{limits}
 use Rattle.grammar.specs.Table.{decode}
 use Rattle.text_write.specs.Length.{rules_length}
 use Rattle.text_write.specs.Clauses.{Coded}
-use Rattle.text_write.proofs.TableLaws.{Turn, turn, known-right, no_rules}
-use Rattle.text_write.proofs.LengthLaws.{rules-more, rules-none}
 use Rattle.text_write.proofs.size.rules_length.Given as goal
 
 abbrev pub invariant-loop-o : goal.invariant-loop-o

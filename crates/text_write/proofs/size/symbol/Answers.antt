@@ -1,6 +1,5 @@
 -- `text_write::size::symbol` meets its contract: a code below the first nonterminal is a terminal's. Assumes nothing.
 use mathlib.Core.Path.{sym}
-use borrow.Author.Rules.{rules}
 use Rattle.text_write.proofs.LengthLaws.{symbol_low, symbol_high}
 use Rattle.text_write.proofs.size.symbol.Goals as goal
 

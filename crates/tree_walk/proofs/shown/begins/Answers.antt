@@ -1,5 +1,4 @@
 -- begins meets its contract: the lead and one count are read.
-use borrow.Author.Rules.{rules}
 use native.Mathlib.Omega.{arith}
 use mathlib.Core.Path.{sym, ap, ◌∙◌}
 use Prim.Native.Nat.{◌%◌, ◌<◌}

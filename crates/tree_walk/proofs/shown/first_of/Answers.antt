@@ -1,9 +1,8 @@
 -- first_of meets its contract: what was passed over begins no such rule.
-use borrow.Author.Rules.{rules}
 use native.Mathlib.Omega.{arith}
 use native.Mathlib.Decide.{ℕ_discrete}
 use mathlib.Core.Path.{subst}
-use Prim.Native.Nat.{ℕ, ◌-◌, ◌<◌}
+use Prim.Native.Nat.{ℕ, ◌-◌}
 use Rattle.tree_walk.specs.Charted.{Begins}
 use Rattle.tree_walk.proofs.shown.first_of.Goals as goal
 use Rattle.tree_walk.proofs.shown.first_of.Lts as lts

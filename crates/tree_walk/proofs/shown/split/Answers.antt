@@ -1,9 +1,8 @@
 -- split meets its contract: what was passed over showed no split.
-use borrow.Author.Rules.{rules}
 use native.Mathlib.Omega.{arith}
 use native.Mathlib.Decide.{ℕ_discrete}
 use mathlib.Core.Path.{subst}
-use Prim.Native.Nat.{ℕ, ◌-◌, ◌≤◌, ◌<◌}
+use Prim.Native.Nat.{ℕ, ◌-◌}
 use Rattle.tree_walk.specs.Charted.{Both}
 use Rattle.tree_walk.proofs.shown.split.Goals as goal
 use Rattle.tree_walk.proofs.shown.split.Lts as lts

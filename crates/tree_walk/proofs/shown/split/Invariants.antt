@@ -1,6 +1,4 @@
-use native.Mathlib.Omega.{arith}
 use native.Mathlib.Decide.{ℕ_discrete}
-use mathlib.Core.Path.{subst}
 use Prim.Native.Nat.{ℕ, ◌-◌, ◌≤◌, ◌<◌}
 use Rattle.tree_walk.specs.Charted.{Both}
 use Rattle.tree_walk.proofs.shown.split.Given as goal

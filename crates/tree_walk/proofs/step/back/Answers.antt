@@ -1,5 +1,4 @@
 -- back meets its contract: one entry is read.
-use borrow.Author.Rules.{rules}
 use Prim.Native.Nat.{◌/◌, ◌%◌}
 use mathlib.Core.Path.{refl, ap}
 use Rattle.tree_walk.proofs.step.back.Goals as goal

@@ -1,5 +1,4 @@
 -- turn meets its contract: one law for each way out.
-use borrow.Author.Rules.{rules}
 use native.Mathlib.Omega.{arith}
 use mathlib.Core.Path.{refl}
 use Rattle.tree_walk.specs.Charted.{Rows, rows}

@@ -1,5 +1,4 @@
 -- wait meets its contract: one entry is written.
-use borrow.Author.Rules.{rules}
 use Prim.Native.Nat.{◌+◌, ◌*◌, ◌%◌}
 use mathlib.Core.Path.{ap}
 use lib.ListN.{get_or, set}

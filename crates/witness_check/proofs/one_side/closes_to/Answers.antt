@@ -1,5 +1,4 @@
 -- closes_to meets its contract: the class is below m, and leads there.
-use borrow.Author.Rules.{rules}
 use borrow.Author.Tests.{lt-ltb, le-ltb}
 use Rattle.witness_check.proofs.one_side.closes_to.Goals as goal
 

@@ -1,5 +1,4 @@
 -- opens_beside meets its contract: the other side stays, and the class opens there.
-use borrow.Author.Rules.{rules}
 use borrow.Author.Tests.{eq-eqb, ne_eqb}
 use Rattle.witness_check.proofs.one_side.opens_beside.Goals as goal
 

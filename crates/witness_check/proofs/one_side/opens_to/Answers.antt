@@ -1,5 +1,4 @@
 -- opens_to meets its contract: the class is from m on, and leads there.
-use borrow.Author.Rules.{rules}
 use borrow.Author.Tests.{le-leb, lt-leb}
 use Rattle.witness_check.proofs.one_side.opens_to.Goals as goal
 

@@ -1,5 +1,4 @@
 -- pass_both meets its contract: each return is one of its tests.
-use borrow.Author.Rules.{rules}
 use mathlib.Core.Path.{sym, ◌∙◌}
 use Rattle.witness_check.proofs.StepLaws.{pass_left, pass_right, pass_end, pass_last}
 use Rattle.witness_check.proofs.one_side.pass_both.Goals as goal

@@ -1,6 +1,4 @@
 -- goes_on meets its contract: three ways, tried one after the other.
-use borrow.Author.Rules.{rules}
-use borrow.Author.Tests.{not-true, not-false}
 use mathlib.Core.Path.{sym, ◌∙◌}
 use Rattle.witness_check.specs.StepTest.{follows}
 use Rattle.witness_check.proofs.step_test.goes_on.Goals as goal

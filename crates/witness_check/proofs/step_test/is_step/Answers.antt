@@ -1,5 +1,4 @@
 -- is_step meets its contract: the layers choose the test.
-use borrow.Author.Rules.{rules}
 use borrow.Author.Tests.{eq-eqb, ne_eqb}
 use Rattle.witness_check.specs.StepTest.{is_step}
 use Rattle.witness_check.proofs.step_test.is_step.Goals as goal

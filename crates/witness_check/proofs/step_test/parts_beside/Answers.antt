@@ -1,6 +1,5 @@
 -- parts_beside meets its contract: the other side stays before a terminal.
-use borrow.Author.Rules.{rules}
-use borrow.Author.Tests.{eq-eqb, ne_eqb, not-true, not-false}
+use borrow.Author.Tests.{eq-eqb, ne_eqb}
 use mathlib.Core.Path.{sym, ◌∙◌}
 use Rattle.witness_check.proofs.step_test.parts_beside.Goals as goal
 

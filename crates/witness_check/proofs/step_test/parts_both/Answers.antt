@@ -1,6 +1,4 @@
 -- parts_both meets its contract: both close, and the numbers differ.
-use borrow.Author.Rules.{rules}
-use borrow.Author.Tests.{not-true, not-false}
 use mathlib.Core.Path.{sym, ◌∙◌}
 use Rattle.witness_check.proofs.step_test.parts_both.Goals as goal
 

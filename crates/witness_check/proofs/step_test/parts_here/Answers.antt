@@ -1,5 +1,4 @@
 -- parts_here meets its contract: three ways, tried one after the other.
-use borrow.Author.Rules.{rules}
 use mathlib.Core.Path.{sym, ◌∙◌}
 use Rattle.witness_check.specs.StepTest.{parts}
 use Rattle.witness_check.proofs.step_test.parts_here.Goals as goal

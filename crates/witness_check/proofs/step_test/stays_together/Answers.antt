@@ -1,5 +1,4 @@
 -- stays_together meets its contract: three ways, tried one after the other.
-use borrow.Author.Rules.{rules}
 use mathlib.Core.Path.{sym, ◌∙◌}
 use Rattle.witness_check.specs.StepTest.{stays}
 use Rattle.witness_check.proofs.step_test.stays_together.Goals as goal

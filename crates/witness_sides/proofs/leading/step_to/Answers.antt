@@ -1,15 +1,13 @@
 -- step_to meets its contract: the records passed over do not lead to j, and there are no more than the search looks at.
-use borrow.Author.Rules.{rules}
 use native.Mathlib.Omega.{arith}
 use native.Mathlib.Nat.{mod-lt, mul-le-mul}
 use Prim.Native.Nat.{◌-◌, ◌*◌, ◌/◌, ◌%◌, ◌≤◌, ◌<◌}
-use mathlib.Core.Path.{◌≡◌, refl, sym, ◌∙◌}
+use mathlib.Core.Path.{refl, sym, ◌∙◌}
 use mathlib.Core.List.{List}
-use lib.ListN.{drop}
 use Rattle.grammar.specs.Limits.{limits}
 use Rattle.triples.specs.declared.Step.{Step}
 use Rattle.steps.specs.Plan.{rows_of}
-use Rattle.witness_sides.specs.Clauses.{steps_to, records_at}
+use Rattle.witness_sides.specs.Clauses.{records_at}
 use Rattle.witness_sides.proofs.FewRecords.{few-planned}
 use Rattle.witness_sides.proofs.SearchLaws.{leads_there, passed_over, ends-none, past-none, not-refused}
 use Rattle.witness_sides.proofs.leading.step_to.Goals as goal

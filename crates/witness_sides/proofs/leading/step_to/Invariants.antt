@@ -1,15 +1,9 @@
-use native.Mathlib.Omega.{arith}
-use native.Mathlib.Nat.{mod-lt, mul-le-mul}
-use Prim.Native.Nat.{◌-◌, ◌*◌, ◌/◌, ◌%◌, ◌≤◌, ◌<◌}
-use mathlib.Core.Path.{◌≡◌, refl, sym, ◌∙◌}
-use mathlib.Core.List.{List}
+use Prim.Native.Nat.{◌-◌, ◌*◌, ◌≤◌}
+use mathlib.Core.Path.{◌≡◌}
 use lib.ListN.{drop}
 use Rattle.grammar.specs.Limits.{limits}
-use Rattle.triples.specs.declared.Step.{Step}
 use Rattle.steps.specs.Plan.{rows_of}
 use Rattle.witness_sides.specs.Clauses.{steps_to, records_at}
-use Rattle.witness_sides.proofs.FewRecords.{few-planned}
-use Rattle.witness_sides.proofs.SearchLaws.{leads_there, passed_over, ends-none, past-none, not-refused}
 use Rattle.witness_sides.proofs.leading.step_to.Given as goal
 
 abbrev pub invariant-loop-k : goal.invariant-loop-k

@@ -1,5 +1,4 @@
 -- move_entry meets its contract: each arm is a case of the definition.
-use borrow.Author.Rules.{rules}
 use mathlib.Core.Path.{ap, sym}
 use Rattle.witness_sides.specs.Clauses.{move_entry}
 use Rattle.witness_sides.proofs.letter.move_entry.Goals as goal

@@ -1,5 +1,4 @@
 -- put_letter meets its contract: 0 is no letter, any other entry is the move's.
-use borrow.Author.Rules.{rules}
 use native.Mathlib.Omega.{arith}
 use mathlib.Core.Path.{sym, ◌∙◌}
 use Rattle.witness_sides.proofs.LetterLaws.{stays_put, puts_one}
