@@ -15,7 +15,7 @@ use Rattle.triples.specs.Index.{index, triple_count}
 use Rattle.triples.specs.Successor.{Reached}
 use Rattle.triples.specs.Smallest.{smallest}
 
--- of a well_formed grammar
+-- of a well-formed grammar
 pub record AutomatonTheorems (G : Grammar) : Type 0 where
   -- document 02, [3]: the test of a rule finds exactly those that some sentence uses, and rule 0 if there is a sentence
   pub live : (i : ℕ) → i ≤ length G.rules → (is_live limits G i ≡ true) ↔ Live limits G i

@@ -52,7 +52,7 @@ pub data SpotBefore : Spot → Spot → Type 0 where
   by_item : {i d j e : ℕ} {cs ds : List (ℕ × ℕ)} → ItemBefore (i, d) (j, e) → SpotBefore (spot i d cs) (spot j e ds)
   by-callers : {i d j e : ℕ} {cs ds : List (ℕ × ℕ)} → i ≡ j → d ≡ e → CallersBefore cs ds → SpotBefore (spot i d cs) (spot j e ds)
 
--- of a well_formed grammar with a sentence
+-- of a well-formed grammar with a sentence
 pub record CallerTheorems (G : Grammar) (m : ℕ) : Type 0 where
   -- the states, and no other spots, have numbers below Q
   pub numbered : (s : Spot) → IsState G m s ↔ (number_of limits G m s < states_at G m)

@@ -75,7 +75,7 @@ pub record HistoryTheorems (t n : ℕ) (d : Draft) (row : List ℕ) : Type 0 whe
 
 module _ (t n : ℕ) (table before : List ℕ) where
   pub record BeginTheorems (r : DraftAnswer) (row : List ℕ) : Type 0 where
-    -- done exactly if the table is that of a well_formed grammar, with a sentence or without, and the row is long enough
+    -- done exactly if the table is that of a well-formed grammar, with a sentence or without, and the row is long enough
     pub begins : (G : Grammar) → IsTableOf t n table G → draft_room ≤ length before → r ≡ Done
     pub begins-only : r ≡ Done → (G : Grammar) × IsTableOf t n table G × (draft_room ≤ length before)
     -- refused as the table check refuses, but never with 19; 14 comes last; a refusal leaves the row as it was

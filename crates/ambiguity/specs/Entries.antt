@@ -24,7 +24,7 @@ use Rattle.automaton.specs.CallerMoves.{moves_with}
 use Rattle.steps.specs.Steps.{NthAnswer}
 use Rattle.steps.specs.declared.StepAnswer.{StepAnswer}
 
--- t, n and the table are those of a well_formed grammar within the limits
+-- t, n and the table are those of a well-formed grammar within the limits
 pub record IsTableOf (t n : ℕ) (table : List ℕ) (G : Grammar) : Type 0 where
   pub well_formed : WellFormed limits G
   pub terminals : G.terminals ≡ t

@@ -75,10 +75,10 @@ use Rattle.ambiguity.specs.Drafts.{BeginTheorems, EditTheorems, PlaceTheorems, D
 
 module _ (t n : ℕ) (table : List ℕ) where
   pub record TableTheorems (r : TableChecked) : Type 0 where
-    -- passed exactly if the table is that of a well_formed grammar with a sentence, and then with that grammar's record
+    -- passed exactly if the table is that of a well-formed grammar with a sentence, and then with that grammar's record
     pub passes : (G : Grammar) → Stores t n table G → (r.verdict ≡ Passed) × (r.grammar ≡ record_of G)
     pub passes_only : r.verdict ≡ Passed → (G : Grammar) × Stores t n table G × (r.grammar ≡ record_of G)
-    -- document 02, [4]: refused with 19, at 0, exactly if it is that of a well_formed grammar without one
+    -- document 02, [4]: refused with 19, at 0, exactly if it is that of a well-formed grammar without one
     pub without : (at : ℕ) → (r.verdict ≡ Refused no_sentence at)
         ↔ ((at ≡ 0) × ((G : Grammar) × IsTableOf t n table G × ¬ HasSentence limits G))
     -- so rule 0 is live in every grammar that passes

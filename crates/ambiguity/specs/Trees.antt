@@ -89,7 +89,7 @@ module _ (t n : ℕ) (table w work list : List ℕ) where
     pub determined : (r₂ : TreesFound) (work₂ list₂ : List ℕ) → FindsTrees t n table w work list r₂ work₂ list₂
         → (r ≡ r₂) × (work' ≡ work₂) × (list' ≡ list₂)
 
--- the listed rules determine the tree, in a well_formed grammar
+-- the listed rules determine the tree, in a well-formed grammar
 pub record ListedTheorems (G : Grammar) : Type 0 where
   pub same : (v w : List ℕ) (a b : Tree) → HasTree limits G v a → HasTree limits G w b → rules_of a ≡ rules_of b → SameTree a b
 

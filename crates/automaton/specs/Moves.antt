@@ -39,7 +39,7 @@ module _ (M : Moves) where
     Shifts = λ x p q. (M.ahead p ≡ x) × (1 ≤ x) × (q ≡ M.after p);
   }
 
-  -- the lists are regular, as those of a well_formed grammar's items are
+  -- the lists are regular, as those of a well-formed grammar's items are
   pub record Regular : Type 0 where
     -- there are at least 0, 1 and the two items of rule 0
     pub four : 4 ≤ M.states

@@ -1,4 +1,4 @@
--- Drafts that a history makes of a new one are well_formed, their marks too. Assumes nothing.
+-- Drafts that a history makes of a new one are well-formed, their marks too. Assumes nothing.
 use Prim.Native.Nat.{ℕ, zero, suc, ◌+◌, ◌-◌, ◌≤◌, ◌<◌}
 use mathlib.Core.Path.{◌≡◌, refl, ap, sym, subst, ◌∙◌}
 use mathlib.Core.List.{List, [], ◌∷◌, ◌++◌}
@@ -29,7 +29,7 @@ use Rattle.drafts.proofs.Withdrawals.{without-few, without-states, without_in, w
 abbrev pub grammar_with : Draft → List Rule → Grammar
 grammar_with d rules = grammar_of d.terminals d.nonterminals rules
 
--- a draft with well_formed rules, now and under every mark
+-- a draft with well-formed rules, now and under every mark
 pub record Sound (L : Limits) (d : Draft) : Type 0 where
   pub own : WellFormed L (grammar_with d d.rules)
   pub size : length d.marks ≡ marks_count
@@ -95,7 +95,7 @@ module _ (L : Limits) (t n : ℕ) where
 -- ---- one step
 
 module _ (L : Limits) where
-  -- other rules that are well_formed
+  -- other rules that are well-formed
   sound_rules : (d e : Draft) (rules : List Rule) → Sound L d → WellFormed L (grammar_with d rules) → with_rules d rules ≡ e → Sound L e
   sound_rules d e rules s w q = subst (Sound L) q (record { own = w; size = s.size; marked = s.marked })
 

@@ -1,5 +1,5 @@
--- The table check passes exactly the tables of well_formed grammars that have a sentence, and refuses with 19 exactly those of
--- well_formed grammars that have none. Assumes nothing.
+-- The table check passes exactly the tables of well-formed grammars that have a sentence, and refuses with 19 exactly those of
+-- well-formed grammars that have none. Assumes nothing.
 use Prim.Native.Nat.{ℕ, ◌≤◌, ◌<◌}
 use mathlib.Core.Path.{◌≡◌, refl, ap, sym, subst, ◌∙◌}
 use mathlib.Core.Bool.{Bool, true, false}
@@ -44,28 +44,28 @@ module _ (L : Limits) where
     unfolding check_table
     not-stored c p e = then_stops (stored_table L t n table) sentenced c p e
 
-  -- the table of a well_formed grammar with a sentence passes, with that grammar
+  -- the table of a well-formed grammar with a sentence passes, with that grammar
   pub takes_all : (G : Grammar) → WellFormed L G → has_sentence L G ≡ true → check_table L G.terminals G.nonterminals (encode G.rules) ≡ done G
   takes_all G w h = with_sentence G.terminals G.nonterminals (encode G.rules) G (stores_all L G w) h
 
 module _ (L : Limits) (four : 4 ≤ L.max_states) where
-  -- a table that passes is the table of a well_formed grammar
+  -- a table that passes is the table of a well-formed grammar
   pub takes_only : (t n : ℕ) (table : List ℕ) (G : Grammar) → check_table L t n table ≡ done G → Taken L t n table G
   takes_only t n table G e = stored-only L four t n table G (passed-stored L t n table G e).0
 
   module _ (apart : L.max_terminals < L.nonterminal_base) (t n : ℕ) (table : List ℕ) where
-    -- the table of a well_formed grammar is stored
+    -- the table of a well-formed grammar is stored
     taken-stored : (G : Grammar) → Taken L t n table G → stored_table L t n table ≡ done G
     taken-stored G T = let a = T.terminals in let b = T.nonterminals in let c = T.table in cc (stores_all L G T.well_formed)
 
-    -- it passes exactly the tables of well_formed grammars with a sentence
+    -- it passes exactly the tables of well-formed grammars with a sentence
     pub passes_exactly : (G : Grammar) → (check_table L t n table ≡ done G) ↔ (Taken L t n table G × HasSentence L G)
     passes_exactly G = (
       λ e. let T = takes_only t n table G e in (T, (has_sentence_lem L G T.well_formed apart).0 (passed-stored L t n table G e).1),
       λ (T, s). with_sentence L t n table G (taken-stored G T) ((has_sentence_lem L G T.well_formed apart).1 s),
     )
 
-    -- and refuses with 19, at 0, exactly those of well_formed grammars without one
+    -- and refuses with 19, at 0, exactly those of well-formed grammars without one
     pub refuses_exactly : (p : ℕ) → (check_table L t n table ≡ refused no_sentence p) ↔ ((p ≡ 0) × ((G : Grammar) × Taken L t n table G × ¬ HasSentence L G))
     refuses_exactly p = (λ e. told (stored_table L t n table) refl (stored_causes L t n table) e, λ (z, w). without w.0 w.1 w.2 ∙ ap (refused no_sentence) (sym z))
       where

@@ -1,7 +1,7 @@
 -- Grammars with a sentence, rules that some sentence uses, and the tests of both.
 -- Source: document 02, request [4] ("a grammar in which S has no finite tree") and [3] ("a rule is live if some sentence has a tree
 -- that uses it; rule 0 is live if there is a sentence"); the tests go by productive nonterminals and then by what S reaches through
--- productive rules, which is known of context-free grammars since Bar-Hillel, Perles and Shamir. They are meant for well_formed
+-- productive rules, which is known of context-free grammars since Bar-Hillel, Perles and Shamir. They are meant for well-formed
 -- grammars. Assumes nothing.
 use Rattle.std.specs.Prelude.{ℕ, zero, suc, Bool, true, false, not, ◌&&◌, ◌||◌, List, [], ◌∷◌, ◌++◌, map, leb, eqb, length}
 use Rattle.grammar.specs.Basics.{when, each}

@@ -8,7 +8,7 @@ use Rattle.text_write.specs.Clauses.{Rows}
 use Rattle.readings.specs.Readings.{Valid, word, words, reading_lines}
 use Rattle.readings.specs.Letters.{letter_from}
 
--- rows that spell well_formed names, of which t are terminals and n nonterminals; a grammar of so many rules
+-- rows that spell well-formed names, of which t are terminals and n nonterminals; a grammar of so many rules
 pub record Named (t n count : ℕ) (text starts lengths : List ℕ) : Type 0 where
   pub rows : Rows text starts lengths
   pub named : all is_name (spelled text starts lengths) ≡ true

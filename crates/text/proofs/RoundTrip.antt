@@ -173,7 +173,7 @@ module _ (L : Limits) (apart : L.max_terminals < L.nonterminal_base) where
       (subst (λ n. n ≤ room) (sym (ap length (ap (printed L) (source-again s)) ∙ read_length L apart text s c.read)) k)
       ∙ ap done p
 
--- t, n, as many names, and the well_formed grammar of a table that passes
+-- t, n, as many names, and the well-formed grammar of a table that passes
 record Named (L : Limits) (t n : ℕ) (names : List (List ℕ)) (G : Grammar) : Type 0 where
   size-t : length (take t names) ≡ t
   size-n : length (drop t names) ≡ n

@@ -1,4 +1,4 @@
--- A text is refused with 19, at 0, exactly if it is read, and what it says is a well_formed grammar without a sentence.
+-- A text is refused with 19, at 0, exactly if it is read, and what it says is a well-formed grammar without a sentence.
 -- Assumes nothing.
 use Prim.Native.Nat.{ℕ, ◌≤◌, ◌<◌}
 use mathlib.Core.Path.{◌≡◌, refl, ap, sym, subst, ◌∙◌}

@@ -77,7 +77,7 @@ pub record Checked (t n : ℕ) (table : List ℕ) : Type 0 where
   pub grammar : Grammar
   pub passes : check_table limits t n table ≡ done grammar
 
--- a checked table, and rows that lend well_formed names for all its symbols
+-- a checked table, and rows that lend well-formed names for all its symbols
 pub record Ready (t : ℕ) (table bytes starts lengths : List ℕ) : Type 0 where
   pub rows : Rows bytes starts lengths
   pub few : length starts ≤ limits.max_terminals + limits.max_nonterminals
@@ -85,7 +85,7 @@ pub record Ready (t : ℕ) (table bytes starts lengths : List ℕ) : Type 0 wher
   pub terminals : t ≤ length starts
   pub short : length (text_of t (spelled bytes starts lengths) (decode table)) ≤ limits.max_text
 
--- the text of a checked table and well_formed names, or 18
+-- the text of a checked table and well-formed names, or 18
 abbrev pub named_text : ℕ → List (List ℕ) → List Rule → Answer (List ℕ)
 named_text t names rules =
     refuse_unless name_repeated (first_double [] names) (eqb (first_double [] names) (length names)) (done (text_of t names rules))

@@ -26,7 +26,7 @@ module _ (t n : ℕ) (table : List ℕ) (m : ℕ) (w : Prepared) (rows : Tables)
     where
       go : (v : TableVerdict) → w.verdict ≡ v → w.verdict ≡ Refused c p
       go Passed h = no_answer (sym e ∙ (P.passed_as h).1)
-      go (Refused d q) h = h ∙ same-cause d q c p (sym (P.IsRefused-as d q h) ∙ e)
+      go (Refused d q) h = h ∙ same-cause d q c p (sym (P.refused_as d q h) ∙ e)
 
   -- one that passes has the rows of its grammar
   abbrev ReadyRows : Grammar → Type 0
@@ -40,4 +40,4 @@ module _ (t n : ℕ) (table : List ℕ) (m : ℕ) (w : Prepared) (rows : Tables)
           let p = P.passed_as h in
           let r = p.2 in
           (h, subst ReadyRows (done_inj (sym p.1 ∙ e)) (ready_of (moves_with limits p.0 m) r.regular w.terminals w.kinds w.states r.size rows r.shows))
-      go (Refused d q) h = no_answer (sym (P.IsRefused-as d q h) ∙ e)
+      go (Refused d q) h = no_answer (sym (P.refused_as d q h) ∙ e)

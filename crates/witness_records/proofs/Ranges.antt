@@ -63,6 +63,7 @@ leads_inside : (M : Moves) (S : Regular M) {f p q : ℕ} {is : List ℕ} → f <
 leads_inside M S hf hp hq (goes {g = g} {p' = p'} {q' = q'} s e l) j here =
     let b = steps_in_range M S hf hp hq s in subst (λ j. j < triple_count M.states) (sym e) (index_below M.states g p' q' b.0 b.1 b.2)
 leads_inside M S hf hp hq (goes s e l) j (there m) = let b = steps_in_range M S hf hp hq s in leads_inside M S b.0 b.1 b.2 l j m
+leads_inside M S hf hp hq Rattle.triples.specs.Witness.ends j x21 = elim x21 [ ]
 
 pub witness_inside : (M : Moves) (S : Regular M) {is : List ℕ} → Witness (listed M) is → (j : ℕ) → Mem j is → j < triple_count M.states
 witness_inside M S (begins e l) j here =
@@ -73,6 +74,7 @@ witness_inside M S (begins e l) j (there m) = let four = S.four in leads_inside 
 mem_entry : (Q : ℕ) (es : List TripleRecord) (e : TripleRecord) → Mem e es → Mem (entry_of Q (triple e)) (map (entry_of Q) (triples es))
 mem_entry Q (x ∷ es) e here = here
 mem_entry Q (x ∷ es) e (there m) = there (mem_entry Q es e m)
+mem_entry Q [] e x' = elim x' [ ]
 
 pub records-inside : (M : Moves) (S : Regular M) (es : List TripleRecord) → Witness (listed M) (map (entry_of M.states) (triples es)) → (e : TripleRecord) → Mem e es → InRange M.states e
 records-inside M S es w e m = entry-inside M.states e (witness_inside M S w (entry_of M.states (triple e)) (mem_entry M.states es e m))
