@@ -27,13 +27,13 @@ pub index_of-requires : goal.index_of-requires
 index_of-requires c = (c.requires, omega arith, omega arith, omega arith)
 
 -- the index is that of (1,1,1)
-goal : (c : Place-After-index_of) → let q = c.args.q in c.index_of.result ≡ q * q + q + 1
-goal c = c.index_of.ensures ∙ index-end c.args.q
+last_index : (c : Place-After-index_of) → let q = c.args.q in c.index_of.result ≡ q * q + q + 1
+last_index c = c.index_of.ensures ∙ index-end c.args.q
 
 pub returns-then-at-index_of : goal.returns-then-at-index_of
 unfolding end_of
-returns-then-at-index_of c = simp (lt-leb _ _ c.if-count-at.false, eq-eqb _ _ (c.if-at-index_of.true ∙ goal c.before))
+returns-then-at-index_of c = simp (lt-leb _ _ c.if-count-at.false, eq-eqb _ _ (c.if-at-index_of.true ∙ last_index c.before))
 
 pub returns : goal.returns
 unfolding end_of
-returns c = simp (lt-leb _ _ c.if-count-at.false, ne_eqb _ _ (λ e. c.if-at-index_of.false (e ∙ sym (goal c.before))))
+returns c = simp (lt-leb _ _ c.if-count-at.false, ne_eqb _ _ (λ e. c.if-at-index_of.false (e ∙ sym (last_index c.before))))
