@@ -1,36 +1,34 @@
 -- The theorems over the entries over two texts. Assumes nothing.
-use Prim.Native.Nat.{ℕ, zero, suc, ◌+◌, ◌≤◌, ◌<◌}
+use Prim.Native.Nat.{ℕ, ◌+◌, ◌≤◌, ◌<◌}
 use mathlib.Core.Path.{◌≡◌, refl, ap, ap₂, sym, subst, ◌∙◌}
 use mathlib.Core.Bool.{Bool, true, false, not}
-use mathlib.Core.List.{List, [], ◌∷◌, ◌++◌}
+use mathlib.Core.List.{List, []}
 use native.Mathlib.Omega.{arith}
 use borrow.Author.Tests.{leb-true, le-leb, lt-leb}
 use lib.Dec.{leb}
-use lib.ListN.{length, take, drop, get_or, length-append}
+use lib.ListN.{length, take, length-append}
 use lib.Seq.{take_at}
 use Rattle.grammar.specs.Basics.{over}
-use Rattle.grammar.specs.Limits.{Limits, limits}
-use Rattle.grammar.specs.Grammar.{Rule, Grammar, state_count}
+use Rattle.grammar.specs.Limits.{limits}
+use Rattle.grammar.specs.Grammar.{Grammar}
 use Rattle.grammar.specs.Tree.{Tree, HasTree}
 use Rattle.grammar.specs.Live.{HasSentence}
 use Rattle.grammar.specs.Table.{encode, decode}
-use Rattle.grammar.specs.Refusal.{Answer, done, refused, refuse_unless, and_then, out_of_range, rule_repeated, too_many_states, buffer_too_short, name_repeated, no_sentence, kinds_clash}
+use Rattle.grammar.specs.Refusal.{Answer, done, refused, refuse_unless, and_then, out_of_range, buffer_too_short, name_repeated, no_sentence, kinds_clash}
 use Rattle.grammar.specs.declared.TableChecked.{TableChecked}
 use Rattle.grammar.specs.declared.TableVerdict.TheVariants.{Passed}
-use Rattle.grammar.specs.TableCheck.{is_among, check_table, table_checked, TableAnswer}
+use Rattle.grammar.specs.TableCheck.{check_table, table_checked, TableAnswer}
 use Rattle.grammar.proofs.Sentence.{passes_exactly}
 use Rattle.grammar.proofs.Causes.{CausedBy, cause, up_to}
 use Rattle.grammar.proofs.Answers.{no_answer, no_bool, done_inj, unless_done, unless_holds, unless_fails, then-done, then-goes, then_stops}
 use Rattle.grammar.proofs.Rules.{decode-encode}
-use Rattle.text.specs.Names.{any, same_name}
-use Rattle.text.specs.Read.{Source, symbol_names, number_of, grammar_of, read_text}
-use Rattle.text.specs.Rules.{admit, last_tests, check_text, check_module, read_into}
+use Rattle.text.specs.Read.{Source, symbol_names, grammar_of}
+use Rattle.text.specs.Rules.{last_tests, check_text, check_module, read_into}
 use Rattle.text.specs.Print.{printed}
-use Rattle.text.specs.Promise.{name_starts, name_lengths, text_read, text_written, afterwards, ReadsText}
+use Rattle.text.specs.Promise.{text_read, text_written, afterwards, ReadsText}
 use Rattle.text.specs.declared.TextRead.{TextRead}
 use Rattle.text.specs.declared.TextRead.TheVariants.{Read, Refused}
 use Rattle.text.specs.declared.TextWritten.{TextWritten}
-use Rattle.text.specs.declared.TextWritten.TheVariants as writer
 use Rattle.text.specs.declared.TextWritten.TheVariants.{Written}
 use Rattle.text.proofs.WellNamed.{WellNamedSource}
 use Rattle.text.proofs.Causes.{module_causes}
@@ -38,7 +36,7 @@ use Rattle.text.proofs.Admit.{text-checked}
 use Rattle.text.proofs.Promises.{ReadAs, read_as, refuses_as, written_as, after-done}
 use Rattle.text.proofs.RoundTrip.{apart, reads_into, into_checked}
 use Rattle.modules.specs.Joined.{meet, joined_terminals, joined_nonterminals, joined, joined_text, refuse_clash, join_texts, joined_table_into, joined_text_into}
-use Rattle.modules.specs.Shown.{shown, part_of}
+use Rattle.modules.specs.Shown.{part_of}
 use Rattle.modules.specs.Promise.{JoinsTexts, WritesJoined, ShowsPlace, ShowsName}
 use Rattle.modules.specs.declared.Place.{Place}
 use Rattle.modules.proofs.ReadJoined.{module_well, joined_texts}

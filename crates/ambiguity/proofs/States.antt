@@ -10,7 +10,6 @@ use Rattle.grammar.specs.Limits.{limits}
 use Rattle.grammar.specs.Grammar.{Grammar, WellFormed}
 use Rattle.grammar.specs.Live.{Live, is_live}
 use Rattle.grammar.proofs.Live.{is_live_lem}
-use Rattle.automaton.specs.Items.{length_of}
 use Rattle.automaton.specs.Callers.{Spot, last, spot, Calls, items, chains, chains_of, spots, number_of}
 use Rattle.triple_laws.proofs.Members.{place_mem, under-test, of-each, of_map, first_or}
 use Rattle.triple_laws.proofs.Callers.{items_exact, chains_exact}

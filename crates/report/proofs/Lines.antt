@@ -1,7 +1,7 @@
 -- The lines of each verdict are those of the table's grammar, and there is room for them. Assumes nothing.
 use Prim.Native.Nat.{ℕ, ◌+◌, ◌≤◌}
-use mathlib.Core.Path.{◌≡◌, ap, ap₂, sym, subst, ◌∙◌}
-use mathlib.Core.Bool.{Bool, true, false}
+use mathlib.Core.Path.{◌≡◌, ap, ap₂, sym, ◌∙◌}
+use mathlib.Core.Bool.{Bool, true}
 use mathlib.Core.List.{List, ◌++◌, append_assoc}
 use native.Mathlib.Omega.{arith}
 use lib.ListN.{length, take, length-append}
@@ -9,7 +9,7 @@ use Rattle.grammar.specs.Limits.{limits}
 use Rattle.grammar.specs.Grammar.{Grammar}
 use Rattle.grammar.specs.Refusal.{Answer}
 use Rattle.grammar.specs.TableCheck.{check_table}
-use Rattle.grammar.proofs.WellFormed.{Taken, room}
+use Rattle.grammar.proofs.WellFormed.{room}
 use Rattle.grammar.proofs.Sentence.{takes_only}
 use Rattle.automaton.specs.Items.{states}
 use Rattle.automaton.specs.Moves.{Moves}
@@ -22,7 +22,7 @@ use Rattle.text.proofs.Spans.{length-spelled}
 use Rattle.search.specs.Promise.{Lent, is_potential, Searches}
 use Rattle.search.specs.declared.SearchVerdict.{SearchVerdict}
 use Rattle.search.specs.declared.SearchVerdict.TheVariants as search
-use Rattle.report.specs.Report.{program_states, line, states_is, verdict_is, potential, witness_lines, verdict_lines, grammar_lines, report_size}
+use Rattle.report.specs.Report.{line, states_is, verdict_is, potential, witness_lines, verdict_lines, grammar_lines, report_size}
 use Rattle.report.specs.Clauses.{unambiguous_lines, potential_lines, Tellable, Speakable, table_lines, sides_lines}
 use Rattle.report.proofs.Sizes.{states-line, grammar-most}
 use Rattle.report.proofs.Told.{Rows, is_unambiguous, is_potential_lem}

@@ -15,7 +15,7 @@ use Rattle.grammar.proofs.Steps.{grammar_of}
 use Rattle.grammar.proofs.WellFormed.{room}
 use Rattle.grammar.proofs.Sentence.{takes_only}
 use Rattle.text.specs.Names.{all, is_name}
-use Rattle.text.specs.Read.{Source, symbol_names}
+use Rattle.text.specs.Read.{symbol_names}
 use Rattle.text.specs.Spelled.{spelled}
 use Rattle.text.proofs.Enough.{ReadRows}
 use Rattle.report.specs.Report.{program_text, program_states, judge, grammar_lines, printed, report_of}

@@ -6,12 +6,12 @@ use mathlib.Core.Bool.{true}
 use mathlib.Core.List.{List, [], ◌∷◌, map}
 use native.Mathlib.Omega.{arith}
 use native.Mathlib.Nat.{mul-le-mul}
-use lib.ListN.{length, take, get_or}
+use lib.ListN.{length, take}
 use lib.Seq.{length-take-le}
 use Rattle.grammar.specs.Basics.{Mem}
 use Rattle.grammar.specs.Limits.{limits}
 use Rattle.grammar.specs.Grammar.{Grammar, WellFormed}
-use Rattle.grammar.specs.Refusal.{Answer, done}
+use Rattle.grammar.specs.Refusal.{Answer}
 use Rattle.grammar.specs.TableCheck.{check_table}
 use Rattle.grammar.proofs.WellFormed.{Taken, room}
 use Rattle.grammar.proofs.Sentence.{takes_only}

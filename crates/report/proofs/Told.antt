@@ -23,7 +23,7 @@ use Rattle.triples.specs.Shortest.{shortest}
 use Rattle.triple_laws.proofs.CallerChecks.{zero-check}
 use Rattle.text.specs.Read.{Source}
 use Rattle.text.specs.Rules.{check_text}
-use Rattle.search.specs.Promise.{Lent, is_potential, searchable, Told, Answers, Searches}
+use Rattle.search.specs.Promise.{Lent, is_potential, Told, Answers, Searches}
 use Rattle.search.specs.declared.SearchVerdict.{SearchVerdict}
 use Rattle.search.specs.declared.SearchVerdict.TheVariants as search
 use Rattle.search.proofs.LentLaws.{is_enough_lem, search_enough}

@@ -1,4 +1,7 @@
 // What the program prints for a text: the reader, then the search, then their answer as lines.
+
+#![tactic(auto)]
+
 mod put;
 mod telling;
 

@@ -1,5 +1,4 @@
 -- find_trees meets its contract: each test is the next of the order, and what is told is the outcome.
-use borrow.Author.Rules.{rules}
 use native.Mathlib.Omega.{arith}
 use mathlib.Core.Path.{◌≡◌, sym, ap, subst, ◌∙◌}
 use Prim.Native.Nat.{◌*◌, ◌≤◌}

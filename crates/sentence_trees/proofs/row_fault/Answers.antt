@@ -1,10 +1,7 @@
 -- row_fault meets its contract: before turn i the first i places are passed, and each way out is one case of the definition.
-use borrow.Author.Rules.{rules}
 use native.Mathlib.Omega.{arith}
-use Prim.Native.Nat.{◌-◌, ◌≤◌}
-use lib.ListN.{length}
-use Rattle.trees.specs.Trees.{max_row}
-use Rattle.sentence_trees.proofs.Faults.{Passed, passed_start, passed-more, passed-full, passed-low, passed-high, passed-end}
+use Prim.Native.Nat.{◌-◌}
+use Rattle.sentence_trees.proofs.Faults.{passed_start, passed-more, passed-full, passed-low, passed-high, passed-end}
 use Rattle.sentence_trees.proofs.row_fault.Goals as goal
 
 pub loop-i-init : goal.loop-i-init

@@ -1,8 +1,7 @@
-use native.Mathlib.Omega.{arith}
 use Prim.Native.Nat.{◌-◌, ◌≤◌}
 use lib.ListN.{length}
 use Rattle.trees.specs.Trees.{max_row}
-use Rattle.sentence_trees.proofs.Faults.{Passed, passed_start, passed-more, passed-full, passed-low, passed-high, passed-end}
+use Rattle.sentence_trees.proofs.Faults.{Passed}
 use Rattle.sentence_trees.proofs.row_fault.Given as goal
 
 abbrev pub invariant-loop-i : goal.invariant-loop-i

@@ -1,5 +1,4 @@
 -- trees_room meets its contract: the table's refusal stays the answer; the states are those of the definition's grammar.
-use borrow.Author.Rules.{rules}
 use native.Mathlib.Omega.{arith}
 use mathlib.Core.Path.{sym, ap, ◌∙◌}
 use Prim.Native.Nat.{◌*◌}

@@ -1,5 +1,4 @@
 -- begin meets its contract: what was prepared is what it gives.
-use borrow.Author.Rules.{rules}
 use Rattle.witness_records.proofs.Begins.{stops_as, goes_as}
 use Rattle.witness_records.proofs.begin.Goals as goal
 

@@ -1,11 +1,9 @@
 -- check_witness_records meets its contract: the walk over the records goes on as the whole one, and its end is the definition's answer.
 use native.Mathlib.Omega.{arith}
-use mathlib.Core.Path.{◌≡◌, ap, sym, subst, ◌∙◌}
+use mathlib.Core.Path.{◌≡◌, ap, sym, ◌∙◌}
 use Prim.Native.Nat.{ℕ, ◌+◌}
-use lib.ListN.{length, drop, get_or}
-use Rattle.triples.specs.Witness.{entry_of}
-use Rattle.witness_records.specs.Records.{triple}
-use Rattle.witness_records.specs.Walk.{none, walk_from, ending}
+use lib.ListN.{length, drop}
+use Rattle.witness_records.specs.Walk.{walk_from, ending}
 use Rattle.witness_records.proofs.Walks.{walk_more, walk_end, records-answer}
 use Rattle.witness_records.proofs.check_witness_records.Goals as goal
 

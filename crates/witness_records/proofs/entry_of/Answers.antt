@@ -1,5 +1,4 @@
 -- entry_of meets its contract: the ranges are tested before the index is formed.
-use borrow.Author.Rules.{rules}
 use native.Mathlib.Omega.{arith}
 use mathlib.Core.Path.{◌∙◌}
 use Rattle.witness_records.proofs.Entries.{square, entry-layer, entry-left, entry-right, entry-made}

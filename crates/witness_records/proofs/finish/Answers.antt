@@ -1,5 +1,4 @@
 -- finish meets its contract: the table's refusal stays the answer.
-use borrow.Author.Rules.{rules}
 use mathlib.Core.Path.{ap, sym, ◌∙◌}
 use Rattle.grammar.specs.declared.TableVerdict.{TableVerdict}
 use Rattle.witness_records.specs.Walk.{told, end_of}

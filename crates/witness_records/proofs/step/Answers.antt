@@ -1,5 +1,4 @@
 -- step meets its contract: the tests in the order of the definition.
-use borrow.Author.Rules.{rules}
 use native.Mathlib.Omega.{arith}
 use mathlib.Core.Path.{◌≡◌, ap, sym, ◌∙◌}
 use Rattle.triples.specs.Witness.{entry_of}
