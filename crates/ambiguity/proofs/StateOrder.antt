@@ -18,7 +18,7 @@ use Rattle.automaton.specs.Callers.{Spot, first, last, spot, up_to, items_from, 
 use Rattle.triple_laws.proofs.Members.{no_element, only_one, mem_either, under-test, of_map, first_or}
 use Rattle.triple_laws.proofs.Callers.{upto-out, before-out}
 use Rattle.triple_laws.proofs.Spots.{spot-same, spot_self, place_mem_below, at, in_rest, one_number}
-use Rattle.ambiguity.specs.Callers.{IsState, ItemBefore, CallersBefore, nearest, farther, SpotBefore, start-end, start_item, end_item, by_item, by-callers}
+use Rattle.ambiguity.specs.Callers.{IsState, ItemBefore, CallersBefore, missing, nearest, farther, SpotBefore, start-end, start_item, end_item, by_item, by-callers}
 use Rattle.ambiguity.proofs.Ascending.{Ascending, none, more, ascending_one, ascending_append, ascending_when, ascending_map, ascending_each}
 use Rattle.ambiguity.proofs.States.{listed-state}
 
@@ -39,6 +39,7 @@ callers_apart (nearest {b = b} {c = c} h) (nearest k) = items_apart b c h k
 callers_apart (nearest {b = b} {c = c} h) (farther e k) = item_itself b c (sym e) h
 callers_apart (farther {b = b} {c = c} e h) (nearest k) = item_itself c b (sym e) k
 callers_apart (farther e h) (farther z k) = callers_apart h k
+callers_apart missing x = elim x [ ]
 
 spots_apart : {s t : Spot} → SpotBefore s t → SpotBefore t s → ⊥
 spots_apart (by_item {i = i} {d = d} {j = j} {e = e} h) (by_item k) = items_apart (i, d) (j, e) h k
@@ -47,6 +48,9 @@ spots_apart (by_item (inr h)) (by-callers p q k) = omega (arith, h.1)
 spots_apart (by-callers p q h) (by_item (inl k)) = omega arith
 spots_apart (by-callers p q h) (by_item (inr k)) = omega (arith, k.1)
 spots_apart (by-callers p q h) (by-callers x y k) = callers_apart h k
+spots_apart start-end x = elim x [ ]
+spots_apart start_item x = elim x [ ]
+spots_apart end_item x = elim x [ ]
 
 -- in a list that ascends, what has a lower place is before
 place-before : (s t : Spot) (l : List Spot) → Ascending SpotBefore l → Mem t l → place_of s l < place_of t l → SpotBefore s t

@@ -47,6 +47,7 @@ in-nth : (l : List Step) (x : Step) → Mem x l → (k : ℕ) × (k < length l) 
 unfolding nth
 in-nth (y ∷ l) x here = (zero, omega arith, refl)
 in-nth (y ∷ l) x (there m) = let r = in-nth l x m in (suc r.0, omega (arith, r.1), r.2)
+in-nth [] x x3 = elim x3 [ ]
 
 -- below the length each place has an element, from it on none has
 nth-below : (l : List Step) (k : ℕ) → k < length l → (x : Step) × (nth l k ≡ some x)
