@@ -1,5 +1,8 @@
 // The eight-channel command set: its table as a constant, and a row of its terminals read to its one plan.
 // certificate.rt has its certificate.
+
+#![tactic(auto)]
+
 mod certificate;
 
 ghost use Rattle.std.specs.Prelude.{◌≡◌};
