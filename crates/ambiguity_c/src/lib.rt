@@ -1,5 +1,8 @@
 // The entries of crate ambiguity for C: each answers as its entry does, with the answer told in numbers. Nothing is required of
 // a caller beyond the form of what is lent. bindings/c/ambiguity.h declares these functions.
+
+#![tactic(auto)]
+
 mod replies;
 
 ghost use Rattle.std.specs.Prelude.{get_or, ◌≡◌};

@@ -1,0 +1,6 @@
+-- ambiguity_check_witness meets its contract: the entry's promise, and its answer told in numbers.
+use borrow.Author.Rules.{rules}
+use Rattle.ambiguity_c.proofs.ambiguity_check_witness.Goals as goal
+
+pub returns : goal.returns
+returns c = record { answer = c.check_witness-verdict.result; promised = c.check_witness-verdict.ensures; told = c.check_told.ensures }

@@ -1,0 +1,6 @@
+-- ambiguity_nth_step meets its contract: the entry's promise, and its answer told in numbers.
+use borrow.Author.Rules.{rules}
+use Rattle.ambiguity_c.proofs.ambiguity_nth_step.Goals as goal
+
+pub returns : goal.returns
+returns c = record { answer = c.nth_step-answer.result; promised = c.nth_step-answer.ensures; told = c.step_told.ensures }

@@ -1,0 +1,14 @@
+-- back_told meets its contract: each arm is a case of the definition.
+use borrow.Author.Rules.{rules}
+use mathlib.Core.Path.{ap, sym}
+use Rattle.ambiguity_c.specs.Replies.{read_back_reply}
+use Rattle.ambiguity_c.proofs.replies.back_told.Goals as goal
+
+pub returns-in-Read : goal.returns-in-Read
+returns-in-Read c = sym (ap read_back_reply c.in-Read.is)
+
+pub returns-in-GrammarRefused : goal.returns-in-GrammarRefused
+returns-in-GrammarRefused c = sym (ap read_back_reply c.in-GrammarRefused.is)
+
+pub returns-in-Refused : goal.returns-in-Refused
+returns-in-Refused c = sym (ap read_back_reply c.in-Refused.is)
