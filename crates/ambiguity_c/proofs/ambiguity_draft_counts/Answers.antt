@@ -1,5 +1,4 @@
 -- ambiguity_draft_counts meets its contract: the entry's promise, and its answer told in numbers.
-use borrow.Author.Rules.{rules}
 use Rattle.ambiguity_c.proofs.ambiguity_draft_counts.Goals as goal
 
 pub returns : goal.returns

@@ -1,5 +1,4 @@
 -- plan_room meets its contract: the command set has 27 states.
-use borrow.Author.Rules.{rules}
 use mathlib.Core.Path.{refl}
 use Rattle.grammar.specs.Grammar.{state_count}
 use Rattle.channels.proofs.plan_room.Goals as goal

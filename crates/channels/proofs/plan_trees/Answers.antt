@@ -1,5 +1,4 @@
 -- plan_trees meets its contract: the constant is the table of the definitions.
-use borrow.Author.Rules.{rules}
 use Rattle.grammar.specs.Table.{encode}
 use Rattle.channels.proofs.plan_trees.Goals as goal
 

@@ -1,5 +1,4 @@
 -- read_plan meets its contract: it tells what the trees of the row are, which are never several.
-use borrow.Author.Rules.{rules}
 use mathlib.Core.Path.{◌≡◌, subst}
 use Rattle.trees.specs.Promise.{FindsTrees}
 use Rattle.trees.specs.declared.TreesFound.{TreesFound}

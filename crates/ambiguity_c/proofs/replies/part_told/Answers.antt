@@ -1,5 +1,4 @@
 -- part_told meets its contract: each arm is a case of the definition.
-use borrow.Author.Rules.{rules}
 use mathlib.Core.Path.{ap, sym}
 use Rattle.ambiguity_c.specs.Replies.{part_reply}
 use Rattle.ambiguity_c.proofs.replies.part_told.Goals as goal

@@ -1,5 +1,4 @@
 -- record_told meets its contract: the definition's fields, with what moved on either side.
-use borrow.Author.Rules.{rules}
 use Rattle.ambiguity_c.proofs.replies.record_told.Goals as goal
 
 pub returns : goal.returns

@@ -1,5 +1,4 @@
 -- room_told meets its contract: each arm is a case of the definition.
-use borrow.Author.Rules.{rules}
 use mathlib.Core.Path.{ap, sym}
 use Rattle.ambiguity_c.specs.Replies.{room_reply}
 use Rattle.ambiguity_c.proofs.replies.room_told.Goals as goal

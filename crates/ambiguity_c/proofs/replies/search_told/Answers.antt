@@ -1,5 +1,4 @@
 -- search_told meets its contract: each arm is a case of the definition.
-use borrow.Author.Rules.{rules}
 use mathlib.Core.Path.{ap, sym}
 use Rattle.ambiguity_c.specs.Replies.{search_reply}
 use Rattle.ambiguity_c.proofs.replies.search_told.Goals as goal
