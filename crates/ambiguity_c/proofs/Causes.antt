@@ -42,7 +42,7 @@ use Rattle.steps.specs.Steps.{step_answer}
 use Rattle.text.specs.Read.{Source}
 use Rattle.text.specs.Rules.{check_text}
 use Rattle.text.specs.Promise.{text_read, text_length, text_written}
-use Rattle.text.specs.declared.TextLength.TheVariants as length
+use Rattle.text.specs.declared.TextLength.TheVariants as measured
 use Rattle.text.specs.declared.TextWritten.TheVariants.{Written}
 use Rattle.trees.specs.Promise.{FindsTrees, refuses, no_tree, several-trees, one-tree, too_short, room_told}
 use Rattle.trees.specs.declared.TreesFound.{TreesFound}
@@ -122,7 +122,7 @@ write_tells : (o : Answer (List ℕ)) → Caused o
 write_tells (done s) h = tells_done refl
 write_tells (refused c p) (cause h) = tells_refused c h
 
-length_tells : (o : Answer (List ℕ)) → Caused o → Tells (length_reply (text_length o)).cause (text_length o ≡ length.Bytes (length_reply (text_length o)).length)
+length_tells : (o : Answer (List ℕ)) → Caused o → Tells (length_reply (text_length o)).cause (text_length o ≡ measured.Bytes (length_reply (text_length o)).length)
 length_tells (done s) h = tells_done refl
 length_tells (refused c p) (cause h) = tells_refused c h
 
@@ -227,7 +227,7 @@ cause_theorems = record {
       subst (λ v. Tells (write_reply v).cause (v ≡ Written (write_reply v).length)) (sym a.answer)
       (write_tells _ (write_into_lem limits t n table bytes starts lengths _));
   text-lengths = λ t n table bytes starts lengths v a.
-      subst (λ v. Tells (length_reply v).cause (v ≡ length.Bytes (length_reply v).length)) (sym a) (length_tells _ (text-from limits t n table bytes starts lengths));
+      subst (λ v. Tells (length_reply v).cause (v ≡ measured.Bytes (length_reply v).length)) (sym a) (length_tells _ (text-from limits t n table bytes starts lengths));
   joins = λ robot addon table v table' a.
       subst (λ v. JoinTells (read_reply v).cause (IsRead v)) (sym a.answer) (join-read_tells _ (join_into limits _ robot addon));
   joined_texts = λ robot addon out v out' a.

@@ -38,7 +38,7 @@ use Rattle.steps.specs.declared.StepAnswer.{StepAnswer}
 use Rattle.steps.specs.declared.StepAnswer.TheVariants.{Record, NoMore}
 use Rattle.text.specs.Promise.{ReadsText, WritesText, LengthAnswer}
 use Rattle.text.specs.declared.TextLength.{TextLength}
-use Rattle.text.specs.declared.TextLength.TheVariants as length
+use Rattle.text.specs.declared.TextLength.TheVariants as measured
 use Rattle.text.specs.declared.TextRead.{TextRead}
 use Rattle.text.specs.declared.TextRead.TheVariants.{Read}
 use Rattle.text.specs.declared.TextWritten.{TextWritten}
@@ -131,7 +131,7 @@ pub record CauseTheorems : Type 0 where
   pub writes : (t n : ℕ) (table bytes starts lengths out : List ℕ) (v : TextWritten) (out' : List ℕ)
       → WritesText t n table bytes starts lengths out v out' → Tells (write_reply v).cause (v ≡ Written (write_reply v).length)
   pub text-lengths : (t n : ℕ) (table bytes starts lengths : List ℕ) (v : TextLength) → LengthAnswer t n table bytes starts lengths v
-      → Tells (length_reply v).cause (v ≡ length.Bytes (length_reply v).length)
+      → Tells (length_reply v).cause (v ≡ measured.Bytes (length_reply v).length)
   pub joins : (robot addon table : List ℕ) (v : TextRead) (table' : List ℕ) → JoinsTexts robot addon table v table'
       → JoinTells (read_reply v).cause (IsRead v)
   pub joined_texts : (robot addon out : List ℕ) (v : TextWritten) (out' : List ℕ) → WritesJoined robot addon out v out'

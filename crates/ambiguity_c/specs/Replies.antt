@@ -26,7 +26,7 @@ use Rattle.search.specs.declared.SearchVerdict.TheVariants as search
 use Rattle.steps.specs.declared.StepAnswer.{StepAnswer}
 use Rattle.steps.specs.declared.StepAnswer.TheVariants as step
 use Rattle.text.specs.declared.TextLength.{TextLength}
-use Rattle.text.specs.declared.TextLength.TheVariants as length
+use Rattle.text.specs.declared.TextLength.TheVariants as measured
 use Rattle.text.specs.declared.TextRead.{TextRead}
 use Rattle.text.specs.declared.TextRead.TheVariants as reader
 use Rattle.text.specs.declared.TextWritten.{TextWritten}
@@ -117,8 +117,8 @@ write_reply (writer.Refused cause at) = record { cause = cause; at = at; length 
 
 -- the length told beforehand
 abbrev pub length_reply : TextLength → LengthReply
-length_reply (length.Bytes m) = record { cause = 0; at = 0; length = m }
-length_reply (length.Refused cause at) = record { cause = cause; at = at; length = 0 }
+length_reply (measured.Bytes m) = record { cause = 0; at = 0; length = m }
+length_reply (measured.Refused cause at) = record { cause = cause; at = at; length = 0 }
 
 -- document 02, [10]: where a joined symbol's name stands: 1 in the robot's text, 2 in the module's, 0 nowhere
 abbrev pub part_reply : Place → PartReply
