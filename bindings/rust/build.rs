@@ -10,7 +10,10 @@ fn main() {
     let folder = env::var_os("AMBIGUITY_LIB").map_or_else(|| here.join("../../crates/ambiguity_c/out"), PathBuf::from);
     let archive = folder.join("libambiguity_c.a");
     if !archive.exists() {
-        eprintln!("{} is not there: run `rt lib` in crates/ambiguity_c, or name its folder in AMBIGUITY_LIB", archive.display());
+        eprintln!(
+            "{} is not there: run `rt lib` in crates/ambiguity_c, or name its folder in AMBIGUITY_LIB",
+            archive.display()
+        );
         process::exit(1);
     }
     println!("cargo:rerun-if-changed={}", archive.display());
