@@ -6,8 +6,8 @@ use mathlib.Core.List.{List, [], ◌∷◌, ◌++◌, map}
 use native.Mathlib.Omega.{arith}
 use native.Mathlib.Numerals.{add-one}
 use borrow.Author.Tests.{lt-ltb, le-ltb}
-use lib.ListN.{length, take, drop, get_or, length-append, take-append-drop, drop_of_length-le}
-use lib.Seq.{drop-cons, slice, slice-cons, slice_empty, take_all, length-take-le}
+use lib.ListN.{length, take, drop, get_or, length-append, length-drop, take-append-drop, drop_of_length-le}
+use lib.Seq.{drop-cons, slice, slice_empty, take_all, length-take-le}
 use Rattle.grammar.specs.Limits.{limits}
 use Rattle.grammar.specs.Grammar.{Rule}
 use Rattle.text.specs.Pieces.{led_by, join, ended_by}
@@ -30,26 +30,29 @@ symbol_high t code h = rw (le-ltb code limits.nonterminal_base h)
 
 -- ---- the sums
 
-module _ (ls : List ℕ) (i to : ℕ) where
-  pub led-more : i < to → to ≤ length ls → led_length (slice i to ls) ≡ get_or ls i 0 + 1 + led_length (slice (i + 1) to ls)
+module _ (ls : List ℕ) (i : ℕ) where
+  pub led-more : i < length ls → led_length (drop i ls) ≡ get_or ls i 0 + 1 + led_length (drop (i + 1) ls)
   unfolding led_length
-  led-more h k = ap led_length (slice-cons i to ls 0 h k) ∙ rw (add-one i)
+  led-more h = ap led_length (drop-cons ls i 0 h) ∙ rw (add-one i)
 
-  pub join_more : i < to → to ≤ length ls → join_length (slice i to ls) ≡ get_or ls i 0 + led_length (slice (i + 1) to ls)
-  unfolding join_length
-  join_more h k = ap join_length (slice-cons i to ls 0 h k) ∙ rw (add-one i)
+  pub led-none : length ls ≤ i → led_length (drop i ls) ≡ 0
+  unfolding led_length
+  led-none h = ap led_length (drop_of_length-le ls h)
+
+-- no byte stands before the first; the others are the part that the code takes
+pub join_more : (ls : List ℕ) → 1 ≤ length ls → join_length ls ≡ get_or ls 0 0 + led_length (take (length ls - 1) (drop 1 ls))
+unfolding join_length
+join_more [] h = absurd (omega arith)
+join_more (l ∷ ls) h = let q : take (length (l ∷ ls) - 1) ls ≡ ls = take_all _ ls (omega arith) in rw q
+
+pub join-none : (ls : List ℕ) → length ls < 1 → join_length ls ≡ 0
+unfolding join_length
+join-none [] h = refl
+join-none (l ∷ ls) h = absurd (omega arith)
 
 -- a slice that ends where it begins is empty
 pub slice-none : {A : Type 0} (xs : List A) (i to : ℕ) → i ≤ to → to ≤ i → slice i to xs ≡ []
 slice-none xs i to h k = let q : to ≡ i = omega arith in ap (λ j. slice i j xs) q ∙ slice_empty i xs
-
-pub led-none : (ls : List ℕ) (i to : ℕ) → i ≤ to → to ≤ i → led_length (slice i to ls) ≡ 0
-unfolding led_length
-led-none ls i to h k = ap led_length (slice-none ls i to h k)
-
-pub join-none : (ls : List ℕ) (i to : ℕ) → i ≤ to → to ≤ i → join_length (slice i to ls) ≡ 0
-unfolding join_length
-join-none ls i to h k = ap join_length (slice-none ls i to h k)
 
 module _ (t : ℕ) (lengths codes : List ℕ) (i : ℕ) where
   pub codes-more : i < length codes → led_length (map (code_length limits t lengths) (drop i codes))
@@ -71,10 +74,15 @@ module _ (t : ℕ) (lengths : List ℕ) where
   unfolding rules_length
   rules-none rules e = ap (rules_length limits t lengths) e
 
+  -- with the rows that the code cuts
   pub text-sum : (rules : List Rule) → text_length limits t lengths rules
-      ≡ 25 + join_length (slice 0 t lengths) + join_length (slice t (length lengths) lengths) + rules_length limits t lengths rules
+      ≡ 25 + join_length (take t lengths) + join_length (take (length lengths - t) (drop t lengths))
+      + rules_length limits t lengths rules
   unfolding text_length
-  text-sum rules = let q : length lengths ≤ length lengths = omega arith in rw (take_all (length lengths) lengths q)
+  text-sum rules =
+      let q : take (length lengths - t) (drop t lengths) ≡ drop t lengths
+      = take_all _ (drop t lengths) (omega (arith, length-drop t lengths)) in
+      rw q
 
 -- ---- the printed text
 

@@ -1,18 +1,11 @@
 // The names that a caller lends: which are lent whole and well formed, and which stands again.
-ghost use Rattle.std.specs.Prelude.{◌≡◌, [], ◌+◌, ◌^◌, ◌≤◌, ◌<◌, length};
+ghost use Rattle.std.specs.Prelude.{◌≡◌, [], ◌+◌, ◌≤◌, length};
 ghost use Rattle.grammar.specs.Limits.{limits};
 ghost use Rattle.text.specs.Print.{name_at, gather, first_double};
 ghost use Rattle.text.specs.Spelled.{spelled};
 ghost use Rattle.text_write.specs.Clauses.{is_well, stops_at, Rows};
 
 use grammar::MAX_NAMES;
-
-// An entry of a row of starts or lengths.
-pub fn wide(x: u32) -> usize
-    ensures { (result ≡ x) × (result < 2 ^ 32) }
-{
-    x as usize
-}
 
 // Is the name of symbol i lent whole, and well formed?
 fn is_lent(bytes: &[u8], starts: &[u32], lengths: &[u32], i: usize) -> bool
@@ -24,8 +17,8 @@ fn is_lent(bytes: &[u8], starts: &[u32], lengths: &[u32], i: usize) -> bool
     if lengths.len() <= i {
         return false;
     }
-    let a = wide(starts[i]);
-    let e = a + wide(lengths[i]);
+    let a = starts[i] as usize;
+    let e = a + lengths[i] as usize;
     if bytes.len() < e {
         return false;
     }
@@ -36,12 +29,10 @@ fn is_lent(bytes: &[u8], starts: &[u32], lengths: &[u32], i: usize) -> bool
 pub fn first_bad(m: usize, bytes: &[u8], starts: &[u32], lengths: &[u32]) -> usize
     ensures { result ≡ stops_at m (gather bytes.now starts.now lengths.now 0 m) }
 {
-    let mut i = 0;
-    while i < m {
+    for i in 0..m {
         if !is_lent(bytes, starts, lengths, i) {
             return i;
         }
-        i += 1;
     }
     m
 }

@@ -7,7 +7,7 @@ ghost use Rattle.text.specs.Spelled.{spelled};
 ghost use Rattle.text_write.specs.Clauses.{Rows, Known, Coded, Wrote, line_text, codes_text, rule_text, rules_text, text_of};
 
 use super::put::{put_byte, put_key, put_name, put_names};
-use super::size::{symbol, wide_entry};
+use super::size::symbol;
 use names::{COLON, LINE_END, NONTERMINALS, RULE, SPACE, TERMINALS};
 
 // A line that declares names under key k.
@@ -50,12 +50,10 @@ fn put_codes(
         out.old result out.new }
 {
     let mut j = at;
-    let mut i = 0;
-    while i < codes.len() {
-        let s = symbol(t, codes[i]);
+    for code in codes {
+        let s = symbol(t, *code);
         j = put_byte(out, j, SPACE);
         j = put_name(out, j, bytes, starts, lengths, s);
-        i += 1;
     }
     j
 }
@@ -107,7 +105,7 @@ fn put_rules(
     let mut o = 0;
     while o < table.len() {
         let left = table[o];
-        let k = wide_entry(table[o + 1]);
+        let k = table[o + 1] as usize;
         let a = o + 2;
         let e = a + k;
         j = put_rule(out, j, left, &table[a..e], t, bytes, starts, lengths);

@@ -6,7 +6,6 @@ ghost use Rattle.text.specs.Keys.{key};
 ghost use Rattle.text.specs.Spelled.{spelled};
 ghost use Rattle.text_write.specs.Clauses.{Rows, Wrote};
 
-use super::lent::wide;
 use names::{COMMA, EQUALS};
 
 // Bytes as they are. Every byte of a text is stored here.
@@ -14,33 +13,25 @@ pub fn put_bytes(out: &mut [u8], at: usize, src: &[u8]) -> usize
     requires { at + length src.now ≤ length out.old }
     ensures { Wrote at src.now out.old result out.new }
 {
-    let n = src.len();
-    let mut i = 0;
-    while i < n {
-        out[at + i] = src[i];
-        i += 1;
-    }
-    at + n
+    let end = at + src.len();
+    out[at..end].copy_from_slice(src);
+    end
 }
 
 pub fn put_byte(out: &mut [u8], at: usize, b: u8) -> usize
     requires { at < length out.old }
     ensures { Wrote at (b ∷ []) out.old result out.new }
 {
-    let one = [b];
-    put_bytes(out, at, &one)
+    put_bytes(out, at, &[b])
 }
 
 fn put_word(out: &mut [u8], at: usize, k: usize) -> usize
     requires { (k < 3) × (at + length (key k) ≤ length out.old) }
     ensures { Wrote at (key k) out.old result out.new }
 {
-    let m = names::key_length(k);
-    let mut i = 0;
     let mut j = at;
-    while i < m {
+    for i in 0..names::key_length(k) {
         j = put_byte(out, j, names::key_byte(k, i));
-        i += 1;
     }
     j
 }
@@ -68,8 +59,8 @@ pub fn put_name(
     ensures { Wrote at (get_or (spelled bytes.now starts.now lengths.now) i [])
         out.old result out.new }
 {
-    let a = wide(starts[i]);
-    let e = a + wide(lengths[i]);
+    let a = starts[i] as usize;
+    let e = a + lengths[i] as usize;
     put_bytes(out, at, &bytes[a..e])
 }
 
@@ -90,11 +81,9 @@ fn put_led(
         out.old result out.new }
 {
     let mut j = at;
-    let mut i = from;
-    while i < to {
+    for i in from..to {
         j = put_byte(out, j, COMMA);
         j = put_name(out, j, bytes, starts, lengths, i);
-        i += 1;
     }
     j
 }

@@ -1,21 +1,12 @@
 // The length of the printed text, before a byte of it is written.
 ghost use Rattle.std.specs.Prelude.{◌≡◌, map, ◌≤◌, length};
-ghost use Rattle.std.proofs.Math.Seq.{slice};
 ghost use Rattle.grammar.specs.Limits.{limits};
 ghost use Rattle.grammar.specs.Table.{decode};
 ghost use Rattle.text.specs.Read.{symbol_of};
 ghost use Rattle.text_write.specs.Length.{led_length, join_length, code_length, rules_length, text_length};
 ghost use Rattle.text_write.specs.Clauses.{Known, Coded};
 
-use super::lent::wide;
 use grammar::NONTERMINAL_BASE;
-
-// An entry of the table as a length.
-pub fn wide_entry(x: u16) -> usize
-    ensures { result ≡ x }
-{
-    x as usize
-}
 
 // The symbol number of a code, where there are t terminals.
 pub fn symbol(t: usize, code: u16) -> usize
@@ -28,29 +19,27 @@ pub fn symbol(t: usize, code: u16) -> usize
     t + (code - NONTERMINAL_BASE) as usize
 }
 
-// Names from one symbol up to another, with a byte before each.
-fn led_length(lengths: &[u32], from: usize, to: usize) -> usize
-    requires { (from ≤ to) × (to ≤ length lengths.now) × (led_length (slice from to lengths.now) ≤ limits.max_text) }
-    ensures { result ≡ led_length (slice from to lengths.now) }
+// Names of these lengths, with a byte before each.
+fn led_length(lengths: &[u32]) -> usize
+    requires { led_length lengths.now ≤ limits.max_text }
+    ensures { result ≡ led_length lengths.now }
 {
     let mut total = 0;
-    let mut i = from;
-    while i < to {
-        total = total + wide(lengths[i]) + 1;
-        i += 1;
+    for length in lengths {
+        total += *length as usize + 1;
     }
     total
 }
 
 // The same with a byte between them.
-fn join_length(lengths: &[u32], from: usize, to: usize) -> usize
-    requires { (from ≤ to) × (to ≤ length lengths.now) × (join_length (slice from to lengths.now) ≤ limits.max_text) }
-    ensures { result ≡ join_length (slice from to lengths.now) }
+fn join_length(lengths: &[u32]) -> usize
+    requires { join_length lengths.now ≤ limits.max_text }
+    ensures { result ≡ join_length lengths.now }
 {
-    if to <= from {
-        return 0;
+    match lengths {
+        [] => 0,
+        [first, others @ ..] => *first as usize + led_length(others),
     }
-    wide(lengths[from]) + led_length(lengths, from + 1, to)
 }
 
 // The names of codes, with a byte before each.
@@ -60,11 +49,9 @@ fn codes_length(codes: &[u16], t: usize, lengths: &[u32]) -> usize
     ensures { result ≡ led_length (map (code_length limits t lengths.now) codes.now) }
 {
     let mut total = 0;
-    let mut i = 0;
-    while i < codes.len() {
-        let s = symbol(t, codes[i]);
-        total = total + wide(lengths[s]) + 1;
-        i += 1;
+    for code in codes {
+        let s = symbol(t, *code);
+        total += lengths[s] as usize + 1;
     }
     total
 }
@@ -79,10 +66,10 @@ fn rules_length(table: &[u16], t: usize, lengths: &[u32]) -> usize
     let mut o = 0;
     while o < table.len() {
         let s = symbol(t, table[o]);
-        let k = wide_entry(table[o + 1]);
+        let k = table[o + 1] as usize;
         let a = o + 2;
         let e = a + k;
-        total = total + 7 + wide(lengths[s]) + codes_length(&table[a..e], t, lengths);
+        total = total + 7 + lengths[s] as usize + codes_length(&table[a..e], t, lengths);
         o = e;
     }
     total
@@ -94,8 +81,7 @@ pub fn text_length(table: &[u16], t: usize, lengths: &[u32]) -> usize
         × (text_length limits t lengths.now (decode table.now) ≤ limits.max_text) }
     ensures { result ≡ text_length limits t lengths.now (decode table.now) }
 {
-    let n = lengths.len();
-    let x = join_length(lengths, 0, t);
-    let y = join_length(lengths, t, n);
+    let x = join_length(&lengths[..t]);
+    let y = join_length(&lengths[t..]);
     25 + x + y + rules_length(table, t, lengths)
 }

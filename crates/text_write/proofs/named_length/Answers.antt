@@ -34,9 +34,6 @@ sized c =
     ∙ ap (λ l. text_length limits a.t l (decode a.table.now))
     (lengths-spelled a.bytes.now a.starts.now a.lengths.now c.requires.rows)
 
-pub first_double-double-requires : goal.first_double-double-requires
-first_double-double-requires c = (c.requires.rows, c.requires.few)
-
 pub returns-then-double-m : goal.returns-then-double-m
 returns-then-double-m c = let a = c.args in
     named_double a.t (names c.before.before.before.before.before.before.before) (decode a.table.now) c.first_double-double.result c.first_double-double.ensures

@@ -1,10 +1,6 @@
 -- `text_write::written_length` meets its contract: table faults, then what is answered for a checked table. Assumes nothing.
-use Rattle.text_write.proofs.WriteLaws.{length-table, check-passed, check-refused}
+use Rattle.text_write.proofs.WriteLaws.{length-table, check-refused}
 use Rattle.text_write.proofs.written_length.Goals as goal
-
-pub checked_length-requires : goal.checked_length-requires
-checked_length-requires c = let a = c.args in
-    check-passed a.t a.n a.table.now c.check_table-checked.result c.check_table-checked.ensures c.in-Passed.is
 
 pub returns-in-Refused : goal.returns-in-Refused
 returns-in-Refused c = let a = c.args in

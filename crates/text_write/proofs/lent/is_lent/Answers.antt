@@ -1,9 +1,5 @@
 -- `text_write::lent::is_lent` meets its contract: each refusal is one of `name_at`. Assumes nothing.
-use mathlib.Core.Path.{ap₂, sym, ◌∙◌}
-use Prim.Native.Nat.{◌+◌, ◌-◌}
-use native.Mathlib.Omega.{arith}
-use lib.ListN.{take, drop}
-use Rattle.text.specs.Names.{is_name}
+use Rattle.std.proofs.Common.{sym, ◌∙◌}
 use Rattle.text_write.proofs.LentLaws.{no_start, no_length, not-inside, whole-name}
 use Rattle.text_write.proofs.lent.is_lent.Goals as goal
 
@@ -17,21 +13,9 @@ returns-then-lengths-i c = let a = c.args in
 
 pub returns-then-bytes-e : goal.returns-then-bytes-e
 returns-then-bytes-e c = let a = c.args in
-    sym (not-inside a.bytes.now a.starts.now a.lengths.now a.i
-    c.if-starts-i.false c.if-lengths-i.false
-    (omega (arith, c.if-bytes-e.true, c.wide-a.ensures, c.wide.ensures)))
+    sym (not-inside a.bytes.now a.starts.now a.lengths.now a.i c.if-starts-i.false c.if-lengths-i.false c.if-bytes-e.true)
 
 pub returns : goal.returns
 returns c = let a = c.args in
     c.is_name.ensures
-    ∙ ap₂ (λ u v. is_name (take (u + v - u) (drop u a.bytes.now)))
-    c.wide-a.ensures.0 c.wide.ensures.0
-    ∙ sym (whole-name a.bytes.now a.starts.now a.lengths.now a.i
-    c.if-starts-i.false
-    c.if-lengths-i.false
-    (omega (
-      arith,
-      c.if-bytes-e.false,
-      c.wide-a.ensures,
-      c.wide.ensures,
-    )))
+    ∙ sym (whole-name a.bytes.now a.starts.now a.lengths.now a.i c.if-starts-i.false c.if-lengths-i.false c.if-bytes-e.false)

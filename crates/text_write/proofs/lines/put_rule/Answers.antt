@@ -66,9 +66,6 @@ after-right : (c : Place-After-put_codes) →
 after-right c =
     filling_ran (right c.before.before.before.before.before.before.before.before.before.before.before.before.before.before.before.before.before.before.before.before) _ refl c.put_codes-d.ensures (after-colon c.before.before.before.before)
 
-pub symbol-s-requires : goal.symbol-s-requires
-symbol-s-requires c = ((c.requires.1.each 0 (omega arith)).0, c.requires.1.few)
-
 pub put_key-a-requires : goal.put_key-a-requires
 put_key-a-requires c = let a = c.args in (
   omega arith,

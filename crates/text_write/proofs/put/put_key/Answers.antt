@@ -1,10 +1,8 @@
 -- `text_write::put::put_key` meets its contract: the key, then the sign. Assumes nothing.
 use mathlib.Core.Path.{refl}
 use mathlib.Core.List.{[], ◌∷◌, ◌++◌}
-use native.Mathlib.Omega.{arith}
-use lib.ListN.{length-append}
 use Rattle.text.specs.Keys.{key}
-use Rattle.text_write.proofs.Filling.{Filling, filling_start, filling_ran, filling_last, filling_all}
+use Rattle.text_write.proofs.Filling.{Filling, filling_start, filling_ran, filling_last}
 use Rattle.text_write.proofs.put.put_key.Goals as goal
 use Rattle.text_write.proofs.put.put_key.Lts as lts
 use Rattle.text_write.proofs.put.put_key.Reads as reads
@@ -19,13 +17,6 @@ after-word : (c : Place-After-put_word) →
     Filling a.at a.out.now (key a.k ++ (61 ∷ [])) c.put_word-j.result c.put_word-j.new.out (61 ∷ [])
 after-word c =
     filling_ran _ _ refl c.put_word-j.ensures (filling_start _ _ _ c.requires.1)
-
-pub put_word-j-requires : goal.put_word-j-requires
-put_word-j-requires c = let a = c.args in
-    (c.requires.0, omega (arith, length-append (key a.k) (61 ∷ []), c.requires.1))
-
-pub put_byte-requires : goal.put_byte-requires
-put_byte-requires c = omega (arith, filling_all (after-word c.before.before.before))
 
 pub returns : goal.returns
 returns c = filling_last c.put_byte.ensures (after-word c.before.before.before.before.before.before.before)

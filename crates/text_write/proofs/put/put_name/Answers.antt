@@ -1,32 +1,12 @@
 -- `text_write::put::put_name` meets its contract: the part of the bytes is the name. Assumes nothing.
-use mathlib.Core.Path.{ap}
-use native.Mathlib.Omega.{arith}
-use lib.ListN.{length}
+use Rattle.std.proofs.Common.{refl, ap, length, arith}
 use Rattle.text_write.proofs.Filling.{wrote_as}
 use Rattle.text_write.proofs.LentLaws.{name-taken}
 use Rattle.text_write.proofs.put.put_name.Goals as goal
 
-pub slice_bounds-put_bytes-end : goal.slice_bounds-put_bytes-end
-slice_bounds-put_bytes-end c = let a = c.args in
-    omega (
-      arith,
-      c.wide-a.ensures.0,
-      c.wide.ensures.0,
-      c.requires.0.inside a.i
-          c.requires.1,
-    )
-
 pub put_bytes-requires : goal.put_bytes-requires
 put_bytes-requires c = let a = c.args in
-    omega (
-      arith,
-      ap length (name-taken a.i _ _ c.requires.0 c.requires.1
-          c.wide-a.ensures.0 c.wide.ensures.0),
-      c.requires.2,
-    )
+    omega (arith, ap length (name-taken a.i _ _ c.requires.0 c.requires.1 refl refl), c.requires.2)
 
 pub returns : goal.returns
-returns c = let a = c.args in
-    wrote_as (name-taken a.i _ _ c.requires.0 c.requires.1
-    c.wide-a.ensures.0
-    c.wide.ensures.0) c.put_bytes.ensures
+returns c = let a = c.args in wrote_as (name-taken a.i _ _ c.requires.0 c.requires.1 refl refl) c.put_bytes.ensures

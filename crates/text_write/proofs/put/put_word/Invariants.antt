@@ -1,12 +1,7 @@
-use mathlib.Core.List.{[]}
-use Prim.Native.Nat.{◌-◌, ◌≤◌}
-use lib.ListN.{drop}
+use Rattle.std.proofs.Common.{drop}
 use Rattle.text.specs.Keys.{key}
 use Rattle.text_write.proofs.Filling.{Filling}
 use Rattle.text_write.proofs.put.put_word.Given as goal
 
 abbrev pub invariant-loop-i : goal.invariant-loop-i
-invariant-loop-i l = (l.i ≤ l.m) × Filling l.at l.initial.out (key l.k) l.j l.out (drop l.i (key l.k))
-
-abbrev pub decreases-loop-i : goal.decreases-loop-i
-decreases-loop-i l = l.m - l.i
+invariant-loop-i l = Filling l.at l.initial.out (key l.k) l.j l.out (drop l.i (key l.k))

@@ -1,16 +1,14 @@
 -- `text_write::size::text_length` meets its contract: the lines' lengths are summed. Assumes nothing.
-use native.Mathlib.Omega.{arith}
+use Rattle.std.proofs.Common.{arith}
 use Rattle.grammar.specs.Table.{decode}
 use Rattle.text_write.proofs.LengthLaws.{text-sum}
 use Rattle.text_write.proofs.size.text_length.Goals as goal
 
 pub join_length-x-requires : goal.join_length-x-requires
-join_length-x-requires c = let a = c.args in
-    (omega arith, c.requires.1, omega (arith, text-sum a.t a.lengths.now (decode a.table.now), c.requires.2))
+join_length-x-requires c = let a = c.args in omega (arith, text-sum a.t a.lengths.now (decode a.table.now), c.requires.2)
 
 pub join_length-y-requires : goal.join_length-y-requires
-join_length-y-requires c = let a = c.args in
-    (c.requires.1, omega arith, omega (arith, text-sum a.t a.lengths.now (decode a.table.now), c.requires.2))
+join_length-y-requires c = let a = c.args in omega (arith, text-sum a.t a.lengths.now (decode a.table.now), c.requires.2)
 
 pub overflow_add-result : goal.overflow_add-result
 overflow_add-result c = let a = c.args in
@@ -18,13 +16,7 @@ overflow_add-result c = let a = c.args in
 
 pub overflow_add-result-2 : goal.overflow_add-result-2
 overflow_add-result-2 c = let a = c.args in
-    omega (
-      arith,
-      text-sum a.t a.lengths.now (decode a.table.now),
-      c.requires.2,
-      c.join_length-x.ensures,
-      c.join_length-y.ensures,
-    )
+    omega (arith, text-sum a.t a.lengths.now (decode a.table.now), c.requires.2, c.join_length-x.ensures, c.join_length-y.ensures)
 
 pub rules_length-requires : goal.rules_length-requires
 rules_length-requires c = let a = c.args in
