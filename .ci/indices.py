@@ -16,7 +16,7 @@ import sys
 # Each place where values are multiplied otherwise, and why it forms no index from a layer.
 PLACES = {
     ("indices/src/lib.rt", "f * (q * q) + p * q + r"): "index_of itself",
-    ("certificate_check/src/scan.rt", "return left_base + plans::wide(targets[left_from + k]) * q;"): "from a base on: no layer enters",
+    ("certificate_check/src/scan.rt", "return plan.left_base + usize::from(targets[plan.left_from + k]) * q;"): "from a base on: no layer enters",
     ("caller_rows/src/level.rt", "low += (k + 1) * below[i];"): "counts states",
     ("caller_rows/src/widths.rt", "(wide(k) + 1) * wide(w)"): "counts states",
     ("certificate_check/src/columns.rt", "let row = plans::layer_after(m, f, y) * q + a;"): "the number of a row of Q bits",
@@ -25,8 +25,8 @@ PLACES = {
     ("chart/src/lib.rt", "(p * m + j) * m + i"): "the entry of a chart: no layer enters",
     ("counts/src/lib.rt", "let whole = (home * m + i) * m;"): "entries of a chart",
     ("counts/src/lib.rt", "let rest = (after * m + j) * m;"): "entries of a chart",
-    ("explore/src/blocks.rt", "if limit <= base + plans::wide(row[k]) * stride {"): "from a base on",
-    ("explore/src/blocks.rt", "let flag = flags + (base + plans::wide(row[from]) * stride);"): "from a base on",
+    ("explore/src/blocks.rt", "if limit <= base + usize::from(row[k]) * stride {"): "from a base on",
+    ("explore/src/blocks.rt", "let flag = flags + (base + usize::from(row[from]) * stride);"): "from a base on",
     ("explore/src/push.rt", "end = push(queue, parents, q, end, place, base + u * stride);"): "from a base on",
     ("plans/src/lib.rt", "i * inverse / 4294967296"): "takes an index apart",
     ("plans/src/lib.rt", "i - row * q"): "takes an index apart",

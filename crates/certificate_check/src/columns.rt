@@ -30,18 +30,16 @@ fn row_held<'a>(
     requires placed { Placed first.now targets.now q kind }
     ensures { result ≡ true → RowHeld first.now targets.now q bytes.now kind row }
 {
-    let c = plans::wide(kind);
-    let from = plans::wide(first[c]);
-    let end = plans::wide(first[c + 1]);
+    let c = usize::from(kind);
+    let from = usize::from(first[c]);
+    let end = usize::from(first[c + 1]);
     let span = end - from;
     let base = row * q;
-    let mut k = 0;
-    while k < span {
-        let u = plans::wide(targets[from + k]);
+    for k in 0..span {
+        let u = usize::from(targets[from + k]);
         if !bits::is_set(bytes, base + u) {
             return false;
         }
-        k += 1;
     }
     true
 }
@@ -60,11 +58,9 @@ fn meet<'a>(
     ensures { Met bytes.now targets.now q from span base result }
 {
     let mut w = 18446744073709551615;
-    let mut k = 0;
-    while k < span {
-        let u = plans::wide(targets[from + k]);
+    for k in 0..span {
+        let u = usize::from(targets[from + k]);
         w = w & bits::wide_window(bytes, base + u * q);
-        k += 1;
     }
     w
 }
@@ -82,9 +78,8 @@ fn columns_met(
     requires { (from + span ≤ limits.max_states) × (k ≤ span) }
     ensures { (result ≤ span) × ColumnsMet targets.now near begin from k result }
 {
-    let mut h = k;
-    while h < span {
-        let v = plans::wide(targets[from + h]);
+    for h in k..span {
+        let v = usize::from(targets[from + h]);
         if v < begin {
             return h;
         }
@@ -94,9 +89,8 @@ fn columns_met(
         if (near >> (v - begin)) % 2 == 0 {
             return h;
         }
-        h += 1;
     }
-    h
+    span
 }
 
 // Are the pairs held of a target of one class and one of another? The rows of all targets of the left class are taken together, a
@@ -117,15 +111,15 @@ fn pairs_held<'a>(
     if bytes.len() < 8 {
         return false;
     }
-    let c = plans::wide(left);
-    let rows = plans::wide(first[c]);
-    let height = plans::wide(first[c + 1]) - rows;
-    let d = plans::wide(right);
-    let from = plans::wide(first[d]);
-    let span = plans::wide(first[d + 1]) - from;
+    let c = usize::from(left);
+    let rows = usize::from(first[c]);
+    let height = usize::from(first[c + 1]) - rows;
+    let d = usize::from(right);
+    let from = usize::from(first[d]);
+    let span = usize::from(first[d + 1]) - from;
     let mut k = 0;
     while k < span {
-        let begin = plans::wide(targets[from + k]);
+        let begin = usize::from(targets[from + k]);
         let base = index_of(q, 1, 0, begin);
         let near = meet(targets, q, bytes, rows, height, base);
         let next = columns_met(targets, near, begin, from, k, span);
@@ -164,8 +158,8 @@ fn shift_held<'a>(
     if shift == 0 {
         return true;
     }
-    let u = plans::wide(after[a]);
-    let v = plans::wide(after[b]);
+    let u = usize::from(after[a]);
+    let v = usize::from(after[b]);
     let beside = index_of(q, f, u, v);
     bits::is_set(bytes, beside)
 }
@@ -190,8 +184,8 @@ fn right_held<'a>(
     if right == 0 {
         return true;
     }
-    let c = plans::wide(kind);
-    if plans::wide(seen[c]) == row + 1 {
+    let c = usize::from(kind);
+    if usize::from(seen[c]) == row + 1 {
         return true;
     }
     if !row_held(first, targets, q, bytes, kind, row) {
@@ -222,9 +216,9 @@ fn parts_held<'a>(
     if pairs == 0 {
         return true;
     }
-    let c = plans::wide(right);
-    let note = 2 * q + plans::wide(left) + 1;
-    if plans::wide(seen[c]) == note {
+    let c = usize::from(right);
+    let note = 2 * q + usize::from(left) + 1;
+    if usize::from(seen[c]) == note {
         return true;
     }
     if !pairs_held(first, targets, q, bytes, left, right) {

@@ -48,11 +48,9 @@ pub fn expand(
         (held queue.new parents.new result) }
 {
     let mut end = count;
-    let mut k = from;
-    while k < to {
-        let u = plans::wide(row[k]);
+    for k in from..to {
+        let u = usize::from(row[k]);
         end = push(queue, parents, q, end, place, base + u * stride);
-        k += 1;
     }
     end
 }

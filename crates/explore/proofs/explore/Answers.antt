@@ -1,6 +1,6 @@
 -- explore meets its contract: each turn takes up the index at the head, and what is found is never more than 2Q².
 use native.Mathlib.Omega.{arith}
-use Prim.Native.Nat.{ℕ, ◌-◌, ◌≤◌, ◌<◌}
+use Prim.Native.Nat.{ℕ, ◌≤◌, ◌<◌}
 use mathlib.Core.Path.{◌≡◌, refl, ap, sym, subst₂, ◌∙◌}
 use mathlib.Core.List.{List}
 use lib.ListN.{set, length-map, length-set}

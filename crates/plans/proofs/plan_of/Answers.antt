@@ -87,12 +87,12 @@ pub index_of-requires-2 : goal.index_of-requires-2
 index_of-requires-2 c = let n = small c.before.before.before.before.before.before.before in (n.0, omega (arith, n.2), omega (arith, n.4), omega arith)
 
 pub index_of-requires-3 : goal.index_of-requires-3
-index_of-requires-3 c = let n = small c.before.before.before.before.before.before.before.before in (n.0, omega (arith, n.3), omega (arith, c.wide-u.ensures.1), omega (arith, c.wide-v.ensures.1))
+index_of-requires-3 c = let n = small c.before.before.before.before.before.before.before.before in (n.0, omega (arith, n.3), omega (arith, c.fits-after c.args.a), omega (arith, c.fits-after c.args.b))
 
 pub returns : goal.returns
 returns c = let a = c.args in
     plan-joined (rows a.ahead.now a.number.now a.member.now a.first.now a.after.now) a.t a.m a.q a.f a.a a.b
     c.side_of-x.result c.side_of-y.result c.alone_of-left.result c.alone_of-right.result c.shift_of-shift.result c.pairs_of-pairs.result
-    c.layer_after-on_left.result c.layer_after-on_right.result c.wide-u.result c.wide-v.result c.index_of.result c.index_of-2.result c.index_of-3.result
+    c.layer_after-on_left.result c.layer_after-on_right.result c.from-u.result c.from-v.result c.index_of.result c.index_of-2.result c.index_of-3.result
     c.side_of-x.ensures c.side_of-y.ensures c.alone_of-left.ensures c.alone_of-right.ensures c.shift_of-shift.ensures c.pairs_of-pairs.ensures
-    c.layer_after-on_left.ensures c.layer_after-on_right.ensures c.index_of.ensures c.index_of-2.ensures c.wide-u.ensures.0 c.wide-v.ensures.0 c.index_of-3.ensures
+    c.layer_after-on_left.ensures c.layer_after-on_right.ensures c.index_of.ensures c.index_of-2.ensures c.from-u.ensures c.from-v.ensures c.index_of-3.ensures

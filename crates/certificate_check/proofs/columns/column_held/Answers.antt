@@ -4,7 +4,7 @@ use mathlib.Core.Path.{sym, subst}
 use Prim.Native.Nat.{ℕ, ◌+◌, ◌*◌, ◌≤◌, ◌<◌}
 use Rattle.grammar.proofs.Answers.{no_bool}
 use Rattle.triples.proofs.Index.{pair_lt}
-use Rattle.plans.specs.Plan.{Rows, rows}
+use Rattle.plans.specs.Plan.{rows}
 use Rattle.plans.proofs.PlanLaws.{layer_le, span_le}
 use Rattle.certificate_check.proofs.ColumnLaws.{placed-side, column_closed, beside_in}
 use Rattle.certificate_check.proofs.columns.column_held.Goals as goal
@@ -18,10 +18,6 @@ Start = lts.Start tie.the-claims reads.Pre reads.Post tie.handed_clauses
 abbrev Place-After-layer_after : Type 0
 Place-After-layer_after = lts.After-layer_after tie.the-claims reads.Pre reads.Post tie.handed_clauses
 
--- the rows at hand, and the way back to the function's entry from each block
-abbrev R : Start → Rows
-R e = let a = e.args in rows a.ahead.now a.number.now a.member.now a.first.now a.after.now
-
 pub side_of-y-requires : goal.side_of-y-requires
 side_of-y-requires c = c.requires.verified.fits.side c.args.b c.requires.f_bound.2
 
@@ -29,10 +25,10 @@ pub returns-then-not-left_held : goal.returns-then-not-left_held
 returns-then-not-left_held c = record { closed_at = λ q. no_bool (sym q); noted_2 = c.requires.noted }
 
 pub shift_held-requires : goal.shift_held-requires
-shift_held-requires c = let a = c.args in let p = c.requires.f_bound in record {
+shift_held-requires c = let R = rows c.args.ahead.now c.args.number.now c.args.member.now c.args.first.now c.args.after.now in let a = c.args in let p = c.requires.f_bound in record {
   q_le_max_states = (c.requires.verified.fits.few, p.0, p.1, p.2);
   b_bound = λ h.
-      let l = beside_in (R c.before.before.before.before.before.before.before) a.targets.now a.t a.m a.q a.bytes.now a.f a.a a.b c.requires.verified p.0 p.1 p.2
+      let l = beside_in R a.targets.now a.t a.m a.q a.bytes.now a.f a.a a.b c.requires.verified p.0 p.1 p.2
       (subst (λ (n : ℕ). 0 < n) c.shift_of-shift.ensures h) in
       omega (arith, l, p.3);
 }
@@ -54,7 +50,7 @@ pub overflow_add-row : goal.overflow_add-row
 overflow_add-row c = omega (arith, (row c.before).1, c.requires.verified.fits.few)
 
 pub right_held-requires : goal.right_held-requires
-right_held-requires c = let a = c.args in record { q_le_max_states = (c.requires.verified.fits.few, (row c.before.before).1, c.requires.f_bound.3); placed = placed-side (R c.before.before.before.before.before.before.before.before.before.before.before.before) a.targets.now a.t a.m a.q a.b c.side_of-y.result c.requires.verified c.requires.f_bound.2 c.side_of-y.ensures; noted = c.requires.noted }
+right_held-requires c = let R = rows c.args.ahead.now c.args.number.now c.args.member.now c.args.first.now c.args.after.now in let a = c.args in record { q_le_max_states = (c.requires.verified.fits.few, (row c.before.before).1, c.requires.f_bound.3); placed = placed-side R a.targets.now a.t a.m a.q a.b c.side_of-y.result c.requires.verified c.requires.f_bound.2 c.side_of-y.ensures; noted = c.requires.noted }
 
 pub returns-then-not-right_held : goal.returns-then-not-right_held
 returns-then-not-right_held c = record { closed_at = λ q. no_bool (sym q); noted_2 = c.right_held.ensures.noted_2 }
@@ -68,12 +64,12 @@ pairs_of-pairs-requires c = let a = c.args in let f = c.requires.verified.fits i
 )
 
 pub parts_held-requires : goal.parts_held-requires
-parts_held-requires c = let a = c.args in record { q_le_max_states = (c.requires.verified.fits.few, c.requires.f_bound.3); placed = placed-side (R c.before.before.before.before.before.before.before.before.before.before.before.before.before.before.before.before) a.targets.now a.t a.m a.q a.a a.x c.requires.verified c.requires.f_bound.1 c.requires.x_value; placed_2 = placed-side (R c.before.before.before.before.before.before.before.before.before.before.before.before.before.before.before.before) a.targets.now a.t a.m a.q a.b c.side_of-y.result c.requires.verified c.requires.f_bound.2 c.side_of-y.ensures; noted = c.right_held.ensures.noted_2 }
+parts_held-requires c = let R = rows c.args.ahead.now c.args.number.now c.args.member.now c.args.first.now c.args.after.now in let a = c.args in record { q_le_max_states = (c.requires.verified.fits.few, c.requires.f_bound.3); placed = placed-side R a.targets.now a.t a.m a.q a.a a.x c.requires.verified c.requires.f_bound.1 c.requires.x_value; placed_2 = placed-side R a.targets.now a.t a.m a.q a.b c.side_of-y.result c.requires.verified c.requires.f_bound.2 c.side_of-y.ensures; noted = c.right_held.ensures.noted_2 }
 
 pub returns : goal.returns
-returns c = let a = c.args in
+returns c = let R = rows c.args.ahead.now c.args.number.now c.args.member.now c.args.first.now c.args.after.now in let a = c.args in
     record {
-      closed_at = λ q. column_closed (R c.before.before.before.before.before.before.before.before.before.before.before.before.before.before.before.before.before) a.targets.now a.t a.m a.q a.bytes.now a.f a.a a.b a.x c.side_of-y.result c.layer_after.result
+      closed_at = λ q. column_closed R a.targets.now a.t a.m a.q a.bytes.now a.f a.a a.b a.x c.side_of-y.result c.layer_after.result
           c.alone_of-left.result c.alone_of-right.result c.shift_of-shift.result c.pairs_of-pairs.result
           c.requires.f_bound.1 c.requires.f_bound.2 c.requires.x_value c.side_of-y.ensures c.layer_after.ensures
           c.alone_of-left.ensures c.alone_of-right.ensures c.shift_of-shift.ensures c.pairs_of-pairs.ensures

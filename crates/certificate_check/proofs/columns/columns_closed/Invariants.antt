@@ -1,4 +1,4 @@
-use Prim.Native.Nat.{ℕ, ◌+◌, ◌-◌, ◌≤◌}
+use Prim.Native.Nat.{◌+◌, ◌-◌, ◌≤◌}
 use Rattle.triples.specs.Index.{index}
 use Rattle.bits.specs.Windows.{Window}
 use Rattle.plans.specs.Plan.{rows}

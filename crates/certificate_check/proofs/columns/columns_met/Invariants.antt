@@ -1,9 +1,6 @@
-use Prim.Native.Nat.{ℕ, ◌-◌, ◌≤◌}
+use Prim.Native.Nat.{◌≤◌}
 use Rattle.certificate_check.specs.Columns.{ColumnsMet}
 use Rattle.certificate_check.proofs.columns.columns_met.Given as goal
 
 abbrev pub invariant-loop-h : goal.invariant-loop-h
 invariant-loop-h l = (l.h ≤ l.span) × ColumnsMet l.targets l.near l.begin l.from l.k l.h
-
-abbrev pub decreases-loop-h : goal.decreases-loop-h
-decreases-loop-h l = l.span - l.h

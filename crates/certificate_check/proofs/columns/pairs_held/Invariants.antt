@@ -1,5 +1,5 @@
 use mathlib.Core.Path.{◌≡◌}
-use Prim.Native.Nat.{ℕ, ◌-◌, ◌≤◌}
+use Prim.Native.Nat.{◌-◌, ◌≤◌}
 use lib.ListN.{get_or}
 use Rattle.certificate_check.specs.Columns.{span_of, PairsTo}
 use Rattle.certificate_check.proofs.columns.pairs_held.Given as goal

@@ -1,5 +1,5 @@
 use mathlib.Core.Path.{◌≡◌}
-use Prim.Native.Nat.{ℕ, ◌-◌, ◌≤◌, ◌<◌}
+use Prim.Native.Nat.{◌-◌, ◌≤◌, ◌<◌}
 use mathlib.Core.Bool.{true}
 use Rattle.triples.specs.Certificate.{is_set}
 use Rattle.plans.specs.Plan.{rows}
@@ -9,9 +9,6 @@ use Rattle.certificate_check.proofs.scan.lowest_lacking.Given as goal
 
 abbrev pub invariant-loop-k : goal.invariant-loop-k
 invariant-loop-k l = (l.answer ≡ l.count) × (l.k ≤ l.plan.total) × HeldTo l.bytes l.plan l.targets l.q l.k
-
-abbrev pub decreases-loop-k : goal.decreases-loop-k
-decreases-loop-k l = l.plan.total - l.k
 
 abbrev pub invariant-scan : goal.invariant-scan
 invariant-scan l = (l.answer ≡ l.count) × (l.i ≤ l.count) × (l.i < l.count → is_set l.bytes l.i ≡ true) × NoneBelow (rows l.ahead l.number l.member l.first l.after) l.targets l.t l.m l.q l.bytes l.i

@@ -1,7 +1,7 @@
 -- lowest_set meets its contract: every bit before the window looked at is clear.
 use native.Mathlib.Omega.{arith}
 use mathlib.Core.Path.{◌≡◌, subst, sym}
-use Prim.Native.Nat.{ℕ, ◌+◌, ◌-◌, ◌*◌, ◌/◌, ◌≤◌, ◌<◌}
+use Prim.Native.Nat.{ℕ, ◌+◌, ◌*◌, ◌/◌, ◌≤◌, ◌<◌}
 use mathlib.Core.Bool.{false}
 use lib.ListN.{length}
 use Rattle.triples.specs.Certificate.{is_set}

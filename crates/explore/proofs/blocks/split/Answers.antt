@@ -1,5 +1,6 @@
 -- split meets its contract: the place stays between the two, and what is before it is below the limit.
-use Prim.Native.Nat.{ℕ, ◌+◌, ◌-◌, ◌*◌, ◌≤◌, ◌<◌}
+use borrow.Author.Rules.{rules}
+use Prim.Native.Nat.{ℕ, ◌+◌, ◌*◌, ◌≤◌, ◌<◌}
 use mathlib.Core.Path.{sym, subst}
 use native.Mathlib.Decide.{ℕ_discrete}
 use lib.ListN.{get_or}
@@ -11,14 +12,14 @@ pub loop-k-init : goal.loop-k-init
 loop-k-init c = let z : c.args.from ≤ c.args.from = omega arith in
     (z, c.requires.0, λ j h l. absurd (omega (arith, h, l)))
 
-pub overflow_mul-wide : goal.overflow_mul-wide
-overflow_mul-wide c = omega (arith, wide_fits c.wide.result c.args.stride c.wide.ensures.1 c.requires.3)
+pub overflow_mul-from : goal.overflow_mul-from
+overflow_mul-from c = omega (arith, wide_fits c.from.result c.args.stride (search rules) c.requires.3)
 
 pub overflow_add-base : goal.overflow_add-base
-overflow_add-base c = omega (arith, wide_fits c.wide.result c.args.stride c.wide.ensures.1 c.requires.3, c.requires.2)
+overflow_add-base c = omega (arith, wide_fits c.from.result c.args.stride (search rules) c.requires.3, c.requires.2)
 
 pub returns-then-limit-base : goal.returns-then-limit-base
-returns-then-limit-base c = record { lower_bound = (c.loop-k.invariant.0, c.loop-k.invariant.1); by_index = c.loop-k.invariant.2; limit_bound = λ h. subst (λ (u : ℕ). c.args.limit ≤ c.args.base + u * c.args.stride) c.wide.ensures.0 c.if-limit-base.true }
+returns-then-limit-base c = record { lower_bound = (c.loop-k.invariant.0, c.loop-k.invariant.1); by_index = c.loop-k.invariant.2; limit_bound = λ h. subst (λ (u : ℕ). c.args.limit ≤ c.args.base + u * c.args.stride) c.from.ensures c.if-limit-base.true }
 
 pub loop-k-preserved : goal.loop-k-preserved
 loop-k-preserved c = (
@@ -26,7 +27,7 @@ loop-k-preserved c = (
   omega (arith, c.loop-k-test.true),
   λ j h b. elim (ℕ_discrete j c.loop-k.k) [
     | yes q ↦ subst (λ (z : ℕ). c.args.base + get_or c.args.row.now z 0 * c.args.stride < c.args.limit) (sym q)
-        (subst (λ (u : ℕ). c.args.base + u * c.args.stride < c.args.limit) c.wide.ensures.0 c.if-limit-base.false)
+        (subst (λ (u : ℕ). c.args.base + u * c.args.stride < c.args.limit) c.from.ensures c.if-limit-base.false)
     | no n ↦ c.loop-k.invariant.2 j h (omega (arith, b, n))
   ],
 )

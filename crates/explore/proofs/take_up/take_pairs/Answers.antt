@@ -1,6 +1,7 @@
 -- take_pairs meets its contract: the flag is set, or the grid is pushed and it is set then.
 use mathlib.Core.Path.{◌≡◌, sym, ap, ◌∙◌, subst, subst₂}
 use mathlib.Core.List.{List}
+use borrow.Author.Rules.{rules}
 use Prim.Native.Nat.{ℕ, ◌+◌, ◌*◌, ◌^◌, ◌<◌}
 use native.Mathlib.Omega.{arith}
 use lib.ListN.{length, get_or}
@@ -26,7 +27,7 @@ once_first place P key k s queue parents parents' marks row count e h l p =
 -- the index of the first pair fits
 small : (c : Place-After-index_of) → c.index_of-corner.result < 2 ^ 32
 small c =
-    let q = c.args.q in let few = c.requires.q_le_max_states.0 in omega (arith, c.index_of-corner.ensures, wide_fits q q (omega (arith, few)) few, wide_fits c.wide-u.result q c.wide-u.ensures.1 few, c.wide-v.ensures.1)
+    let q = c.args.q in let few = c.requires.q_le_max_states.0 in let v : c.from-v.result < 65536 = search rules in omega (arith, c.index_of-corner.ensures, wide_fits q q (omega (arith, few)) few, wide_fits c.from-u.result q (search rules) few, v)
 
 -- the flag's place, as the contract has it
 key : (c : Place-After-index_of) → let a = c.args in
@@ -34,15 +35,15 @@ key : (c : Place-After-index_of) → let a = c.args in
 key c =
     let a = c.args in
     ap (λ (i : ℕ). a.flags + i)
-    (c.index_of-corner.ensures ∙ ap (λ (u : ℕ). index a.q 1 u c.wide-v.result) c.wide-u.ensures.0
-    ∙ ap (λ (v : ℕ). index a.q 1 (get_or a.targets.now a.left_from 0) v) c.wide-v.ensures.0)
+    (c.index_of-corner.ensures ∙ ap (λ (u : ℕ). index a.q 1 u c.from-v.result) c.from-u.ensures
+    ∙ ap (λ (v : ℕ). index a.q 1 (get_or a.targets.now a.left_from 0) v) c.from-v.ensures)
 
 inside : (c : Place-After-index_of) → let a = c.args in a.flags + c.index_of-corner.result < 8 * length a.parents.now
 inside c =
     subst (λ (x : ℕ). x < 8 * length c.args.parents.now) (sym (key c)) c.requires.right_from_bound
 
 pub index_of-corner-requires : goal.index_of-corner-requires
-index_of-corner-requires c = (c.requires.q_le_max_states.0, omega arith, omega (arith, c.wide-u.ensures.1), omega (arith, c.wide-v.ensures.1))
+index_of-corner-requires c = (c.requires.q_le_max_states.0, omega arith, search rules, search rules)
 
 pub overflow_add-flags : goal.overflow_add-flags
 overflow_add-flags c = omega (arith, small c.before, c.requires.q_le_max_states.2)

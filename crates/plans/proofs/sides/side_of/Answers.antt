@@ -8,13 +8,13 @@ use Rattle.plans.proofs.sides.side_of.Goals as goal
 
 pub overflow_sub-result : goal.overflow_sub-result
 overflow_sub-result c = let a = c.args in
-    let x : c.wide-from.result ≡ get_or a.first.now (get_or a.member.now a.p 0) 0 = c.wide-from.ensures.0 ∙ ap (λ (n : ℕ). get_or a.first.now n 0) c.wide-c.ensures.0 in
-    let y : c.wide-end.result ≡ get_or a.first.now (get_or a.member.now a.p 0 + 1) 0 = c.wide-end.ensures.0 ∙ ap (λ (n : ℕ). get_or a.first.now (n + 1) 0) c.wide-c.ensures.0 in
+    let x : c.from-from.result ≡ get_or a.first.now (get_or a.member.now a.p 0) 0 = c.from-from.ensures ∙ ap (λ (n : ℕ). get_or a.first.now n 0) c.from-c.ensures in
+    let y : c.from-end.result ≡ get_or a.first.now (get_or a.member.now a.p 0 + 1) 0 = c.from-end.ensures ∙ ap (λ (n : ℕ). get_or a.first.now (n + 1) 0) c.from-c.ensures in
     omega (arith, x, y, c.requires.order)
 
 pub returns : goal.returns
 returns c = let a = c.args in
-    let x : c.wide-from.result ≡ get_or a.first.now (get_or a.member.now a.p 0) 0 = c.wide-from.ensures.0 ∙ ap (λ (n : ℕ). get_or a.first.now n 0) c.wide-c.ensures.0 in
-    let y : c.wide-end.result ≡ get_or a.first.now (get_or a.member.now a.p 0 + 1) 0 = c.wide-end.ensures.0 ∙ ap (λ (n : ℕ). get_or a.first.now (n + 1) 0) c.wide-c.ensures.0 in
-    ap (λ (n : ℕ). side_from (get_or a.member.now a.p 0) n (c.wide-end.result - n)) x
+    let x : c.from-from.result ≡ get_or a.first.now (get_or a.member.now a.p 0) 0 = c.from-from.ensures ∙ ap (λ (n : ℕ). get_or a.first.now n 0) c.from-c.ensures in
+    let y : c.from-end.result ≡ get_or a.first.now (get_or a.member.now a.p 0 + 1) 0 = c.from-end.ensures ∙ ap (λ (n : ℕ). get_or a.first.now (n + 1) 0) c.from-c.ensures in
+    ap (λ (n : ℕ). side_from (get_or a.member.now a.p 0) n (c.from-end.result - n)) x
     ∙ ap (λ (n : ℕ). side_from (get_or a.member.now a.p 0) (get_or a.first.now (get_or a.member.now a.p 0) 0) (n - get_or a.first.now (get_or a.member.now a.p 0) 0)) y
