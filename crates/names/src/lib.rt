@@ -8,15 +8,15 @@ ghost use Rattle.text.specs.Keys.{key_table, key_lengths};
 ghost use Rattle.names.specs.Found.{Found};
 
 // The bytes that end a line, and that stand between names, after a left name, before a symbol, after a key.
-pub const LINE_END: u8 = 10;
+pub const LINE_END: u8 = b'\n';
 
-pub const COMMA: u8 = 44;
+pub const COMMA: u8 = b',';
 
-pub const COLON: u8 = 58;
+pub const COLON: u8 = b':';
 
-pub const SPACE: u8 = 32;
+pub const SPACE: u8 = b' ';
 
-pub const EQUALS: u8 = 61;
+pub const EQUALS: u8 = b'=';
 
 // The keys by their numbers.
 pub const TERMINALS: usize = 0;
@@ -39,60 +39,27 @@ pub fn find(s: &[u8], from: usize, c: u8) -> usize
     requires { from ≤ length s.now }
     ensures { Found c s.now from result }
 {
-    let mut i = from;
-    while i < s.len() {
-        if s[i] == c {
-            return i;
-        }
-        i += 1;
+    match s[from..].iter().position(|b| *b == c) {
+        Some(k) => from + k,
+        None => s.len(),
     }
-    i
-}
-
-fn between(b: u8, lo: u8, hi: u8) -> bool
-    ensures { result ≡ within lo hi b }
-{
-    if lo <= b {
-        return b <= hi;
-    }
-    false
 }
 
 // An ASCII letter, a digit or a hyphen.
 fn is_name_byte(b: u8) -> bool
     ensures { result ≡ is_name_byte b }
 {
-    if between(b, 97, 122) {
-        return true;
-    }
-    if between(b, 65, 90) {
-        return true;
-    }
-    if between(b, 48, 57) {
-        return true;
-    }
-    b == 45
+    b.is_ascii_alphanumeric() || b == b'-'
 }
 
 // 1 to 15 such bytes.
 pub fn is_name(s: &[u8]) -> bool
     ensures { result ≡ is_name s.now }
 {
-    if s.len() < 1 {
+    if s.is_empty() || 15 < s.len() {
         return false;
     }
-    if 15 < s.len() {
-        return false;
-    }
-    let mut i = 0;
-    while i < s.len() {
-        if is_name_byte(s[i]) {
-            i += 1;
-        } else {
-            return false;
-        }
-    }
-    true
+    s.iter().all(|b| is_name_byte(*b))
 }
 
 // What of a byte counts where names are compared: a capital letter counts as the small one (document 02, [9]). All comparisons of
@@ -100,11 +67,7 @@ pub fn is_name(s: &[u8]) -> bool
 pub fn fold(b: u8) -> u8
     ensures { result ≡ folded b }
 {
-    let is_capital = between(b, 65, 90);
-    if is_capital {
-        return b + 32;
-    }
-    b
+    b.to_ascii_lowercase()
 }
 
 // Are two names the same name? The last bytes are compared first, since many names have their fronts in common.
@@ -115,9 +78,7 @@ pub fn same_name(a: &[u8], b: &[u8]) -> bool
     if n != b.len() {
         return false;
     }
-    let mut i = n;
-    while 0 < i {
-        i -= 1;
+    for i in (0..n).rev() {
         if fold(a[i]) != fold(b[i]) {
             return false;
         }

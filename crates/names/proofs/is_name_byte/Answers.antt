@@ -1,20 +1,16 @@
--- `names::is_name_byte` meets its contract: the four tests of `is_name_byte`, in its order. Assumes nothing.
-use mathlib.Core.Path.{sym, ◌∙◌}
+-- `names::is_name_byte` meets its contract: the letters and digits are std's. Assumes nothing.
+use Rattle.std.proofs.Common.{ℕ, ◌≡◌, ◌||◌, eqb, arith}
+use Rattle.std.specs.Char.{is_ascii_alphanumeric}
 use Rattle.text.specs.Names.{is_name_byte}
 use Rattle.names.proofs.is_name_byte.Goals as goal
+use Rattle.std.proofs.lemmas.Bool.Decides.{nat_tests}
 
-pub returns-then-between : goal.returns-then-between
+alphanumeric-or-hyphen : (b : ℕ) → is_name_byte b ≡ is_ascii_alphanumeric b || eqb b 45
 unfolding is_name_byte
-returns-then-between c = simp (sym c.between.ensures ∙ c.if-between.true)
+alphanumeric-or-hyphen b = grind (arith, nat_tests)
 
-pub returns-then-between-2 : goal.returns-then-between-2
-unfolding is_name_byte
-returns-then-between-2 c = simp (sym c.between.ensures ∙ c.if-between.false, sym c.between-2.ensures ∙ c.if-between-2.true)
+pub returns-then-is_ascii_alphanumeric : goal.returns-then-is_ascii_alphanumeric
+returns-then-is_ascii_alphanumeric c = grind (arith, c.if-is_ascii_alphanumeric.ensures.value, alphanumeric-or-hyphen c.args.b)
 
-pub returns-then-between-3 : goal.returns-then-between-3
-unfolding is_name_byte
-returns-then-between-3 c = simp (sym c.between.ensures ∙ c.if-between.false, sym c.between-2.ensures ∙ c.if-between-2.false, sym c.between-3.ensures ∙ c.if-between-3.true)
-
-pub returns : goal.returns
-unfolding is_name_byte
-returns c = simp (sym c.between.ensures ∙ c.if-between.false, sym c.between-2.ensures ∙ c.if-between-2.false, sym c.between-3.ensures ∙ c.if-between-3.false)
+pub returns-else-is_ascii_alphanumeric : goal.returns-else-is_ascii_alphanumeric
+returns-else-is_ascii_alphanumeric c = grind (arith, c.if-is_ascii_alphanumeric.ensures.value, alphanumeric-or-hyphen c.args.b)
