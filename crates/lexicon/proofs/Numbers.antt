@@ -1,6 +1,6 @@
 -- From the numbers that a search tells to `first_double` and `place`. Assumes nothing.
 use Prim.Native.Nat.{ℕ, zero, suc, ◌+◌, ◌-◌, ◌≤◌, ◌<◌}
-use mathlib.Core.Path.{◌≡◌, refl, ap, ap₂, sym, ◌∙◌}
+use mathlib.Core.Path.{◌≡◌, refl, ap, sym, ◌∙◌}
 use mathlib.Core.List.{List, [], ◌∷◌, ◌++◌}
 use mathlib.Core.Bool.{Bool, true, false, ◌||◌}
 use native.Mathlib.Omega.{arith}
@@ -125,16 +125,9 @@ module _ (text starts lengths : List ℕ) (spans : Spans text starts lengths) wh
   pub place-past : (x : List ℕ) → ((s : ℕ) → s < length starts → same_name x (name_of text starts lengths s) ≡ false) → place (same_name x) names ≡ length starts
   place-past x f = place_none (same_name x) names [] (λ i l. ap (same_name x) (name_is i (omega (arith, l, as_many))) ∙ f i (omega (arith, l, as_many))) ∙ as_many
 
--- the part that is compared is the name of that number
-pub compared : (text starts lengths x : List ℕ) (q a l : ℕ) (r t : Bool) → a ≡ get_or starts q 0 → l ≡ get_or lengths q 0
-    → r ≡ same_name x (take (a + l - a) (drop a text)) → r ≡ t → same_name x (name_of text starts lengths q) ≡ t
+-- the part from a name's start on, of its length, is the name
+pub part_is : (text starts lengths : List ℕ) (q : ℕ) → take (get_or starts q 0 + get_or lengths q 0 - get_or starts q 0) (drop (get_or starts q 0) text) ≡ name_of text starts lengths q
 unfolding name_of
-compared text starts lengths x q a l r t ea el e h =
-    let z : a + l - a ≡ l = omega arith in
-    ap₂ (λ (u v : ℕ). same_name x (take v (drop u text))) (sym ea) (sym el) ∙ ap (λ (v : ℕ). same_name x (take v (drop a text))) (sym z) ∙ sym e ∙ h
-
-pub part_is : (text starts lengths : List ℕ) (q a l : ℕ) → a ≡ get_or starts q 0 → l ≡ get_or lengths q 0 → take (a + l - a) (drop a text) ≡ name_of text starts lengths q
-unfolding name_of
-part_is text starts lengths q a l ea el =
-    let z : a + l - a ≡ l = omega arith in
-    ap (λ (v : ℕ). take v (drop a text)) z ∙ ap₂ (λ (u v : ℕ). take v (drop u text)) ea el
+part_is text starts lengths q =
+    let z : get_or starts q 0 + get_or lengths q 0 - get_or starts q 0 ≡ get_or lengths q 0 = omega arith in
+    ap (λ (v : ℕ). take v (drop (get_or starts q 0) text)) z

@@ -7,32 +7,19 @@ use native.Mathlib.Omega.{arith}
 use native.Mathlib.Nat.{zero-div}
 use borrow.Author.Tests.{eqb-true, eqb-false, lt-ltb, le-ltb}
 use lib.Dec.{eqb, ltb}
-use lib.ListN.{length, drop, get_or, set, replicate, drop_of_length-le}
-use lib.Seq.{get_or-set_same, get_or-set_other, drop-cons}
+use lib.ListN.{length, get_or, set, replicate}
+use lib.Seq.{get_or-set_same, get_or-set_other}
 use Rattle.grammar.specs.Basics.{choose}
 use Rattle.grammar.proofs.Answers.{no_bool}
 use Rattle.text.specs.Names.{folded, same_name}
-use Rattle.lexicon.specs.declared.Sought.{Sought}
-use Rattle.lexicon.specs.declared.Sought.TheVariants.{Same, Free}
+use Rattle.std.specs.Prelude.{Result, Ok, Err, fold}
 use Rattle.lexicon.specs.Tree.{folded_name, key_bits, key_skip, key_span, key_factor, key_from, key_of, byte_bit, turn, Below, here, down, Keeps, Grown, Hit, Gap, Told}
 
 -- the key of a name, byte by byte
-pub key-start : (x : List ℕ) → key_from 0 (folded_name (drop 0 x)) ≡ key_of (folded_name x)
-unfolding key_of
-key-start x = refl
-
-pub key_more : (x : List ℕ) (i k b f : ℕ) → i < length x → f ≡ folded (get_or x i 0) → b ≡ f
-    → key_from k (folded_name (drop i x)) ≡ key_from ((k % key_span + b) * key_factor) (folded_name (drop (i + 1) x))
+pub key_fold : (k : ℕ) (x : List ℕ) → fold (λ (k b : ℕ). (k % key_span + folded b) * key_factor) k x ≡ key_from k (folded_name x)
 unfolding key_from folded_name
-key_more x i k b f h e q =
-    let z : suc i ≡ i + 1 = omega arith in
-    ap (λ (l : List ℕ). key_from k (map folded l)) (drop-cons x i 0 h)
-    ∙ ap (λ (c : ℕ). key_from ((k % key_span + c) * key_factor) (map folded (drop (suc i) x))) (sym (q ∙ e))
-    ∙ ap (λ (j : ℕ). key_from ((k % key_span + b) * key_factor) (map folded (drop j x))) z
-
-pub key-end : (x : List ℕ) (i k : ℕ) → length x ≤ i → key_from k (folded_name (drop i x)) ≡ k
-unfolding key_from folded_name
-key-end x i k h = rw (drop_of_length-le x {i = i} h)
+key_fold k [] = refl
+key_fold k (b ∷ x) = key_fold ((k % key_span + folded b) * key_factor) x
 
 -- a turn by the key, past the end of the name, and by the name
 pub turn-key : (x : List ℕ) (key d : ℕ) → key ≡ key_of (folded_name x) → d < key_bits → key / 2 ^ (key_skip + d) % 2 ≡ turn (folded_name x) d
@@ -206,8 +193,8 @@ grow name C count i g h inside = record {
     held s l false q = below_keeps keeps (g.held s (omega (arith, eqb-false s count q)))
 
 -- what an answer of the search tells
-pub told_same : (name : ℕ → List ℕ) (C : List ℕ) (count : ℕ) (x : List ℕ) (r : Sought) (q : ℕ) → r ≡ Same q → Told name C count x r → Hit name C count x q
-told_same name C count x r q e t = subst (λ (r : Sought). Told name C count x r) e t
+pub told_same : (name : ℕ → List ℕ) (C : List ℕ) (count : ℕ) (x : List ℕ) (r : Result ℕ ℕ) (q : ℕ) → r ≡ Ok q → Told name C count x r → Hit name C count x q
+told_same name C count x r q e t = subst (λ (r : Result ℕ ℕ). Told name C count x r) e t
 
-pub told_free : (name : ℕ → List ℕ) (C : List ℕ) (count : ℕ) (x : List ℕ) (r : Sought) (i : ℕ) → r ≡ Free i → Told name C count x r → Gap name C count x i
-told_free name C count x r i e t = subst (λ (r : Sought). Told name C count x r) e t
+pub told_free : (name : ℕ → List ℕ) (C : List ℕ) (count : ℕ) (x : List ℕ) (r : Result ℕ ℕ) (i : ℕ) → r ≡ Err i → Told name C count x r → Gap name C count x i
+told_free name C count x r i e t = subst (λ (r : Result ℕ ℕ). Told name C count x r) e t

@@ -1,11 +1,9 @@
 -- The tree of the first names of some, held in one row of links, and what a search in it tells. A name is known by its number; its
 -- two links stand in the row at twice the number and at the next place. Assumes nothing.
-use Rattle.std.specs.Prelude.{ℕ, ◌+◌, ◌-◌, ◌*◌, ◌/◌, ◌%◌, ◌^◌, ◌≤◌, ◌<◌, ◌≡◌, List, [], ◌∷◌, map, true, false, ltb, length, drop, get_or, take}
+use Rattle.std.specs.Prelude.{ℕ, ◌+◌, ◌-◌, ◌*◌, ◌/◌, ◌%◌, ◌^◌, ◌≤◌, ◌<◌, ◌≡◌, List, [], ◌∷◌, map, true, false, ltb, length, drop, get_or, take, Result, MatchResult}
 use Rattle.grammar.specs.Basics.{choose}
 use Rattle.text.specs.Names.{folded, same_name}
 use Rattle.text.specs.Spelled.{Inside}
-use Rattle.lexicon.specs.declared.Sought.{Sought}
-use Rattle.lexicon.specs.declared.Sought.TheVariants.{Same, Free}
 
 -- what of a name counts
 unfoldable pub folded_name : List ℕ → List ℕ
@@ -79,9 +77,8 @@ module _ (name : ℕ → List ℕ) (C : List ℕ) (count : ℕ) where
     pub absent : (s : ℕ) → s < count → same_name x (name s) ≡ false
     pub led : (D : List ℕ) → Keeps C D → 0 < get_or D i 0 → Below D (folded_name x) (get_or D i 0) 0 0
 
-  abbrev pub Told : List ℕ → Sought → Type 0
-  Told x (Same q) = Hit x q
-  Told x (Free i) = Gap x i
+  abbrev pub Told : List ℕ → Result ℕ ℕ → Type 0
+  Told x r = MatchResult r (Hit x) (Gap x)
 
 -- the most names that links of 16 bits can tell apart
 abbrev pub most_names : ℕ

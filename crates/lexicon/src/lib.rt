@@ -21,42 +21,13 @@ const KEY_SPAN: usize = 4294967296;
 
 const KEY_FACTOR: usize = 2654435761;
 
-// What a search in the tree tells: the number of the name, or where its link belongs.
-#[derive(Drop)]
-pub enum Sought {
-    Same(usize),
-    Free(usize),
-}
-
-fn wide(x: u32) -> usize
-    ensures { result ≡ x }
-{
-    x as usize
-}
-
-fn wide_link(x: u16) -> usize
-    ensures { result ≡ x }
-{
-    x as usize
-}
-
-fn wide_byte(x: u8) -> usize
-    ensures { (result ≡ x) × (result < 256) }
-{
-    x as usize
-}
-
 // The key of a name, of which folded bytes count.
 fn key_of(x: &[u8]) -> usize
     ensures { result ≡ key_of (folded_name x.now) }
 {
-    let mut key = 0;
-    let mut i = 0;
-    while i < x.len() {
-        key = (key % KEY_SPAN + wide_byte(names::fold(x[i]))) * KEY_FACTOR;
-        i += 1;
-    }
-    key
+    x.iter().fold(0, |key, b| {
+        (key % KEY_SPAN + usize::from(names::fold(*b))) * KEY_FACTOR
+    })
 }
 
 // Where a name with this key turns at depth d: by a bit of the key, later by one of its folded bytes; 0 past its end.
@@ -72,11 +43,11 @@ fn bit(x: &[u8], key: usize, d: usize) -> usize
     if x.len() <= i {
         return 0;
     }
-    let b = (names::fold(x[i]) >> (j % 8)) % 2;
-    wide_byte(b)
+    usize::from((names::fold(x[i]) >> (j % 8)) % 2)
 }
 
-// Follows the way of x from name 0, where the tree has the first `count` names.
+// Follows the way of x from name 0, where the tree has the first `count` names: the number of the one that is x, or where its link
+// belongs.
 fn seek(
     text: &[u8],
     starts: &[u32],
@@ -84,7 +55,7 @@ fn seek(
     links: &[u16],
     count: usize,
     x: &[u8],
-) -> Sought
+) -> Result<usize, usize>
     requires spans { (Spans text.now starts.now lengths.now) × (count ≤ length starts.now) × (count ≤ most_names) × (2 * count ≤ length links.now) }
     requires grown { Grown (name_of text.now starts.now lengths.now) links.now count }
     ensures { Told (name_of text.now starts.now lengths.now) links.now count x.now result }
@@ -93,15 +64,15 @@ fn seek(
     let mut q = 0;
     let mut d = 0;
     loop {
-        let a = wide(starts[q]);
-        let e = a + wide(lengths[q]);
+        let a = starts[q] as usize;
+        let e = a + lengths[q] as usize;
         if names::same_name(x, &text[a..e]) {
-            return Sought::Same(q);
+            return Ok(q);
         }
         let i = 2 * q + bit(x, key, d);
-        let next = wide_link(links[i]);
+        let next = usize::from(links[i]);
         if next == 0 {
-            return Sought::Free(i);
+            return Err(i);
         }
         q = next;
         d += 1;
@@ -119,18 +90,13 @@ pub fn grow(text: &[u8], starts: &[u32], lengths: &[u32], links: &mut [u16], fro
     if n == 0 {
         return 0;
     }
-    let mut k = from;
-    if k == 0 {
-        k = 1;
-    }
-    while k < n {
-        let a = wide(starts[k]);
-        let e = a + wide(lengths[k]);
-        let Sought::Free(i) = seek(text, starts, lengths, links, k, &text[a..e]) else {
+    for k in from.max(1)..n {
+        let a = starts[k] as usize;
+        let e = a + lengths[k] as usize;
+        let Err(i) = seek(text, starts, lengths, links, k, &text[a..e]) else {
             return k;
         };
         links[i] = k as u16;
-        k += 1;
     }
     n
 }
@@ -154,8 +120,5 @@ pub fn find(text: &[u8], starts: &[u32], lengths: &[u32], links: &[u16], x: &[u8
     if n == 0 {
         return 0;
     }
-    let Sought::Same(q) = seek(text, starts, lengths, links, n, x) else {
-        return n;
-    };
-    q
+    seek(text, starts, lengths, links, n, x).unwrap_or(n)
 }

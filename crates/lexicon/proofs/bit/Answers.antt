@@ -16,7 +16,6 @@ returns-then-x-i c = let e = c.args in
 
 pub returns : goal.returns
 returns c = let a = c.args in (
-  sym (turn_byte a.x.now a.d (omega arith) (omega arith) ∙ ap (λ (w : ℕ). w / 2 ^ ((a.d - key_bits) % 8) % 2) (sym c.fold.ensures)
-      ∙ sym c.wide_byte.ensures.0),
+  sym (turn_byte a.x.now a.d (omega arith) (omega arith) ∙ ap (λ (w : ℕ). w / 2 ^ ((a.d - key_bits) % 8) % 2) (sym c.fold.ensures) ∙ sym c.from.ensures),
   omega arith,
 )

@@ -1,36 +1,24 @@
 -- `lexicon::find` meets its contract: no two names are the same, so the one that is met is the lowest. Assumes nothing.
-use native.Mathlib.Omega.{arith}
-use Prim.Native.Nat.{ℕ}
-use mathlib.Core.Path.{sym}
-use mathlib.Core.List.{List}
-use lib.ListN.{length}
-use Rattle.lexicon.specs.Tree.{name_of}
-use Rattle.lexicon.proofs.Tree.{told_same, told_free}
+use Rattle.std.proofs.Common.{ℕ, ◌≡◌, List, Result, Ok, Err, length, ◌∙◌, sym, arith}
+use Rattle.std.specs.Result.{result_unwrap_or}
+use Rattle.text.specs.Names.{same_name, place}
+use Rattle.text.specs.Spelled.{spelled}
+use Rattle.lexicon.specs.Tree.{name_of, Told, Lexicon}
 use Rattle.lexicon.proofs.Numbers.{place_of, place-past}
 use Rattle.lexicon.proofs.find.Goals as goal
-use Rattle.lexicon.proofs.find.Lts as lts
-use Rattle.lexicon.proofs.find.Reads as reads
-use Rattle.lexicon.proofs.find.Tie as tie
 
-abbrev Start : Type 0
-Start = lts.Start tie.the-claims reads.Pre reads.Post tie.handed_clauses
-
-abbrev name : Start → ℕ → List ℕ
-name e = name_of e.args.text.now e.args.starts.now e.args.lengths.now
+-- what a search tells is the place of x
+number : (text starts lengths links x : List ℕ) → Lexicon text starts lengths links → (r : Result ℕ ℕ) → Told (name_of text starts lengths) links (length starts) x r
+    → place (same_name x) (spelled text starts lengths) ≡ result_unwrap_or r (length starts)
+number text starts lengths links x l (Ok q) t = place_of text starts lengths l.spans x q l.apart t.inside t.same
+number text starts lengths links x l (Err i) t = place-past text starts lengths l.spans x t.absent
 
 pub returns-then-n-eq0 : goal.returns-then-n-eq0
-returns-then-n-eq0 c = let e = c in let a = e.args in
-    omega (arith, place-past a.text.now a.starts.now a.lengths.now e.requires.spans a.x.now (λ s l. absurd (omega (arith, l, c.if-n-eq0.true))), c.if-n-eq0.true)
+returns-then-n-eq0 c =
+    omega (arith, place-past c.args.text.now c.args.starts.now c.args.lengths.now c.requires.spans c.args.x.now (λ s l. absurd (omega (arith, l, c.if-n-eq0.true))), c.if-n-eq0.true)
 
 pub seek-requires : goal.seek-requires
-seek-requires c = let e = c in record { spans = (e.requires.spans, omega arith, e.requires.few, e.requires.room); grown = e.requires.grown (omega (arith, c.if-n-eq0.false)) }
-
-pub returns-in_default : goal.returns-in_default
-returns-in_default c = let k = c in let e = k in let a = e.args in
-    let g = told_free (name e.before.before.before.before.before.before.before.before.before) a.links.now (length a.starts.now) a.x.now k.seek.result _ c.in_default.is k.seek.ensures in
-    sym (place-past a.text.now a.starts.now a.lengths.now e.requires.spans a.x.now g.absent)
+seek-requires c = record { spans = (c.requires.spans, omega arith, c.requires.few, c.requires.room); grown = c.requires.grown (omega (arith, c.if-n-eq0.false)) }
 
 pub returns : goal.returns
-returns c = let k = c in let e = k in let a = e.args in
-    let h = told_same (name e.before.before.before.before.before.before.before.before.before) a.links.now (length a.starts.now) a.x.now k.seek.result c.in-Same.q c.in-Same.is k.seek.ensures in
-    sym (place_of a.text.now a.starts.now a.lengths.now e.requires.spans a.x.now c.in-Same.q e.requires.apart h.inside h.same)
+returns c = c.unwrap_or.ensures ∙ sym (number c.args.text.now c.args.starts.now c.args.lengths.now c.args.links.now c.args.x.now c.requires c.seek.result c.seek.ensures)

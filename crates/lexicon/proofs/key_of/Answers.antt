@@ -1,19 +1,14 @@
--- `lexicon::key_of` meets its contract: the key of the bytes before i, and those from i on, make that of all. Assumes nothing.
-use native.Mathlib.Omega.{arith}
-use Prim.Native.Nat.{◌-◌}
-use mathlib.Core.Path.{sym, ◌∙◌}
-use Rattle.lexicon.proofs.Tree.{key-start, key_more, key-end}
+-- `lexicon::key_of` meets its contract: the key of the folded bytes, one by one. Assumes nothing.
+use Rattle.std.proofs.Common.{ℕ, ◌+◌, ◌*◌, ◌%◌, ◌∙◌, rules}
+use Rattle.std.proofs.lemmas.Iterator.{YieldsList-from_slice}
+use Rattle.std.proofs.lemmas.Iterator.Consumers.{fold_from_yields_List}
+use borrow.Author.Tests.{tests}
+use Rattle.text.specs.Names.{folded}
+use Rattle.lexicon.specs.Tree.{key_span, key_factor, key_of}
+use Rattle.lexicon.proofs.Tree.{key_fold}
 use Rattle.lexicon.proofs.key_of.Goals as goal
 
-pub loop-i-init : goal.loop-i-init
-loop-i-init c = (omega arith, key-start _)
-
-pub loop-i-preserved : goal.loop-i-preserved
-loop-i-preserved c = let l = c.loop-i in
-    let a = c.args in
-    (omega arith, sym (key_more a.x.now l.i l.key c.wide_byte.result c.fold.result (omega arith) c.fold.ensures c.wide_byte.ensures.0) ∙ l.invariant.1)
-
 pub returns : goal.returns
-returns c = let l = c.loop-i in
-    let a = c.args in
-    sym (key-end a.x.now l.i l.key (omega arith)) ∙ l.invariant.1
+unfolding key_of
+returns c = fold_from_yields_List _ (λ (k b : ℕ). (k % key_span + folded b) * key_factor) 0 c.fold.result c.fold.ensures.ran (YieldsList-from_slice c.args.x.now c.iter.ensures.rest) (λ k x b q h. search (rules, tests))
+    ∙ key_fold 0 c.args.x.now

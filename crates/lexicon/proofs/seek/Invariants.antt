@@ -1,4 +1,4 @@
-use Prim.Native.Nat.{ℕ, ◌≤◌, ◌<◌, ◌-◌}
+use Prim.Native.Nat.{◌≤◌, ◌<◌, ◌-◌}
 use Rattle.lexicon.specs.Tree.{name_of}
 use Rattle.lexicon.proofs.Tree.{Still, Led}
 use Rattle.lexicon.proofs.seek.Given as goal
