@@ -1,6 +1,6 @@
 -- Places of a line against its names from there on, rows that keep a block, and what is told of it. Assumes nothing.
 use Prim.Native.Nat.{ℕ, zero, suc, ◌+◌, ◌-◌, ◌≤◌, ◌<◌}
-use mathlib.Core.Path.{◌≡◌, refl, ap, sym, subst, ◌∙◌}
+use mathlib.Core.Path.{◌≡◌, refl, ap, sym, ◌∙◌}
 use mathlib.Core.List.{List, [], ◌∷◌, ◌++◌, append_assoc, append-nil}
 use mathlib.Core.Bool.{Bool, true, false, ◌||◌}
 use native.Mathlib.Omega.{arith}
@@ -17,8 +17,7 @@ use Rattle.text.proofs.Spans.{length-spelled, spelled_append, inside_append}
 use Rattle.names.specs.Found.{index, part}
 use Rattle.names.proofs.Pieces.{piece_more, piece_last, piece_end, names-split}
 use Rattle.doubles.specs.Blocks.{meet, names_from, stand_twice, Block, BlockTold}
-use Rattle.doubles.specs.declared.Tried.{Tried}
-use Rattle.doubles.specs.declared.Tried.TheVariants.{Twice, Next}
+use Rattle.std.specs.Prelude.{Some, None}
 use Rattle.doubles.proofs.Names.{meet-none, meet-hit, meet_miss, place-some, place-past, stand_append}
 
 -- ---- names from a place on
@@ -94,18 +93,11 @@ module _ (earlier : List (List ℕ)) (v : List ℕ) (a : ℕ) (starts lengths : 
   stand : has_double (earlier ++ names_from v a) ≡ stand_twice earlier (names_from v b) (spelled v starts lengths) || has_double (earlier ++ names_from v b)
   stand = ap (λ (w : List (List ℕ)). has_double (earlier ++ w)) k.names ∙ stand_append earlier (spelled v starts lengths) (names_from v b)
 
-  pub told_stand : stand_twice earlier (names_from v b) (spelled v starts lengths) ≡ true → BlockTold earlier v a Twice
+  pub told_stand : stand_twice earlier (names_from v b) (spelled v starts lengths) ≡ true → BlockTold earlier v a None
   told_stand e = stand ∙ rw e
 
-  pub told-on : stand_twice earlier (names_from v b) (spelled v starts lengths) ≡ false → a < b → BlockTold earlier v a (Next b)
+  pub told-on : stand_twice earlier (names_from v b) (spelled v starts lengths) ≡ false → a < b → BlockTold earlier v a (Some b)
   told-on e l = (l, stand ∙ rw e)
-
-pub told-twice : (earlier : List (List ℕ)) (v : List ℕ) (a : ℕ) (r : Tried) → r ≡ Twice → BlockTold earlier v a r → has_double (earlier ++ names_from v a) ≡ true
-told-twice earlier v a r e t = subst (λ (r : Tried). BlockTold earlier v a r) e t
-
-pub told-next : (earlier : List (List ℕ)) (v : List ℕ) (a : ℕ) (r : Tried) (b : ℕ) → r ≡ Next b → BlockTold earlier v a r
-    → (a < b) × (has_double (earlier ++ names_from v a) ≡ has_double (earlier ++ names_from v b))
-told-next earlier v a r b e t = subst (λ (r : Tried). BlockTold earlier v a r) e t
 
 -- where no name is left, none stands twice
 pub none_left : (earlier names : List (List ℕ)) → has_double earlier ≡ false → names ≡ [] → has_double (earlier ++ names) ≡ false

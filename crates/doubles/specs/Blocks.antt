@@ -1,12 +1,10 @@
 -- The names of a line from a place on, a block of them as rows keep it, and what trying it tells. Assumes nothing.
-use Rattle.std.specs.Prelude.{ℕ, ◌*◌, ◌≤◌, ◌<◌, ◌≡◌, List, [], ◌++◌, Bool, true, ◌||◌, leb, length, drop}
+use Rattle.std.specs.Prelude.{ℕ, ◌*◌, ◌≤◌, ◌<◌, ◌≡◌, List, [], ◌++◌, Bool, true, ◌||◌, leb, length, drop, Option, MatchOption}
 use Rattle.grammar.specs.Basics.{choose}
 use Rattle.text.specs.Pieces.{comma, split_on}
 use Rattle.text.specs.Names.{any, same_name, has_double}
 use Rattle.text.specs.Spelled.{spelled}
 use Rattle.lexicon.specs.Tree.{most_names, Spans}
-use Rattle.doubles.specs.declared.Tried.{Tried}
-use Rattle.doubles.specs.declared.Tried.TheVariants.{Twice, Next}
 
 -- some name of xs is among ys
 unfoldable pub meet : List (List ℕ) → List (List ℕ) → Bool
@@ -32,7 +30,7 @@ pub record BlockRows (starts lengths links : List ℕ) : Type 0 where
   pub few : length starts ≤ most_names
   pub room : 2 * length starts ≤ length links
 
--- a name of v from place a on stands twice, or that is so precisely where it is from place b on
-abbrev pub BlockTold : List (List ℕ) → List ℕ → ℕ → Tried → Type 0
-BlockTold earlier v a Twice = has_double (earlier ++ names_from v a) ≡ true
-BlockTold earlier v a (Next b) = (a < b) × (has_double (earlier ++ names_from v a) ≡ has_double (earlier ++ names_from v b))
+-- none: a name of v from place a on stands twice; or that is so precisely where it is from place b on
+abbrev pub BlockTold : List (List ℕ) → List ℕ → ℕ → Option ℕ → Type 0
+BlockTold earlier v a r = MatchOption r (has_double (earlier ++ names_from v a) ≡ true)
+    (λ b. (a < b) × (has_double (earlier ++ names_from v a) ≡ has_double (earlier ++ names_from v b)))

@@ -20,13 +20,6 @@ pub struct Kept {
     pub next: usize,
 }
 
-// What trying a block tells: a name of it stands twice, or where the next block starts.
-#[derive(Drop)]
-pub enum Tried {
-    Twice,
-    Next(usize),
-}
-
 // Keeps the starts and lengths of the names of v from place a on, as many as the rows hold.
 fn keep(v: &[u8], a: usize, starts: &mut [u32], lengths: &mut [u32]) -> Kept
     requires { (length v.now ≤ limits.max_text) × (a ≤ length v.now) × (0 < length starts.old) × (length starts.old ≡ length lengths.old) }
@@ -36,18 +29,19 @@ fn keep(v: &[u8], a: usize, starts: &mut [u32], lengths: &mut [u32]) -> Kept
 {
     let n = v.len();
     let mut next = a;
-    let mut k = 0;
-    while k < starts.len() {
+    for k in 0..starts.len() {
         if n < next {
             return Kept { count: k, next };
         }
         let e = names::find(v, next, COMMA);
         starts[k] = next as u32;
         lengths[k] = (e - next) as u32;
-        k += 1;
         next = e + 1;
     }
-    Kept { count: k, next }
+    Kept {
+        count: starts.len(),
+        next,
+    }
 }
 
 // Is a name of u, from place a on, in the lexicon of v's names?
@@ -86,24 +80,13 @@ fn stand_twice(
     if shared(v, next, v, starts, lengths, links) {
         return true;
     }
-    if earlier.len() == 0 {
+    if earlier.is_empty() {
         return false;
     }
     shared(earlier, 0, v, starts, lengths, links)
 }
 
-// Takes every link out of a row.
-fn clear(links: &mut [u16])
-    ensures { (i : ℕ) → get_or links.new i 0 ≡ 0 }
-{
-    let mut i = 0;
-    while i < links.len() {
-        links[i] = 0;
-        i += 1;
-    }
-}
-
-// Tries the block that starts at place a of v, in the lent rows.
+// Tries the block that starts at place a of v, in the lent rows: none if a name of it stands twice, else where the next block starts.
 fn try_block(
     earlier: &[u8],
     v: &[u8],
@@ -111,18 +94,16 @@ fn try_block(
     starts: &mut [u32],
     lengths: &mut [u32],
     links: &mut [u16],
-) -> Tried
+) -> Option<usize>
     requires { (length v.now ≤ limits.max_text) × (a ≤ length v.now) × BlockRows starts.old lengths.old links.old }
     ensures { BlockTold (names_of earlier.now) v.now a result }
 {
-    clear(links);
-    let kept = keep(v, a, starts, lengths);
-    let count = kept.count;
-    let next = kept.next;
+    links.fill(0);
+    let Kept { count, next } = keep(v, a, starts, lengths);
     if stand_twice(earlier, v, next, &starts[..count], &lengths[..count], links) {
-        return Tried::Twice;
+        return None;
     }
-    Tried::Next(next)
+    Some(next)
 }
 
 // Does a name stand twice among those of earlier and of v, where none does in earlier? The rows are lent and overwritten.
@@ -142,7 +123,7 @@ pub fn has_double(
     }
     let mut a = 0;
     while a <= n {
-        let Tried::Next(next) = try_block(earlier, v, a, starts, lengths, links) else {
+        let Some(next) = try_block(earlier, v, a, starts, lengths, links) else {
             return true;
         };
         a = next;

@@ -1,6 +1,5 @@
 -- `doubles::shared` meets its contract: the names from the next place on meet those of the lexicon if any from place a on do. Assumes nothing.
 use native.Mathlib.Omega.{arith}
-use Prim.Native.Nat.{◌-◌}
 use mathlib.Core.Path.{refl, sym, ◌∙◌}
 use Rattle.doubles.proofs.Blocks.{meet-found, meet-on, meet-past}
 use Rattle.doubles.proofs.shared.Goals as goal
