@@ -1,7 +1,7 @@
 -- Bytes joined to a number, the window on them, and its lowest 1. Assumes nothing.
 use mathlib.Core.Path.{◌≡◌, refl, ap, sym, subst, ◌∙◌}
 use mathlib.Core.Bool.{Bool, true, false}
-use mathlib.Core.List.{List}
+use mathlib.Core.List.{List, [], ◌∷◌}
 use Prim.Native.Nat.{ℕ, zero, suc, ◌+◌, ◌-◌, ◌*◌, ◌/◌, ◌%◌, ◌^◌, ◌≤◌, ◌<◌}
 use native.Mathlib.Omega.{arith}
 use native.Mathlib.Decide.{dec_lt}
@@ -11,6 +11,7 @@ use lib.Count.{count_trailing_zeros, under, trailing_le}
 use lib.Dec.{eqb, leb}
 use lib.ListN.{length, get_or}
 use lib.Pow.{pow-add, pow_pos, pow_mono, shr_lt, shr-shr}
+use Rattle.std.specs.Int.{w64, from_le_bytes}
 use Rattle.grammar.specs.Basics.{choose}
 use Rattle.triples.specs.Certificate.{bit, is_set}
 use Rattle.bits.specs.Windows.{Word, Window, window_end, wide_bits, Columns, LowestOne, ClearTo}
@@ -50,23 +51,37 @@ word-one bytes b r q h = record { most = h; bits = bits }
         let f : c ≡ (8 * b + c) % 8 = omega arith in
         ap (λ (n : ℕ). n / 2 ^ c % 2) q ∙ ap (λ (n : ℕ). get_or bytes n 0 / 2 ^ c % 2) e ∙ ap (λ (n : ℕ). get_or bytes ((8 * b + c) / 8) 0 / 2 ^ n % 2) f
 
--- twice as many
-pub word-join : (bytes : List ℕ) (b n x y : ℕ) → Word bytes b n x → Word bytes (b + n) n y → Word bytes b (n + n) (x + 2 ^ (8 * n) * y)
-word-join bytes b n x y s t = record { most = most; bits = bits }
+-- one byte more
+word-next : (bytes : List ℕ) (b n x : ℕ) → Word bytes b n x → get_or bytes (b + n) 0 < 256 → Word bytes b (n + 1) (x + get_or bytes (b + n) 0 * 2 ^ (8 * n))
+word-next bytes b n x s h = subst (λ (m : ℕ). Word bytes b (n + 1) (x + m)) (mul_comm (2 ^ (8 * n)) y) (record { most = most; bits = bits })
   where
-    most : x + 2 ^ (8 * n) * y < 2 ^ (8 * (n + n))
-    most =
-        let e : 8 * n + 8 * n ≡ 8 * (n + n) = omega arith in
-        subst (λ (m : ℕ). x + 2 ^ (8 * n) * y < m) (sym (pow-add 2 (8 * n) (8 * n)) ∙ ap (λ (m : ℕ). 2 ^ m) e) (join-most x y (2 ^ (8 * n)) s.most t.most)
+    y : ℕ
+    y = get_or bytes (b + n) 0
 
-    bits : (c : ℕ) → c < 8 * (n + n) → (x + 2 ^ (8 * n) * y) / 2 ^ c % 2 ≡ bit bytes (8 * b + c)
-    bits c h = elim (dec_lt c (8 * n)) [
+    most : x + 2 ^ (8 * n) * y < 2 ^ (8 * (n + 1))
+    most =
+        let e : 8 * n + 8 ≡ 8 * (n + 1) = omega arith in
+        let p : 2 ^ (8 * (n + 1)) ≡ 2 ^ (8 * n) * 256 = sym (ap (λ (m : ℕ). 2 ^ m) e) ∙ pow-add 2 (8 * n) 8 in
+        let l : y ≤ 255 = omega (arith, h) in
+        omega (arith, p, s.most, mul-le-mul_left (2 ^ (8 * n)) l)
+
+    bits : (c : ℕ) → c < 8 * (n + 1) → (x + 2 ^ (8 * n) * y) / 2 ^ c % 2 ≡ bit bytes (8 * b + c)
+    bits c l = elim (dec_lt c (8 * n)) [
       | yes l ↦ join-low x y (8 * n) c l ∙ s.bits c l
       | no m ↦
           let e : c ≡ 8 * n + (c - 8 * n) = omega arith in
           let f : 8 * (b + n) + (c - 8 * n) ≡ 8 * b + c = omega arith in
-          ap (λ (k : ℕ). (x + 2 ^ (8 * n) * y) / 2 ^ k % 2) e ∙ join-high x y (8 * n) (c - 8 * n) s.most ∙ t.bits (c - 8 * n) (omega arith) ∙ ap (bit bytes) f
+          ap (λ (k : ℕ). (x + 2 ^ (8 * n) * y) / 2 ^ k % 2) e ∙ join-high x y (8 * n) (c - 8 * n) s.most
+          ∙ (word-one bytes (b + n) y refl h).bits (c - 8 * n) (omega arith) ∙ ap (bit bytes) f
     ]
+
+-- eight bytes, the first of them lowest
+pub word_eight : (bytes : List ℕ) (b : ℕ) → ((k : ℕ) → get_or bytes k 0 < 256)
+    → Word bytes b 8 (from_le_bytes w64 (get_or bytes b 0 ∷ get_or bytes (b + 1) 0 ∷ get_or bytes (b + 2) 0 ∷ get_or bytes (b + 3) 0 ∷ get_or bytes (b + 4) 0 ∷ get_or bytes (b + 5) 0 ∷ get_or bytes (b + 6) 0 ∷ get_or bytes (b + 7) 0 ∷ []))
+word_eight bytes b h = next 7 _ (next 6 _ (next 5 _ (next 4 _ (next 3 _ (next 2 _ (next 1 _ (word-one bytes b (get_or bytes b 0) refl (h b))))))))
+  where
+    next : (n x : ℕ) → Word bytes b n x → Word bytes b (n + 1) (x + get_or bytes (b + n) 0 * 2 ^ (8 * n))
+    next n x s = word-next bytes b n x s (h (b + n))
 
 -- the window on a number of n bytes from the byte of i on
 window_of : (bytes : List ℕ) (i n w : ℕ) → 0 < n → Word bytes (i / 8) n w → Window bytes i (i / 8 * 8 + 8 * n) (w / 2 ^ (i % 8))

@@ -24,33 +24,21 @@ pub fn set_bit(bytes: &mut [u8], i: usize)
     bytes[b] = bytes[b] | (1u8 << (i % 8));
 }
 
-// A byte as a number.
-fn wide(x: u8) -> u64
-    ensures { (result ≡ x) × (result < 256) }
-{
-    x as u64
-}
-
-// Two bytes as one number, the first of them lowest.
-fn two_bytes(bytes: &[u8], b: usize) -> u64
-    requires { b + 2 ≤ length bytes.now }
-    ensures { Word bytes.now b 2 result }
-{
-    wide(bytes[b]) + 256 * wide(bytes[b + 1])
-}
-
-fn four_bytes(bytes: &[u8], b: usize) -> u64
-    requires { b + 4 ≤ length bytes.now }
-    ensures { Word bytes.now b 4 result }
-{
-    two_bytes(bytes, b) + 65536 * two_bytes(bytes, b + 2)
-}
-
+// Eight bytes as one number, the first of them lowest.
 fn eight_bytes(bytes: &[u8], b: usize) -> u64
     requires { b + 8 ≤ length bytes.now }
     ensures { Word bytes.now b 8 result }
 {
-    four_bytes(bytes, b) + 4294967296 * four_bytes(bytes, b + 4)
+    u64::from_le_bytes([
+        bytes[b],
+        bytes[b + 1],
+        bytes[b + 2],
+        bytes[b + 3],
+        bytes[b + 4],
+        bytes[b + 5],
+        bytes[b + 6],
+        bytes[b + 7],
+    ])
 }
 
 // The bits from i on, of eight bytes if there are so many, else of one.
@@ -62,7 +50,7 @@ pub fn window(bytes: &[u8], i: usize) -> u64
     if b + 8 <= bytes.len() {
         return eight_bytes(bytes, b) >> (i % 8);
     }
-    wide(bytes[b]) >> (i % 8)
+    u64::from(bytes[b]) >> (i % 8)
 }
 
 // The bits from i on, of eight bytes: of the last eight where fewer follow.

@@ -10,9 +10,5 @@ pub fn clear(row: &mut [u32], n: usize)
     requires { n ≤ length row.old }
     ensures { row.new ≡ over (replicate n 0) row.old }
 {
-    let mut i = 0;
-    while i < n {
-        row[i] = 0;
-        i += 1;
-    }
+    row[..n].fill(0);
 }

@@ -24,25 +24,13 @@ pub struct LiveRules {
     pub rules: [u8; MAX_RULES],
 }
 
-fn wide(x: u16) -> usize
-    ensures { result ≡ x }
-{
-    x as usize
-}
-
 // Is the left side reached, and can the rule stand in a tree?
 fn is_live(left: u16, codes: &[u16], productive: &[u8], reached: &[u8]) -> u8
     requires left_bound { left < limits.nonterminal_base + length reached.now }
     requires small { Small (length productive.now) codes.now }
     ensures { result ≡ bit (marked reached.now left && all_marked productive.now codes.now) }
 {
-    if !is_marked(left, reached) {
-        return 0;
-    }
-    if !all_marked(codes, productive) {
-        return 0;
-    }
-    1
+    u8::from(is_marked(left, reached) && all_marked(codes, productive))
 }
 
 // Writes of each rule whether it is live.
@@ -63,12 +51,10 @@ fn write_live<'a>(
         ≡ bit (marked reached.now (left_at lefts.now j) && all_marked productive.now (right_at lengths.now codes.now j)) }
 {
     let mut u = 0;
-    let mut i = 0;
-    while i < count {
-        let e = u + wide(lengths[i]);
+    for i in 0..count {
+        let e = u + usize::from(lengths[i]);
         live[i] = is_live(lefts[i], &codes[u..e], productive, reached);
         u = e;
-        i += 1;
     }
 }
 

@@ -6,7 +6,6 @@ ghost use Rattle.grammar.specs.Limits.{limits};
 ghost use Rattle.live.specs.Marks.{Small, Passed, Derived, DerivedMarks, Led, LedMarks, before, Columns, AllDerived, AllDerivedMarks, AllLed, AllLedMarks, Finished};
 
 use super::marks::{all_marked, is_marked, mark, mark_codes};
-use super::wide;
 
 // Marks a rule's left side if all nonterminals of its right side are marked; how many marks are new?
 fn derive(left: u16, codes: &[u16], marks: &mut [u8]) -> usize
@@ -55,13 +54,10 @@ fn derive_all<'a>(
 {
     let mut n = 0;
     let mut u = used;
-    let mut i = count;
-    while 0 < i {
-        i -= 1;
+    for i in (0..count).rev() {
         let e = u;
-        u -= wide(lengths[i]);
-        let fresh = derive(lefts[i], &codes[u..e], marks);
-        n += fresh;
+        u -= usize::from(lengths[i]);
+        n += derive(lefts[i], &codes[u..e], marks);
     }
     n
 }
@@ -83,13 +79,10 @@ fn lead_all<'a>(
 {
     let mut n = 0;
     let mut u = 0;
-    let mut i = 0;
-    while i < count {
-        let e = u + wide(lengths[i]);
-        let fresh = lead(lefts[i], &codes[u..e], productive, marks);
-        n += fresh;
+    for i in 0..count {
+        let e = u + usize::from(lengths[i]);
+        n += lead(lefts[i], &codes[u..e], productive, marks);
         u = e;
-        i += 1;
     }
     n
 }

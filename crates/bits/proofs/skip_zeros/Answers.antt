@@ -1,6 +1,5 @@
 -- skip_zeros meets its contract: every bit before the byte looked at is clear.
 use native.Mathlib.Omega.{arith}
-use Prim.Native.Nat.{◌-◌}
 use Rattle.bits.proofs.WindowLaws.{clear-start, clear_eight}
 use Rattle.bits.proofs.skip_zeros.Goals as goal
 

@@ -1,6 +1,7 @@
 -- window meets its contract: the bytes without the bits below i.
-use Prim.Native.Nat.{◌/◌}
+use Prim.Native.Nat.{◌/◌, ◌<◌}
 use lib.ListN.{length}
+use native.Mathlib.Omega.{arith}
 use Rattle.bits.proofs.WindowLaws.{word-one, window_eight, window_one}
 use Rattle.bits.proofs.window.Goals as goal
 
@@ -10,5 +11,5 @@ returns-then-b-bytes c = let a = c.args in
 
 pub returns : goal.returns
 returns c = let a = c.args in
-    let w = c.wide.ensures in
-    window_one a.bytes.now (length a.bytes.now) a.i c.wide.result c.if-b-bytes.false (word-one a.bytes.now (a.i / 8) c.wide.result w.0 w.1)
+    let small : c.from.result < 256 = omega (arith, c.from.ensures, c.type_inv.bytes (a.i / 8)) in
+    window_one a.bytes.now (length a.bytes.now) a.i c.from.result c.if-b-bytes.false (word-one a.bytes.now (a.i / 8) c.from.result c.from.ensures small)

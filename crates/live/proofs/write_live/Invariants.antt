@@ -1,4 +1,4 @@
-use Prim.Native.Nat.{ℕ, ◌-◌, ◌≤◌, ◌<◌}
+use Prim.Native.Nat.{ℕ, ◌<◌}
 use mathlib.Core.Path.{◌≡◌}
 use mathlib.Core.Bool.{◌&&◌}
 use mathlib.Core.List.{List}
@@ -11,7 +11,4 @@ abbrev pub live_at : List ℕ → List ℕ → List ℕ → List ℕ → List �
 live_at lefts lengths codes productive reached j = bit (marked reached (left_at lefts j) && all_marked productive (right_at lengths codes j))
 
 abbrev pub invariant-loop-i : goal.invariant-loop-i
-invariant-loop-i l = (l.i ≤ l.count) × (l.u ≡ before l.lengths l.i) × (length l.live ≡ length l.initial.live) × ((j : ℕ) → j < l.i → get_or l.live j 0 ≡ live_at l.lefts l.lengths l.codes l.productive l.reached j)
-
-abbrev pub decreases-loop-i : goal.decreases-loop-i
-decreases-loop-i l = l.count - l.i
+invariant-loop-i l = (l.u ≡ before l.lengths l.i) × (length l.live ≡ length l.initial.live) × ((j : ℕ) → j < l.i → get_or l.live j 0 ≡ live_at l.lefts l.lengths l.codes l.productive l.reached j)

@@ -8,4 +8,4 @@ pub returns-then-x-lt-NONTERMINAL_BASE : goal.returns-then-x-lt-NONTERMINAL_BASE
 returns-then-x-lt-NONTERMINAL_BASE c = sym (marked-low _ c.args.x (omega arith))
 
 pub returns : goal.returns
-returns c = sym (marked-high _ _ (omega arith))
+returns c = let e = c.from.ensures in rw e (sym (marked-high _ _ (omega arith)))

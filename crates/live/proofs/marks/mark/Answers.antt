@@ -9,12 +9,12 @@ pub returns-then-is_marked : goal.returns-then-is_marked
 unfolding with_mark new_mark
 returns-then-is_marked c = let e = sym c.is_marked.ensures ∙ c.if-is_marked.true in record { marks_after = rw e refl; value = rw e refl }
 
-pub overflow_sub-marks : goal.overflow_sub-marks
-overflow_sub-marks c = (unmarked-zero _ _ (sym c.is_marked.ensures ∙ c.if-is_marked.false)).0
+pub overflow_sub-x : goal.overflow_sub-x
+overflow_sub-x c = (unmarked-zero _ _ (sym c.is_marked.ensures ∙ c.if-is_marked.false)).0
 
-pub bounds-marks-x : goal.bounds-marks-x
-bounds-marks-x c = let z = (unmarked-zero _ _ (sym c.is_marked.ensures ∙ c.if-is_marked.false)).0 in omega (arith, z)
+pub bounds-marks-from : goal.bounds-marks-from
+bounds-marks-from c = let z = (unmarked-zero _ _ (sym c.is_marked.ensures ∙ c.if-is_marked.false)).0 in omega (arith, z, c.from.ensures)
 
 pub returns : goal.returns
 unfolding with_mark new_mark
-returns c = let e = sym c.is_marked.ensures ∙ c.if-is_marked.false in record { marks_after = rw e refl; value = rw e refl }
+returns c = let e = sym c.is_marked.ensures ∙ c.if-is_marked.false in record { marks_after = rw (e, c.from.ensures) refl; value = rw e refl }
