@@ -52,10 +52,8 @@ fn count_moves<'a>(
     ensures { result ≡ sum (moves_at ahead.now member.now first.now) q }
 {
     let mut count = 0;
-    let mut p = 0;
-    while p < q {
+    for p in 0..q {
         count += moves_at(ahead, member, first, p);
-        p += 1;
     }
     count
 }

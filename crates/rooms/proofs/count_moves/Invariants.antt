@@ -1,12 +1,9 @@
 use mathlib.Core.Path.{◌≡◌}
-use Prim.Native.Nat.{◌+◌, ◌-◌, ◌*◌, ◌≤◌}
+use Prim.Native.Nat.{◌+◌, ◌*◌, ◌≤◌}
 use Rattle.grammar.specs.Limits.{limits}
 use Rattle.figures.specs.Sum.{sum}
 use Rattle.rooms.specs.Clauses.{moves_at}
 use Rattle.rooms.proofs.count_moves.Given as goal
 
 abbrev pub invariant-loop-p : goal.invariant-loop-p
-invariant-loop-p l = (l.p ≤ l.q) × (l.count ≤ (limits.max_states + 1) * l.p) × (l.count ≡ sum (moves_at l.ahead l.member l.first) l.p)
-
-abbrev pub decreases-loop-p : goal.decreases-loop-p
-decreases-loop-p l = l.q - l.p
+invariant-loop-p l = (l.count ≤ (limits.max_states + 1) * l.p) × (l.count ≡ sum (moves_at l.ahead l.member l.first) l.p)

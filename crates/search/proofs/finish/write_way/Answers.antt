@@ -42,9 +42,9 @@ bounds-queue-at-in-loop-k c = let l = c.loop-k in
     let h : c.place_at-at.result < length c.args.queue.now = omega (arith, b.1, c.place_at-at.ensures, l.invariant.inside, c.requires.count_in_bounds.0) in
     h
 
-pub bounds-witness-k-in-loop-k : goal.bounds-witness-k-in-loop-k
+pub bounds-witness-k : goal.bounds-witness-k
 unfolding first
-bounds-witness-k-in-loop-k c = let l = c.loop-k in
+bounds-witness-k c = let l = c.loop-k in
     omega (arith, l.invariant.number, l.invariant.long, first-length c.before.before.before.before.before.before.before.before.before, c.requires.count_in_bounds.3)
 
 pub loop-k-preserved : goal.loop-k-preserved
