@@ -12,7 +12,7 @@ use Rattle.automaton.specs.Items.{states}
 use Rattle.automaton.specs.Position.{Opens, Closes}
 use Rattle.automaton.specs.PositionMoves.{ahead, moves_of}
 use Rattle.triple_laws.proofs.Moves.{ahead_before, opening-listed, closing-listed}
-use Rattle.moves.specs.Tables.{Ascends, targets, kinds, Tables, Built}
+use Rattle.moves.specs.Tables.{Ascends, kinds, Tables, Built}
 use Rattle.moves.specs.Shows.{Alone, Shows}
 use Rattle.moves.proofs.Moves.{before_class, opens_class, closes_class, opens_number, closes_number, member_target, targets_exactly, targets_ascend, member_most}
 use Rattle.moves.proofs.Built.{says, ahead-at, number_at, member_at, target_at, segment-of, segment_order, segment-inside}

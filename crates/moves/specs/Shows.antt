@@ -1,7 +1,7 @@
 -- What it is for rows of numbers to show an automaton's moves: all that those who read the rows know of them. It does not matter
 -- what the states stand for, nor how the classes are numbered, but that m classes close and the next m open.
 -- Assumes nothing.
-use Rattle.std.specs.Prelude.{ℕ, suc, ◌+◌, ◌*◌, ◌≤◌, ◌<◌, ◌≡◌, ◌⊎◌, ◌↔◌, get_or}
+use Rattle.std.specs.Prelude.{ℕ, ◌+◌, ◌*◌, ◌≤◌, ◌<◌, ◌≡◌, ◌⊎◌, ◌↔◌, get_or}
 use Rattle.grammar.specs.Basics.{Mem}
 use Rattle.grammar.specs.Limits.{limits}
 use Rattle.automaton.specs.Moves.{Moves}

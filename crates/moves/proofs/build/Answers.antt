@@ -47,13 +47,13 @@ write_rows-requires c = let a = c.args in
     record { n_le_max_nonterminals = few-nonterminals (told c.before.before.before.before.before.before.before.before.before.before.before.before.before.before.before.before.before.before) (recorded c.before.before.before.before.before.before.before.before.before.before.before.before.before.before.before.before.before.before); columns = k; count_in_bounds = omega (arith, z, k.few); wide = wide_of (told c.before.before.before.before.before.before.before.before.before.before.before.before.before.before.before.before.before.before) old (recorded c.before.before.before.before.before.before.before.before.before.before.before.before.before.before.before.before.before.before) c.requires.room }
 
 pub overflow_add-laid : goal.overflow_add-laid
-overflow_add-laid c = omega (arith, c.wide.ensures, few-nonterminals (told c.before.before.before.before.before.before.before.before.before.before.before.before.before.before.before.before.before.before.before.before.before.before.before.before.before.before.before.before) (recorded c.before.before.before.before.before.before.before.before.before.before.before.before.before.before.before.before.before.before.before.before.before.before.before.before.before.before.before.before))
+overflow_add-laid c = omega (arith, c.from.ensures, few-nonterminals (told c.before.before.before.before.before.before.before.before.before.before.before.before.before.before.before.before.before.before.before.before.before.before.before.before.before.before.before.before) (recorded c.before.before.before.before.before.before.before.before.before.before.before.before.before.before.before.before.before.before.before.before.before.before.before.before.before.before.before.before))
 
 pub overflow_mul-laid : goal.overflow_mul-laid
-overflow_mul-laid c = omega (arith, c.wide.ensures, few-nonterminals (told c.before.before.before.before.before.before.before.before.before.before.before.before.before.before.before.before.before.before.before.before.before.before.before.before.before.before.before.before) (recorded c.before.before.before.before.before.before.before.before.before.before.before.before.before.before.before.before.before.before.before.before.before.before.before.before.before.before.before.before))
+overflow_mul-laid c = omega (arith, c.from.ensures, few-nonterminals (told c.before.before.before.before.before.before.before.before.before.before.before.before.before.before.before.before.before.before.before.before.before.before.before.before.before.before.before.before) (recorded c.before.before.before.before.before.before.before.before.before.before.before.before.before.before.before.before.before.before.before.before.before.before.before.before.before.before.before.before))
 
 pub overflow_add-laid-2 : goal.overflow_add-laid-2
-overflow_add-laid-2 c = omega (arith, c.wide.ensures, few-nonterminals (told c.before.before.before.before.before.before.before.before.before.before.before.before.before.before.before.before.before.before.before.before.before.before.before.before.before.before.before.before) (recorded c.before.before.before.before.before.before.before.before.before.before.before.before.before.before.before.before.before.before.before.before.before.before.before.before.before.before.before.before))
+overflow_add-laid-2 c = omega (arith, c.from.ensures, few-nonterminals (told c.before.before.before.before.before.before.before.before.before.before.before.before.before.before.before.before.before.before.before.before.before.before.before.before.before.before.before.before) (recorded c.before.before.before.before.before.before.before.before.before.before.before.before.before.before.before.before.before.before.before.before.before.before.before.before.before.before.before.before))
 
 pub slice_bounds-sort-end : goal.slice_bounds-sort-end
 slice_bounds-sort-end c = let n = ap length c.write_rows.ensures.target ∙ write-length _ _ _ in
@@ -67,7 +67,7 @@ sort-requires c = let p = c.requires in
     let s = row c.before.before.before.before.before.before.before.before.before.before.before.before in
     let n = few-nonterminals (told c.before.before.before.before.before.before.before.before.before.before.before.before.before.before.before.before.before.before.before.before.before.before.before.before.before.before.before.before.before.before) (recorded c.before.before.before.before.before.before.before.before.before.before.before.before.before.before.before.before.before.before.before.before.before.before.before.before.before.before.before.before.before.before) in
     let q = few-states (told c.before.before.before.before.before.before.before.before.before.before.before.before.before.before.before.before.before.before.before.before.before.before.before.before.before.before.before.before.before.before) (recorded c.before.before.before.before.before.before.before.before.before.before.before.before.before.before.before.before.before.before.before.before.before.before.before.before.before.before.before.before.before.before) in
-    let k = c.wide.ensures in
+    let k = c.from.ensures in
     record { row_len_bound = omega (arith, s.long, q); row_in_bounds = omega (arith, s.long, p.room.targets); n_lt_classes = omega (arith, k, n); n_in_bounds = omega (arith, k, p.room.first); by_index = (λ t h. omega (arith, k, s.small t h)) }
 
 pub write_after-requires : goal.write_after-requires
@@ -77,10 +77,10 @@ pub returns : goal.returns
 returns c G C = let a = c.args in
     let old = (tables a.ahead.now a.number.now a.member.now a.target.now a.first.now a.targets.now a.after.now) in
     built_of (with_columns G a.n a.q a.count a.used a.lefts.now a.lengths.now a.codes.now) G C.same _ _ (c.live_rules-live.ensures G _ _ C)
-    (2 * (c.wide.result + 1) + 1) old _ c.requires.room
+    (2 * (c.from.result + 1) + 1) old _ c.requires.room
     (record {
       rows = c.write_rows.ensures;
-      many = ap (λ (n : ℕ). 2 * (n + 1) + 1) c.wide.ensures;
+      many = ap (λ (n : ℕ). 2 * (n + 1) + 1) c.from.ensures;
       sorted = c.sort.ensures;
       after = c.write_after.ensures;
     })

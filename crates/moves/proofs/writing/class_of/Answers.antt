@@ -1,7 +1,7 @@
 -- class_of meets its contract: the tests are the definition's.
 use native.Mathlib.Omega.{arith}
 use borrow.Author.Tests.{le-leb, lt-leb}
-use Prim.Native.Nat.{ℕ, ◌+◌, ◌-◌}
+use Prim.Native.Nat.{◌+◌, ◌-◌}
 use mathlib.Core.Path.{◌≡◌, sym, ap, ◌∙◌}
 use Rattle.grammar.specs.Limits.{limits}
 use Rattle.moves.specs.Tables.{class_of, kept}

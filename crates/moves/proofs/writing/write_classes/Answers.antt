@@ -1,7 +1,7 @@
 -- write_classes meets its contract: d codes of the line are written.
 use borrow.Author.Rules.{rules}
 use native.Mathlib.Omega.{arith}
-use Prim.Native.Nat.{ℕ, ◌+◌, ◌-◌, ◌*◌}
+use Prim.Native.Nat.{ℕ, ◌+◌, ◌*◌}
 use mathlib.Core.Path.{◌≡◌, refl, ap, sym, ◌∙◌}
 use mathlib.Core.List.{List, [], ◌∷◌, ◌++◌, map, append-nil}
 use lib.ListN.{length, set, length-set}
@@ -13,9 +13,6 @@ use Rattle.moves.proofs.writing.write_classes.Goals as goal
 
 pub loop-d-init : goal.loop-d-init
 loop-d-init c = let a = c.args in (
-  omega arith,
-  refl,
-  refl,
   writing_start (λ x. class_of limits a.m (2 * a.m) (kept a.live x)) a.codes.now (class_of limits 0 (2 * a.m) (kept a.live a.left) ∷ []) a.at a.member.now,
   writing_start (λ x. class_of limits 0 (2 * a.m + 1) (kept a.live x)) a.codes.now [] (a.at + 1) (set a.target.now a.at c.class_of.result),
 )
@@ -29,17 +26,14 @@ bounds-target-at-in-loop-d c = omega (arith, length-set c.args.target.now c.args
 pub loop-d-preserved : goal.loop-d-preserved
 loop-d-preserved c = let a = c.args in
     let l = c.loop-d in (
-      omega arith,
-      simp length-set l.invariant.1,
-      length-set l.target (a.at + l.d + 1) c.class_of-in-loop-d-2.result ∙ l.invariant.2,
       writing_more (λ x. class_of limits a.m (2 * a.m) (kept a.live x)) a.codes.now (class_of limits 0 (2 * a.m) (kept a.live a.left) ∷ []) a.at a.member.now
-          l.member l.d (a.at + l.d) c.class_of-in-loop-d.result (omega arith) c.class_of-in-loop-d.ensures refl l.invariant.3,
+          l.member l.d (a.at + l.d) c.class_of-in-loop-d.result (omega arith) c.class_of-in-loop-d.ensures refl l.invariant.0,
       writing_more (λ x. class_of limits 0 (2 * a.m + 1) (kept a.live x)) a.codes.now [] (a.at + 1) (set a.target.now a.at c.class_of.result)
-          l.target l.d (a.at + l.d + 1) c.class_of-in-loop-d-2.result (omega arith) c.class_of-in-loop-d-2.ensures (omega arith) l.invariant.4,
+          l.target l.d (a.at + l.d + 1) c.class_of-in-loop-d-2.result (omega arith) c.class_of-in-loop-d-2.ensures (omega arith) l.invariant.1,
     )
 
 pub shape_of-target : goal.shape_of-target
-shape_of-target c = c.loop-d.invariant.2 ∙ length-set c.args.target.now c.args.at c.class_of.result
+shape_of-target c = c.loop-d.auto.target ∙ length-set c.args.target.now c.args.at c.class_of.result
 
 pub returns : goal.returns
 returns c = let a = c.args in
@@ -49,8 +43,8 @@ returns c = let a = c.args in
     let closes : ℕ → ℕ = λ x. class_of limits 0 (2 * a.m + 1) (kept a.live x) in
     let x = kept a.live a.left in
     let e : length a.codes.now ≡ l.d = omega arith in
-    let g = writing-end opens a.codes.now (class_of limits 0 (2 * a.m) (kept a.live a.left) ∷ []) a.at a.member.now l.member l.d (omega arith) l.invariant.3 in
-    let t = writing-end closes a.codes.now [] (a.at + 1) (set a.target.now a.at left.result) l.target l.d (omega arith) l.invariant.4 in record {
+    let g = writing-end opens a.codes.now (class_of limits 0 (2 * a.m) (kept a.live a.left) ∷ []) a.at a.member.now l.member l.d (omega arith) l.invariant.0 in
+    let t = writing-end closes a.codes.now [] (a.at + 1) (set a.target.now a.at left.result) l.target l.d (omega arith) l.invariant.1 in record {
       member_after = ap (λ (v : ℕ). set l.member (a.at + length a.codes.now) v) c.class_of-2.ensures
           ∙ ap (λ (n : ℕ). set l.member (a.at + n) (class_of limits 0 (2 * a.m) x)) e
           ∙ sym (one-write l.member (a.at + l.d) (class_of limits 0 (2 * a.m) x)) ∙ g

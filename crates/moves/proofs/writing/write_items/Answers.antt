@@ -1,9 +1,9 @@
 -- write_items meets its contract: d codes of the line are written.
 use native.Mathlib.Omega.{arith}
-use Prim.Native.Nat.{ℕ, ◌+◌, ◌-◌}
+use Prim.Native.Nat.{ℕ, ◌+◌}
 use mathlib.Core.Path.{◌≡◌, refl, ap, sym, ◌∙◌}
 use mathlib.Core.List.{List, [], ◌∷◌}
-use lib.ListN.{length, set, length-set}
+use lib.ListN.{length, set}
 use Rattle.moves.specs.Tables.{kept}
 use Rattle.moves.specs.Clauses.{write}
 use Rattle.moves.proofs.Writes.{writing_start, writing_more, writing-end, one-write, map_constant}
@@ -11,9 +11,6 @@ use Rattle.moves.proofs.writing.write_items.Goals as goal
 
 pub loop-d-init : goal.loop-d-init
 loop-d-init c = let a = c.args in (
-  omega arith,
-  refl,
-  refl,
   writing_start (kept a.live) a.codes.now (0 ∷ []) a.at a.ahead.now,
   writing_start (λ x. a.i) a.codes.now (a.i ∷ []) a.at a.number.now,
 )
@@ -21,19 +18,16 @@ loop-d-init c = let a = c.args in (
 pub loop-d-preserved : goal.loop-d-preserved
 loop-d-preserved c = let a = c.args in
     let l = c.loop-d in (
-      omega arith,
-      simp length-set l.invariant.1,
-      simp length-set l.invariant.2,
-      writing_more (kept a.live) a.codes.now (0 ∷ []) a.at a.ahead.now l.ahead l.d (a.at + l.d) c.kept_code-x.result (omega arith) c.kept_code-x.ensures refl l.invariant.3,
-      writing_more (λ x. a.i) a.codes.now (a.i ∷ []) a.at a.number.now l.number l.d (a.at + l.d) a.i (omega arith) refl refl l.invariant.4,
+      writing_more (kept a.live) a.codes.now (0 ∷ []) a.at a.ahead.now l.ahead l.d (a.at + l.d) c.kept_code.result (omega arith) c.kept_code.ensures refl l.invariant.0,
+      writing_more (λ x. a.i) a.codes.now (a.i ∷ []) a.at a.number.now l.number l.d (a.at + l.d) a.i (omega arith) refl refl l.invariant.1,
     )
 
 pub returns : goal.returns
 returns c = let a = c.args in
     let l = c.loop-d in
     let e : length a.codes.now ≡ l.d = omega arith in
-    let f = writing-end (kept a.live) a.codes.now (0 ∷ []) a.at a.ahead.now l.ahead l.d (omega arith) l.invariant.3 in
-    let g = writing-end (λ x. a.i) a.codes.now (a.i ∷ []) a.at a.number.now l.number l.d (omega arith) l.invariant.4 in record {
+    let f = writing-end (kept a.live) a.codes.now (0 ∷ []) a.at a.ahead.now l.ahead l.d (omega arith) l.invariant.0 in
+    let g = writing-end (λ x. a.i) a.codes.now (a.i ∷ []) a.at a.number.now l.number l.d (omega arith) l.invariant.1 in record {
       ahead_after = ap (λ (n : ℕ). set l.ahead (a.at + n) 0) e ∙ sym (one-write l.ahead (a.at + l.d) 0) ∙ f;
       number_after = ap (λ (n : ℕ). set l.number (a.at + n) a.i) e ∙ sym (one-write l.number (a.at + l.d) a.i) ∙ g
           ∙ ap (λ (vs : List ℕ). write a.number.now a.at vs) (map_constant a.i a.codes.now);

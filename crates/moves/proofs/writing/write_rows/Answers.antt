@@ -1,5 +1,4 @@
 -- write_rows meets its contract: the lines before the rules, then the rules.
-use borrow.Author.Rules.{rules}
 use Prim.Native.Nat.{ℕ, ◌+◌}
 use mathlib.Core.Path.{refl, ap, ◌∙◌}
 use mathlib.Core.List.{List, map}

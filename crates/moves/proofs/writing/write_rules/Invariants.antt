@@ -1,4 +1,4 @@
-use Prim.Native.Nat.{ℕ, ◌+◌, ◌-◌, ◌≤◌}
+use Prim.Native.Nat.{ℕ, ◌+◌, ◌-◌}
 use mathlib.Core.Path.{◌≡◌}
 use mathlib.Core.List.{List}
 use Rattle.grammar.specs.Grammar.{Rule}
@@ -19,9 +19,6 @@ abbrev pub targets : List ℕ → ℕ → ℕ → Rule → List ℕ
 targets live m k r = target_line limits m k (blanked (live_line live k) r)
 
 abbrev pub invariant-loop-i : goal.invariant-loop-i
-invariant-loop-i l = (l.i ≤ l.count) × (l.u + lengths_from l.lengths (l.count - l.i) l.i ≡ lengths_from l.lengths l.count 0) × (l.at ≡ 4 + l.u + l.i)
+invariant-loop-i l = (l.u + lengths_from l.lengths (l.count - l.i) l.i ≡ lengths_from l.lengths l.count 0) × (l.at ≡ 4 + l.u + l.i)
     × Rows (aheads l.live) l.lefts l.lengths l.codes l.count l.initial.ahead l.ahead l.at l.u l.i × Rows number_line l.lefts l.lengths l.codes l.count l.initial.number l.number l.at l.u l.i
     × Rows (members l.live l.m) l.lefts l.lengths l.codes l.count l.initial.member l.member l.at l.u l.i × Rows (targets l.live l.m) l.lefts l.lengths l.codes l.count l.initial.target l.target l.at l.u l.i
-
-abbrev pub decreases-loop-i : goal.decreases-loop-i
-decreases-loop-i l = l.count - l.i
