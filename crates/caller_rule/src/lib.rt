@@ -2,53 +2,42 @@
 
 #![tactic(auto)]
 
-ghost use Rattle.std.specs.Prelude.{◌≡◌, ◌+◌, ◌*◌, ◌≤◌, length, get_or};
+ghost use Rattle.std.specs.Prelude.{◌≡◌, ◌+◌, ◌*◌, ◌≤◌, eqb, length, get_or};
+ghost use Rattle.std.specs.Option.{is_none, unwrap_or};
 ghost use Rattle.grammar.specs.Limits.{limits};
 ghost use Rattle.caller_rule.specs.RuleRows.{member_class, target_class, Small, six, Wide, ItemWritten, code_before, low_before, Ruled, RuleWritten};
 
 use grammar::NONTERMINAL_BASE;
 
-fn wide(x: u16) -> usize
-    ensures { result ≡ x }
-{
-    x as usize
-}
-
-// The class that a state moves by.
-fn member_class(ends: bool, x: u16, kinds: u16, c: u16, d: u16) -> u16
+// The class that a state moves by, where `x` is the code ahead of its dot, if there is one.
+fn member_class(x: Option<u16>, kinds: u16, c: u16, d: u16) -> u16
     requires { (kinds ≤ limits.max_states) × (d ≤ 2 * limits.max_states) }
-    ensures { result ≡ member_class ends x kinds c d }
+    ensures { result ≡ member_class (is_none x) (unwrap_or x 0) kinds c d }
 {
-    if ends {
-        return c;
+    match x {
+        None => c,
+        Some(x) if NONTERMINAL_BASE <= x => kinds + d,
+        Some(_) => 2 * kinds,
     }
-    if NONTERMINAL_BASE <= x {
-        return kinds + d;
-    }
-    2 * kinds
 }
 
-// The class that leads to it.
-fn target_class(begins: bool, y: u16, kinds: u16, c: u16, e: u16) -> u16
+// The class that leads to it, where `y` is the code before its dot, if there is one.
+fn target_class(y: Option<u16>, kinds: u16, c: u16, e: u16) -> u16
     requires { (kinds ≤ limits.max_states) × (c ≤ limits.max_states) }
-    ensures { result ≡ target_class begins y kinds c e }
+    ensures { result ≡ target_class (is_none y) (unwrap_or y 0) kinds c e }
 {
-    if begins {
-        return kinds + c;
+    match y {
+        None => kinds + c,
+        Some(y) if NONTERMINAL_BASE <= y => e,
+        Some(_) => 2 * kinds + 1,
     }
-    if NONTERMINAL_BASE <= y {
-        return e;
-    }
-    2 * kinds + 1
 }
 
-// The states of one item: the code ahead of its dot, or 0 at its end, and the code before it, or 0 at dot 0.
+// The states of one item: `x` is the code ahead of its dot, none at its end, and `y` the code before it, none at dot 0.
 fn write_item<'a>(
     i: u16,
-    x: u16,
-    y: u16,
-    begins: bool,
-    ends: bool,
+    x: Option<u16>,
+    y: Option<u16>,
     kinds: u16,
     callers: &'a [u16],
     ranks: &'a [u16],
@@ -64,43 +53,42 @@ fn write_item<'a>(
 )
     requires small { Small callers.now ranks.now kinds low behind at }
     requires wide { Wide (at + length callers.now) (six ahead.old number.old member.old target.old after.old down.old) }
-    ensures { ItemWritten i x y begins ends kinds callers.now ranks.now low behind at (length callers.now)
+    ensures { ItemWritten i (unwrap_or x 0) (unwrap_or y 0) (is_none y) (is_none x) kinds callers.now ranks.now low behind at (length callers.now)
         (six ahead.old number.old member.old target.old after.old down.old)
         (six ahead.new number.new member.new target.new after.new down.new) }
 {
     let w = callers.len();
-    let mut r = 0;
-    while r < w {
-        let c = callers[r];
-        let k = ranks[wide(c)];
-        ahead[at + r] = x;
+    let code = x.unwrap_or(0);
+    for (r, &c) in callers.iter().enumerate() {
+        let k = ranks[usize::from(c)];
+        ahead[at + r] = code;
         number[at + r] = i;
         after[at + r] = (at + r + w) as u16;
         down[at + r] = low + k;
-        member[at + r] = member_class(ends, x, kinds, c, low + k);
-        target[at + r] = target_class(begins, y, kinds, c, behind + k);
-        r += 1;
+        member[at + r] = member_class(x, kinds, c, low + k);
+        target[at + r] = target_class(y, kinds, c, behind + k);
     }
 }
 
-// The code at a dot, or 0 past the last.
-fn code_at(codes: &[u16], d: usize) -> u16
-    ensures { result ≡ get_or codes.now d 0 }
+// The code at a dot, none past the last.
+fn code_at(codes: &[u16], d: usize) -> Option<u16>
+    requires { d ≤ length codes.now }
+    ensures code { unwrap_or result 0 ≡ get_or codes.now d 0 }
+    ensures end { is_none result ≡ eqb d (length codes.now) }
 {
-    if d < codes.len() {
-        return codes[d];
-    }
-    0
+    codes.get(d).copied()
 }
 
-// The code before a dot, or 0.
-fn code_before(codes: &[u16], d: usize) -> u16
-    ensures { result ≡ code_before codes.now d }
+// The code before a dot, none at the first.
+fn code_before(codes: &[u16], d: usize) -> Option<u16>
+    requires { d ≤ length codes.now }
+    ensures code { unwrap_or result 0 ≡ code_before codes.now d }
+    ensures begin { is_none result ≡ eqb d 0 }
 {
     if d == 0 {
-        return 0;
+        return None;
     }
-    code_at(codes, d - 1)
+    codes.get(d - 1).copied()
 }
 
 // The number one dot earlier, or 0.
@@ -137,36 +125,18 @@ pub fn write_rule<'a>(
         (six ahead.old number.old member.old target.old after.old down.old)
         (six ahead.new number.new member.new target.new after.new down.new) }
 {
-    let k = codes.len();
     let w = callers.len();
-    let mut d = 0;
     let mut p = at;
     let mut l = low;
-    while d <= k {
+    for d in 0..codes.len() + 1 {
         let x = code_at(codes, d);
         let y = code_before(codes, d);
         let before = low_before(l, narrow, d);
         write_item(
-            i,
-            x,
-            y,
-            d == 0,
-            d == k,
-            kinds,
-            callers,
-            ranks,
-            l,
-            before,
-            p,
-            ahead,
-            number,
-            member,
-            target,
-            after,
+            i, x, y, kinds, callers, ranks, l, before, p, ahead, number, member, target, after,
             down,
         );
         p += w;
         l += narrow;
-        d += 1;
     }
 }
