@@ -39,13 +39,6 @@ unfolding start_of
 start_four lengths widths zero = omega arith
 start_four lengths widths (suc n) = let z = start_four lengths widths n in omega (arith, z)
 
--- a later rule begins later
-pub start_rises : (lengths widths : List ℕ) (i n : ℕ) → i ≤ n → start_of lengths widths i ≤ start_of lengths widths n
-start_rises lengths widths i n h = elim (ℕ_discrete i n) [
-  | yes e ↦ omega (arith, ap (start_of lengths widths) e)
-  | no e ↦ let z = start_up lengths widths i n (omega (arith, h, e)) in omega (arith, z)
-]
-
 -- states 0 and 1, then rule 0
 pub row-start : (old mid new : List ℕ) (ends : ℕ → ℕ) (g : ℕ → ℕ → ℕ) (start width dots : ℕ → ℕ) (f : ℕ → ℕ → ℕ → ℕ) → Filled old mid 2 ends
     → WroteBlocks mid new 2 1 2 g → LevelRow old new 0 ends (λ d. g d 0) start width dots f
@@ -208,16 +201,6 @@ module _ (lefts lengths codes : List ℕ) (K : ℕ) (first callers below widths 
         after = row-start _ _ _ _ _ _ _ _ _ e.after r.after;
         down = row-start _ _ _ _ _ _ _ _ _ e.down r.down;
       }
-
-  pub level_wide : (q n : ℕ) (old new : Six) → Wide q old → All n old new → Wide q new
-  level_wide q n old new W X = record {
-    ahead = omega (arith, W.ahead, X.ahead.size);
-    number = omega (arith, W.number, X.number.size);
-    member = omega (arith, W.member, X.member.size);
-    target = omega (arith, W.target, X.target.size);
-    after = omega (arith, W.after, X.after.size);
-    down = omega (arith, W.down, X.down.size);
-  }
 
   pub level_next : (count n : ℕ) → Levelled lefts lengths codes count K first callers below widths ranks → n < count → (low at : ℕ) (old mid new : Six)
       → low ≡ start_of lengths below n → at ≡ start_of lengths widths n → All n old mid

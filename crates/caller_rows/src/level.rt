@@ -7,7 +7,6 @@ ghost use Rattle.caller_rule.specs.RuleRows.{six, Wide, RuleWritten};
 ghost use Rattle.caller_rows.specs.LevelRows.{callers_of, Levelled, LevelWritten, RulesWritten};
 
 use super::front::write_front;
-use super::ranks::wide;
 use super::widths::{rule_states, segment_at};
 
 // The states of one rule, from the rows of all rules; its codes begin at u.
@@ -41,8 +40,8 @@ fn write_one<'a>(
         (six ahead.old number.old member.old target.old after.old down.old)
         (six ahead.new number.new member.new target.new after.new down.new) }
 {
-    let k = wide(lengths[i]);
-    let w = wide(widths[i]);
+    let k = usize::from(lengths[i]);
+    let w = usize::from(widths[i]);
     let from = segment_at(first, lefts[i]);
     let e = u + k;
     let to = from + w;
@@ -92,8 +91,7 @@ fn write_rules<'a>(
     let mut at = 4;
     let mut low = 4;
     let mut u = 0;
-    let mut i = 0;
-    while i < count {
+    for i in 0..count {
         write_one(
             i, u, low, at, lefts, lengths, codes, count, kinds, first, callers, below, widths,
             ranks, ahead, number, member, target, after, down,
@@ -101,8 +99,7 @@ fn write_rules<'a>(
         let k = lengths[i];
         at += rule_states(k, widths[i]);
         low += (k + 1) * below[i];
-        u += wide(k);
-        i += 1;
+        u += usize::from(k);
     }
 }
 

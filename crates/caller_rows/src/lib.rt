@@ -23,7 +23,6 @@ use grammar::{MAX_RULES, MAX_STATES};
 use live::live_rules;
 use moves::CLASSES;
 use next::add_level;
-use ranks::wide;
 
 // How many states there are, and how many closing classes. More states than MAX_STATES: the rows are not those of the moves.
 #[derive(Drop)]
@@ -57,8 +56,7 @@ fn add_levels<'a>(
     let mut ranks = [0u16; MAX_STATES];
     let mut kinds = 0;
     let mut q = items;
-    let mut l = 0;
-    while l < m {
+    for _ in 0..m {
         kinds = q as u16;
         q = add_level(
             lefts, lengths, codes, count, n, live, q, &mut below, &mut ranks, ahead, number,
@@ -67,7 +65,6 @@ fn add_levels<'a>(
         if MAX_STATES < q {
             return Built { states: q, kinds };
         }
-        l += 1;
     }
     Built { states: q, kinds }
 }
@@ -79,7 +76,7 @@ fn sort_targets(target: &[u16], q: usize, kinds: u16, first: &mut [u16], targets
     requires by_index { (p : ℕ) → p < q → get_or target.now p 0 ≤ 2 * kinds + 1 }
     ensures { Sorted (take q target.now) (2 * kinds + 1) targets.old first.new targets.new }
 {
-    let laid = 2 * wide(kinds) + 1;
+    let laid = 2 * usize::from(kinds) + 1;
     moves::sort(&target[..q], laid, first, targets);
 }
 

@@ -5,12 +5,6 @@ ghost use Rattle.caller_rows.specs.Clauses.{Filled, Under, key_of, key_at, Ranka
 
 use grammar::{MAX_STATES, NONTERMINAL_BASE};
 
-pub fn wide(x: u16) -> usize
-    ensures { result ≡ x }
-{
-    x as usize
-}
-
 // The number of a nonterminal, or n + 1.
 fn key_of(x: u16, n: u16) -> u16
     requires { n ≤ limits.max_nonterminals }
@@ -27,10 +21,8 @@ pub fn write_keys<'a>(ahead: &'a [u16], q: usize, n: u16, keys: &mut [u16])
     requires { (1 ≤ q) × (q ≤ length ahead.now) × (q ≤ length keys.old) × (n ≤ limits.max_nonterminals) }
     ensures { Filled keys.old keys.new q (key_at ahead.now n) }
 {
-    let mut p = 0;
-    while p < q {
+    for p in 0..q {
         keys[p] = key_of(ahead[p], n);
-        p += 1;
     }
     keys[0] = n;
 }
@@ -41,11 +33,9 @@ fn rank_segment<'a>(callers: &'a [u16], from: usize, to: usize, ranks: &mut [u16
     requires from_le_to { (from ≤ to) × (limits.max_states ≤ length ranks.old) }
     ensures { SegmentRanked callers.now from to ranks.old ranks.new }
 {
-    let mut k = from;
-    while k < to {
-        let p = wide(callers[k]);
+    for k in from..to {
+        let p = usize::from(callers[k]);
         ranks[p] = (k - from) as u16;
-        k += 1;
     }
 }
 
@@ -55,13 +45,11 @@ fn write_ranks<'a>(first: &'a [u16], callers: &'a [u16], n: u16, ranks: &mut [u1
     requires max_states_in_bounds { limits.max_states ≤ length ranks.old }
     ensures { RanksWritten first.now callers.now (n + 1) ranks.old ranks.new }
 {
-    let kinds = wide(n) + 1;
-    let mut b = 0;
-    while b < kinds {
-        let from = wide(first[b]);
-        let to = wide(first[b + 1]);
+    let kinds = usize::from(n) + 1;
+    for b in 0..kinds {
+        let from = usize::from(first[b]);
+        let to = usize::from(first[b + 1]);
         rank_segment(callers, from, to, ranks);
-        b += 1;
     }
 }
 
@@ -70,11 +58,8 @@ fn pass_ranks<'a>(ranks: &'a [u16], down: &'a [u16], q: usize, passed: &mut [u16
     requires { (q ≤ length down.now) × (q ≤ length passed.old) × Under down.now q limits.max_states × (limits.max_states ≤ length ranks.now) }
     ensures { Filled passed.old passed.new q (λ p. get_or ranks.now (get_or down.now p 0) 0) }
 {
-    let mut p = 0;
-    while p < q {
-        let d = wide(down[p]);
-        passed[p] = ranks[d];
-        p += 1;
+    for p in 0..q {
+        passed[p] = ranks[usize::from(down[p])];
     }
 }
 

@@ -6,7 +6,7 @@ ghost use Rattle.grammar.specs.Grammar.{Grammar};
 ghost use Rattle.caller_rows.specs.Clauses.{Filled, Segmented, width_of, width_at, most_product, start_of};
 ghost use Rattle.caller_rows.specs.Levels.{sized_by, Sizable, Sized};
 
-use super::ranks::{wide, write_keys};
+use super::ranks::write_keys;
 use grammar::{MAX_NONTERMINALS, MAX_RULES, MAX_STATES, NONTERMINAL_BASE};
 
 // Where the states before each nonterminal begin, those before S' and before none, and where these end.
@@ -17,8 +17,8 @@ pub fn segment_at<'a>(first: &'a [u16], left: u16) -> usize
     requires { Segmented first.now left }
     ensures { result ≡ get_or first.now (left - limits.nonterminal_base) 0 }
 {
-    let b = wide(left - NONTERMINAL_BASE);
-    wide(first[b])
+    let b = usize::from(left - NONTERMINAL_BASE);
+    usize::from(first[b])
 }
 
 // How many callers a rule has: the length of its left side's segment.
@@ -26,7 +26,7 @@ fn width_of<'a>(first: &'a [u16], left: u16) -> u16
     requires { Segmented first.now left }
     ensures { result ≡ width_of first.now left }
 {
-    let b = wide(left - NONTERMINAL_BASE);
+    let b = usize::from(left - NONTERMINAL_BASE);
     first[b + 1] - first[b]
 }
 
@@ -53,10 +53,8 @@ fn write_widths<'a>(
     requires by_index { (i : ℕ) → i < count → Segmented first.now (get_or lefts.now i 0) }
     ensures { Filled widths.old widths.new count (width_at lefts.now live.now first.now) }
 {
-    let mut i = 0;
-    while i < count {
+    for i in 0..count {
         widths[i] = live_width(live[i], first, lefts[i]);
-        i += 1;
     }
 }
 
@@ -64,7 +62,7 @@ fn write_widths<'a>(
 pub fn rule_states(k: u16, w: u16) -> usize
     ensures { (result ≡ (k + 1) * w) × (result ≤ most_product) }
 {
-    (wide(k) + 1) * wide(w)
+    (usize::from(k) + 1) * usize::from(w)
 }
 
 // How many states there are: 4, and for each rule its dots times its callers.
@@ -73,10 +71,8 @@ fn state_count<'a>(lengths: &'a [u16], count: usize, widths: &'a [u16]) -> usize
     ensures { result ≡ start_of lengths.now widths.now count }
 {
     let mut q = 4;
-    let mut i = 0;
-    while i < count {
+    for i in 0..count {
         q += rule_states(lengths[i], widths[i]);
-        i += 1;
     }
     q
 }
@@ -102,7 +98,7 @@ pub fn size_level<'a>(
 {
     let mut keys = [0u16; MAX_STATES];
     write_keys(ahead, q, n, &mut keys);
-    let kinds = wide(n) + 2;
+    let kinds = usize::from(n) + 2;
     moves::sort(&keys[..q], kinds, first, callers);
     write_widths(lefts, count, live, first, widths);
     state_count(lengths, count, widths)
@@ -113,9 +109,5 @@ pub fn pass_widths<'a>(widths: &'a [u16], count: usize, below: &mut [u16])
     requires { (count ≤ length widths.now) × (count ≤ length below.old) }
     ensures { Filled below.old below.new count (λ i. get_or widths.now i 0) }
 {
-    let mut i = 0;
-    while i < count {
-        below[i] = widths[i];
-        i += 1;
-    }
+    below[..count].copy_from_slice(&widths[..count]);
 }

@@ -11,7 +11,7 @@ pub slice_bounds-sort-end : goal.slice_bounds-sort-end
 slice_bounds-sort-end c = sym (length-take-le c.args.q c.args.target.now c.requires.q_le_max_states.1)
 
 pub sort-requires : goal.sort-requires
-sort-requires c = let w = c.wide.ensures in
+sort-requires c = let w = c.from.ensures in
     let a = c.args in
     let n = length-take-le a.q a.target.now c.requires.q_le_max_states.1 in record {
       row_len_bound = omega (arith, n, c.requires.q_le_max_states.0);
@@ -28,4 +28,4 @@ by-kinds : {row old first targets : List ℕ} {a b : ℕ} → a ≡ b → Sorted
 by-kinds {row} {old} {first} {targets} e s = subst (λ (n : ℕ). Sorted row (2 * n + 1) old first targets) e s
 
 pub returns : goal.returns
-returns c = by-kinds c.wide.ensures c.sort.ensures
+returns c = by-kinds c.from.ensures c.sort.ensures

@@ -1,4 +1,3 @@
-use Prim.Native.Nat.{ℕ, ◌-◌, ◌≤◌}
 use mathlib.Core.Path.{◌≡◌}
 use Rattle.grammar.specs.Limits.{limits}
 use Rattle.live.specs.Marks.{before}
@@ -8,10 +7,7 @@ use Rattle.caller_rows.specs.LevelRows.{RulesWritten}
 use Rattle.caller_rows.proofs.level.write_rules.Given as goal
 
 abbrev pub invariant-loop-i : goal.invariant-loop-i
-invariant-loop-i l = (l.i ≤ l.count) × (l.at ≡ start_of l.lengths l.widths l.i) × (l.low ≡ start_of l.lengths l.below l.i) × (l.u ≡ before l.lengths l.i)
+invariant-loop-i l = (l.at ≡ start_of l.lengths l.widths l.i) × (l.low ≡ start_of l.lengths l.below l.i) × (l.u ≡ before l.lengths l.i)
     × Wide limits.max_states (six l.ahead l.number l.member l.target l.after l.down)
     × RulesWritten l.lefts l.lengths l.codes l.kinds l.first l.callers l.below l.widths l.ranks l.i (six l.initial.ahead l.initial.number l.initial.member l.initial.target l.initial.after l.initial.down) (six l.ahead l.number l.member l.target l.after l.down)
     × Alike (six l.initial.ahead l.initial.number l.initial.member l.initial.target l.initial.after l.initial.down) (six l.ahead l.number l.member l.target l.after l.down)
-
-abbrev pub decreases-loop-i : goal.decreases-loop-i
-decreases-loop-i l = l.count - l.i

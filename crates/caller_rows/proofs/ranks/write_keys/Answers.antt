@@ -1,6 +1,6 @@
 -- write_keys meets its contract: a turn writes one entry, and then the first is written again.
 use native.Mathlib.Omega.{arith}
-use Prim.Native.Nat.{ℕ, ◌-◌}
+use Prim.Native.Nat.{ℕ}
 use lib.ListN.{get_or}
 use Rattle.caller_rows.specs.Clauses.{Filled, key_of}
 use Rattle.caller_rows.proofs.FilledLaws.{filled_none, filled_next, filled-first}
@@ -8,17 +8,14 @@ use mathlib.Core.Path.{◌≡◌, subst}
 use Rattle.caller_rows.proofs.ranks.write_keys.Goals as goal
 
 pub loop-p-init : goal.loop-p-init
-loop-p-init c = (omega arith, filled_none _ _)
+loop-p-init c = filled_none _ _
 
 pub loop-p-preserved : goal.loop-p-preserved
-loop-p-preserved c = let l = c.loop-p in
-    let t = c.loop-p-test.true in
-    let a = c.args in
-    (omega (arith, t), filled_next a.keys.now l.keys l.p _ _ l.invariant.1 (omega (arith, t, c.requires.2)) c.key_of.ensures)
+loop-p-preserved c = let l = c.loop-p in filled_next c.args.keys.now l.keys l.p _ _ l.invariant (omega (arith, c.requires.2)) c.key_of.ensures
 
 pub returns : goal.returns
 returns c = let l = c.loop-p in
     let a = c.args in
-    let z : l.p ≡ a.q = omega (arith, l.invariant.0, c.loop-p-test.false) in
+    let z : l.p ≡ a.q = omega arith in
     filled-first a.keys.now l.keys a.q a.n (λ p. key_of a.n (get_or a.ahead.now p 0))
-    (subst (λ (q : ℕ). Filled a.keys.now l.keys q (λ p. key_of a.n (get_or a.ahead.now p 0))) z l.invariant.1) c.requires.0 c.requires.2
+    (subst (λ (q : ℕ). Filled a.keys.now l.keys q (λ p. key_of a.n (get_or a.ahead.now p 0))) z l.invariant) c.requires.0 c.requires.2

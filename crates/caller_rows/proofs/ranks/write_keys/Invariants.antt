@@ -1,10 +1,6 @@
-use Prim.Native.Nat.{ℕ, ◌-◌, ◌≤◌}
 use lib.ListN.{get_or}
 use Rattle.caller_rows.specs.Clauses.{Filled, key_of}
 use Rattle.caller_rows.proofs.ranks.write_keys.Given as goal
 
 abbrev pub invariant-loop-p : goal.invariant-loop-p
-invariant-loop-p l = (l.p ≤ l.q) × Filled l.initial.keys l.keys l.p (λ p'. key_of l.n (get_or l.ahead p' 0))
-
-abbrev pub decreases-loop-p : goal.decreases-loop-p
-decreases-loop-p l = l.q - l.p
+invariant-loop-p l = Filled l.initial.keys l.keys l.p (λ p'. key_of l.n (get_or l.ahead p' 0))

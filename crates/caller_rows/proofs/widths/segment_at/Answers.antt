@@ -5,4 +5,4 @@ use lib.ListN.{get_or}
 use Rattle.caller_rows.proofs.widths.segment_at.Goals as goal
 
 pub returns : goal.returns
-returns c = let a = c.args in c.wide.ensures ∙ ap (λ (b : ℕ). get_or a.first.now b 0) c.wide-b.ensures
+returns c = let a = c.args in c.from.ensures ∙ ap (λ (b : ℕ). get_or a.first.now b 0) c.from-b.ensures

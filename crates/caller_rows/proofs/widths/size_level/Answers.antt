@@ -39,7 +39,7 @@ cut_at c G m S =
     let n = few-nonterminals _ (record_of_lem G m _ _ _ _ S) in
     let f : length c.sort.new.first ≡ limits.max_nonterminals + 3 = search rules in
     let z : length c.args.callers.now ≡ limits.max_states = search rules in
-    cut_of G m _ _ _ _ S _ _ _ _ _ (keyed-at c.before.before.before.before.before.before G m S) c.wide-kinds.ensures c.sort.ensures (omega (arith, f, n)) z c.requires.by_index_2
+    cut_of G m _ _ _ _ S _ _ _ _ _ (keyed-at c.before.before.before.before.before.before G m S) c.from-kinds.ensures c.sort.ensures (omega (arith, f, n)) z c.requires.by_index_2
 
 pub write_keys-requires : goal.write_keys-requires
 write_keys-requires c = let p = c.requires.by_index in
@@ -51,7 +51,7 @@ slice_bounds-sort-end c = let p = c.requires.by_index in
     sym (keyed-at c.before.before.before p.0 p.1 p.2).size
 
 pub sort-requires : goal.sort-requires
-sort-requires c = let w = c.wide-kinds.ensures in
+sort-requires c = let w = c.from-kinds.ensures in
     let p = c.requires.by_index in
     let K = keyed-at c.before.before.before.before.before p.0 p.1 p.2 in
     let n = few-nonterminals _ (record_of_lem p.0 p.1 _ _ _ _ p.2) in

@@ -1,10 +1,7 @@
-use Prim.Native.Nat.{◌+◌, ◌-◌, ◌*◌, ◌≤◌}
+use Prim.Native.Nat.{◌+◌, ◌*◌, ◌≤◌}
 use mathlib.Core.Path.{◌≡◌}
 use Rattle.caller_rows.specs.Clauses.{most_product, start_of}
 use Rattle.caller_rows.proofs.widths.state_count.Given as goal
 
 abbrev pub invariant-loop-i : goal.invariant-loop-i
-invariant-loop-i l = (l.i ≤ l.count) × (l.q ≡ start_of l.lengths l.widths l.i) × (l.q ≤ 4 + l.i * most_product)
-
-abbrev pub decreases-loop-i : goal.decreases-loop-i
-decreases-loop-i l = l.count - l.i
+invariant-loop-i l = (l.q ≡ start_of l.lengths l.widths l.i) × (l.q ≤ 4 + l.i * most_product)

@@ -6,7 +6,7 @@ use lib.ListN.{get_or}
 use Rattle.caller_rows.proofs.widths.width_of.Goals as goal
 
 pub overflow_sub-result : goal.overflow_sub-result
-overflow_sub-result c = let e = c.wide-b.ensures in let x = ap (λ (b : ℕ). get_or c.args.first.now (b + 1) 0) e in let y = ap (λ (b : ℕ). get_or c.args.first.now b 0) e in omega (arith, x, y, c.requires.order)
+overflow_sub-result c = let e = c.from-b.ensures in let x = ap (λ (b : ℕ). get_or c.args.first.now (b + 1) 0) e in let y = ap (λ (b : ℕ). get_or c.args.first.now b 0) e in omega (arith, x, y, c.requires.order)
 
 pub returns : goal.returns
-returns c = let a = c.args in ap (λ (b : ℕ). get_or a.first.now (b + 1) 0 - get_or a.first.now b 0) c.wide-b.ensures
+returns c = let a = c.args in ap (λ (b : ℕ). get_or a.first.now (b + 1) 0 - get_or a.first.now b 0) c.from-b.ensures

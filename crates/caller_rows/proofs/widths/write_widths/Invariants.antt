@@ -1,9 +1,5 @@
-use Prim.Native.Nat.{ℕ, ◌-◌, ◌≤◌}
 use Rattle.caller_rows.specs.Clauses.{Filled, width_at}
 use Rattle.caller_rows.proofs.widths.write_widths.Given as goal
 
 abbrev pub invariant-loop-i : goal.invariant-loop-i
-invariant-loop-i l = (l.i ≤ l.count) × Filled l.initial.widths l.widths l.i (width_at l.lefts l.live l.first)
-
-abbrev pub decreases-loop-i : goal.decreases-loop-i
-decreases-loop-i l = l.count - l.i
+invariant-loop-i l = Filled l.initial.widths l.widths l.i (width_at l.lefts l.live l.first)
