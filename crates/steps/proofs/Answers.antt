@@ -5,7 +5,6 @@ use mathlib.Core.List.{List}
 use native.Mathlib.Omega.{arith}
 use lib.ListN.{length, get_or}
 use Rattle.grammar.specs.Limits.{limits}
-use Rattle.automaton.specs.Items.{states}
 use Rattle.automaton.specs.Moves.{Moves, Regular}
 use Rattle.triples.specs.declared.Step.{Step}
 use Rattle.triple_laws.proofs.Members.{place_mem}

@@ -1,6 +1,7 @@
 -- The element of a list at a place, found part by part as the code does. Assumes nothing.
 use Prim.Native.Nat.{ℕ, zero, suc, ◌+◌, ◌-◌, ◌*◌, ◌/◌, ◌%◌, ◌≤◌, ◌<◌}
-use mathlib.Core.Path.{◌≡◌, refl, sym, ap, ◌∙◌}
+use mathlib.Core.Path.{◌≡◌, refl, sym, ap, subst, ◌∙◌}
+use Rattle.std.specs.Prelude.{Ok, Err}
 use mathlib.Core.Bool.{Bool, true, false}
 use mathlib.Core.List.{List, [], ◌∷◌, ◌++◌, map}
 use mathlib.Core.Option.{Option, none, some}
@@ -10,7 +11,6 @@ use lib.ListN.{length, get_or, drop, drop_of_length-le}
 use borrow.Author.Tests.{le-leb, lt-leb, eq-eqb, ne_eqb}
 use Rattle.grammar.specs.Basics.{choose, Mem, here, there, when, each}
 use Rattle.grammar.specs.Limits.{limits}
-use Rattle.grammar.proofs.Answers.{no_bool}
 use Rattle.grammar.proofs.Lists.{drop-next}
 use Rattle.triples.specs.Records.{step}
 use Rattle.triples.specs.declared.Move.TheVariants.{Closing}
@@ -18,20 +18,19 @@ use Rattle.triples.specs.declared.Step.{Step}
 use Rattle.triple_laws.proofs.Members.{mem_place}
 use Rattle.steps.specs.declared.StepAnswer.{StepAnswer}
 use Rattle.steps.specs.declared.StepAnswer.TheVariants.{Record, NoMore}
-use Rattle.steps.specs.declared.Pick.{Pick}
 use Rattle.steps.specs.Steps.{nth, record_answer}
 use Rattle.steps.specs.declared.Sides.{Sides}
-use Rattle.steps.specs.Plan.{inside, between, hit, missed, pick_of, weight, Low, grid, pairs, lefts, shift_of, above, from_shift, shifted}
+use Rattle.steps.specs.Plan.{inside, between, pick_of, weight, Low, grid, pairs, lefts, shift_of, above, from_shift, shifted}
 use Rattle.steps.proofs.Between.{of-between}
 
 -- ---- one turn of the search for a target
 
 pub pick-here : (a b : ℕ) (row : List ℕ) (i k : ℕ) → i < length row → k < weight a b (get_or row i 0)
-    → pick_of (between a b (drop i row)) k ≡ hit (get_or row i 0)
+    → pick_of (between a b (drop i row)) k ≡ Ok (get_or row i 0)
 unfolding between pick_of
 pick-here a b row i k h l = ap (λ (l : List ℕ). pick_of (between a b l) k) (drop-next row i h) ∙ go (inside a b (get_or row i 0)) k l
   where
-    go : (c : Bool) (k : ℕ) → k < choose c 1 0 → pick_of (when c (get_or row i 0 ∷ []) ++ between a b (drop (i + 1) row)) k ≡ hit (get_or row i 0)
+    go : (c : Bool) (k : ℕ) → k < choose c 1 0 → pick_of (when c (get_or row i 0 ∷ []) ++ between a b (drop (i + 1) row)) k ≡ Ok (get_or row i 0)
     go true zero l = refl
     go true (suc k) l = absurd (omega arith)
     go false k l = absurd (omega arith)
@@ -46,50 +45,45 @@ pick-on a b row i k h l = sym (ap (λ (l : List ℕ). pick_of (between a b l) k)
     go true (suc k) l = ap (pick_of (between a b (drop (i + 1) row))) (let z : k ≡ suc k - 1 = omega arith in z)
     go false k l = ap (pick_of (between a b (drop (i + 1) row))) (let z : k ≡ k - 0 = omega arith in z)
 
-pub pick_end : (a b : ℕ) (row : List ℕ) (i k : ℕ) → length row ≤ i → pick_of (between a b (drop i row)) k ≡ missed k
+pub pick_end : (a b : ℕ) (row : List ℕ) (i k : ℕ) → length row ≤ i → pick_of (between a b (drop i row)) k ≡ Err k
 unfolding between pick_of
 pick_end a b row i k h = ap (λ (l : List ℕ). pick_of (between a b l) k) (drop_of_length-le row {i = i} h)
 
 -- ---- a part of the list
 
-pick_some : (g : ℕ → Step) (l : List ℕ) (m : List Step) (k : ℕ) → (pick_of l k).found ≡ true → nth (map g l ++ m) k ≡ some (g (pick_of l k).target)
+pick_some : (g : ℕ → Step) (l : List ℕ) (m : List Step) (k u : ℕ) → Ok u ≡ pick_of l k → nth (map g l ++ m) k ≡ some (g u)
 unfolding pick_of nth
-pick_some g [] m k e = no_bool (sym e)
-pick_some g (u ∷ l) m zero e = refl
-pick_some g (u ∷ l) m (suc k) e = pick_some g l m k e
+pick_some g [] m k u e = absurd (cc)
+pick_some g (x ∷ l) m zero u e = cc
+pick_some g (x ∷ l) m (suc k) u e = pick_some g l m k u e
 
-pick-none : (g : ℕ → Step) (l : List ℕ) (m : List Step) (k : ℕ) → (pick_of l k).found ≡ false → nth (map g l ++ m) k ≡ nth m (pick_of l k).rest
+pick-none : (g : ℕ → Step) (l : List ℕ) (m : List Step) (k rest : ℕ) → Err rest ≡ pick_of l k → nth (map g l ++ m) k ≡ nth m rest
 unfolding pick_of nth
-pick-none g [] m k e = refl
-pick-none g (u ∷ l) m zero e = no_bool e
-pick-none g (u ∷ l) m (suc k) e = pick-none g l m k e
+pick-none g [] m k rest e = cc
+pick-none g (x ∷ l) m zero rest e = absurd (cc)
+pick-none g (x ∷ l) m (suc k) rest e = pick-none g l m k rest e
 
-pick_at : (l : List ℕ) (k : ℕ) → (pick_of l k).found ≡ true → Mem (pick_of l k).target l
+pick_at : (l : List ℕ) (k u : ℕ) → Ok u ≡ pick_of l k → Mem u l
 unfolding pick_of
-pick_at [] k e = no_bool (sym e)
-pick_at (u ∷ l) zero e = here
-pick_at (u ∷ l) (suc k) e = there (pick_at l k e)
+pick_at [] k u e = absurd (cc)
+pick_at (x ∷ l) zero u e = let q : x ≡ u = cc in subst (λ (y : ℕ). Mem y (x ∷ l)) q here
+pick_at (x ∷ l) (suc k) u e = there (pick_at l k u e)
 
-module _ (l : List ℕ) (k : ℕ) (r : Pick) (e : r ≡ pick_of l k) where
-  -- the element is in the part
-  pub found_here : (g : ℕ → Step) (m : List Step) (v : Step) → r.found ≡ true → v ≡ g r.target → Record v ≡ record_answer (nth (map g l ++ m) k)
-  found_here g m v f z =
-      ap (λ (s : Step). Record s) (z ∙ ap (λ (r : Pick). g r.target) e)
-      ∙ ap record_answer (sym (pick_some g l m k (ap (λ (r : Pick). r.found) (sym e) ∙ f)))
+-- the element is in the part
+pub found_here : (l : List ℕ) (k u : ℕ) → Ok u ≡ pick_of l k → (g : ℕ → Step) (m : List Step) (v : Step) → v ≡ g u
+    → Record v ≡ record_answer (nth (map g l ++ m) k)
+found_here l k u e g m v z = ap (λ (s : Step). Record s) z ∙ ap record_answer (sym (pick_some g l m k u e))
 
-  -- or further on
-  pub not-here : (g : ℕ → Step) (m : List Step) (z : StepAnswer) → r.found ≡ false → z ≡ record_answer (nth m r.rest)
-      → z ≡ record_answer (nth (map g l ++ m) k)
-  not-here g m z f q =
-      q ∙ ap (λ (r : Pick). record_answer (nth m r.rest)) e ∙ ap record_answer (sym (pick-none g l m k (ap (λ (r : Pick). r.found) (sym e) ∙ f)))
+-- or further on
+pub not-here : (l : List ℕ) (k rest : ℕ) → Err rest ≡ pick_of l k → (g : ℕ → Step) (m : List Step) (z : StepAnswer)
+    → z ≡ record_answer (nth m rest) → z ≡ record_answer (nth (map g l ++ m) k)
+not-here l k rest e g m z q = q ∙ ap record_answer (sym (pick-none g l m k rest e))
 
 -- a target that was found is a state
-pub found-low : (a b : ℕ) (row : List ℕ) (k : ℕ) (r : Pick) → Low row → r ≡ pick_of (between a b row) k → r.found ≡ true
-    → r.target < limits.max_states
-found-low a b row k r low e f =
-    let m = pick_at (between a b row) k (ap (λ (r : Pick). r.found) (sym e) ∙ f) in
-    let p = mem_place 0 ((of-between a b row (pick_of (between a b row) k).target).0 m).0 in
-    omega (arith, low p.0 p.1, p.2, ap (λ (r : Pick). r.target) e)
+pub found-low : (a b : ℕ) (row : List ℕ) (k u : ℕ) → Low row → Ok u ≡ pick_of (between a b row) k → u < limits.max_states
+found-low a b row k u low e =
+    let p = mem_place 0 ((of-between a b row u).0 (pick_at (between a b row) k u e)).0 in
+    omega (arith, low p.0 p.1, p.2)
 
 -- no part is left
 pub no_more : (k : ℕ) → NoMore ≡ record_answer (nth [] k)

@@ -1,6 +1,6 @@
 -- The step records of a triple listed from the rows of crate moves: of two states the codes ahead, the rules' numbers and the
 -- ascending lists of targets. No sorting: the list is already in the order of the records. Assumes nothing.
-use Rattle.std.specs.Prelude.{ℕ, zero, suc, ◌+◌, ◌*◌, ◌≤◌, ◌<◌, Bool, true, false, ◌&&◌, List, [], ◌∷◌, ◌++◌, map, eqb, leb, ltb, length, get_or}
+use Rattle.std.specs.Prelude.{ℕ, zero, suc, ◌+◌, ◌*◌, ◌≤◌, ◌<◌, Bool, true, false, ◌&&◌, List, [], ◌∷◌, ◌++◌, map, eqb, leb, ltb, length, get_or, Result, Ok, Err}
 use Rattle.grammar.specs.Basics.{choose, when, each}
 use Rattle.grammar.specs.Limits.{limits}
 use Rattle.triples.specs.Records.{step}
@@ -9,7 +9,6 @@ use Rattle.triples.specs.declared.Move.TheVariants.{Opening, Closing, Symbol, St
 use Rattle.triples.specs.declared.Step.{Step}
 use Rattle.moves.specs.Tables.{segment, most_kinds}
 use Rattle.steps.specs.declared.Sides.{Sides}
-use Rattle.steps.specs.declared.Pick.{Pick}
 
 -- a ≤ x < b
 abbrev pub inside : ℕ → ℕ → ℕ → Bool
@@ -21,15 +20,9 @@ between a b [] = []
 between a b (x ∷ l) = when (inside a b x) (x ∷ []) ++ between a b l
 
 -- the entry at a place, or how many places are left after the last
-abbrev pub hit : ℕ → Pick
-hit u = record { found = true; target = u; rest = 0 }
-
-abbrev pub missed : ℕ → Pick
-missed k = record { found = false; target = 0; rest = k }
-
-unfoldable pub pick_of : List ℕ → ℕ → Pick
-pick_of [] k = missed k
-pick_of (u ∷ l) zero = hit u
+unfoldable pub pick_of : List ℕ → ℕ → Result ℕ ℕ
+pick_of [] k = Err k
+pick_of (u ∷ l) zero = Ok u
 pick_of (u ∷ l) (suc k) = pick_of l k
 
 -- 1 if a ≤ x < b, else 0

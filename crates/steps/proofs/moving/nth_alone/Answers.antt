@@ -6,23 +6,28 @@ use Rattle.steps.specs.Plan.{between, left_to, right_to, rights, below, alone}
 use Rattle.steps.proofs.Nth.{found_here, not-here, found-low}
 use Rattle.steps.proofs.moving.nth_alone.Goals as goal
 
-pub left_to-requires : goal.left_to-requires
-left_to-requires c = let a = c.args in record { both = c.requires.both; u_lt_max_states = found-low a.s.left (a.s.left + 1) a.ls.now a.k c.find_target-a.result c.requires.low c.find_target-a.ensures c.if-a.true }
+pub left_to-requires-clause-u_lt_max_states : goal.left_to-requires-clause-u_lt_max_states
+left_to-requires-clause-u_lt_max_states c = let a = c.args in found-low a.s.left (a.s.left + 1) a.ls.now a.k _ c.requires.low c.in-Ok.ensures
 
-pub returns-then-a : goal.returns-then-a
+pub returns-in-Ok : goal.returns-in-Ok
 unfolding alone
-returns-then-a c = let a = c.args in found_here (between a.s.left (a.s.left + 1) a.ls.now) a.k c.find_target-a.result c.find_target-a.ensures (left_to a.number.now a.s) (rights a.number.now a.rs.now a.s a.s.right (a.s.right + 1) ++ (below a.number.now a.after.now a.ls.now a.rs.now a.s a.x)) c.left_to.result c.if-a.true c.left_to.ensures
+returns-in-Ok c = let a = c.args in
+    let later = below a.number.now a.after.now a.ls.now a.rs.now a.s a.x in
+    found_here (between a.s.left (a.s.left + 1) a.ls.now) a.k _ c.in-Ok.ensures (left_to a.number.now a.s) (rights a.number.now a.rs.now a.s a.s.right (a.s.right + 1) ++ later) _ c.left_to.ensures
 
-pub right_to-requires : goal.right_to-requires
-right_to-requires c = let a = c.args in record { both = c.requires.both; v_lt_max_states = found-low a.s.right (a.s.right + 1) a.rs.now c.find_target-a.result.rest c.find_target-b.result c.requires.low_2 c.find_target-b.ensures c.if-b.true }
+pub right_to-requires-clause-v_lt_max_states : goal.right_to-requires-clause-v_lt_max_states
+right_to-requires-clause-v_lt_max_states c = let a = c.args in found-low a.s.right (a.s.right + 1) a.rs.now _ _ c.requires.low_2 c.in-Ok-find_target.ensures
 
-pub returns-then-b : goal.returns-then-b
+pub returns-in-Ok-find_target : goal.returns-in-Ok-find_target
 unfolding alone
-returns-then-b c = let a = c.args in not-here (between a.s.left (a.s.left + 1) a.ls.now) a.k c.find_target-a.result c.find_target-a.ensures (left_to a.number.now a.s) (rights a.number.now a.rs.now a.s a.s.right (a.s.right + 1) ++ (below a.number.now a.after.now a.ls.now a.rs.now a.s a.x)) (Record c.right_to.result) c.if-a.false
-    (found_here (between a.s.right (a.s.right + 1) a.rs.now) c.find_target-a.result.rest c.find_target-b.result c.find_target-b.ensures (right_to a.number.now a.s) (below a.number.now a.after.now a.ls.now a.rs.now a.s a.x) c.right_to.result c.if-b.true c.right_to.ensures)
+returns-in-Ok-find_target c = let a = c.args in
+    let later = below a.number.now a.after.now a.ls.now a.rs.now a.s a.x in
+    not-here (between a.s.left (a.s.left + 1) a.ls.now) a.k _ c.in-Err.ensures (left_to a.number.now a.s) (rights a.number.now a.rs.now a.s a.s.right (a.s.right + 1) ++ later) (Record c.right_to.result)
+    (found_here (between a.s.right (a.s.right + 1) a.rs.now) _ _ c.in-Ok-find_target.ensures (right_to a.number.now a.s) later _ c.right_to.ensures)
 
-pub returns : goal.returns
+pub returns-in-Err-find_target : goal.returns-in-Err-find_target
 unfolding alone
-returns c = let a = c.args in not-here (between a.s.left (a.s.left + 1) a.ls.now) a.k c.find_target-a.result c.find_target-a.ensures (left_to a.number.now a.s) (rights a.number.now a.rs.now a.s a.s.right (a.s.right + 1) ++ (below a.number.now a.after.now a.ls.now a.rs.now a.s a.x)) c.nth_below.result c.if-a.false
-    (not-here (between a.s.right (a.s.right + 1) a.rs.now) c.find_target-a.result.rest c.find_target-b.result c.find_target-b.ensures (right_to a.number.now a.s) (below a.number.now a.after.now a.ls.now a.rs.now a.s a.x) c.nth_below.result c.if-b.false
-    c.nth_below.ensures)
+returns-in-Err-find_target c = let a = c.args in
+    let later = below a.number.now a.after.now a.ls.now a.rs.now a.s a.x in
+    not-here (between a.s.left (a.s.left + 1) a.ls.now) a.k _ c.in-Err.ensures (left_to a.number.now a.s) (rights a.number.now a.rs.now a.s a.s.right (a.s.right + 1) ++ later) c.nth_below.result
+    (not-here (between a.s.right (a.s.right + 1) a.rs.now) _ _ c.in-Err-find_target.ensures (right_to a.number.now a.s) later c.nth_below.result c.nth_below.ensures)

@@ -11,20 +11,19 @@ pub returns-then-x-eq0 : goal.returns-then-x-eq0
 returns-then-x-eq0 c = let a = c.args in
     c.nth_above.ensures ∙ ap record_answer (shift_none a.number.now a.after.now a.ls.now a.s a.x a.k c.if-x-eq0.true)
 
-pub left_to-requires : goal.left_to-requires
-left_to-requires c = let a = c.args in
-    record { both = c.requires.both; u_lt_max_states = found-low (a.s.left + 1) _ a.ls.now a.k c.find_target-a.result c.requires.low c.find_target-a.ensures c.if-a.true }
+pub left_to-requires-clause-u_lt_max_states : goal.left_to-requires-clause-u_lt_max_states
+left_to-requires-clause-u_lt_max_states c = let a = c.args in found-low (a.s.left + 1) _ a.ls.now a.k _ c.requires.low c.in-Ok.ensures
 
-pub returns-then-a : goal.returns-then-a
-returns-then-a c = let a = c.args in
-    let z = c.find_target-a.ensures ∙ ap (λ (b : ℕ). pick_of (between (a.s.left + 1) b a.ls.now) a.k) c.past_of-past.ensures in
-    found_here (between (a.s.left + 1) (get_or a.after.now a.s.left 0 + 1) a.ls.now) a.k c.find_target-a.result z (left_to a.number.now a.s)
-    (from_shift a.number.now a.after.now a.ls.now a.s a.x) c.left_to.result c.if-a.true c.left_to.ensures
+pub returns-in-Ok : goal.returns-in-Ok
+returns-in-Ok c = let a = c.args in
+    let z = c.in-Ok.ensures ∙ ap (λ (b : ℕ). pick_of (between (a.s.left + 1) b a.ls.now) a.k) c.past_of-past.ensures in
+    found_here (between (a.s.left + 1) (get_or a.after.now a.s.left 0 + 1) a.ls.now) a.k _ z (left_to a.number.now a.s)
+    (from_shift a.number.now a.after.now a.ls.now a.s a.x) _ c.left_to.ensures
     ∙ ap record_answer (shift_some a.number.now a.after.now a.ls.now a.s a.x a.k c.if-x-eq0.false)
 
-pub returns : goal.returns
-returns c = let a = c.args in
-    let z = c.find_target-a.ensures ∙ ap (λ (b : ℕ). pick_of (between (a.s.left + 1) b a.ls.now) a.k) c.past_of-past.ensures in
-    not-here (between (a.s.left + 1) (get_or a.after.now a.s.left 0 + 1) a.ls.now) a.k c.find_target-a.result z (left_to a.number.now a.s)
-    (from_shift a.number.now a.after.now a.ls.now a.s a.x) c.nth_shift.result c.if-a.false c.nth_shift.ensures
+pub returns-in-Err : goal.returns-in-Err
+returns-in-Err c = let a = c.args in
+    let z = c.in-Err.ensures ∙ ap (λ (b : ℕ). pick_of (between (a.s.left + 1) b a.ls.now) a.k) c.past_of-past.ensures in
+    not-here (between (a.s.left + 1) (get_or a.after.now a.s.left 0 + 1) a.ls.now) a.k _ z (left_to a.number.now a.s)
+    (from_shift a.number.now a.after.now a.ls.now a.s a.x) c.nth_shift.result c.nth_shift.ensures
     ∙ ap record_answer (shift_some a.number.now a.after.now a.ls.now a.s a.x a.k c.if-x-eq0.false)

@@ -11,34 +11,32 @@ use Rattle.steps.proofs.target.find_target.Reads as reads
 use Rattle.steps.proofs.target.find_target.Tie as tie
 
 abbrev Place-After-counts : Type 0
-Place-After-counts = lts.After-counts tie.the-claims reads.Pre reads.Post goal.the-invariant-loop-i goal.the-decreases-loop-i
+Place-After-counts = lts.After-counts tie.the-claims reads.Pre reads.Post goal.the-invariant-loop-u goal.the-decreases-loop-u
 
-pub loop-i-init : goal.loop-i-init
-loop-i-init c = (omega arith, refl)
+pub loop-u-init : goal.loop-u-init
+loop-u-init c = refl
 
 -- what the entry counts
-told : (c : Place-After-counts) → let a = c.args in let l = c.loop-i in
-    c.counts-w.result ≡ weight a.from a.to (get_or a.row.now l.i 0)
+told : (c : Place-After-counts) → let a = c.args in let l = c.loop-u in
+    c.counts-w.result ≡ weight a.from a.to (get_or a.row.now l.u-index 0)
 told c =
     let a = c.args in
-    c.counts-w.ensures ∙ ap (weight a.from a.to) c.wide.ensures
+    c.counts-w.ensures ∙ ap (weight a.from a.to) c.from.ensures
 
 pub returns-then-rest-w : goal.returns-then-rest-w
 returns-then-rest-w c = let a = c.args in
-    let l = c.loop-i in
+    let l = c.loop-u in
     let z = told c.before.before in
-    sym (pick-here a.from a.to a.row.now l.i l.rest c.loop-i-test.true (omega (arith, z, c.if-rest-w.true))) ∙ l.invariant.1
+    sym (pick-here a.from a.to a.row.now l.u-index l.rest c.loop-u-test.true (omega (arith, z, c.if-rest-w.true))) ∙ l.invariant
 
-pub loop-i-preserved : goal.loop-i-preserved
-loop-i-preserved c = let a = c.args in
-    let l = c.loop-i in
-    let z = told c.before.before in (
-      omega arith,
-      ap (λ (w : ℕ). pick_of (between a.from a.to (drop (l.i + 1) a.row.now)) (l.rest - w)) z
-          ∙ pick-on a.from a.to a.row.now l.i l.rest c.loop-i-test.true (omega (arith, z, c.if-rest-w.false)) ∙ l.invariant.1,
-    )
+pub loop-u-preserved : goal.loop-u-preserved
+loop-u-preserved c = let a = c.args in
+    let l = c.loop-u in
+    let z = told c.before.before in
+    ap (λ (w : ℕ). pick_of (between a.from a.to (drop (l.u-index + 1) a.row.now)) (l.rest - w)) z
+    ∙ pick-on a.from a.to a.row.now l.u-index l.rest c.loop-u-test.true (omega (arith, z, c.if-rest-w.false)) ∙ l.invariant
 
 pub returns : goal.returns
 returns c = let a = c.args in
-    let l = c.loop-i in
-    sym (pick_end a.from a.to a.row.now l.i l.rest c.loop-i-test.false) ∙ l.invariant.1
+    let l = c.loop-u in
+    sym (pick_end a.from a.to a.row.now l.u-index l.rest c.loop-u-test.false) ∙ l.invariant

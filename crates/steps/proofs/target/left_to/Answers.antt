@@ -9,4 +9,4 @@ use Rattle.steps.proofs.target.left_to.Goals as goal
 pub returns : goal.returns
 returns c = let a = c.args in
     ap (λ (m : Move). step a.s.layer a.u a.s.right m Still)
-    (c.move_of-on_left.ensures ∙ ap (move_of a.number.now a.s.left_closes a.s.left) c.wide.ensures)
+    (c.move_of-on_left.ensures ∙ ap (move_of a.number.now a.s.left_closes a.s.left) c.from.ensures)

@@ -9,4 +9,4 @@ use Rattle.steps.proofs.target.right_to.Goals as goal
 pub returns : goal.returns
 returns c = let a = c.args in
     ap (λ (m : Move). step a.s.layer a.s.left a.v Still m)
-    (c.move_of-on_right.ensures ∙ ap (move_of a.number.now a.s.right_closes a.s.right) c.wide.ensures)
+    (c.move_of-on_right.ensures ∙ ap (move_of a.number.now a.s.right_closes a.s.right) c.from.ensures)
