@@ -22,12 +22,6 @@ pub struct Lengths {
     pub right: usize,
 }
 
-fn wide(x: u32) -> usize
-    ensures { result ≡ x }
-{
-    x as usize
-}
-
 // The letters of the two sides of a row, from the rows of a grammar with q states.
 fn walk<'a>(
     ahead: &'a [u16; MAX_STATES],

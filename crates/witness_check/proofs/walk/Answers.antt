@@ -1,22 +1,15 @@
 -- walk meets its contract: the rest of the row is checked from the entry before, so each turn is one step of the definition.
 use native.Mathlib.Omega.{arith}
 use mathlib.Core.Path.{◌≡◌, refl, ap, sym, ◌∙◌}
-use Prim.Native.Nat.{ℕ, ◌+◌, ◌-◌, ◌*◌, ◌≤◌}
+use Prim.Native.Nat.{ℕ, ◌*◌, ◌≤◌}
 use native.Mathlib.Nat.{mul-le-mul}
 use mathlib.Core.List.{List, [], ◌∷◌}
-use lib.ListN.{length, drop, get_or}
+use lib.ListN.{length}
 use Rattle.grammar.specs.Limits.{limits}
 use Rattle.triples.specs.Verdict.{check_verdict}
-use Rattle.triples.specs.Witness.{check_on}
-use Rattle.witness_check.specs.Clauses.{step_at}
+use Rattle.triples.specs.declared.CheckVerdict.TheVariants.{Refused}
 use Rattle.witness_check.proofs.WalkLaws.{walk-empty, walk_first, walk_start, walk-beyond, walk_wrong, walk_more, walk-short, walk_ends}
 use Rattle.witness_check.proofs.walk.Goals as goal
-use Rattle.witness_check.proofs.walk.Lts as lts
-use Rattle.witness_check.proofs.walk.Reads as reads
-use Rattle.witness_check.proofs.walk.Tie as tie
-
-abbrev Place-After-is_successor : Type 0
-Place-After-is_successor = lts.After-is_successor tie.the-claims reads.Pre reads.Post goal.the-invariant-loop-place goal.the-decreases-loop-place
 
 -- the square of 4 states to the most
 square : (q : ℕ) → 4 ≤ q → q ≤ limits.max_states → (16 ≤ q * q) × (q * q ≤ limits.max_states * limits.max_states) × (q ≤ limits.max_states)
@@ -25,14 +18,6 @@ square q h k = (mul-le-mul {n₁ = 4} {m₁ = 4} h h, mul-le-mul {n₂ = limits.
 nonempty : (row : List ℕ) → (length row ≡ 0 → ⊥) → 1 ≤ length row
 nonempty [] n = absurd (n refl)
 nonempty (x ∷ row) n = omega arith
-
--- what the test of a step answered, of the entry itself
-told : (c : Place-After-is_successor) → let a = c.args in let l = c.loop-place in
-    step_at a.ahead.now a.after.now a.number.now a.member.now a.target.now a.t a.m a.q l.last (get_or a.row.now l.place 0) ≡ c.is_successor.result
-told c =
-    let a = c.args in
-    let l = c.loop-place in
-    ap (step_at a.ahead.now a.after.now a.number.now a.member.now a.target.now a.t a.m a.q l.last) (sym c.wide-next.ensures) ∙ sym c.is_successor.ensures
 
 pub returns-then-row-eq0 : goal.returns-then-row-eq0
 returns-then-row-eq0 c = let a = c.args in λ G R. ap check_verdict (walk-empty G a.ahead.now a.after.now a.number.now a.member.now a.target.now a.t a.m a.q R a.row.now c.if-row-eq0.true)
@@ -57,7 +42,7 @@ loop-place-init c = let a = c.args in (
 pub returns-then-count-next : goal.returns-then-count-next
 returns-then-count-next c = let a = c.args in
     let l = c.loop-place in
-    λ G R. ap check_verdict (walk-beyond G a.ahead.now a.after.now a.number.now a.member.now a.target.now a.t a.m a.q R a.row.now l.last l.place c.loop-place-test.true l.invariant.2 (omega (arith, c.if-count-next.true, c.wide-next.ensures)) ∙ l.invariant.3 G R)
+    λ G R. ap check_verdict (walk-beyond G a.ahead.now a.after.now a.number.now a.member.now a.target.now a.t a.m a.q R a.row.now l.last l.place c.loop-place-test.true l.invariant.2 (omega (arith, c.if-count-next.true)) ∙ l.invariant.3 G R)
 
 pub is_successor-requires : goal.is_successor-requires
 is_successor-requires c = (omega (arith, c.requires.0), c.requires.1)
@@ -65,19 +50,17 @@ is_successor-requires c = (omega (arith, c.requires.0), c.requires.1)
 pub returns-then-not-is_successor : goal.returns-then-not-is_successor
 returns-then-not-is_successor c = let a = c.args in
     let l = c.loop-place in
-    λ G R. ap check_verdict (walk_wrong G a.ahead.now a.after.now a.number.now a.member.now a.target.now a.t a.m a.q R a.row.now l.last l.place c.loop-place-test.true l.invariant.2 (omega (arith, c.if-count-next.false, c.wide-next.ensures))
-    (told c.before.before ∙ c.if-not-is_successor.true) ∙ l.invariant.3 G R)
+    λ G R. ap check_verdict (walk_wrong G a.ahead.now a.after.now a.number.now a.member.now a.target.now a.t a.m a.q R a.row.now l.last l.place c.loop-place-test.true l.invariant.2 (omega (arith, c.if-count-next.false))
+    (sym c.is_successor.ensures ∙ c.if-not-is_successor.true) ∙ l.invariant.3 G R)
 
 pub loop-place-preserved : goal.loop-place-preserved
 loop-place-preserved c = let a = c.args in
-    let l = c.loop-place in
-    let w = c.wide-next.ensures in (
+    let l = c.loop-place in (
       omega arith,
       omega arith,
       omega (arith, c.if-count-next.false),
-      λ G R. ap (λ (i : ℕ). check_on G i (l.place + 1) (drop (l.place + 1) a.row.now)) w
-          ∙ walk_more G a.ahead.now a.after.now a.number.now a.member.now a.target.now a.t a.m a.q R a.row.now l.last l.place c.loop-place-test.true l.invariant.2 (omega (arith, c.if-count-next.false, w))
-          (told c.before.before ∙ c.if-not-is_successor.false) ∙ l.invariant.3 G R,
+      λ G R. walk_more G a.ahead.now a.after.now a.number.now a.member.now a.target.now a.t a.m a.q R a.row.now l.last l.place c.loop-place-test.true l.invariant.2 (omega (arith, c.if-count-next.false))
+          (sym c.is_successor.ensures ∙ c.if-not-is_successor.false) ∙ l.invariant.3 G R,
     )
 
 pub index_of-requires : goal.index_of-requires
@@ -85,7 +68,8 @@ index_of-requires c = (c.requires.1, omega arith, omega arith, omega arith)
 
 pub returns-then-last-index_of : goal.returns-then-last-index_of
 returns-then-last-index_of c = let a = c.args in
-    λ G R. ap check_verdict (walk-short G a.ahead.now a.after.now a.number.now a.member.now a.target.now a.t a.m a.q R a.row.now c.loop-place.last c.loop-place.place c.loop-place-test.false
+    let e : c.loop-place.place ≡ length a.row.now = omega (arith, c.loop-place.invariant.1, c.loop-place-test.false) in
+    λ G R. ap (λ (n : ℕ). Refused 15 n) (sym e) ∙ ap check_verdict (walk-short G a.ahead.now a.after.now a.number.now a.member.now a.target.now a.t a.m a.q R a.row.now c.loop-place.last c.loop-place.place c.loop-place-test.false
     (λ e. c.if-last-index_of.true (e ∙ sym c.index_of.ensures)) ∙ c.loop-place.invariant.3 G R)
 
 pub returns : goal.returns

@@ -1,6 +1,5 @@
 use mathlib.Core.Path.{◌≡◌}
-use Prim.Native.Nat.{ℕ, ◌-◌, ◌≤◌, ◌<◌}
-use mathlib.Core.List.{[]}
+use Prim.Native.Nat.{◌≤◌, ◌<◌}
 use lib.ListN.{length, drop}
 use Rattle.automaton.specs.Moves.{Moves}
 use Rattle.triples.specs.Index.{triple_count}
@@ -11,6 +10,3 @@ use Rattle.witness_check.proofs.walk.Given as goal
 abbrev pub invariant-loop-place : goal.invariant-loop-place
 invariant-loop-place l = (1 ≤ l.place) × (l.place ≤ length l.row) × (l.last < triple_count l.q)
     × ((M : Moves) → Ready M l.ahead l.after l.number l.member l.target l.t l.m l.q → check_on M l.last l.place (drop l.place l.row) ≡ check_row M l.row)
-
-abbrev pub decreases-loop-place : goal.decreases-loop-place
-decreases-loop-place l = length l.row - l.place
