@@ -12,9 +12,8 @@ loop-place-preserved c =
     let w = c.begin-w.result in
     let l = c.loop-place in
     let ys = c.args.entries.now in (
-      omega (arith, c.loop-place-test.true),
       omega arith,
-      ap (λ (a : ℕ). walk_from w a (l.place + 1) (drop (l.place + 1) ys)) c.step-at.ensures ∙ sym (walk_more w l.at l.place ys c.loop-place-test.true) ∙ l.invariant.2,
+      ap (λ (a : ℕ). walk_from w a (l.place + 1) (drop (l.place + 1) ys)) c.step-at.ensures ∙ sym (walk_more w l.at l.place ys c.loop-place-test.true) ∙ l.invariant.1,
     )
 
 pub returns : goal.returns
@@ -22,8 +21,7 @@ returns c =
     let w = c.begin-w.result in
     let l = c.loop-place in
     let ys = c.args.entries.now in
-    let e : l.place ≡ length ys = omega (arith, l.invariant.0, c.loop-place-test.false) in
+    let e : l.place ≡ length ys = omega arith in
     c.finish.ensures
-    ∙ ap (λ (n : ℕ). ending w l.at n) e
-    ∙ ap (λ (a : ℕ). ending w a (length ys)) (sym (walk_end w l.at (length ys) ys) ∙ ap (λ (n : ℕ). walk_from w l.at n (drop n ys)) (sym e) ∙ l.invariant.2)
+    ∙ ap (λ (a : ℕ). ending w a (length ys)) (sym (walk_end w l.at (length ys) ys) ∙ ap (λ (n : ℕ). walk_from w l.at n (drop n ys)) (sym e) ∙ l.invariant.1)
     ∙ records-answer c.args.t c.args.n c.args.table.now c.args.callers w ys c.begin-w.ensures

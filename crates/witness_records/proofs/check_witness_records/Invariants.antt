@@ -1,12 +1,9 @@
-use Prim.Native.Nat.{◌-◌, ◌≤◌, ◌<◌, ◌^◌}
+use Prim.Native.Nat.{◌<◌, ◌^◌}
 use mathlib.Core.Path.{◌≡◌}
-use lib.ListN.{length, drop}
+use lib.ListN.{drop}
 use Rattle.witness_records.specs.Walk.{walk_from}
 use Rattle.witness_records.proofs.check_witness_records.Given as goal
 
 -- after some records: the walk over the others goes on as the whole one
 abbrev pub invariant-loop-place : goal.invariant-loop-place
-invariant-loop-place l = (l.place ≤ length l.entries) × (l.at < 2 ^ 64) × (walk_from l.w l.at l.place (drop l.place l.entries) ≡ walk_from l.w 0 0 l.entries)
-
-abbrev pub decreases-loop-place : goal.decreases-loop-place
-decreases-loop-place l = length l.entries - l.place
+invariant-loop-place l = (l.at < 2 ^ 64) × (walk_from l.w l.at l.place (drop l.place l.entries) ≡ walk_from l.w 0 0 l.entries)

@@ -5,7 +5,7 @@ use Rattle.witness_records.specs.Walk.{told, end_of}
 use Rattle.witness_records.proofs.finish.Goals as goal
 
 pub returns-in-Refused : goal.returns-in-Refused
-returns-in-Refused c = let a = c.args in sym (ap (λ (v : TableVerdict). told v (end_of a.w.states a.at a.length)) c.in-Refused.is)
+returns-in-Refused c = let a = c.args in sym (ap (λ (v : TableVerdict). told v (end_of a.w.now.states a.at a.length)) c.in-Refused.is)
 
 pub returns-in-Passed : goal.returns-in-Passed
-returns-in-Passed c = let a = c.args in c.end_of.ensures ∙ sym (ap (λ (v : TableVerdict). told v (end_of a.w.states a.at a.length)) c.in-Passed.is)
+returns-in-Passed c = let a = c.args in c.end_of.ensures ∙ sym (ap (λ (v : TableVerdict). told v (end_of a.w.now.states a.at a.length)) c.in-Passed.is)
