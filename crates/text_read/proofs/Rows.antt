@@ -1,14 +1,14 @@
 -- A row that is filled from an entry on, and the starts and lengths of names. What stands in a row past its last entry in use
 -- does not count. `Filling`: `whole` is to be put from entry `at` of `old` on, `rest` of it is still to come at entry j.
 -- Assumes nothing.
-use Prim.Native.Nat.{ℕ, suc, ◌+◌, ◌-◌, ◌≤◌, ◌<◌}
+use Prim.Native.Nat.{ℕ, ◌+◌, ◌-◌, ◌≤◌, ◌<◌}
 use mathlib.Core.Path.{◌≡◌, refl, ap, sym, ◌∙◌}
 use mathlib.Core.List.{List, [], ◌∷◌, ◌++◌, append_assoc, append-nil}
 use native.Mathlib.Omega.{arith}
 use native.Mathlib.Numerals.{add-one}
 use native.Mathlib.Nat.{add-zero}
-use lib.ListN.{length, take, drop, get_or, set, length-set}
-use lib.Seq.{take-suc-set, take-suc, take-set-lt, take-length, length-take-le, drop-cons, append_snoc, set_at, set-append_left}
+use lib.ListN.{length, take, drop, set, length-set}
+use lib.Seq.{take-suc-set, take-set-lt, length-take-le, set-append_left}
 use Rattle.grammar.specs.Basics.{over}
 use Rattle.text.specs.Pieces.{split_on}
 use Rattle.text.specs.Promise.{starts_from, name_lengths}
@@ -101,17 +101,6 @@ run-before row row' at x y m xs h l q =
 
 -- ---- a row copied to the front of another
 
-module _ (front old : List ℕ) (i : ℕ) (h : length front ≤ length old) where
-  pub copy_more : i < length front → set (take i front ++ drop i old) i (get_or front i 0) ≡ take (i + 1) front ++ drop (i + 1) old
-  copy_more l =
-      let m : length (take i front) ≡ i = length-take-le i front (omega arith) in
-      ap (λ w. set (take i front ++ w) i (get_or front i 0)) (drop-cons old i 0 (omega arith))
-      ∙ set_at (take i front) (get_or old i 0) (drop (suc i) old) (get_or front i 0) i m
-      ∙ sym (append_snoc (take i front) (get_or front i 0) (drop (suc i) old))
-      ∙ rw add-one (ap (λ w. w ++ drop (suc i) old) (sym (take-suc front i 0 l)))
-
-  pub copy_all : length front ≤ i → i ≤ length front → take i front ++ drop i old ≡ over front old
-  unfolding over
-  copy_all l k =
-      let m : i ≡ length front = omega arith in
-      ap (λ i. take i front ++ drop i old) m ∙ ap (λ w. w ++ drop (length front) old) (take-length front)
+pub copied : (front part old : List ℕ) (n : ℕ) → part ≡ front → n ≡ length front → part ++ drop n old ≡ over front old
+unfolding over
+copied front part old n e h = rw (e, h)

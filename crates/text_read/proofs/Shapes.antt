@@ -1,7 +1,7 @@
 -- The shape of a rule's value: what each way through the code says of the sides.
 -- Assumes nothing.
 use Prim.Native.Nat.{ℕ, ◌+◌, ◌-◌, ◌≤◌, ◌<◌}
-use mathlib.Core.Path.{◌≡◌, refl, ap, sym, subst, ◌∙◌}
+use mathlib.Core.Path.{◌≡◌, refl, ap, sym, ◌∙◌}
 use mathlib.Core.List.{List, [], ◌∷◌, append-nil}
 use mathlib.Core.Bool.{Bool, true, false}
 use mathlib.Core.Option.{some}
@@ -20,20 +20,10 @@ use Rattle.text.proofs.Pieces.{other, join-split, split_free, led_free}
 use Rattle.text.proofs.Names.{names_free, no_colon}
 use Rattle.names.specs.Found.{index, part}
 use Rattle.names.proofs.Pieces.{piece_more, piece_last}
-use Rattle.text_read.specs.declared.Count.TheVariants.{Names, Malformed}
-use Rattle.text_read.specs.declared.Shape.{Shape}
-use Rattle.text_read.specs.declared.Shape.TheVariants as S
+use Rattle.std.specs.Prelude.{Some, None}
 use Rattle.text_read.specs.Values.{body_counted}
-use Rattle.text_read.specs.Lines.{shaped, ShapeAt, ShapeTold}
+use Rattle.text_read.specs.Lines.{shaped, ShapeAt}
 use Rattle.text_read.proofs.Values.{count_bad, count_all}
-
--- what the shape's answer tells
-pub told-shape : (v : List ℕ) (r : Shape) (colon count : ℕ) → r ≡ S.Found colon count → ShapeTold v r → ShapeAt v colon count
-told-shape v r colon count e t = subst (λ (r : Shape). ShapeTold v r) e t
-
-pub told_shapeless : (v : List ℕ) (r : Shape) → r ≡ S.Malformed → ShapeTold v r
-    → (at : ℕ) (go : Sides → Answer Rule) → shaped at (sides_of (split_on 58 v)) go ≡ refused 16 at
-told_shapeless v r e t = subst (λ (r : Shape). ShapeTold v r) e t
 
 module _ (at : ℕ) (go : Sides → Answer Rule) where
   head_bad : (l : List ℕ) (ps : List (List ℕ)) → is_name l ≡ false → shaped at (body_of l ps) go ≡ refused 16 at
@@ -48,13 +38,13 @@ module _ (at : ℕ) (go : Sides → Answer Rule) where
   sides_head l (r ∷ []) g = head_bad l (split_on 32 r) g
   sides_head l (r ∷ q ∷ qs) g = refl
 
-  body_bad : (l : List ℕ) (ps : List (List ℕ)) → is_name l ≡ true → body_counted ps ≡ Malformed → shaped at (body_of l ps) go ≡ refused 16 at
+  body_bad : (l : List ℕ) (ps : List (List ℕ)) → is_name l ≡ true → body_counted ps ≡ None → shaped at (body_of l ps) go ≡ refused 16 at
   unfolding shaped refuse_none refuse_unless body_of body_counted
   body_bad l [] g h = refl
   body_bad l ([] ∷ names) g h = rw (g, count_bad 0 names h)
   body_bad l ((b ∷ p) ∷ names) g h = refl
 
-  sides-body : (l r : List ℕ) (qs : List (List ℕ)) → is_name l ≡ true → body_counted (split_on 32 r) ≡ Malformed → join 58 qs ≡ r
+  sides-body : (l r : List ℕ) (qs : List (List ℕ)) → is_name l ≡ true → body_counted (split_on 32 r) ≡ None → join 58 qs ≡ r
       → shaped at (sides_of (l ∷ qs)) go ≡ refused 16 at
   unfolding shaped refuse_none sides_of join led_by
   sides-body l r [] g h e = refl
@@ -66,7 +56,7 @@ module _ (at : ℕ) (go : Sides → Answer Rule) where
   unfolding shaped refuse_none sides_of
   sides-none v = refl
 
-body-names : (ps : List (List ℕ)) (k : ℕ) → body_counted ps ≡ Names k
+body-names : (ps : List (List ℕ)) (k : ℕ) → body_counted ps ≡ Some k
     → (names : List (List ℕ)) × (ps ≡ [] ∷ names) × (all is_name names ≡ true) × (k ≡ length names)
 unfolding body_counted
 body-names [] k h = absurd (let z : ◌≡◌ {A = ℕ} 0 1 = cc in omega arith)
@@ -99,13 +89,13 @@ module _ (v : List ℕ) (e : ℕ) (found : e ≡ 0 + index 58 (drop 0 v)) where
     shape-head g at go =
         ap (λ ps. shaped at (sides_of ps) go) cut ∙ sides_head at go (part 0 e v) (split_on 58 (drop (e + 1) v)) g
 
-    pub shape-body : is_name (part 0 e v) ≡ true → body_counted (split_on 32 (drop (e + 1) v)) ≡ Malformed
+    pub shape-body : is_name (part 0 e v) ≡ true → body_counted (split_on 32 (drop (e + 1) v)) ≡ None
         → (at : ℕ) (go : Sides → Answer Rule) → shaped at (sides_of (split_on 58 v)) go ≡ refused 16 at
     shape-body g h at go =
         ap (λ ps. shaped at (sides_of ps) go) cut
         ∙ sides-body at go (part 0 e v) (drop (e + 1) v) (split_on 58 (drop (e + 1) v)) g h (join-split 58 (drop (e + 1) v))
 
-    pub shape-found : (k : ℕ) → is_name (part 0 e v) ≡ true → body_counted (split_on 32 (drop (e + 1) v)) ≡ Names k → ShapeAt v e k
+    pub shape-found : (k : ℕ) → is_name (part 0 e v) ≡ true → body_counted (split_on 32 (drop (e + 1) v)) ≡ Some k → ShapeAt v e k
     shape-found k g h =
         let b = body-names (split_on 32 (drop (e + 1) v)) k h in
         record {

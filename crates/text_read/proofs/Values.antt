@@ -22,7 +22,7 @@ use Rattle.text.proofs.Names.{both-within}
 use Rattle.names.specs.Found.{part}
 use Rattle.text_read.specs.declared.Split.{Split}
 use Rattle.text_read.specs.declared.Split.TheVariants.{Value, Malformed}
-use Rattle.text_read.specs.declared.Count.TheVariants.{Names as CountNames, Malformed as CountMalformed}
+use Rattle.std.specs.Prelude.{Some, None}
 use Rattle.text_read.specs.Values.{HasValue, SplitTold, counted, body_counted}
 
 -- ---- the key
@@ -88,42 +88,42 @@ pub counted_good : (k : ℕ) (p : List ℕ) (ps : List (List ℕ)) → is_name p
 unfolding counted all
 counted_good k p ps e = let h : k + suc (length ps) ≡ k + 1 + length ps = omega arith in rw (e, h)
 
-pub counted_bad : (k : ℕ) (p : List ℕ) (ps : List (List ℕ)) → is_name p ≡ false → counted k (p ∷ ps) ≡ CountMalformed
+pub counted_bad : (k : ℕ) (p : List ℕ) (ps : List (List ℕ)) → is_name p ≡ false → counted k (p ∷ ps) ≡ None
 unfolding counted all
 counted_bad k p ps e = rw e
 
-pub counted-end : (k : ℕ) → counted k [] ≡ CountNames k
+pub counted-end : (k : ℕ) → counted k [] ≡ Some k
 unfolding counted all
 counted-end k = rw add-zero
 
 -- what the count's answer tells
-pub count_bad : (k : ℕ) (ns : List (List ℕ)) → counted k ns ≡ CountMalformed → all is_name ns ≡ false
+pub count_bad : (k : ℕ) (ns : List (List ℕ)) → counted k ns ≡ None → all is_name ns ≡ false
 unfolding counted
 count_bad k ns h = go (all is_name ns) h
   where
-    go : (t : Bool) → choose t (CountNames (k + length ns)) CountMalformed ≡ CountMalformed → t ≡ false
+    go : (t : Bool) → choose t (Some (k + length ns)) None ≡ None → t ≡ false
     go true h = absurd (let z : ◌≡◌ {A = ℕ} 0 1 = cc in omega arith)
     go false h = refl
 
-pub count_all : (c : ℕ) (ns : List (List ℕ)) → counted 0 ns ≡ CountNames c → (all is_name ns ≡ true) × (c ≡ length ns)
+pub count_all : (c : ℕ) (ns : List (List ℕ)) → counted 0 ns ≡ Some c → (all is_name ns ≡ true) × (c ≡ length ns)
 unfolding counted
 count_all c ns h = go (all is_name ns) h
   where
-    go : (t : Bool) → choose t (CountNames (0 + length ns)) CountMalformed ≡ CountNames c → (t ≡ true) × (c ≡ length ns)
+    go : (t : Bool) → choose t (Some (0 + length ns)) None ≡ Some c → (t ≡ true) × (c ≡ length ns)
     go true h = (refl, let e : 0 + length ns ≡ c = cc in omega arith)
     go false h = absurd (let z : ◌≡◌ {A = ℕ} 0 1 = cc in omega arith)
 
-pub body-none : (r : List ℕ) → length r ≡ 0 → body_counted (split_on 32 r) ≡ CountNames 0
+pub body-none : (r : List ℕ) → length r ≡ 0 → body_counted (split_on 32 r) ≡ Some 0
 unfolding split_on body_counted
 body-none [] h = counted-end 0
 body-none (b ∷ r) h = absurd (omega arith)
 
-pub body-other : (r : List ℕ) → 0 < length r → (get_or r 0 0 ≡ 32 → ⊥) → body_counted (split_on 32 r) ≡ CountMalformed
+pub body-other : (r : List ℕ) → 0 < length r → (get_or r 0 0 ≡ 32 → ⊥) → body_counted (split_on 32 r) ≡ None
 unfolding split_on body_counted
 body-other [] h n = absurd (omega arith)
 body-other (b ∷ r) h n = rw (ne_eqb b 32 n) (go (split_on 32 r))
   where
-    go : (ps : List (List ℕ)) → body_counted (onto b ps) ≡ CountMalformed
+    go : (ps : List (List ℕ)) → body_counted (onto b ps) ≡ None
     go [] = refl
     go (p ∷ ps) = refl
 

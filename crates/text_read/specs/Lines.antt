@@ -1,7 +1,8 @@
 -- What the reader's functions tell of rule lines.
 -- Names are looked up among those that two rows of starts and lengths spell in the text.
 -- Assumes nothing.
-use Rattle.std.specs.Prelude.{ℕ, ◌+◌, ◌*◌, ◌≤◌, ◌<◌, ◌≡◌, Bool, true, ◌&&◌, List, [], ◌∷◌, ◌++◌, map, ltb, leb, length, take, drop, get_or}
+use Rattle.std.specs.Prelude.{ℕ, ◌+◌, ◌*◌, ◌≤◌, ◌<◌, ◌≡◌, Bool, true, ◌&&◌, List, [], ◌∷◌, ◌++◌, map, ltb, leb, length, take, drop, get_or, MatchOption}
+use Rattle.std.specs.Prelude as P
 use Rattle.std.proofs.Math.Option.{Option, some}
 use Rattle.grammar.specs.Basics.{choose}
 use Rattle.grammar.specs.Limits.{limits}
@@ -14,7 +15,6 @@ use Rattle.text.specs.Read.{refuse_none, Sides, sides_of, number_of, is_known, c
 use Rattle.lexicon.specs.Tree.{Lexicon}
 use Rattle.text_read.specs.Values.{smaller}
 use Rattle.text_read.specs.declared.Shape.{Shape}
-use Rattle.text_read.specs.declared.Shape.TheVariants.{Found, Malformed}
 use Rattle.text_read.specs.declared.Kept.{Kept}
 use Rattle.text_read.specs.declared.Kept.TheVariants.{Entries, Fault}
 
@@ -47,10 +47,10 @@ pub record ShapeAt (v : List ℕ) (colon count : ℕ) : Type 0 where
   pub body : split_on 32 (drop (colon + 1) v) ≡ [] ∷ sides.body
   pub counts : count ≡ length sides.body
 
--- the shape of a value
-abbrev pub ShapeTold : List ℕ → Shape → Type 0
-ShapeTold v Malformed = (at : ℕ) (go : Sides → Answer Rule) → shaped at (sides_of (split_on 58 v)) go ≡ refused 16 at
-ShapeTold v (Found colon count) = ShapeAt v colon count
+-- the shape of a value; none where it is malformed
+abbrev pub ShapeTold : List ℕ → P.Option Shape → Type 0
+ShapeTold v r = MatchOption r ((at : ℕ) (go : Sides → Answer Rule) → shaped at (sides_of (split_on 58 v)) go ≡ refused 16 at)
+    (λ s. ShapeAt v s.colon s.count)
 
 -- ---- its entries
 

@@ -1,7 +1,7 @@
 -- What the reader's functions tell of a line's value and its names.
 -- An answer of the code is told by what the definition says: a fault by the refusal, a result by a record of facts.
 -- Assumes nothing.
-use Rattle.std.specs.Prelude.{ℕ, ◌+◌, ◌*◌, ◌≤◌, ◌<◌, ◌≡◌, List, [], ◌∷◌, ◌++◌, leb, length, take}
+use Rattle.std.specs.Prelude.{ℕ, ◌+◌, ◌*◌, ◌≤◌, ◌<◌, ◌≡◌, List, [], ◌∷◌, ◌++◌, leb, length, take, Option, Some, None}
 use Rattle.std.proofs.Math.Option.{none, some}
 use Rattle.grammar.specs.Basics.{choose}
 use Rattle.grammar.specs.Limits.{limits}
@@ -16,8 +16,6 @@ use Rattle.lexicon.specs.Tree.{Lexicon}
 use Rattle.doubles.specs.Blocks.{BlockRows}
 use Rattle.text_read.specs.declared.Split.{Split}
 use Rattle.text_read.specs.declared.Split.TheVariants.{Value, Malformed}
-use Rattle.text_read.specs.declared.Count.{Count}
-use Rattle.text_read.specs.declared.Count.TheVariants.{Names as CountNames, Malformed as CountMalformed}
 use Rattle.text_read.specs.declared.Declared.{Declared}
 use Rattle.text_read.specs.declared.Declared.TheVariants.{Names, Fault}
 
@@ -46,15 +44,15 @@ abbrev pub SplitTold : ℕ → List ℕ → Split → Type 0
 SplitTold k line Malformed = value_of (key k) line ≡ none
 SplitTold k line (Value start end) = HasValue k line start end
 
--- how many names there are besides k, or that one is malformed
-unfoldable pub counted : ℕ → List (List ℕ) → Count
-counted k ns = choose (all is_name ns) (CountNames (k + length ns)) CountMalformed
+-- how many names there are besides k; none where one is malformed
+unfoldable pub counted : ℕ → List (List ℕ) → Option ℕ
+counted k ns = choose (all is_name ns) (Some (k + length ns)) None
 
--- what follows a rule's colon, cut at spaces: how many names, or that it is malformed
-unfoldable pub body_counted : List (List ℕ) → Count
-body_counted [] = CountMalformed
+-- what follows a rule's colon, cut at spaces: how many names; none where it is malformed
+unfoldable pub body_counted : List (List ℕ) → Option ℕ
+body_counted [] = None
 body_counted ([] ∷ names) = counted 0 names
-body_counted ((b ∷ p) ∷ names) = CountMalformed
+body_counted ((b ∷ p) ∷ names) = None
 
 -- the rows and the tree have the text's names before number `from`, and room for so many more
 pub record NamesReady (text : List ℕ) (from more : ℕ) (starts lengths links : List ℕ) : Type 0 where

@@ -26,17 +26,10 @@ pub const KEPT_ENTRIES: usize = (MAX_RULES + 1) * (MAX_LENGTH + 2);
 // A text of at most so many bytes is read in rows of so many entries, which are cleared sooner.
 pub const SMALL_TEXT: usize = 512;
 
-// Where the value of a line stands.
+// Where the value of a line stands: the document's form, of which `let .. else` takes start and end.
 #[derive(Drop)]
 pub enum Split {
     Value { start: usize, end: usize },
-    Malformed,
-}
-
-// How many names there are.
-#[derive(Drop)]
-pub enum Count {
-    Names(usize),
     Malformed,
 }
 
@@ -59,10 +52,10 @@ pub enum Heads {
 }
 
 // The shape of a rule's value: where its colon stands, and how many names follow.
-#[derive(Drop)]
-pub enum Shape {
-    Found { colon: usize, count: usize },
-    Malformed,
+#[derive(Clone, Copy)]
+pub struct Shape {
+    pub colon: usize,
+    pub count: usize,
 }
 
 // How many entries of the local table are in use after a rule's line, or after all.
@@ -88,22 +81,7 @@ pub fn copy_codes(front: &[u16], out: &mut [u16])
     requires { length front.now ≤ length out.old }
     ensures { out.new ≡ over front.now out.old }
 {
-    let mut i = 0;
-    while i < front.len() {
-        out[i] = front[i];
-        i += 1;
-    }
-}
-
-fn copy_words(front: &[u32], out: &mut [u32])
-    requires { length front.now ≤ length out.old }
-    ensures { out.new ≡ over front.now out.old }
-{
-    let mut i = 0;
-    while i < front.len() {
-        out[i] = front[i];
-        i += 1;
-    }
+    out[..front.len()].copy_from_slice(front);
 }
 
 // The reader, after the lines of a text: the last tests, 14, and what is kept goes to the lent rows.
@@ -140,9 +118,9 @@ fn read_in(
     if lengths.len() < count {
         return TextRead::Refused(BUFFER_TOO_SHORT, 0);
     }
-    copy_codes(&row[..entries], table);
-    copy_words(&begins[..count], starts);
-    copy_words(&sizes[..count], lengths);
+    table[..entries].copy_from_slice(&row[..entries]);
+    starts[..count].copy_from_slice(&begins[..count]);
+    lengths[..count].copy_from_slice(&sizes[..count]);
     read
 }
 

@@ -123,7 +123,7 @@ fn rule_line(
         return Kept::Fault(MALFORMED, at);
     };
     let v = &line[start..stop];
-    let Shape::Found { colon, count } = rule_shape(v) else {
+    let Some(Shape { colon, count }) = rule_shape(v) else {
         return Kept::Fault(MALFORMED, at);
     };
     take_rule(

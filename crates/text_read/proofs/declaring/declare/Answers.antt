@@ -45,8 +45,8 @@ value c =
 
 -- its names are well formed, and so many
 all-names : (d : Place-Past-After-known_told2) → let a = d.args in let ns = names_of (part (a.a + d.in-Value.start) a.e a.text.now) in
-    (all is_name ns ≡ true) × (d.in-Names.count ≡ length ns)
-all-names d = count_all d.in-Names.count _ (sym d.count_names.ensures ∙ d.in-Names.is)
+    (all is_name ns ≡ true) × (d.in-Some.count ≡ length ns)
+all-names d = count_all d.in-Some.count _ (sym d.count_names.ensures ∙ d.in-Some.is)
 
 -- no name stands twice in the earlier value
 once : (e : Start) → has_double (names_of e.args.earlier.now) ≡ false

@@ -1,7 +1,7 @@
 -- `text_read::declaring::fill` meets its contract: the entries put so far, and those of the names from the cursor on, make up all. Assumes nothing.
 use native.Mathlib.Omega.{arith}
 use mathlib.Core.Path.{◌≡◌, refl, ap, ◌∙◌}
-use Prim.Native.Nat.{◌+◌, ◌-◌}
+use Prim.Native.Nat.{◌+◌}
 use lib.ListN.{length, drop, length-set}
 use native.Mathlib.Nat.{add-zero}
 use Rattle.text.specs.Read.{names_of}

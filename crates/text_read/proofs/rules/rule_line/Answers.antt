@@ -12,7 +12,6 @@ use Rattle.names.specs.Found.{part}
 use Rattle.text_read.specs.Lines.{KeptTold}
 use Rattle.text_read.specs.Values.{HasValue}
 use Rattle.text_read.proofs.Values.{told-value, told_none}
-use Rattle.text_read.proofs.Shapes.{told-shape, told_shapeless}
 use Rattle.text_read.proofs.RuleLines.{line-none, line-value, value_shapeless, line-rest, told_wider}
 use Rattle.text_read.proofs.rules.rule_line.Goals as goal
 use Rattle.text_read.proofs.rules.rule_line.Lts as lts
@@ -61,10 +60,10 @@ pub returns-in_default-rule_shape : goal.returns-in_default-rule_shape
 returns-in_default-rule_shape c = let a = c.args in
     let v = part (from c.before.before.before.before) (to c.before.before.before.before) a.line.now in
     line-value a.at a.t (names c.before.before.before.before.before.before.before.before.before.before.before.before) a.line.now (from c.before.before.before.before) (to c.before.before.before.before) (value c.before.before.before.before)
-    ∙ value_shapeless a.at a.t (names c.before.before.before.before.before.before.before.before.before.before.before.before) v (told_shapeless v c.rule_shape.result c.in_default-rule_shape.is c.rule_shape.ensures)
+    ∙ value_shapeless a.at a.t (names c.before.before.before.before.before.before.before.before.before.before.before.before) v c.in_default-rule_shape.ensures
 
 pub take_rule-requires : goal.take_rule-requires
-take_rule-requires c = (told-shape (part (from c.before.before.before.before.before) (to c.before.before.before.before.before) c.args.line.now) c.rule_shape.result c.in-Found.colon c.in-Found.count c.in-Found.is c.rule_shape.ensures, line-rest c.requires (value-bytes c.before.before.before.before.before))
+take_rule-requires c = (c.in-Some.ensures, line-rest c.requires (value-bytes c.before.before.before.before.before))
 
 pub returns : goal.returns
 returns c = let a = c.args in

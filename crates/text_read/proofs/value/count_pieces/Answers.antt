@@ -1,6 +1,5 @@
 -- `text_read::value::count_pieces` meets its contract: the count so far and the pieces from the cursor on make up all. Assumes nothing.
 use native.Mathlib.Omega.{arith}
-use Prim.Native.Nat.{◌-◌}
 use mathlib.Core.Path.{sym, ap, ◌∙◌}
 use mathlib.Core.List.{[]}
 use Rattle.names.proofs.Pieces.{piece_more, piece_last, piece_first}

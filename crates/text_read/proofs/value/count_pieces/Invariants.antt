@@ -1,7 +1,6 @@
 use Prim.Native.Nat.{◌≤◌, ◌-◌}
 use mathlib.Core.Path.{◌≡◌}
 use lib.ListN.{length, drop}
-use mathlib.Core.List.{[]}
 use Rattle.text.specs.Pieces.{split_on}
 use Rattle.text_read.specs.Values.{counted}
 use Rattle.text_read.proofs.value.count_pieces.Given as goal
