@@ -185,9 +185,6 @@ module _ {robot addon row starts lengths firsts widths terminals nonterminals : 
   pub joined-few : (z.terminals ≤ limits.max_terminals) × (z.nonterminals ≤ limits.max_nonterminals)
   joined-few = (omega (arith, h.terminals_are, well.terminals-most), omega (arith, h.nonterminals_are, well.nonterminals-most))
 
-  pub entries-most : e ≤ length row
-  entries-most = taken-most e row _ h.table-front h.entries
-
   -- the names of each kind
   first-names : first-put ≡ J.terminals
   unfolding joined

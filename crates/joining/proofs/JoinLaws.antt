@@ -22,13 +22,13 @@ use Rattle.text.proofs.Promises.{ReadAs, read_as, refuses_as}
 use Rattle.text.proofs.Admit.{text-checked}
 use Rattle.text.proofs.Enough.{entries-states}
 use Rattle.text.proofs.RoundTrip.{apart}
-use Rattle.text_read.specs.Texts.{table_read, Rows, ChecksText, ChecksModule}
+use Rattle.text_read.specs.Texts.{table_read, ChecksText, ChecksModule}
 use Rattle.text_read.proofs.Whole.{admit-few}
 use Rattle.text_read.proofs.Written as written
 use Rattle.modules.specs.Joined.{added_rules, joined_terminals, joined_nonterminals, joined, join_texts}
 use Rattle.joining.specs.Numbers.{numbered}
 use Rattle.joining.specs.Naming.{BothNamed, NamesCounted, CountsTold, RulesReady, RulesPut, recoded_rule}
-use Rattle.joining.specs.Joins.{JoinRows, JoinedHeld, BothRead}
+use Rattle.joining.specs.Joins.{JoinedHeld, BothRead}
 use Rattle.joining.specs.declared.Counts.{Counts}
 use Rattle.joining.specs.declared.Counts.TheVariants.{Names, Fault}
 use Rattle.modules.proofs.ReadJoined.{module_read_lem, module_well, joined_texts}
@@ -328,33 +328,3 @@ pub addon-refused : (robot addon : List ℕ) {row starts lengths table firsts si
 addon-refused robot addon {row} {starts} {lengths} {table} {firsts} {sizes} {x} {y} {t} {n} {e} {q} {c} {i} h g k w =
     let a = read_as (check_text limits robot) t n e q (sym g ∙ h.answer) in
     addon_stops robot addon a.source c i a.whole (refuses_as (check_module limits addon) c i (sym w ∙ k.answer))
-
-rows_same : {bytes : ℕ} {row starts lengths row' starts' lengths' : List ℕ} → Rows bytes row starts lengths
-    → length row' ≡ length row → length starts' ≡ length starts → length lengths' ≡ length lengths → Rows bytes row' starts' lengths'
-rows_same h a b c = record {
-  entries = omega (arith, h.entries, a);
-  names = omega (arith, h.names, b);
-  some = omega (arith, h.some, b);
-  paired = b ∙ h.paired ∙ sym c;
-  most = omega (arith, h.most, b);
-}
-
-pub both_read : {robot addon row starts lengths table firsts sizes terminals nonterminals row' starts' lengths' table' firsts' sizes' : List ℕ}
-    {x y : TextRead} {t n e q u v d z : ℕ} → JoinRows robot addon row starts lengths table firsts sizes terminals nonterminals
-    → length row' ≡ length row → length starts' ≡ length starts → length lengths' ≡ length lengths
-    → length table' ≡ length table → length firsts' ≡ length firsts → length sizes' ≡ length sizes
-    → ChecksText robot x row' starts' lengths' → x ≡ Read t n e q → ChecksModule addon y table' firsts' sizes' → y ≡ Read u v d z
-    → BothRead robot addon t n e u v d row' starts' lengths' table' firsts' sizes' terminals nonterminals
-both_read {robot} {addon} {row} {starts} {lengths} {table} {firsts} {sizes} {terminals} {nonterminals} {row'} {starts'} {lengths'} {table'} {firsts'} {sizes'} {x} {y} {t} {n} {e} {q} {u} {v} {d} {z} p a b c i j k h g m w = record {
-  rows = record {
-    robot-rows = rows_same p.robot-rows a b c;
-    addon-rows = rows_same p.addon-rows i j k;
-    both = omega (arith, p.both, a);
-    terminals-room = p.terminals-room;
-    nonterminals-room = p.nonterminals-room;
-  };
-  q = q;
-  robot-read = subst (λ (x : TextRead). ChecksText robot x row' starts' lengths') g h;
-  z = z;
-  addon-read = subst (λ (y : TextRead). ChecksModule addon y table' firsts' sizes') w m;
-}

@@ -14,7 +14,6 @@ use Rattle.grammar.proofs.Answers.{unless_holds, unless_fails, then-goes, then_s
 use Rattle.text.specs.Read.{Source}
 use Rattle.text.specs.Promise.{text_read, afterwards}
 use Rattle.text.specs.declared.TextRead.TheVariants.{Read, Refused}
-use Rattle.text_read.proofs.Written.{front_fits}
 use Rattle.modules.specs.Joined.{joined, join_texts, joined_table_into}
 use Rattle.modules.specs.Promise.{JoinsTexts}
 use Rattle.joining.specs.Joins.{JoinedHeld, JoinTold}
@@ -31,11 +30,6 @@ module _ (robot addon row starts lengths firsts sizes terminals nonterminals : L
   pub told-joined : (r : Join) (z : ListSizes) (e q : ℕ) → r ≡ JoinJoined z e q → JoinTold robot addon row starts lengths firsts sizes terminals nonterminals r
       → JoinedHeld robot addon row starts lengths firsts sizes terminals nonterminals z e q
   told-joined r z e q g h = subst (λ (r : Join). JoinTold robot addon row starts lengths firsts sizes terminals nonterminals r) g h
-
--- the row has the whole table
-pub held_fits : {robot addon row starts lengths firsts sizes terminals nonterminals : List ℕ} {z : ListSizes} {e q : ℕ}
-    → JoinedHeld robot addon row starts lengths firsts sizes terminals nonterminals z e q → e ≤ length row
-held_fits {row = row} {e = e} h = front_fits e row _ h.table-front (sym h.entries)
 
 module _ (robot addon table : List ℕ) where
   into_refused : (c i : ℕ) → joined_table_into limits (length table) robot addon ≡ refused c i → JoinsTexts robot addon table (Refused c i) table

@@ -1,12 +1,12 @@
 -- Laws of the loops over the module's names. Assumes nothing.
 use Prim.Native.Nat.{ℕ, zero, suc, ◌+◌, ◌≤◌, ◌<◌}
-use mathlib.Core.Path.{◌≡◌, refl, ap, sym, ◌∙◌}
+use mathlib.Core.Path.{◌≡◌, refl, ap, sym, subst, ◌∙◌}
 use mathlib.Core.Bool.{Bool, true, false}
 use mathlib.Core.List.{List, [], ◌∷◌, ◌++◌, map}
 use native.Mathlib.Omega.{arith}
 use native.Mathlib.Numerals.{add-one}
 use lib.Dec.{ltb}
-use borrow.Author.Tests.{lt-ltb, le-ltb, ltb-true}
+use borrow.Author.Tests.{lt-ltb, le-ltb}
 use lib.ListN.{length, take, drop, get_or, set, length-map, drop_of_length-le}
 use lib.Seq.{drop-cons, take-suc, append_snoc, set_at, length-take-le, paste, paste-suc}
 use lib.Seq.{take-length}
@@ -82,6 +82,28 @@ module _ (names xs : List (List ℕ)) (i : ℕ) (h : i < length xs) where
       (ap (λ (k : ℕ). numbered names n (take i xs) ++ (k ∷ [])) same ∙ sym (numbered_snoc names (take i xs) n (get_or xs i []))
       ∙ ap (numbered names n) (sym (take-suc xs i [] h))))
 
+  module _ (old row : List ℕ) (n next k : ℕ) (l : length xs ≤ length old) (q : n ≡ length names)
+      (e : next ≡ n + length (added names (take i xs))) (r : row ≡ numbered names n (take i xs) ++ drop i old) (a : k ≡ at) where
+    -- the number that follows, and the row with the number of the name at the cursor
+    abbrev Counted : ℕ → ℕ → Type 0
+    Counted v next' =
+        (next' ≡ n + length (added names (take (i + 1) xs))) × (set row i v ≡ numbered names n (take (i + 1) xs) ++ drop (i + 1) old)
+
+    counted : (b : Bool) → ltb at n ≡ b → Counted (choose b at next) (choose b next (next + 1))
+    counted b t = (
+      sym (ap (λ (c : Bool). choose c next (next + 1)) t) ∙ next_more n next q e,
+      ap (λ (w : List ℕ). set w i (choose b at next)) r ∙ sym (ap (λ (c : Bool). set (numbered names n (take i xs) ++ drop i old) i (choose c at next)) t)
+          ∙ number_more old n next l q e,
+    )
+
+    -- the robot has it
+    pub counted_known : k < n → Counted k next
+    counted_known h = subst (λ (v : ℕ). Counted v next) (sym a) (counted true (lt-ltb at n (omega arith)))
+
+    -- it is added
+    pub counted_added : n ≤ k → Counted next (next + 1)
+    counted_added h = counted false (le-ltb at n (omega arith))
+
 -- all of them
 pub number_all : (names xs : List (List ℕ)) (old : List ℕ) (n i : ℕ) → i ≡ length xs → numbered names n (take i xs) ++ drop i old ≡ over (numbered names n xs) old
 unfolding over
@@ -89,20 +111,6 @@ number_all names xs old n i e =
     ap (λ (i : ℕ). numbered names n (take i xs) ++ drop i old) e
     ∙ ap (λ (ys : List (List ℕ)). numbered names n ys ++ drop (length xs) old) (take-length xs)
     ∙ ap (λ (k : ℕ). numbered names n xs ++ drop k old) (sym (length-numbered names n xs))
-
-pub choose-small : (k n next b : ℕ) → n ≤ b → next < b → choose (ltb k n) k next < b
-choose-small k n next b h l = go (ltb k n) refl
-  where
-    go : (c : Bool) → ltb k n ≡ c → choose c k next < b
-    go true e = omega (arith, ltb-true k n e)
-    go false e = l
-
-pub choose-next : (k n next : ℕ) → choose (ltb k n) next (next + 1) ≤ next + 1
-choose-next k n next = go (ltb k n)
-  where
-    go : (c : Bool) → choose c next (next + 1) ≤ next + 1
-    go true = omega arith
-    go false = omega arith
 
 pub none-added : (names xs : List (List ℕ)) (n : ℕ) (old : List ℕ) → (length (added names (take 0 xs)) ≡ 0) × (numbered names n (take 0 xs) ++ drop 0 old ≡ old)
 unfolding added numbered

@@ -4,13 +4,17 @@ use mathlib.Core.Path.{◌≡◌, refl, ap, ap₂, sym, subst, ◌∙◌}
 use mathlib.Core.Bool.{Bool, true, false}
 use mathlib.Core.List.{List, [], ◌∷◌, ◌++◌}
 use native.Mathlib.Omega.{arith}
-use borrow.Author.Tests.{eq-eqb, ne_eqb, eqb-true}
-use lib.Dec.{eqb}
-use lib.ListN.{length, take, drop, get_or, length-append, drop_of_length-le}
+use borrow.Author.Tests.{eq-eqb, eqb-true, ltb-false}
+use lib.Dec.{eqb, ltb}
+use lib.ListN.{length, take, get_or, length-append}
 use lib.Seq.{get_or-take}
+use Rattle.std.specs.Prelude.{cond, not, Some, None}
+use Rattle.std.specs.List.{position, position_or_len}
+use Rattle.std.specs.Option.{unwrap_or}
+use Rattle.std.proofs.lemmas.List.Sums.{prefix_len-le-length}
+use Rattle.std.proofs.lemmas.List.Recursion.{is_position_or_len}
 use Rattle.grammar.specs.Basics.{choose}
 use Rattle.grammar.specs.Limits.{limits}
-use Rattle.grammar.proofs.Lists.{drop-next}
 use Rattle.text.specs.Names.{place}
 use Rattle.text.specs.Read.{Source, symbol_names}
 use Rattle.text.specs.Promise.{name_starts, name_lengths}
@@ -20,7 +24,7 @@ use Rattle.joining.specs.Numbers.{numbered}
 use Rattle.joining.specs.Joins.{JoinTold, PlaceReady}
 use Rattle.joining.specs.declared.ListSizes.{ListSizes}
 use Rattle.joining.specs.declared.Join.{Join}
-use Rattle.joining.specs.declared.Join.TheVariants.{Joined, Refused}
+use Rattle.joining.specs.declared.Join.TheVariants.{Refused}
 use Rattle.modules.specs.declared.Place.TheVariants.{Robot, Module, Neither}
 use Rattle.joining.proofs.Loops.{length-numbered}
 use Rattle.joining.proofs.ShownLaws.{added-counted}
@@ -29,18 +33,21 @@ use Rattle.joining.proofs.ShownNames.{Told, clear, robot-told, module_told, neit
 
 -- ---- the first entry that is i
 
-pub entry_here : (l : List ℕ) (i j : ℕ) → j < length l → get_or l j 0 ≡ i → place (λ (x : ℕ). eqb x i) (drop j l) ≡ 0
+-- its place is the one that the library finds, or how many entries there are
+pub place-found : {A : Type 0} (p : A → Bool) (l : List A) → unwrap_or (position p l) (length l) ≡ place p l
 unfolding place
-entry_here l i j h e = rw (drop-next l j h, eq-eqb (get_or l j 0) i e)
+place-found p l =
+    let same : place p l ≡ position_or_len p l = is_position_or_len (place p) p refl (λ x xs. step (p x) (place p xs)) l in
+    go (ltb (position_or_len p l) (length l)) refl ∙ sym same
+  where
+    step : (c : Bool) (k : ℕ) → choose c 0 (suc k) ≡ cond c 0 (1 + k)
+    step true k = refl
+    step false k = omega arith
 
-pub entry-after : (l : List ℕ) (i j : ℕ) → j < length l → (get_or l j 0 ≡ i → ⊥)
-    → place (λ (x : ℕ). eqb x i) (drop j l) ≡ suc (place (λ (x : ℕ). eqb x i) (drop (j + 1) l))
-unfolding place
-entry-after l i j h e = rw (drop-next l j h, ne_eqb (get_or l j 0) i e)
-
-pub entry-none : (l : List ℕ) (i j : ℕ) → length l ≤ j → place (λ (x : ℕ). eqb x i) (drop j l) ≡ 0
-unfolding place
-entry-none l i j h = rw (drop_of_length-le l {i = j} h)
+    go : (c : Bool) → ltb (position_or_len p l) (length l) ≡ c
+        → unwrap_or (cond c (Some (position_or_len p l)) None) (length l) ≡ position_or_len p l
+    go true e = refl
+    go false e = omega (arith, prefix_len-le-length (λ x. not (p x)) l, ltb-false (position_or_len p l) (length l) e)
 
 -- where one is, it is there
 pub entry_found : (l : List ℕ) (i j : ℕ) → j < length l → get_or l j 0 ≡ i
@@ -241,9 +248,6 @@ module _ {robot addon : List ℕ} {z : ListSizes} {starts lengths firsts widths 
 
 module _ (robot addon row starts lengths firsts widths terminals nonterminals : List ℕ) (o : Join)
     (told : JoinTold robot addon row starts lengths firsts widths terminals nonterminals o) where
-  pub place_ready : (z : ListSizes) (e q : ℕ) → o ≡ Joined z e q → PlaceReady robot addon z starts lengths firsts widths terminals nonterminals
-  place_ready z e q h = record { row = row; e = e; q = q; held = subst (JoinTold robot addon row starts lengths firsts widths terminals nonterminals) h told }
-
   pub place-refused : (cause at i : ℕ) → o ≡ Refused cause at → Told limits robot addon i Neither
   place-refused cause at i h =
       (sym (shown-refused limits robot addon cause at (subst (JoinTold robot addon row starts lengths firsts widths terminals nonterminals) h told) i), tt)

@@ -1,5 +1,5 @@
 -- Local rows of zeros suffice for two texts and their names. Assumes nothing.
-use Prim.Native.Nat.{ℕ, ◌*◌}
+use Prim.Native.Nat.{ℕ}
 use mathlib.Core.List.{List}
 use native.Mathlib.Omega.{arith}
 use lib.ListN.{length, replicate, length-replicate}
@@ -8,7 +8,6 @@ use Rattle.text_read.specs.Values.{all_names}
 use Rattle.text_read.specs.Lines.{kept_entries}
 use Rattle.text_read.proofs.Rooms.{rows-large}
 use Rattle.joining.specs.Joins.{JoinRows}
-use Rattle.joining.specs.Gathering.{longest, NameRoom}
 
 pub rows_both : (robot addon : List ℕ)
     → JoinRows robot addon (replicate kept_entries 0) (replicate all_names 0) (replicate all_names 0)
@@ -20,11 +19,4 @@ rows_both robot addon = record {
   both = omega (arith, length-replicate {A = ℕ} kept_entries 0);
   terminals-room = omega (arith, length-replicate {A = ℕ} limits.max_terminals 0);
   nonterminals-room = omega (arith, length-replicate {A = ℕ} limits.max_nonterminals 0);
-}
-
-pub name-room : NameRoom (replicate (all_names * longest) 0) (replicate all_names 0) (replicate all_names 0)
-name-room = record {
-  bytes-room = omega (arith, length-replicate {A = ℕ} (all_names * longest) 0);
-  places-room = omega (arith, length-replicate {A = ℕ} all_names 0);
-  spans_room = omega (arith, length-replicate {A = ℕ} all_names 0);
 }

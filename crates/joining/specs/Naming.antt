@@ -1,10 +1,10 @@
 -- What the functions over the names and rules of two texts are lent, and what they tell. Assumes nothing.
-use Rattle.std.specs.Prelude.{ℕ, ◌+◌, ◌-◌, ◌*◌, ◌≤◌, ◌<◌, ◌≡◌, true, false, not, List, ◌++◌, map, ltb, leb, length, take, drop, get_or}
+use Rattle.std.specs.Prelude.{Option, None, Some, ℕ, ◌+◌, ◌-◌, ◌≤◌, ◌<◌, ◌≡◌, true, false, not, List, ◌++◌, map, ltb, leb, length, take, drop, get_or}
 use Rattle.grammar.specs.Basics.{choose, over, Mem}
 use Rattle.grammar.specs.Limits.{Limits, limits}
 use Rattle.grammar.specs.Grammar.{Rule, start}
 use Rattle.grammar.specs.Table.{encode}
-use Rattle.grammar.specs.Refusal.{Answer, done, refused, refuse_unless, out_of_range, kinds_clash}
+use Rattle.grammar.specs.Refusal.{Answer, refused, refuse_unless, out_of_range, kinds_clash}
 use Rattle.text.specs.Names.{has_double}
 use Rattle.text.specs.Read.{Source}
 use Rattle.text.specs.Spelled.{spelled}
@@ -12,8 +12,6 @@ use Rattle.lexicon.specs.Tree.{Spans, Lexicon}
 use Rattle.text_read.specs.Values.{all_names}
 use Rattle.modules.specs.Joined.{meet, added, added_rules}
 use Rattle.joining.specs.Numbers.{numbered}
-use Rattle.joining.specs.declared.Matched.{Matched}
-use Rattle.joining.specs.declared.Matched.TheVariants.{Clash, Together}
 use Rattle.joining.specs.declared.Counts.{Counts}
 use Rattle.joining.specs.declared.Counts.TheVariants.{Names, Fault}
 
@@ -36,10 +34,11 @@ pub record Kind (robot starts lengths addon firsts sizes others widths numbers :
   pub other_spans : Spans addon others widths
   pub room : length firsts ≤ length numbers
 
--- names of the robot, of the module, and the module's of the other kind: a clash, or how many there are together, and their numbers
-abbrev pub KindTold : List (List ℕ) → List (List ℕ) → List (List ℕ) → List ℕ → List ℕ → Matched → Type 0
-KindTold names xs others numbers numbers' Clash = meet others names ≡ true
-KindTold names xs others numbers numbers' (Together k) =
+-- names of the robot, of the module, and the module's of the other kind: none where these clash, or how many there are together, and
+-- their numbers
+abbrev pub KindTold : List (List ℕ) → List (List ℕ) → List (List ℕ) → List ℕ → List ℕ → Option ℕ → Type 0
+KindTold names xs others numbers numbers' None = meet others names ≡ true
+KindTold names xs others numbers numbers' (Some k) =
     (meet others names ≡ false) × (k ≡ length (names ++ added names xs)) × (numbers' ≡ over (numbered names (length names) xs) numbers)
 
 -- ---- both kinds: the first t names of the robot and u of the module are terminals

@@ -44,10 +44,8 @@ fn put_all(
     ensures { Puts (spelled text.now starts.now lengths.now) k
         bytes.old places.old spans.old bytes.new places.new spans.new }
 {
-    let mut i = 0;
-    while i < starts.len() {
+    for i in 0..starts.len() {
         put_one(text, starts, lengths, i, bytes, places, spans, k + i);
-        i += 1;
     }
 }
 
@@ -94,13 +92,19 @@ fn put_fresh(
         bytes.old places.old spans.old bytes.new places.new spans.new }
 {
     let mut to = k;
-    let mut i = 0;
-    while i < starts.len() {
-        let number = numbers[i] as usize;
+    for (i, number) in numbers.iter().enumerate() {
         to = put_if_fresh(
-            text, starts, lengths, i, number, least, bytes, places, spans, to,
+            text,
+            starts,
+            lengths,
+            i,
+            *number as usize,
+            least,
+            bytes,
+            places,
+            spans,
+            to,
         );
-        i += 1;
     }
 }
 

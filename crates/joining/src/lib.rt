@@ -20,13 +20,6 @@ use text::TextRead;
 use text_read::KEPT_ENTRIES;
 pub use writing::write_joined;
 
-// Names of one kind: the module has one of them as the other kind, or how many there are together.
-#[derive(Drop)]
-pub enum Matched {
-    Clash,
-    Together(usize),
-}
-
 // How many names of each kind there are together.
 #[derive(Drop)]
 pub enum Counts {

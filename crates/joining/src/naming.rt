@@ -8,7 +8,7 @@ ghost use Rattle.modules.specs.Joined.{meet, added};
 ghost use Rattle.joining.specs.Numbers.{numbered};
 ghost use Rattle.joining.specs.Naming.{Numbering, Kind, KindTold, BothNamed, CountsTold};
 
-use super::{Counts, Matched};
+use super::Counts;
 use grammar::{KINDS_CLASH, MAX_NAMES, MAX_NONTERMINALS, MAX_TERMINALS, OUT_OF_RANGE};
 
 // The number that the module's name i has among the robot's names, or how many these are.
@@ -44,36 +44,12 @@ fn meets(
     ensures { result ≡ meet (spelled addon.now firsts.now sizes.now) (spelled robot.now starts.now lengths.now) }
 {
     let n = starts.len();
-    let m = firsts.len();
-    let mut i = 0;
-    while i < m {
+    for i in 0..firsts.len() {
         if number_of(robot, starts, lengths, links, addon, firsts, sizes, i) < n {
             return true;
         }
-        i += 1;
     }
     false
-}
-
-// The number of a name that is found at place k of n, or is the next one.
-fn number_for(k: usize, n: usize, next: usize) -> usize
-    ensures { result ≡ choose (ltb k n) k next }
-{
-    if k < n {
-        return k;
-    }
-    next
-}
-
-// The next one after it.
-fn next_after(k: usize, n: usize, next: usize) -> usize
-    requires { next < 4294967296 }
-    ensures { result ≡ choose (ltb k n) next (next + 1) }
-{
-    if k < n {
-        return next;
-    }
-    next + 1
 }
 
 // Counts off the module's names: one that the robot has keeps its number there, the others follow in their order. Gives how many
@@ -93,19 +69,20 @@ fn number_names(
     ensures row { numbers.new ≡ over (numbered (spelled robot.now starts.now lengths.now) (length starts.now) (spelled addon.now firsts.now sizes.now)) numbers.old }
 {
     let n = starts.len();
-    let m = firsts.len();
     let mut next = n;
-    let mut i = 0;
-    while i < m {
+    for i in 0..firsts.len() {
         let k = number_of(robot, starts, lengths, links, addon, firsts, sizes, i);
-        numbers[i] = number_for(k, n, next) as u32;
-        next = next_after(k, n, next);
-        i += 1;
+        if k < n {
+            numbers[i] = k as u32;
+        } else {
+            numbers[i] = next as u32;
+            next += 1;
+        }
     }
     next
 }
 
-// Names of one kind: does the module have one as the other kind, and which numbers do its names of this kind get?
+// Names of one kind: how many there are together, and the numbers of the module's; none where it has one as the other kind.
 pub fn match_kind(
     robot: &[u8],
     starts: &[u32],
@@ -116,16 +93,16 @@ pub fn match_kind(
     others: &[u32],
     widths: &[u32],
     numbers: &mut [u32],
-) -> Matched
+) -> Option<usize>
     requires { Kind robot.now starts.now lengths.now addon.now firsts.now sizes.now others.now widths.now numbers.old }
     ensures { KindTold (spelled robot.now starts.now lengths.now) (spelled addon.now firsts.now sizes.now) (spelled addon.now others.now widths.now) numbers.old numbers.new result }
 {
     let mut links = [0u16; 2 * MAX_NAMES];
     lexicon::plant(robot, starts, lengths, &mut links);
     if meets(robot, starts, lengths, &links, addon, others, widths) {
-        return Matched::Clash;
+        return None;
     }
-    Matched::Together(number_names(
+    Some(number_names(
         robot, starts, lengths, &links, addon, firsts, sizes, numbers,
     ))
 }
@@ -150,10 +127,10 @@ fn count_kinds(
         (spelled addon.now us.now ul.now) (spelled addon.now vs.now vl.now)
         terminals.old nonterminals.old terminals.new nonterminals.new result }
 {
-    let Matched::Together(b) = match_kind(robot, ns, nl, addon, vs, vl, us, ul, nonterminals) else {
+    let Some(b) = match_kind(robot, ns, nl, addon, vs, vl, us, ul, nonterminals) else {
         return Counts::Fault(KINDS_CLASH, 1);
     };
-    let Matched::Together(a) = match_kind(robot, ts, tl, addon, us, ul, vs, vl, terminals) else {
+    let Some(a) = match_kind(robot, ts, tl, addon, us, ul, vs, vl, terminals) else {
         return Counts::Fault(KINDS_CLASH, 2);
     };
     if MAX_TERMINALS < a {

@@ -10,22 +10,15 @@ ghost use Rattle.joining.specs.RuleRows.{RuleReady, RulePut, RulesBefore};
 
 use grammar::NONTERMINAL_BASE;
 
-// A number counted off.
-fn wide(x: u32) -> usize
-    ensures { (result ≡ x) × (result < 4294967296) }
-{
-    x as usize
-}
-
 // The code of a symbol of the module among the joined ones, by the numbers counted off for its terminals and its nonterminals.
 fn recode(terminals: &[u32], nonterminals: &[u32], code: u16) -> u16
     requires { Recoding terminals.now nonterminals.now code }
     ensures { result ≡ recoded limits terminals.now nonterminals.now code }
 {
     if code < NONTERMINAL_BASE {
-        return (wide(terminals[(code - 1) as usize]) + 1) as u16;
+        return terminals[(code - 1) as usize] as u16 + 1;
     }
-    NONTERMINAL_BASE + wide(nonterminals[(code - NONTERMINAL_BASE) as usize]) as u16
+    NONTERMINAL_BASE + nonterminals[(code - NONTERMINAL_BASE) as usize] as u16
 }
 
 // Puts codes of the module, recoded, into a row from a place on.
@@ -33,18 +26,9 @@ fn put_recoded(terminals: &[u32], nonterminals: &[u32], codes: &[u16], row: &mut
     requires { (AllRecoding terminals.now nonterminals.now codes.now) × (at + length codes.now ≤ length row.old) }
     ensures { row.new ≡ paste row.old at (map (recoded limits terminals.now nonterminals.now) codes.now) (length codes.now) }
 {
-    let mut i = 0;
-    while i < codes.len() {
-        row[at + i] = recode(terminals, nonterminals, codes[i]);
-        i += 1;
+    for (i, code) in codes.iter().enumerate() {
+        row[at + i] = recode(terminals, nonterminals, *code);
     }
-}
-
-// An entry that is a length.
-fn length_of(x: u16) -> usize
-    ensures { result ≡ x }
-{
-    x as usize
 }
 
 // Puts a rule of the module, recoded, into a row from a place on.
@@ -54,8 +38,7 @@ fn put_rule(terminals: &[u32], nonterminals: &[u32], rule: &[u16], row: &mut [u1
 {
     row[at] = recode(terminals, nonterminals, rule[0]);
     row[at + 1] = rule[1];
-    let k = rule.len();
-    put_recoded(terminals, nonterminals, &rule[2..k], row, at + 2);
+    put_recoded(terminals, nonterminals, &rule[2..], row, at + 2);
 }
 
 // Does the rule of length k at a place stand among those of the row's first entries?
@@ -65,7 +48,7 @@ fn stands_before(row: &[u16], end: usize, at: usize, k: usize) -> bool
 {
     let mut o = 0;
     while o < end {
-        let m = length_of(row[o + 1]);
+        let m = row[o + 1] as usize;
         if table_check::same_rule(row, o, m, at, k) {
             return true;
         }
@@ -101,7 +84,7 @@ pub fn put_rules(
     let mut to = end;
     let mut at = 0;
     while at < table.len() {
-        let k = length_of(table[at + 1]);
+        let k = table[at + 1] as usize;
         put_rule(terminals, nonterminals, &table[at..at + 2 + k], row, to);
         to = next_place(row, end, to, k);
         at += 2 + k;

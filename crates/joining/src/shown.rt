@@ -13,25 +13,14 @@ use grammar::{MAX_NAMES, MAX_NONTERMINALS, MAX_TERMINALS};
 use modules::Place;
 use text_read::KEPT_ENTRIES;
 
-// An entry as a number.
-fn wide(x: u32) -> usize
-    ensures { result ≡ x }
-{
-    x as usize
-}
-
 // The place of the first entry that is i, or how many there are.
 fn entry_of(numbers: &[u32], i: usize) -> usize
     ensures { result ≡ place (λ (x : ℕ). eqb x i) numbers.now }
 {
-    let mut j = 0;
-    while j < numbers.len() {
-        if wide(numbers[j]) == i {
-            return j;
-        }
-        j += 1;
-    }
-    j
+    numbers
+        .iter()
+        .position(|number| *number as usize == i)
+        .unwrap_or(numbers.len())
 }
 
 // Where name j of the robot's text stands, and where name j of the module's does.
@@ -39,14 +28,14 @@ fn robot_at(starts: &[u32], lengths: &[u32], j: usize) -> Place
     requires { (j < length starts.now) × (j < length lengths.now) }
     ensures { result ≡ Robot (get_or starts.now j 0) (get_or lengths.now j 0) }
 {
-    Place::Robot(wide(starts[j]), wide(lengths[j]))
+    Place::Robot(starts[j] as usize, lengths[j] as usize)
 }
 
 fn module_at(firsts: &[u32], widths: &[u32], j: usize) -> Place
     requires { (j < length firsts.now) × (j < length widths.now) }
     ensures { result ≡ Module (get_or firsts.now j 0) (get_or widths.now j 0) }
 {
-    Place::Module(wide(firsts[j]), wide(widths[j]))
+    Place::Module(firsts[j] as usize, widths[j] as usize)
 }
 
 // Where the name of symbol i stands: the robot's symbols come first of each kind, the others are the module's whose number they are.

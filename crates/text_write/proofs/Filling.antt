@@ -21,11 +21,6 @@ pub record Filling (at : ℕ) (out text : List ℕ) (j : ℕ) (now rest : List �
 pub filling_start : (at : ℕ) (out text : List ℕ) → at + length text ≤ length out → Filling at out text at out text
 filling_start at out text h = record { long = refl; place = refl; room = h; front = refl; back = refl }
 
--- the next place in other words
-pub filling_at : {at : ℕ} {out text : List ℕ} (j j' : ℕ) {now rest : List ℕ} → j ≡ j' → Filling at out text j now rest
-    → Filling at out text j' now rest
-filling_at {at} {out} {text} j j' {now} {rest} e f = subst (λ j. Filling at out text j now rest) e f
-
 module _ {at : ℕ} {out text : List ℕ} {j : ℕ} {now whole : List ℕ} where
   -- what comes next has room
   pub filling_room : (xs rest : List ℕ) → whole ≡ xs ++ rest → Filling at out text j now whole → j + length xs ≤ length now

@@ -16,7 +16,7 @@ use Rattle.grammar.specs.Table.{decode}
 use Rattle.grammar.specs.Refusal.{Answer, done, refused, buffer_too_short, malformed, name_repeated}
 use Rattle.grammar.specs.TableCheck.{check_table, table_checked}
 use Rattle.grammar.specs.declared.TableChecked.{TableChecked}
-use Rattle.grammar.specs.declared.TableVerdict.TheVariants.{Passed as AllPassed, Refused as TableRefused}
+use Rattle.grammar.specs.declared.TableVerdict.TheVariants.{Refused as TableRefused}
 use Rattle.grammar.proofs.Answers.{unless_holds, unless_fails, then-goes, then_stops}
 use Rattle.text.specs.Names.{all, any, is_name, same_name}
 use Rattle.text.specs.Print.{gather, first_double, text_from, write_into}
@@ -28,7 +28,7 @@ use Rattle.text.specs.Spelled.{spelled}
 use Rattle.text.proofs.Sizes.{printed-most}
 use Rattle.text.proofs.RoundTrip.{made, into_refused, into_short, into_done}
 use Rattle.text.proofs.Promises.{told_as, told-refused}
-use Rattle.text_write.specs.Clauses.{Coded, Wrote, text_of, Checked, Ready, named_text, NamedAnswer, stops_at}
+use Rattle.text_write.specs.Clauses.{Coded, Wrote, text_of, Ready, named_text, NamedAnswer, stops_at}
 use Rattle.text_write.proofs.LentLaws.{gather-refused, Cut, cut}
 use Rattle.text_write.proofs.TableLaws.{Passed, passed, symbols-most}
 
@@ -202,15 +202,6 @@ module _ (t n : ℕ) (table bytes starts lengths : List ℕ) where
         }
 
 -- ---- what the table check's verdict says
-
-pub check-passed : (t n : ℕ) (table : List ℕ) (x : TableChecked) → x ≡ table_checked (check_table limits t n table)
-    → x.verdict ≡ AllPassed
-    → Checked t n table
-check-passed t n table x e h = go (check_table limits t n table) refl (ap (λ (x : TableChecked). x.verdict) (sym e) ∙ h)
-  where
-    go : (o : Answer Grammar) → check_table limits t n table ≡ o → (table_checked o).verdict ≡ AllPassed → Checked t n table
-    go (done G) q z = record { grammar = G; passes = q }
-    go (refused c p) q z = absurd (let o : ◌≡◌ {A = ℕ} 0 1 = cc in omega arith)
 
 pub check-refused : (t n : ℕ) (table : List ℕ) (x : TableChecked) (c p : ℕ) → x ≡ table_checked (check_table limits t n table)
     → x.verdict ≡ TableRefused c p → check_table limits t n table ≡ refused c p

@@ -1,12 +1,10 @@
 -- `joining::join_texts` meets its contract: a refusal leaves the table as it was; else the front of the row is copied. Assumes nothing.
 use native.Mathlib.Omega.{arith}
 use Prim.Native.Nat.{ℕ}
-use mathlib.Core.Path.{sym}
-use lib.Seq.{length-take-le}
 use Rattle.joining.specs.Joins.{JoinedHeld}
 use Rattle.joining.specs.declared.ListSizes.{ListSizes}
 use Rattle.joining.proofs.Rooms.{rows_both}
-use Rattle.joining.proofs.Lent.{told-refused, told-joined, held_fits, join-refused, join-short, join_written}
+use Rattle.joining.proofs.Lent.{told-refused, told-joined, join-refused, join-short, join_written}
 use Rattle.joining.proofs.join_texts.Goals as goal
 use Rattle.joining.proofs.join_texts.Lts as lts
 use Rattle.joining.proofs.join_texts.Reads as reads
@@ -43,15 +41,6 @@ join_kept-requires c = let a = c.args in rows_both a.robot.now a.addon.now
 pub returns-then-table-entries : goal.returns-then-table-entries
 returns-then-table-entries c = let a = (e c.before.before).args in
     join-short a.robot.now a.addon.now a.table.now _ _ _ _ _ _ _ (z c.before.before) (entries c.before.before) (states c.before.before) (held c.before.before) (omega (arith, c.if-table-entries.true))
-
-pub slice_bounds-row-end : goal.slice_bounds-row-end
-slice_bounds-row-end c = held_fits (held c.before.before)
-
-pub slice_bounds-copy_codes-end : goal.slice_bounds-copy_codes-end
-slice_bounds-copy_codes-end c = sym (length-take-le _ _ (held_fits (held c.before.before.before)))
-
-pub copy_codes-requires : goal.copy_codes-requires
-copy_codes-requires c = omega (arith, length-take-le (entries c.before.before.before.before) c.join_kept.new.row (held_fits (held c.before.before.before.before)), c.if-table-entries.false)
 
 pub returns-in-Refused : goal.returns-in-Refused
 returns-in-Refused c = let a = c.args in

@@ -1,6 +1,6 @@
 -- `joining::gathering::gather_names` meets its contract: the rows hold the names of each kind. Assumes nothing.
 use native.Mathlib.Omega.{arith}
-use mathlib.Core.Path.{sym, ◌∙◌}
+use mathlib.Core.Path.{sym}
 use lib.Seq.{length-take-le}
 use Rattle.joining.proofs.GatherLaws.{room-kept}
 use Rattle.joining.proofs.Held.{robot_halves, addon_halves, terminals-most, nonterminals-most, first_ready, second_ready, all-gathered}
@@ -60,15 +60,6 @@ slice_bounds-put_kind-end-10 c = sym (length-take-le _ _ (nonterminals-most c.re
 
 pub put_kind-requires-2 : goal.put_kind-requires-2
 put_kind-requires-2 c = second_ready c.requires.held c.put_kind.new.bytes c.put_kind.new.places c.put_kind.new.spans (room-kept c.put_kind.auto.bytes c.put_kind.auto.places c.put_kind.auto.spans c.requires.room)
-
-pub shape_of-bytes : goal.shape_of-bytes
-shape_of-bytes c = c.put_kind-2.auto.bytes ∙ c.put_kind.auto.bytes
-
-pub shape_of-places : goal.shape_of-places
-shape_of-places c = c.put_kind-2.auto.places ∙ c.put_kind.auto.places
-
-pub shape_of-spans : goal.shape_of-spans
-shape_of-spans c = c.put_kind-2.auto.spans ∙ c.put_kind.auto.spans
 
 pub returns : goal.returns
 returns c = let a = c.args in

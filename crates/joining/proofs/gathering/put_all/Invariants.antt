@@ -1,14 +1,7 @@
-use Prim.Native.Nat.{ℕ, ◌-◌, ◌≤◌}
-use mathlib.Core.Path.{◌≡◌}
-use lib.ListN.{length, take}
+use Rattle.std.proofs.Common.{take}
 use Rattle.text.specs.Spelled.{spelled}
 use Rattle.joining.specs.Gathering.{Puts}
 use Rattle.joining.proofs.gathering.put_all.Given as goal
 
 abbrev pub invariant-loop-i : goal.invariant-loop-i
-invariant-loop-i l = (l.i ≤ length l.starts)
-    × (length l.bytes ≡ length l.initial.bytes) × (length l.places ≡ length l.initial.places) × (length l.spans ≡ length l.initial.spans)
-    × Puts (take l.i (spelled l.text l.starts l.lengths)) l.k l.initial.bytes l.initial.places l.initial.spans l.bytes l.places l.spans
-
-abbrev pub decreases-loop-i : goal.decreases-loop-i
-decreases-loop-i l = length l.starts - l.i
+invariant-loop-i l = Puts (take l.i (spelled l.text l.starts l.lengths)) l.k l.initial.bytes l.initial.places l.initial.spans l.bytes l.places l.spans

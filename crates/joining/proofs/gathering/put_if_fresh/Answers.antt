@@ -23,12 +23,6 @@ pub returns-then-number-least : goal.returns-then-number-least
 returns-then-number-least c = let z = fresh-low c.args.least c.args.number (x c.before.before.before.before.before.before.before.before) c.if-number-least.true in
     record { count = omega (arith, ap length z); rows = puts_none _ _ _ _ _ z }
 
-pub put_one-requires : goal.put_one-requires
-put_one-requires c = record { listed = c.requires.listed; inside = c.requires.inside; room = c.requires.room; few = c.requires.few c.if-number-least.false }
-
-pub overflow_add-result : goal.overflow_add-result
-overflow_add-result c = omega (arith, c.requires.few c.if-number-least.false)
-
 pub returns : goal.returns
 returns c = let a = c.args in
     let z = fresh-high a.least a.number (x c.before.before.before.before.before.before.before.before.before.before.before.before.before.before.before.before.before.before) c.if-number-least.false in

@@ -2,7 +2,7 @@
 use native.Mathlib.Omega.{arith}
 use mathlib.Core.Path.{sym}
 use lib.Seq.{length-take-le}
-use Rattle.joining.proofs.JoinLaws.{robot-names_fit, addon-names_fit, addon-table_fits, names-few, numbers_fit, named, names-refused, rules_ready, last-refused, last-joined}
+use Rattle.joining.proofs.JoinLaws.{robot-names_fit, addon-names_fit, names-few, numbers_fit, named, names-refused, rules_ready, last-refused, last-joined}
 use Rattle.joining.proofs.joins.join_read.Goals as goal
 
 pub overflow_add-m : goal.overflow_add-m
@@ -29,9 +29,6 @@ join_names-requires c = named c.requires
 pub returns-in-Fault : goal.returns-in-Fault
 returns-in-Fault c = names-refused c.requires _ _ c.join_names.result c.in-Fault.is c.join_names.ensures
 
-pub slice_bounds-put_rules-end : goal.slice_bounds-put_rules-end
-slice_bounds-put_rules-end c = sym (length-take-le _ _ (addon-table_fits c.requires))
-
 pub slice_bounds-put_rules-end-in-Names : goal.slice_bounds-put_rules-end-in-Names
 slice_bounds-put_rules-end-in-Names c = omega (arith, (numbers_fit c.requires).0, c.join_names.auto.terminals)
 
@@ -46,9 +43,6 @@ slice_bounds-put_rules-end-in-Names-4 c = sym (length-take-le _ _ (omega (arith,
 
 pub put_rules-end-requires : goal.put_rules-end-requires
 put_rules-end-requires c = rules_ready c.requires _ _ c.join_names.result c.in-Names.is c.join_names.ensures
-
-pub last_tests-requires : goal.last_tests-requires
-last_tests-requires c = c.put_rules-end.ensures.inside
 
 pub returns-in-Refused : goal.returns-in-Refused
 returns-in-Refused c = last-refused c.requires _ _ c.join_names.result c.in-Names.is c.join_names.ensures c.put_rules-end.ensures c.last_tests.ensures c.in-Refused.is

@@ -1,5 +1,4 @@
 -- `joining::naming::number_of` meets its contract: the part that is looked up is the module's name. Assumes nothing.
-use native.Mathlib.Omega.{arith}
 use mathlib.Core.Path.{sym, ap, ◌∙◌}
 use mathlib.Core.List.{List}
 use Prim.Native.Nat.{ℕ}
@@ -9,18 +8,6 @@ use Rattle.text.specs.Names.{same_name, place}
 use Rattle.text.specs.Spelled.{spelled}
 use Rattle.text.proofs.Spans.{spelled_at}
 use Rattle.joining.proofs.naming.number_of.Goals as goal
-
-pub overflow_cast-a : goal.overflow_cast-a
-overflow_cast-a c = omega (arith, c.shared_slice_known-8-1.given c.args.i)
-
-pub overflow_cast-e : goal.overflow_cast-e
-overflow_cast-e c = omega (arith, c.shared_slice_known-9-1.given c.args.i)
-
-pub overflow_add-e : goal.overflow_add-e
-overflow_add-e c = omega (arith, c.requires.1.inside c.args.i c.requires.2)
-
-pub slice_bounds-find-end : goal.slice_bounds-find-end
-slice_bounds-find-end c = omega (arith, c.requires.1.inside c.args.i c.requires.2)
 
 pub returns : goal.returns
 returns c = let a = c.args in

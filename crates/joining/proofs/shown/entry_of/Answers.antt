@@ -1,29 +1,14 @@
--- `joining::shown::entry_of` meets its contract: no entry before the cursor is i. Assumes nothing.
-use borrow.Author.Rules.{rules}
-use native.Mathlib.Omega.{arith}
-use mathlib.Core.Path.{sym, ◌∙◌}
-use Prim.Native.Nat.{ℕ, ◌-◌}
-use Rattle.joining.proofs.Places.{entry_here, entry-after, entry-none}
+-- `joining::shown::entry_of` meets its contract: no entry before the place is i. Assumes nothing.
+use Rattle.std.proofs.Common.{◌≡◌, ℕ, ap, ◌∙◌, length, eqb, rules}
+use Rattle.std.specs.List.{position}
+use Rattle.std.specs.Option.{unwrap_or}
+use Rattle.std.proofs.lemmas.Iterator.{YieldsList-from_slice}
+use Rattle.std.proofs.lemmas.Iterator.Search.{position_from_yields_List}
+use borrow.Author.Tests.{tests}
+use Rattle.joining.proofs.Places.{place-found}
 use Rattle.joining.proofs.shown.entry_of.Goals as goal
-
-pub loop-j-init : goal.loop-j-init
-loop-j-init c = (omega arith, omega arith)
-
-pub returns-then-wide-i : goal.returns-then-wide-i
-returns-then-wide-i c = let a = c.args in
-    let l = c.loop-j in
-    let t = c.loop-j-test.true in
-    omega (arith, l.invariant.1, entry_here a.numbers.now a.i l.j t (sym c.wide.ensures ∙ c.if-wide-i.true))
-
-pub loop-j-preserved : goal.loop-j-preserved
-loop-j-preserved c = let a = c.args in
-    let l = c.loop-j in
-    let t = c.loop-j-test.true in (
-      search rules,
-      omega (arith, l.invariant.1, entry-after a.numbers.now a.i l.j t (λ e. c.if-wide-i.false (c.wide.ensures ∙ e))),
-    )
 
 pub returns : goal.returns
 returns c = let a = c.args in
-    let l = c.loop-j in
-    omega (arith, l.invariant.1, entry-none a.numbers.now a.i l.j c.loop-j-test.false)
+    let e : c.position.result ≡ position (λ (x : ℕ). eqb x a.i) a.numbers.now = position_from_yields_List (λ (x : ℕ). eqb x a.i) _ _ _ c.position.ensures.ran (YieldsList-from_slice a.numbers.now cc) (λ x b q k. search (rules, tests)) in
+    c.unwrap_or.ensures ∙ ap (λ r. unwrap_or r (length a.numbers.now)) e ∙ place-found (λ (x : ℕ). eqb x a.i) a.numbers.now

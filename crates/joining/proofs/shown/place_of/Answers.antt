@@ -1,7 +1,7 @@
 -- `joining::shown::place_of` meets its contract: case by case, the rows have the place of the robot's name or of the module's. Assumes nothing.
 use native.Mathlib.Omega.{arith}
 use mathlib.Core.Path.{◌≡◌, sym, ap, subst}
-use Prim.Native.Nat.{ℕ, ◌+◌, ◌-◌}
+use Prim.Native.Nat.{ℕ, ◌+◌}
 use lib.ListN.{get_or}
 use lib.Seq.{length-take-le}
 use Rattle.grammar.specs.Limits.{limits}

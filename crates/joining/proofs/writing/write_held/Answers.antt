@@ -1,21 +1,11 @@
 -- `joining::writing::write_held` meets its contract: the writer writes the joined text from the names that are gathered. Assumes nothing.
 use Prim.Native.Nat.{ℕ, ◌*◌}
 use native.Mathlib.Omega.{arith}
-use mathlib.Core.Path.{sym}
 use lib.ListN.{length-replicate}
-use lib.Seq.{length-take-le}
 use Rattle.text_read.specs.Values.{all_names}
 use Rattle.joining.specs.Gathering.{longest}
-use Rattle.joining.proofs.Rooms.{name-room}
-use Rattle.joining.proofs.Held.{entries-most}
 use Rattle.joining.proofs.Writes.{writes_joined}
 use Rattle.joining.proofs.writing.write_held.Goals as goal
-
-pub gather_names-requires : goal.gather_names-requires
-gather_names-requires c = record { row = c.args.row.now; e = c.args.entries; q = c.requires.q; held = c.requires.held; room = name-room }
-
-pub slice_bounds-write_text-end : goal.slice_bounds-write_text-end
-slice_bounds-write_text-end c = sym (length-take-le _ _ (entries-most c.requires.held))
 
 pub returns : goal.returns
 returns c = let a = c.args in

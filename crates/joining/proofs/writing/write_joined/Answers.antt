@@ -20,9 +20,6 @@ Told k r =
 pub join_kept-requires : goal.join_kept-requires
 join_kept-requires c = let a = c.args in rows_both a.robot.now a.addon.now
 
-pub write_held-requires : goal.write_held-requires
-write_held-requires c = record { q = c.in-Joined.states; held = subst (Told c.before.before.before.before.before.before.before.before.before.before.before.before.before.before.before.before.before.before) c.in-Joined.is c.join_kept.ensures }
-
 pub returns-in-Refused : goal.returns-in-Refused
 returns-in-Refused c = let a = c.args in
     joined-refused a.robot.now a.addon.now a.out.now c.in-Refused.cause c.in-Refused.at
