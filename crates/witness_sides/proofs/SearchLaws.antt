@@ -1,9 +1,10 @@
 -- The search for the record that leads to an index. Assumes nothing.
 use Prim.Native.Nat.{ℕ, zero, suc, ◌+◌, ◌≤◌}
-use mathlib.Core.Path.{◌≡◌, sym, ap, ◌∙◌}
+use mathlib.Core.Path.{◌≡◌, refl, sym, ap, ◌∙◌}
 use mathlib.Core.List.{List, [], ◌∷◌, ◌++◌}
 use mathlib.Core.Bool.{Bool}
 use mathlib.Core.Option.{Option, none, some}
+use Rattle.std.specs.Prelude.{Some, None}
 use native.Mathlib.Omega.{arith}
 use native.Mathlib.Numerals.{add-one}
 use lib.Dec.{eqb}
@@ -13,9 +14,10 @@ use borrow.Author.Tests.{eq-eqb, ne_eqb}
 use Rattle.grammar.specs.Basics.{when, each}
 use Rattle.triples.specs.Index.{index}
 use Rattle.triples.specs.declared.Step.{Step}
-use Rattle.steps.specs.declared.StepAnswer.TheVariants.{Record, NoMore, Refused}
+use Rattle.steps.specs.declared.StepAnswer.{StepAnswer}
+use Rattle.steps.specs.declared.StepAnswer.TheVariants.{Record, NoMore}
 use Rattle.steps.specs.Steps.{nth, record_answer}
-use Rattle.witness_sides.specs.Clauses.{steps_to, first_of, no_step}
+use Rattle.witness_sides.specs.Clauses.{steps_to, first_of}
 
 -- the rest of a list from the record that was answered; no rest where none was
 from_record : (l : List Step) (k : ℕ) (s : Step) → Record s ≡ record_answer (nth l k) → drop k l ≡ s ∷ drop (suc k) l
@@ -38,7 +40,7 @@ module _ (Q j : ℕ) (l : List Step) (k : ℕ) where
   steps_at s e = ap (λ (r : List Step). steps_to Q r j) (from_record l k s e)
 
   pub leads_there : (s : Step) → Record s ≡ record_answer (nth l k) → index Q s.layer s.left s.right ≡ j → steps_to Q (drop k l) j ≡ steps_to Q l j
-      → s ≡ first_of (steps_to Q l j)
+      → Some s ≡ first_of (steps_to Q l j)
   leads_there s e h inv =
       let n = index Q s.layer s.left s.right in
       ap (λ (b : Bool). first_of (when b (s ∷ []) ++ steps_to Q (drop (suc k) l) j)) (sym (eq-eqb n j h))
@@ -53,20 +55,17 @@ module _ (Q j : ℕ) (l : List Step) (k : ℕ) where
       ∙ sym (steps_at s e) ∙ inv
 
   -- past the last there is none
-  nothing_left : drop k l ≡ [] → steps_to Q (drop k l) j ≡ steps_to Q l j → no_step ≡ first_of (steps_to Q l j)
+  nothing_left : drop k l ≡ [] → steps_to Q (drop k l) j ≡ steps_to Q l j → None ≡ first_of (steps_to Q l j)
   unfolding steps_to each
   nothing_left e inv = ap (λ (r : List Step). first_of (steps_to Q r j)) (sym e) ∙ ap first_of inv
 
-  pub ends-none : NoMore ≡ record_answer (nth l k) → steps_to Q (drop k l) j ≡ steps_to Q l j → no_step ≡ first_of (steps_to Q l j)
-  ends-none e inv = nothing_left (no_rest l k e) inv
-
-  pub past-none : length l ≤ k → steps_to Q (drop k l) j ≡ steps_to Q l j → no_step ≡ first_of (steps_to Q l j)
-  past-none h inv = nothing_left (drop_of_length-le l {i = k} h) inv
-
-  -- no record is refused
-  pub not-refused : (cause at : ℕ) → Refused cause at ≡ record_answer (nth l k) → ⊥
-  not-refused cause at e = go (nth l k) e
+  pub ends-none : (answer : StepAnswer) → ((s : Step) → answer ≡ Record s → ⊥) → answer ≡ record_answer (nth l k)
+      → steps_to Q (drop k l) j ≡ steps_to Q l j → None ≡ first_of (steps_to Q l j)
+  ends-none answer other e inv = go (nth l k) refl
     where
-      go : (o : Option Step) → Refused cause at ≡ record_answer o → ⊥
-      go none e = let z : ◌≡◌ {A = ℕ} 0 1 = cc in omega arith
-      go (some s) e = let z : ◌≡◌ {A = ℕ} 0 1 = cc in omega arith
+      go : (o : Option Step) → nth l k ≡ o → None ≡ first_of (steps_to Q l j)
+      go none q = nothing_left (no_rest l k (sym (ap record_answer q))) inv
+      go (some s) q = absurd (other s (e ∙ ap record_answer q))
+
+  pub past-none : length l ≤ k → steps_to Q (drop k l) j ≡ steps_to Q l j → None ≡ first_of (steps_to Q l j)
+  past-none h inv = nothing_left (drop_of_length-le l {i = k} h) inv

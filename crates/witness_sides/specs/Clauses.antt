@@ -1,11 +1,11 @@
 -- What the contracts of the inner functions say. Assumes nothing.
-use Rattle.std.specs.Prelude.{ℕ, ◌≤◌, ◌<◌, ◌≡◌, List, [], ◌∷◌, ◌++◌, map, eqb, length, take}
+use Rattle.std.specs.Prelude.{ℕ, ◌≤◌, ◌<◌, ◌≡◌, List, [], ◌∷◌, ◌++◌, map, eqb, length, take, Option, Some, None}
 use Rattle.grammar.specs.Basics.{when, each}
 use Rattle.grammar.specs.Limits.{limits}
 use Rattle.automaton.specs.Moves.{Moves}
 use Rattle.automaton.specs.Strings.{Letter, opening, closing, symbol}
 use Rattle.triples.specs.Index.{index, layer_of, left_of, right_of}
-use Rattle.triples.specs.Records.{step, records}
+use Rattle.triples.specs.Records.{records}
 use Rattle.triples.specs.Sides.{OneEach, letters}
 use Rattle.triples.specs.declared.Move.{Move}
 use Rattle.triples.specs.declared.Move.TheVariants.{Opening, Closing, Symbol, Still}
@@ -17,12 +17,12 @@ use Rattle.witness_sides.specs.Sides.{TwoSides}
 
 -- ---- letters
 
--- the entry of a move's letter, or 0
-abbrev pub move_entry : Move → ℕ
-move_entry (Opening i) = letter_number (opening i)
-move_entry (Closing i) = letter_number (closing i)
-move_entry (Symbol x) = letter_number (symbol x)
-move_entry Still = 0
+-- the entry of a move's letter, if it has one
+abbrev pub move_entry : Move → Option ℕ
+move_entry (Opening i) = Some (letter_number (opening i))
+move_entry (Closing i) = Some (letter_number (closing i))
+move_entry (Symbol x) = Some (letter_number (symbol x))
+move_entry Still = None
 
 -- these letters, so many, stand at the front of a row
 pub record FrontLetters (u : List Letter) (count : ℕ) (row : List ℕ) : Type 0 where
@@ -40,19 +40,16 @@ Appended m count old r new = (u : List Letter) → FrontLetters u count old → 
 unfoldable pub steps_to : ℕ → List Step → ℕ → List Step
 steps_to Q l j = each l (λ s. when (eqb (index Q s.layer s.left s.right) j) (s ∷ []))
 
--- the first of them, or a step that stays at 0
-abbrev pub no_step : Step
-no_step = step 0 0 0 Still Still
-
-abbrev pub first_of : List Step → Step
-first_of [] = no_step
-first_of (s ∷ l) = s
+-- the first of them, if there is one
+abbrev pub first_of : List Step → Option Step
+first_of [] = None
+first_of (s ∷ l) = Some s
 
 -- the records of index i, from the rows
 abbrev pub records_at : Rows → ℕ → ℕ → List Step
 records_at R Q i = planned R (layer_of Q i) (left_of Q i) (right_of Q i)
 
-abbrev pub step_found : Rows → ℕ → ℕ → ℕ → Step
+abbrev pub step_found : Rows → ℕ → ℕ → ℕ → Option Step
 step_found R Q i j = first_of (steps_to Q (records_at R Q i) j)
 
 -- the targets of Q states are laid out in the rows

@@ -5,15 +5,15 @@ ghost use Rattle.witness_sides.specs.Clauses.{move_entry, Appended};
 use readings::{CLOSING, KIND_UNIT, OPENING, SYMBOL};
 use triples::Move;
 
-// The entry of a move's letter, or 0.
-fn move_entry(m: Move) -> u32
+// The entry of a move's letter, if it has one.
+fn move_entry(m: Move) -> Option<u32>
     ensures { result ≡ move_entry m }
 {
     match m {
-        Move::Opening(rule) => OPENING * KIND_UNIT + rule as u32,
-        Move::Closing(rule) => CLOSING * KIND_UNIT + rule as u32,
-        Move::Symbol(code) => SYMBOL * KIND_UNIT + code as u32,
-        Move::Still => 0,
+        Move::Opening(rule) => Some(OPENING * KIND_UNIT + rule as u32),
+        Move::Closing(rule) => Some(CLOSING * KIND_UNIT + rule as u32),
+        Move::Symbol(code) => Some(SYMBOL * KIND_UNIT + code as u32),
+        Move::Still => None,
     }
 }
 
@@ -23,10 +23,9 @@ pub fn put_letter(row: &mut [u32], count: usize, m: Move) -> usize
     ensures upper_bound { result ≤ count + 1 }
     ensures appended { Appended m count row.old result row.new }
 {
-    let entry = move_entry(m);
-    if entry == 0 {
+    let Some(entry) = move_entry(m) else {
         return count;
-    }
+    };
     row[count] = entry;
     count + 1
 }

@@ -43,16 +43,15 @@ fn walk<'a>(
 {
     let mut lefts = 0;
     let mut rights = 0;
-    let mut x = 0;
-    while x + 1 < row.len() {
-        let i = wide(row[x]);
-        let j = wide(row[x + 1]);
-        let s = step_to(ahead, number, member, first, after, targets, t, m, q, i, j);
-        let on_left = s.on_left;
-        let on_right = s.on_right;
-        lefts = put_letter(left, lefts, on_left);
-        rights = put_letter(right, rights, on_right);
-        x += 1;
+    for x in 1..row.len() {
+        let i = row[x - 1] as usize;
+        let j = row[x] as usize;
+        let found = step_to(ahead, number, member, first, after, targets, t, m, q, i, j);
+        let Some(s) = found else {
+            continue;
+        };
+        lefts = put_letter(left, lefts, s.on_left);
+        rights = put_letter(right, rights, s.on_right);
     }
     Lengths {
         left: lefts,
