@@ -34,13 +34,6 @@ join-high x y s d h =
     let e : (x + 2 ^ s * y) / 2 ^ s ≡ y = add-mul-div_left x y (pow_pos s) ∙ ap (λ (n : ℕ). n + y) (div-eq_of_lt h) ∙ omega arith in
     ap (λ (n : ℕ). n % 2) (sym (shr-shr (x + 2 ^ s * y) s d)) ∙ ap (λ (n : ℕ). n / 2 ^ d % 2) e
 
-join-most : (x y m : ℕ) → x < m → y < m → x + m * y < m * m
-join-most x y m h l =
-    let z : suc y ≤ m = omega arith in
-    let e = mul-le-mul_left m z in
-    let f : m * suc y ≡ m + m * y = omega arith in
-    omega (arith, e, f)
-
 -- one byte
 pub word-one : (bytes : List ℕ) (b r : ℕ) → r ≡ get_or bytes b 0 → r < 256 → Word bytes b 1 r
 word-one bytes b r q h = record { most = h; bits = bits }
