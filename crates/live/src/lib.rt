@@ -3,6 +3,7 @@
 
 #![tactic(auto)]
 
+mod columns;
 mod marks;
 mod passes;
 
@@ -13,6 +14,7 @@ ghost use Rattle.grammar.specs.Live.{has_sentence};
 ghost use Rattle.live.specs.Marks.{marked, all_marked, Small, left_at, right_at, Columns, bit, Answers};
 ghost use Rattle.live.specs.Lent.{ColumnsOf};
 
+use columns::Rules;
 use grammar::{MAX_NONTERMINALS, MAX_RULES, MAX_STATES};
 use marks::{all_marked, is_marked};
 use passes::{mark_productive, mark_reachable};
@@ -34,26 +36,17 @@ fn is_live(left: u16, codes: &[u16], productive: &[u8], reached: &[u8]) -> u8
 }
 
 // Writes of each rule whether it is live.
-fn write_live<'a>(
-    lefts: &'a [u16],
-    lengths: &'a [u16],
-    codes: &'a [u16],
-    count: usize,
-    productive: &'a [u8],
-    reached: &'a [u8],
-    live: &mut [u8],
-)
-    requires columns { Columns lefts.now lengths.now codes.now count }
+fn write_live(rules: &Rules<'_>, productive: &[u8], reached: &[u8], live: &mut [u8])
     requires productive_len { length productive.now ≡ limits.max_nonterminals }
     requires reached_len { length reached.now ≡ limits.max_nonterminals }
-    requires count_in_bounds { count ≤ length live.old }
-    ensures { (j : ℕ) → j < count → get_or live.new j 0
-        ≡ bit (marked reached.now (left_at lefts.now j) && all_marked productive.now (right_at lengths.now codes.now j)) }
+    requires count_in_bounds { rules.now.count ≤ length live.old }
+    ensures { (j : ℕ) → j < rules.now.count → get_or live.new j 0
+        ≡ bit (marked reached.now (left_at rules.now.lefts.now j) && all_marked productive.now (right_at rules.now.lengths.now rules.now.codes.now j)) }
 {
     let mut u = 0;
-    for i in 0..count {
-        let e = u + usize::from(lengths[i]);
-        live[i] = is_live(lefts[i], &codes[u..e], productive, reached);
+    for i in 0..rules.count {
+        let e = u + usize::from(rules.lengths[i]);
+        live[i] = is_live(rules.lefts[i], &rules.codes[u..e], productive, reached);
         u = e;
     }
 }
@@ -69,8 +62,15 @@ pub fn has_sentence<'a>(
     requires { (G : Grammar) × (n : ℕ) × (q : ℕ) × ColumnsOf G n q count used lefts.now lengths.now codes.now }
     ensures { (G : Grammar) (n q : ℕ) → ColumnsOf G n q count used lefts.now lengths.now codes.now → result ≡ has_sentence limits G }
 {
+    let rules = Rules {
+        lefts,
+        lengths,
+        codes,
+        count,
+        used,
+    };
     let mut productive = [0u8; MAX_NONTERMINALS];
-    mark_productive(lefts, lengths, codes, count, used, &mut productive);
+    mark_productive(&rules, &mut productive);
     0 < productive[0]
 }
 
@@ -85,21 +85,22 @@ pub fn live_rules<'a>(
     requires { (G : Grammar) × (n : ℕ) × (q : ℕ) × ColumnsOf G n q count used lefts.now lengths.now codes.now }
     ensures { (G : Grammar) (n q : ℕ) → ColumnsOf G n q count used lefts.now lengths.now codes.now → Answers result.sentence result.rules G }
 {
-    let mut productive = [0u8; MAX_NONTERMINALS];
-    mark_productive(lefts, lengths, codes, count, used, &mut productive);
-    let mut reached = [0u8; MAX_NONTERMINALS];
-    reached[0] = 1;
-    mark_reachable(lefts, lengths, codes, count, &productive, &mut reached);
-    let mut rules = [0u8; MAX_RULES];
-    write_live(
+    let rules = Rules {
         lefts,
         lengths,
         codes,
         count,
-        &productive,
-        &reached,
-        &mut rules,
-    );
-    let sentence = 0 < productive[0];
-    LiveRules { sentence, rules }
+        used,
+    };
+    let mut productive = [0u8; MAX_NONTERMINALS];
+    mark_productive(&rules, &mut productive);
+    let mut reached = [0u8; MAX_NONTERMINALS];
+    reached[0] = 1;
+    mark_reachable(&rules, &productive, &mut reached);
+    let mut live = [0u8; MAX_RULES];
+    write_live(&rules, &productive, &reached, &mut live);
+    LiveRules {
+        sentence: 0 < productive[0],
+        rules: live,
+    }
 }

@@ -5,6 +5,7 @@ ghost use Rattle.std.specs.Prelude.{ℕ, ◌+◌, ◌≤◌, ◌<◌, ◌≡◌,
 ghost use Rattle.grammar.specs.Limits.{limits};
 ghost use Rattle.live.specs.Marks.{Small, Passed, Derived, DerivedMarks, Led, LedMarks, before, Columns, AllDerived, AllDerivedMarks, AllLed, AllLedMarks, Finished};
 
+use super::columns::Rules;
 use super::marks::{all_marked, is_marked, mark, mark_codes};
 
 // Marks a rule's left side if all nonterminals of its right side are marked; how many marks are new?
@@ -38,93 +39,59 @@ fn lead(left: u16, codes: &[u16], productive: &[u8], marks: &mut [u8]) -> usize
 }
 
 // One pass for trees, from the last rule, whose codes end at `used`, to the first.
-fn derive_all<'a>(
-    lefts: &'a [u16],
-    lengths: &'a [u16],
-    codes: &'a [u16],
-    count: usize,
-    used: usize,
-    marks: &mut [u8],
-) -> usize
-    requires columns { Columns lefts.now lengths.now codes.now count }
-    requires used_value { used ≡ before lengths.now count }
+fn derive_all(rules: &Rules<'_>, marks: &mut [u8]) -> usize
     requires marks_len { length marks.old ≡ limits.max_nonterminals }
-    ensures { Passed (AllDerived lefts.now lengths.now codes.now 0 count)
-        (AllDerivedMarks lefts.now lengths.now codes.now 0 count) marks.old marks.new result }
+    ensures { Passed (AllDerived rules.now.lefts.now rules.now.lengths.now rules.now.codes.now 0 rules.now.count)
+        (AllDerivedMarks rules.now.lefts.now rules.now.lengths.now rules.now.codes.now 0 rules.now.count) marks.old marks.new result }
 {
     let mut n = 0;
-    let mut u = used;
-    for i in (0..count).rev() {
+    let mut u = rules.used;
+    for i in (0..rules.count).rev() {
         let e = u;
-        u -= usize::from(lengths[i]);
-        n += derive(lefts[i], &codes[u..e], marks);
+        u -= usize::from(rules.lengths[i]);
+        n += derive(rules.lefts[i], &rules.codes[u..e], marks);
     }
     n
 }
 
 // One pass for what S reaches, from the first rule to the last.
-fn lead_all<'a>(
-    lefts: &'a [u16],
-    lengths: &'a [u16],
-    codes: &'a [u16],
-    count: usize,
-    productive: &[u8],
-    marks: &mut [u8],
-) -> usize
-    requires columns { Columns lefts.now lengths.now codes.now count }
+fn lead_all(rules: &Rules<'_>, productive: &[u8], marks: &mut [u8]) -> usize
     requires productive_len { length productive.now ≡ limits.max_nonterminals }
     requires marks_len { length marks.old ≡ limits.max_nonterminals }
-    ensures { Passed (AllLed lefts.now lengths.now codes.now productive.now 0 count)
-        (AllLedMarks lefts.now lengths.now codes.now productive.now 0 count) marks.old marks.new result }
+    ensures { Passed (AllLed rules.now.lefts.now rules.now.lengths.now rules.now.codes.now productive.now 0 rules.now.count)
+        (AllLedMarks rules.now.lefts.now rules.now.lengths.now rules.now.codes.now productive.now 0 rules.now.count) marks.old marks.new result }
 {
     let mut n = 0;
     let mut u = 0;
-    for i in 0..count {
-        let e = u + usize::from(lengths[i]);
-        n += lead(lefts[i], &codes[u..e], productive, marks);
+    for i in 0..rules.count {
+        let e = u + usize::from(rules.lengths[i]);
+        n += lead(rules.lefts[i], &rules.codes[u..e], productive, marks);
         u = e;
     }
     n
 }
 
 // Marks the nonterminals that have a tree.
-pub fn mark_productive<'a>(
-    lefts: &'a [u16],
-    lengths: &'a [u16],
-    codes: &'a [u16],
-    count: usize,
-    used: usize,
-    marks: &mut [u8],
-)
-    requires columns { Columns lefts.now lengths.now codes.now count }
-    requires used_value { used ≡ before lengths.now count }
+pub fn mark_productive(rules: &Rules<'_>, marks: &mut [u8])
     requires marks_len { length marks.old ≡ limits.max_nonterminals }
-    ensures { Finished (AllDerived lefts.now lengths.now codes.now 0 count)
-        (AllDerivedMarks lefts.now lengths.now codes.now 0 count) marks.old marks.new }
+    ensures { Finished (AllDerived rules.now.lefts.now rules.now.lengths.now rules.now.codes.now 0 rules.now.count)
+        (AllDerivedMarks rules.now.lefts.now rules.now.lengths.now rules.now.codes.now 0 rules.now.count) marks.old marks.new }
 {
     let mut fresh = 1;
     while 0 < fresh {
-        fresh = derive_all(lefts, lengths, codes, count, used, marks);
+        fresh = derive_all(rules, marks);
     }
 }
 
 // Marks what the marked nonterminals reach through rules that can stand in a tree.
-pub fn mark_reachable<'a>(
-    lefts: &'a [u16],
-    lengths: &'a [u16],
-    codes: &'a [u16],
-    count: usize,
-    productive: &[u8],
-    marks: &mut [u8],
-)
-    requires columns { Columns lefts.now lengths.now codes.now count }
+pub fn mark_reachable(rules: &Rules<'_>, productive: &[u8], marks: &mut [u8])
     requires productive_len { length productive.now ≡ limits.max_nonterminals }
     requires marks_len { length marks.old ≡ limits.max_nonterminals }
-    ensures { Finished (AllLed lefts.now lengths.now codes.now productive.now 0 count)
-        (AllLedMarks lefts.now lengths.now codes.now productive.now 0 count) marks.old marks.new }
+    ensures { Finished (AllLed rules.now.lefts.now rules.now.lengths.now rules.now.codes.now productive.now 0 rules.now.count)
+        (AllLedMarks rules.now.lefts.now rules.now.lengths.now rules.now.codes.now productive.now 0 rules.now.count) marks.old marks.new }
 {
     let mut fresh = 1;
     while 0 < fresh {
-        fresh = lead_all(lefts, lengths, codes, count, productive, marks);
+        fresh = lead_all(rules, productive, marks);
     }
 }

@@ -11,28 +11,28 @@ use Rattle.live.proofs.write_live.Goals as goal
 use Rattle.live.proofs.write_live.Invariants.{live_at}
 
 pub loop-i-init : goal.loop-i-init
-loop-i-init c = (before-start c.args.lengths.now, refl, λ j h. absurd (omega arith))
+loop-i-init c = (before-start c.args.rules.now.lengths.now, refl, λ j h. absurd (omega arith))
 
 pub overflow_add-e : goal.overflow_add-e
-overflow_add-e c = let l = c.loop-i in let h = (rule_fits c.requires.columns l.i l.u c.from.result (omega arith) l.invariant.0 c.from.ensures).0 in search (rules, h)
+overflow_add-e c = let l = c.loop-i in let h = (rule_fits c.args.rules.now.columns l.i l.u c.from.result (omega arith) l.invariant.0 c.from.ensures).0 in search (rules, h)
 
-pub offset_bounds-codes-u : goal.offset_bounds-codes-u
-offset_bounds-codes-u c =
+pub offset_bounds-rules-u : goal.offset_bounds-rules-u
+offset_bounds-rules-u c =
     let l = c.loop-i in
-    let k : l.u ≤ length c.args.codes.now = omega (arith, (rule_fits c.requires.columns l.i l.u c.from.result (omega arith) l.invariant.0 c.from.ensures).0) in
+    let k : l.u ≤ length c.args.rules.now.codes.now = omega (arith, (rule_fits c.args.rules.now.columns l.i l.u c.from.result (omega arith) l.invariant.0 c.from.ensures).0) in
     search (rules, k)
 
 pub slice_bounds-is_live-end : goal.slice_bounds-is_live-end
-slice_bounds-is_live-end c = let l = c.loop-i in (rule_fits c.requires.columns l.i l.u c.from.result (omega arith) l.invariant.0 c.from.ensures).0
+slice_bounds-is_live-end c = let l = c.loop-i in (rule_fits c.args.rules.now.columns l.i l.u c.from.result (omega arith) l.invariant.0 c.from.ensures).0
 
 pub loop-i-preserved : goal.loop-i-preserved
 loop-i-preserved c =
     let a = c.args in
     let l = c.loop-i in
     let k = l.invariant.1 in (
-      (rule_fits c.requires.columns l.i l.u c.from.result (omega arith) l.invariant.0 c.from.ensures).1,
+      (rule_fits c.args.rules.now.columns l.i l.u c.from.result (omega arith) l.invariant.0 c.from.ensures).1,
       simp length-set k,
-      written-more (live_at a.lefts.now a.lengths.now a.codes.now a.productive.now a.reached.now) l.live l.i _ (omega (arith, c.requires.count_in_bounds, k)) l.invariant.2
-          (c.is_live.ensures ∙ ap (λ α. bit (marked a.reached.now (left_at a.lefts.now l.i) && all_marked a.productive.now α))
-          (part_is a.lengths.now a.codes.now l.i l.u (l.u + c.from.result) l.invariant.0 (omega (arith, l.invariant.0, c.from.ensures)))),
+      written-more (live_at a.rules.now.lefts.now a.rules.now.lengths.now a.rules.now.codes.now a.productive.now a.reached.now) l.live l.i _ (omega (arith, c.requires.count_in_bounds, k)) l.invariant.2
+          (c.is_live.ensures ∙ ap (λ α. bit (marked a.reached.now (left_at a.rules.now.lefts.now l.i) && all_marked a.productive.now α))
+          (part_is a.rules.now.lengths.now a.rules.now.codes.now l.i l.u (l.u + c.from.result) l.invariant.0 (omega (arith, l.invariant.0, c.from.ensures)))),
     )

@@ -11,4 +11,4 @@ abbrev pub live_at : List ℕ → List ℕ → List ℕ → List ℕ → List �
 live_at lefts lengths codes productive reached j = bit (marked reached (left_at lefts j) && all_marked productive (right_at lengths codes j))
 
 abbrev pub invariant-loop-i : goal.invariant-loop-i
-invariant-loop-i l = (l.u ≡ before l.lengths l.i) × (length l.live ≡ length l.initial.live) × ((j : ℕ) → j < l.i → get_or l.live j 0 ≡ live_at l.lefts l.lengths l.codes l.productive l.reached j)
+invariant-loop-i l = (l.u ≡ before l.rules.lengths.now l.i) × (length l.live ≡ length l.initial.live) × ((j : ℕ) → j < l.i → get_or l.live j 0 ≡ live_at l.rules.lefts.now l.rules.lengths.now l.rules.codes.now l.productive l.reached j)

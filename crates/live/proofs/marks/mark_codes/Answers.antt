@@ -1,14 +1,8 @@
 -- mark_codes meets its contract: the codes before the one at hand are marked, n marks are new.
 use borrow.Author.Rules.{rules}
 use native.Mathlib.Omega.{arith}
-use Rattle.live.proofs.MarkLaws.{passed-few, codes-start, codes-more, codes-end}
+use Rattle.live.proofs.MarkLaws.{passed-few, codes-more, codes-end}
 use Rattle.live.proofs.marks.mark_codes.Goals as goal
-
-pub loop-x-init : goal.loop-x-init
-loop-x-init c = codes-start c.args.codes.now c.args.marks.now
-
-pub mark-n-requires : goal.mark-n-requires
-mark-n-requires c = let h = c.requires c.loop-x.x-index (omega arith) in omega (arith, h, c.loop-x.invariant.long)
 
 pub overflow_add-n : goal.overflow_add-n
 overflow_add-n c = let l = c.loop-x in

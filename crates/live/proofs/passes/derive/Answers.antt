@@ -1,10 +1,7 @@
 -- derive meets its contract: a rule that waits is left alone.
 use mathlib.Core.Path.{sym, ◌∙◌}
-use Rattle.live.proofs.MarkLaws.{derive_waits, derive_marks}
+use Rattle.live.proofs.MarkLaws.{derive_marks}
 use Rattle.live.proofs.passes.derive.Goals as goal
-
-pub returns-then-not-all_marked : goal.returns-then-not-all_marked
-returns-then-not-all_marked c = derive_waits c.args.left c.args.codes.now _ (sym c.all_marked.ensures ∙ c.if-not-all_marked.true)
 
 pub returns : goal.returns
 returns c = derive_marks c.args.left c.args.codes.now c.args.marks.now _ _ c.requires.left_bound

@@ -4,4 +4,4 @@ use Rattle.live.proofs.PassLaws.{DerivedFrom}
 use Rattle.live.proofs.passes.derive_all.Given as goal
 
 abbrev pub invariant-loop-i : goal.invariant-loop-i
-invariant-loop-i l = (l.u ≡ before l.lengths l.i) × DerivedFrom l.lefts l.lengths l.codes l.count l.i l.initial.marks l.marks l.n
+invariant-loop-i l = (l.u ≡ before l.rules.lengths.now l.i) × DerivedFrom l.rules.lefts.now l.rules.lengths.now l.rules.codes.now l.rules.count l.i l.initial.marks l.marks l.n

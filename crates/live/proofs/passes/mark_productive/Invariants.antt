@@ -4,7 +4,7 @@ use Rattle.live.proofs.PassLaws.{Going}
 use Rattle.live.proofs.passes.mark_productive.Given as goal
 
 abbrev pub invariant-loop-fresh : goal.invariant-loop-fresh
-invariant-loop-fresh l = Going (AllDerived l.lefts l.lengths l.codes 0 l.count) (AllDerivedMarks l.lefts l.lengths l.codes 0 l.count) l.initial.marks l.marks l.fresh
+invariant-loop-fresh l = Going (AllDerived l.rules.lefts.now l.rules.lengths.now l.rules.codes.now 0 l.rules.count) (AllDerivedMarks l.rules.lefts.now l.rules.lengths.now l.rules.codes.now 0 l.rules.count) l.initial.marks l.marks l.fresh
 
 abbrev pub decreases-loop-fresh : goal.decreases-loop-fresh
 decreases-loop-fresh l = 2 * unmarked l.marks + l.fresh
