@@ -1,12 +1,13 @@
 -- The word of a letter by its kind, and the lines in the pieces in which they are written.
 -- Assumes nothing.
-use Prim.Native.Nat.{ℕ, ◌+◌, ◌/◌, ◌%◌, ◌≤◌, ◌<◌}
+use Prim.Native.Nat.{ℕ, suc, ◌+◌, ◌-◌, ◌/◌, ◌%◌, ◌≤◌, ◌<◌}
 use mathlib.Core.Path.{◌≡◌, refl, ap, sym, subst, ◌∙◌}
 use mathlib.Core.Logic.{◌⊎◌, inl, inr}
 use mathlib.Core.List.{List, [], ◌∷◌, ◌++◌, append_assoc}
 use native.Mathlib.Omega.{arith}
 use borrow.Author.Tests.{eq-eqb, ne_eqb}
-use lib.ListN.{length, drop, get_or, drop_of_length-le}
+use lib.ListN.{length, take, drop, get_or, length-drop, drop_of_length-le}
+use lib.Seq.{take_all}
 use Rattle.grammar.specs.Limits.{limits}
 use Rattle.grammar.specs.Grammar.{Terminal, Nonterminal}
 use Rattle.grammar.proofs.Lists.{drop-next}
@@ -46,6 +47,10 @@ module _ (t : ℕ) (names : List (List ℕ)) (x : ℕ) where
   unfolding name_of
   symbol-word s h k e = ap (word limits t names) (is_symbol x h k) ∙ ap (λ (s : ℕ). get_or names s []) (sym e)
 
+-- the letters after the first
+others_all : (xs : List ℕ) → take (length xs - 1) (drop 1 xs) ≡ drop 1 xs
+others_all xs = take_all (length xs - 1) (drop 1 xs) (omega (arith, length-drop 1 xs))
+
 -- a symbol has 16 bits, and has a name
 pub record Spelt (t m code : ℕ) : Type 0 where
   pub some : 1 ≤ code
@@ -81,6 +86,20 @@ module _ {t : ℕ} {text starts lengths : List ℕ} where
         subst (λ j. Valid limits t w.nonterminals w.rules (letter_from (get_or (get_or letters i 0 ∷ []) j 0))) q (w.valid i h));
   }
 
+  -- those after the first, as the part that the code takes
+  pub worded_others : {letters : List ℕ} → Worded t text starts lengths letters
+      → Worded t text starts lengths (take (length letters - 1) (drop 1 letters))
+  worded_others {letters} w = subst (Worded t text starts lengths) (sym (others_all letters)) (go letters w)
+    where
+      go : (letters : List ℕ) → Worded t text starts lengths letters → Worded t text starts lengths (drop 1 letters)
+      go [] w = w
+      go (x ∷ xs) w = record {
+        nonterminals = w.nonterminals;
+        rules = w.rules;
+        names = w.names;
+        valid = λ i h. w.valid (suc i) (omega arith);
+      }
+
   module _ {left right out : List ℕ} {at : ℕ} (s : Sayable t text starts lengths left right at out) where
     pub left_worded : Worded t text starts lengths left
     left_worded = record { nonterminals = s.nonterminals; rules = s.rules; names = s.names; valid = s.left-letters }
@@ -106,10 +125,10 @@ module _ (t : ℕ) (names : List (List ℕ)) where
   words-none (x ∷ xs) h = absurd (omega arith)
 
   pub words-turn : (letters : List ℕ) → 1 ≤ length letters → words_of t names letters
-      ≡ word limits t names (letter_from (get_or letters 0 0)) ++ led_of t names (drop 1 letters)
+      ≡ word limits t names (letter_from (get_or letters 0 0)) ++ led_of t names (take (length letters - 1) (drop 1 letters))
   unfolding words join
   words-turn [] h = absurd (omega arith)
-  words-turn (x ∷ xs) h = refl
+  words-turn (x ∷ xs) h = ap (λ others. word limits t names (letter_from x) ++ led_of t names others) (sym (others_all (x ∷ xs)))
 
   -- the left line, then the right one
   pub lines-parts : (left right : List ℕ) → lines_of t names left right

@@ -3,7 +3,7 @@
 
 #![tactic(auto)]
 
-ghost use Rattle.std.specs.Prelude.{[], ◌∷◌, ◌+◌, ◌≤◌, ◌<◌, length, drop};
+ghost use Rattle.std.specs.Prelude.{[], ◌∷◌, ◌+◌, ◌≤◌, ◌<◌, length};
 ghost use Rattle.grammar.specs.Limits.{limits};
 ghost use Rattle.text.specs.Numbers.{decimal};
 ghost use Rattle.text.specs.Spelled.{spelled};
@@ -63,7 +63,7 @@ fn put_word(
     put_name(out, at, text, starts, lengths, s)
 }
 
-// The words of the letters after the first, with a space before each.
+// The words of letters, with a space before each.
 fn put_led(
     out: &mut [u8],
     at: usize,
@@ -73,18 +73,16 @@ fn put_led(
     starts: &[u32],
     lengths: &[u32],
 ) -> usize
-    requires { Worded t text.now starts.now lengths.now letters.now × (1 ≤ length letters.now)
-        × (at + length (led_of t (spelled text.now starts.now lengths.now) (drop 1 letters.now)) ≤ length out.old) }
+    requires { Worded t text.now starts.now lengths.now letters.now
+        × (at + length (led_of t (spelled text.now starts.now lengths.now) letters.now) ≤ length out.old) }
     ensures { Wrote at
-        (led_of t (spelled text.now starts.now lengths.now) (drop 1 letters.now))
+        (led_of t (spelled text.now starts.now lengths.now) letters.now)
         out.old result out.new }
 {
     let mut j = at;
-    let mut i = 1;
-    while i < letters.len() {
+    for letter in letters {
         j = put_byte(out, j, SPACE);
-        j = put_word(out, j, letters[i], t, text, starts, lengths);
-        i += 1;
+        j = put_word(out, j, *letter, t, text, starts, lengths);
     }
     j
 }
@@ -105,11 +103,13 @@ fn put_words(
         (words_of t (spelled text.now starts.now lengths.now) letters.now)
         out.old result out.new }
 {
-    if letters.len() < 1 {
-        return at;
+    match letters {
+        [] => at,
+        [first, others @ ..] => {
+            let j = put_word(out, at, *first, t, text, starts, lengths);
+            put_led(out, j, others, t, text, starts, lengths)
+        }
     }
-    let j = put_word(out, at, letters[0], t, text, starts, lengths);
-    put_led(out, j, letters, t, text, starts, lengths)
 }
 
 // A line: a key with its equals sign, and a string.

@@ -2,9 +2,8 @@
 use mathlib.Core.Path.{refl}
 use mathlib.Core.List.{List, [], ◌∷◌, ◌++◌}
 use Prim.Native.Nat.{ℕ}
-use native.Mathlib.Omega.{arith}
 use Rattle.text.specs.Spelled.{spelled}
-use Rattle.text_write.proofs.Filling.{Filling, filling_start, filling_room, filling_ran, filling_last, filling_all}
+use Rattle.text_write.proofs.Filling.{Filling, filling_start, filling_ran, filling_last}
 use Rattle.readings_write.specs.Clauses.{words_of, line_of}
 use Rattle.readings_write.proofs.put_line.Goals as goal
 use Rattle.readings_write.proofs.put_line.Lts as lts
@@ -40,15 +39,6 @@ after-words : (c : Place-After-put_words) →
     Still c.before.before.before.before.before.before.before.before.before.before.before.before c.put_words-j.result c.put_words-j.new.out (10 ∷ [])
 after-words c =
     filling_ran (said c.before.before.before.before.before.before.before.before.before.before.before.before) _ refl c.put_words-j.ensures (after-key c.before.before.before.before)
-
-pub put_bytes-i-requires : goal.put_bytes-i-requires
-put_bytes-i-requires c = filling_room c.args.key.now _ refl (filling_start c.args.at c.args.out.now _ c.requires.1)
-
-pub put_words-j-requires : goal.put_words-j-requires
-put_words-j-requires c = (c.requires.0, filling_room (said c.before.before.before.before.before.before.before.before.before.before.before.before) _ refl (after-key c.before.before.before.before))
-
-pub put_byte-requires : goal.put_byte-requires
-put_byte-requires c = omega (arith, filling_all (after-words c.before.before.before.before))
 
 pub returns : goal.returns
 returns c = filling_last c.put_byte.ensures (after-words c.before.before.before.before.before.before.before)

@@ -55,24 +55,6 @@ is_name_lem c =
     symbol-word _ _ c.args.letter c.symbol-s.result c.if-kind-eq-OPENING.false
     c.if-kind-eq-CLOSING.false c.symbol-s.ensures
 
-pub put_mark-requires : goal.put_mark-requires
-put_mark-requires c = room c.before.before.before.before.before.before.before _ (is_opening c.before.before)
-
-pub returns-then-kind-eq-OPENING : goal.returns-then-kind-eq-OPENING
-returns-then-kind-eq-OPENING c = wrote_as (sym (is_opening c.before.before.before.before.before)) c.put_mark.ensures
-
-pub put_mark-requires-then-kind-eq-CLOSING : goal.put_mark-requires-then-kind-eq-CLOSING
-put_mark-requires-then-kind-eq-CLOSING c = room c.before.before.before.before.before.before.before.before _ (is_closing c.before.before)
-
-pub returns-then-kind-eq-CLOSING : goal.returns-then-kind-eq-CLOSING
-returns-then-kind-eq-CLOSING c = wrote_as (sym (is_closing c.before.before.before.before.before)) c.put_mark-then-kind-eq-CLOSING.ensures
-
-pub overflow_cast-number : goal.overflow_cast-number
-overflow_cast-number c = omega (arith, (spelt c.before).fits)
-
-pub symbol-s-requires : goal.symbol-s-requires
-symbol-s-requires c = ((spelt c.before).some, c.requires.0.names.few-terminals)
-
 pub put_name-requires : goal.put_name-requires
 put_name-requires c = (
   c.requires.0.names.rows,
