@@ -31,12 +31,12 @@ small c =
 
 -- the flag's place, as the contract has it
 key : (c : Place-After-index_of) → let a = c.args in
-    a.flags + c.index_of-corner.result ≡ a.flags + index a.q 1 (get_or a.targets.now a.left_from 0) (get_or a.targets.now a.right_from 0)
+    a.flags + c.index_of-corner.result ≡ a.flags + index a.q 1 (get_or a.targets.now a.p.left_from 0) (get_or a.targets.now a.p.right_from 0)
 key c =
     let a = c.args in
     ap (λ (i : ℕ). a.flags + i)
     (c.index_of-corner.ensures ∙ ap (λ (u : ℕ). index a.q 1 u c.from-v.result) c.from-u.ensures
-    ∙ ap (λ (v : ℕ). index a.q 1 (get_or a.targets.now a.left_from 0) v) c.from-v.ensures)
+    ∙ ap (λ (v : ℕ). index a.q 1 (get_or a.targets.now a.p.left_from 0) v) c.from-v.ensures)
 
 inside : (c : Place-After-index_of) → let a = c.args in a.flags + c.index_of-corner.result < 8 * length a.parents.now
 inside c =
@@ -72,13 +72,13 @@ push_grid-end-requires c = let p = c.requires.q_le_max_states in
     }
 
 pub overflow_add-flags-2 : goal.overflow_add-flags-2
-overflow_add-flags-2 c = omega (arith, small c.before.before.before.before.before.before.before.before.before.before.before, c.requires.q_le_max_states.2)
+overflow_add-flags-2 c = omega (arith, small c.before.before.before.before.before.before.before.before.before.before.before.before.before, c.requires.q_le_max_states.2)
 
 pub mark-requires : goal.mark-requires
-mark-requires c = omega (arith, inside c.before.before.before.before.before.before.before.before.before.before.before, c.push_grid-end.auto.parents)
+mark-requires c = omega (arith, inside c.before.before.before.before.before.before.before.before.before.before.before.before.before, c.push_grid-end.auto.parents)
 
 pub returns : goal.returns
 returns c = let a = c.args in
     once_first a.place
-    (Grid a.targets.now a.q a.left_from (a.left_from + a.lines) a.right_from (a.right_from + a.columns) (a.q * a.q))
-    _ _ _ _ _ _ _ _ _ (key c.before.before.before.before.before.before.before.before.before.before.before.before.before.before) c.mark.ensures.bits c.mark.ensures.places c.push_grid-end.ensures
+    (Grid a.targets.now a.q a.p.left_from (a.p.left_from + a.lines) a.p.right_from (a.p.right_from + a.p.columns) (a.q * a.q))
+    _ _ _ _ _ _ _ _ _ (key c.before.before.before.before.before.before.before.before.before.before.before.before.before.before.before.before) c.mark.ensures.bits c.mark.ensures.places c.push_grid-end.ensures
