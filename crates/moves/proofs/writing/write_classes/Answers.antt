@@ -1,27 +1,14 @@
 -- write_classes meets its contract: d codes of the line are written.
-use borrow.Author.Rules.{rules}
 use native.Mathlib.Omega.{arith}
 use Prim.Native.Nat.{ℕ, ◌+◌, ◌*◌}
 use mathlib.Core.Path.{◌≡◌, refl, ap, sym, ◌∙◌}
 use mathlib.Core.List.{List, [], ◌∷◌, ◌++◌, map, append-nil}
-use lib.ListN.{length, set, length-set}
+use lib.ListN.{length, set}
 use Rattle.grammar.specs.Limits.{limits}
 use Rattle.moves.specs.Tables.{class_of, kept}
 use Rattle.moves.specs.Clauses.{write}
-use Rattle.moves.proofs.Writes.{writing_start, writing_more, writing-end, one-write, first-write, no_write, map-twice}
+use Rattle.moves.proofs.Writes.{writing_more, writing-end, one-write, first-write, no_write, map-twice}
 use Rattle.moves.proofs.writing.write_classes.Goals as goal
-
-pub loop-d-init : goal.loop-d-init
-loop-d-init c = let a = c.args in (
-  writing_start (λ x. class_of limits a.m (2 * a.m) (kept a.live x)) a.codes.now (class_of limits 0 (2 * a.m) (kept a.live a.left) ∷ []) a.at a.member.now,
-  writing_start (λ x. class_of limits 0 (2 * a.m + 1) (kept a.live x)) a.codes.now [] (a.at + 1) (set a.target.now a.at c.class_of.result),
-)
-
-pub offset_bounds-target-at-in-loop-d : goal.offset_bounds-target-at-in-loop-d
-offset_bounds-target-at-in-loop-d c = let h = length-set c.args.target.now c.args.at c.class_of.result in search (rules, h)
-
-pub bounds-target-at-in-loop-d : goal.bounds-target-at-in-loop-d
-bounds-target-at-in-loop-d c = omega (arith, length-set c.args.target.now c.args.at c.class_of.result)
 
 pub loop-d-preserved : goal.loop-d-preserved
 loop-d-preserved c = let a = c.args in
@@ -31,9 +18,6 @@ loop-d-preserved c = let a = c.args in
       writing_more (λ x. class_of limits 0 (2 * a.m + 1) (kept a.live x)) a.codes.now [] (a.at + 1) (set a.target.now a.at c.class_of.result)
           l.target l.d (a.at + l.d + 1) c.class_of-in-loop-d-2.result (omega arith) c.class_of-in-loop-d-2.ensures (omega arith) l.invariant.1,
     )
-
-pub shape_of-target : goal.shape_of-target
-shape_of-target c = c.loop-d.auto.target ∙ length-set c.args.target.now c.args.at c.class_of.result
 
 pub returns : goal.returns
 returns c = let a = c.args in

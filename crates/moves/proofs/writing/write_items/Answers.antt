@@ -6,14 +6,8 @@ use mathlib.Core.List.{List, [], ◌∷◌}
 use lib.ListN.{length, set}
 use Rattle.moves.specs.Tables.{kept}
 use Rattle.moves.specs.Clauses.{write}
-use Rattle.moves.proofs.Writes.{writing_start, writing_more, writing-end, one-write, map_constant}
+use Rattle.moves.proofs.Writes.{writing_more, writing-end, one-write, map_constant}
 use Rattle.moves.proofs.writing.write_items.Goals as goal
-
-pub loop-d-init : goal.loop-d-init
-loop-d-init c = let a = c.args in (
-  writing_start (kept a.live) a.codes.now (0 ∷ []) a.at a.ahead.now,
-  writing_start (λ x. a.i) a.codes.now (a.i ∷ []) a.at a.number.now,
-)
 
 pub loop-d-preserved : goal.loop-d-preserved
 loop-d-preserved c = let a = c.args in

@@ -1,5 +1,4 @@
 -- write_rules meets its contract: i rules are written, whose codes end before place u.
-use borrow.Author.Rules.{rules}
 use native.Mathlib.Omega.{arith}
 use Prim.Native.Nat.{ℕ, ◌+◌, ◌-◌, ◌≤◌, ◌<◌}
 use mathlib.Core.Path.{◌≡◌, ap, ◌∙◌}
@@ -10,19 +9,9 @@ use Rattle.grammar.specs.Limits.{limits}
 use Rattle.moves.specs.Tables.{member_line, target_line, number_line, blanked}
 use Rattle.moves.specs.Clauses.{Columns, write, lengths_from, ahead_line, column_states, rule_of, stored, live_line}
 use Rattle.moves.proofs.Lines.{number_full, member_full, target-full}
-use Rattle.moves.proofs.Writes.{ahead-full, lengths-start, lengths-more, part_length, rows_start, rows_more, rows_end, row-blanked, blanked-full}
+use Rattle.moves.proofs.Writes.{ahead-full, lengths-more, part_length, rows_more, rows_end, row-blanked, blanked-full}
 use Rattle.moves.proofs.writing.write_rules.Goals as goal
 use Rattle.moves.proofs.writing.write_rules.Invariants.{aheads, members, targets}
-
-pub loop-i-init : goal.loop-i-init
-loop-i-init c = let a = c.args in (
-  lengths-start a.lengths.now a.count,
-  omega arith,
-  rows_start (aheads a.live.now) (blanked-full ahead_line (live_line a.live.now) ahead-full) a.lefts.now a.lengths.now a.codes.now a.count a.ahead.now,
-  rows_start number_line number_full a.lefts.now a.lengths.now a.codes.now a.count a.number.now,
-  rows_start (members a.live.now a.m) (blanked-full (member_line limits a.m) (live_line a.live.now) (member_full limits a.m)) a.lefts.now a.lengths.now a.codes.now a.count a.member.now,
-  rows_start (targets a.live.now a.m) (blanked-full (target_line limits a.m) (live_line a.live.now) (target-full limits a.m)) a.lefts.now a.lengths.now a.codes.now a.count a.target.now,
-)
 
 -- rule i lies within the codes and the rows
 fits : {lefts lengths codes : List ℕ} {count : ℕ} → Columns lefts lengths codes count → (i u at k : ℕ) → i < count
@@ -31,9 +20,6 @@ fits : {lefts lengths codes : List ℕ} {count : ℕ} → Columns lefts lengths 
 fits {lengths = lengths} {count = count} p i u at k h e f g =
     let r = lengths-more lengths count i h in
     (omega (arith, r, e, g, p.code), omega (arith, r, e, f, g), omega (arith, r, e, g))
-
-pub overflow_add-e : goal.overflow_add-e
-overflow_add-e c = let h = fits c.requires.columns c.loop-i.i c.loop-i.u c.loop-i.at c.from-k.result (omega arith) c.loop-i.invariant.0 c.loop-i.invariant.1 c.from-k.ensures in search (rules, h)
 
 pub slice_bounds-write_classes-end : goal.slice_bounds-write_classes-end
 slice_bounds-write_classes-end c = let h = fits c.requires.columns c.loop-i.i c.loop-i.u c.loop-i.at c.from-k.result (omega arith) c.loop-i.invariant.0 c.loop-i.invariant.1 c.from-k.ensures in omega arith
@@ -54,12 +40,6 @@ write_items-requires c = let a = c.args in
     let h = fits c.requires.columns c.loop-i.i c.loop-i.u c.loop-i.at c.from-k.result (omega arith) c.loop-i.invariant.0 c.loop-i.invariant.1 c.from-k.ensures in
     let p = part_length a.codes.now l.u c.from-k.result h.0 in
     record { codes_in_bounds = omega (arith, p, h.1, l.invariant.2.same, c.requires.wide.ahead); codes_in_bounds_2 = omega (arith, p, h.1, l.invariant.3.same, c.requires.wide.number) }
-
-pub overflow_add-at : goal.overflow_add-at
-overflow_add-at c = omega (arith, (fits c.requires.columns c.loop-i.i c.loop-i.u c.loop-i.at c.from-k.result (omega arith) c.loop-i.invariant.0 c.loop-i.invariant.1 c.from-k.ensures).1, c.requires.wide.ahead, c.well_formed.1.1.1.1.1.1.0.0)
-
-pub overflow_add-at-in-loop-i : goal.overflow_add-at-in-loop-i
-overflow_add-at-in-loop-i c = omega (arith, (fits c.requires.columns c.loop-i.i c.loop-i.u c.loop-i.at c.from-k.result (omega arith) c.loop-i.invariant.0 c.loop-i.invariant.1 c.from-k.ensures).1, c.requires.wide.ahead, c.well_formed.1.1.1.1.1.1.0.0)
 
 pub loop-i-preserved : goal.loop-i-preserved
 loop-i-preserved c = let a = c.args in
