@@ -2,20 +2,19 @@
 use Prim.Native.Nat.{ℕ, zero, suc, ◌+◌, ◌-◌, ◌*◌, ◌≤◌, ◌<◌}
 use mathlib.Core.Path.{◌≡◌, refl, sym, ap, subst, subst₂, ◌∙◌}
 use mathlib.Core.Logic.{inl}
-use mathlib.Core.List.{List, [], ◌∷◌}
+use mathlib.Core.List.{List}
 use native.Mathlib.Omega.{arith}
 use native.Mathlib.Decide.{ℕ_discrete, dec_lt}
 use native.Mathlib.Numerals.{add-one}
 use lib.Dec.{eqb}
-use lib.ListN.{length, get_or, set, take, drop, length-take, length-drop}
+use lib.ListN.{length, get_or, take, drop, length-take, length-drop}
 use Rattle.grammar.specs.Limits.{limits}
 use lib.Seq.{get_or-take, get_or-drop}
 use Rattle.live.specs.Marks.{before, right_at}
 use Rattle.caller_rows.specs.Clauses.{Filled, start_of}
 use Rattle.caller_rule.specs.RuleRows.{Alike, code_before, low_before, WroteBlocks, Six, Wide, member_class, target_class, Ruled, RuleWritten}
-use Rattle.caller_rows.specs.LevelRows.{LevelRow, ends, EndsWritten, callers_of, Levelled, FrontWritten, LevelWritten}
+use Rattle.caller_rows.specs.LevelRows.{LevelRow, ends, callers_of, Levelled, FrontWritten, LevelWritten}
 use Rattle.caller_rule.proofs.WroteLaws.{past_end, less_mul}
-use Rattle.caller_rows.proofs.FilledLaws.{filled_none, filled_next}
 
 -- ---- where a rule begins
 
@@ -73,41 +72,6 @@ row_next lengths widths old mid new n at w m ends zeroth f g a b ea ew em s =
             b.outside (start_of lengths widths i + d * get_or widths i 0 + r) (inl (omega (arith, x, y, l, ea))) ∙ a.rules i d r i' k l
       ];
     }
-
--- two entries are written
-pub ends-written : (old : List ℕ) (a b : ℕ) → 2 ≤ length old → Filled old (set (set old 0 a) 1 b) 2 (ends a b)
-ends-written old a b h =
-    filled_next old (set old 0 a) 1 b (ends a b) (filled_next old old 0 a (ends a b) (filled_none old (ends a b)) (omega (arith, h)) refl) (omega (arith, h)) refl
-
--- states 0 and 1 keep the lengths
-pub ends-wide : (q K : ℕ) (old new : Six) → Wide q old → EndsWritten K old new → Wide q new
-ends-wide q K old new W X = record {
-  ahead = omega (arith, W.ahead, X.ahead.size);
-  number = omega (arith, W.number, X.number.size);
-  member = omega (arith, W.member, X.member.size);
-  target = omega (arith, W.target, X.target.size);
-  after = omega (arith, W.after, X.after.size);
-  down = omega (arith, W.down, X.down.size);
-}
-
--- 0 is a state
-one_below : (r : ℕ) → get_or (0 ∷ []) r 0 < limits.max_states
-one_below zero = omega arith
-one_below (suc r) = omega arith
-
--- what rule 0 is written from is small
-pub start_ruled : (ranks : List ℕ) (K : ℕ) → K ≤ limits.max_states → limits.max_states ≤ length ranks → ((c : ℕ) → get_or ranks c 0 ≤ limits.max_states)
-    → Ruled (limits.nonterminal_base ∷ []) (0 ∷ []) ranks K 1 2 2
-start_ruled ranks K k n l = record {
-  kinds = k;
-  short = omega arith;
-  ranked = n;
-  below = λ r h. one_below r;
-  little = l;
-  many = omega arith;
-  room = omega arith;
-  low-room = omega arith;
-}
 
 -- ---- one rule of a level
 
@@ -251,7 +215,3 @@ alike_next i codes K callers ranks narrow low at n old mid new A X = record {
   after = X.after.size ∙ A.after;
   down = X.down.size ∙ A.down;
 }
-
--- the first four states keep the lengths
-pub front-wide : (q K : ℕ) (ranks : List ℕ) (old new : Six) → Wide q old → FrontWritten K ranks old new → Wide q new
-front-wide q K ranks old new W X = rule-kept q _ _ _ _ _ _ _ _ _ X.0 new (ends-wide q K old X.0 W X.1) X.2

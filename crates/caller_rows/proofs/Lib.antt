@@ -1,6 +1,4 @@
-pub mod FilledLaws
 pub mod LevelRowLaws
-pub mod RankLaws
 pub mod PlaceLaws
 pub mod KeyLaws
 pub mod LevelLaws

@@ -12,12 +12,6 @@ loop-init c = (
   λ G S k e. absurd (omega (arith, e)),
 )
 
-pub overflow_cast-kinds : goal.overflow_cast-kinds
-overflow_cast-kinds c = let p = c.requires in omega (arith, (c.loop.invariant.0 p.0 p.1).sizable.few)
-
-pub add_level-q-requires : goal.add_level-q-requires
-add_level-q-requires c = let p = c.requires in (p.0, c.loop.counter, c.loop.invariant.0 p.0 p.1)
-
 pub returns-then-q-gt-MAX_STATES : goal.returns-then-q-gt-MAX_STATES
 returns-then-q-gt-MAX_STATES c G S = let l = c.loop in
     let A = c.add_level-q.ensures G l.counter (l.invariant.0 G S) in

@@ -16,9 +16,6 @@ use Rattle.caller_rows.proofs.build.Tie as tie
 abbrev Place-After-add_levels : Type 0
 Place-After-add_levels = lts.After-add_levels tie.the-claims reads.Pre reads.Post tie.handed_clauses
 
-pub live_rules-live-requires : goal.live_rules-live-requires
-live_rules-live-requires c = let p = c.requires.begun in (p.0, _, _, p.1.columns)
-
 pub add_levels-b-requires : goal.add_levels-b-requires
 add_levels-b-requires c = let p = c.requires.begun in
     (p.0, items_sizable p.0 _ _ _ _ _ _ _ _ _ _ p.1 (c.live_rules-live.ensures p.0 _ _ p.1.columns))

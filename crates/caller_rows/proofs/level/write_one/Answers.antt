@@ -22,27 +22,6 @@ callers-end c =
     let h = c.requires.levelled.callers_in c.args.i c.requires.i_lt_count.0 in
     omega (arith, h, c.segment_at-from.ensures, c.from-w.ensures)
 
-pub segment_at-from-requires : goal.segment_at-from-requires
-segment_at-from-requires c = c.requires.levelled.segmented c.args.i c.requires.i_lt_count.0
-
-pub overflow_add-e : goal.overflow_add-e
-overflow_add-e c = let h = codes-end c.before in omega (arith, h, c.requires.levelled.codes-few)
-
-pub overflow_add-to : goal.overflow_add-to
-overflow_add-to c = let h = callers-end c.before in omega (arith, h, c.requires.levelled.callers-few)
-
-pub offset_bounds-codes-u : goal.offset_bounds-codes-u
-offset_bounds-codes-u c = let h = codes-end c.before in omega (arith, h, c.requires.levelled.codes-few)
-
-pub slice_bounds-write_rule-end : goal.slice_bounds-write_rule-end
-slice_bounds-write_rule-end c = codes-end c.before
-
-pub offset_bounds-callers-from : goal.offset_bounds-callers-from
-offset_bounds-callers-from c = let h = callers-end c.before.before in omega (arith, h, c.requires.levelled.callers-few)
-
-pub slice_bounds-write_rule-end-2 : goal.slice_bounds-write_rule-end-2
-slice_bounds-write_rule-end-2 c = callers-end c.before.before
-
 pub write_rule-requires : goal.write_rule-requires
 write_rule-requires c = let a = c.args in
     let r = one_ruled a.lefts.now a.lengths.now a.codes.now a.count a.kinds a.first.now a.callers.now a.below.now a.widths.now a.ranks.now c.requires.levelled a.i c.requires.i_lt_count.0 _ _ a.low a.at (part_is a.codes.now a.u _ c.from-k.result _ c.requires.i_lt_count.1 c.from-k.ensures) (part_is a.callers.now c.segment_at-from.result _ c.from-w.result _ c.segment_at-from.ensures c.from-w.ensures) c.requires.i_lt_count.2 c.requires.i_lt_count.3 in

@@ -15,10 +15,6 @@ pub loop-i-init : goal.loop-i-init
 unfolding start_of before
 loop-i-init c = (refl, refl, refl, c.requires.wide, λ oldest x. x, alike_none _)
 
-pub write_one-requires : goal.write_one-requires
-write_one-requires c = let l = c.loop-i in
-    record { levelled = c.requires.levelled; i_lt_count = (omega arith, l.invariant.2, l.invariant.1, l.invariant.0); wide = l.invariant.3 }
-
 pub overflow_add-at : goal.overflow_add-at
 overflow_add-at c = let l = c.loop-i in
     omega (arith, start_up c.args.lengths.now c.args.widths.now l.i c.args.count (omega arith), l.invariant.0, c.rule_states-at.ensures.0, c.requires.levelled.room)
@@ -33,10 +29,6 @@ overflow_mul-low c = let l = c.loop-i in
 pub overflow_add-low-in-loop-i : goal.overflow_add-low-in-loop-i
 overflow_add-low-in-loop-i c = let l = c.loop-i in
     omega (arith, start_up c.args.lengths.now c.args.below.now l.i c.args.count (omega arith), l.invariant.1, c.requires.levelled.low-room)
-
-pub overflow_add-u : goal.overflow_add-u
-overflow_add-u c = let l = c.loop-i in
-    omega (arith, c.requires.levelled.codes_in l.i (omega arith), l.invariant.2, c.from-u.ensures, c.requires.levelled.codes-few)
 
 pub loop-i-preserved : goal.loop-i-preserved
 loop-i-preserved c = let l = c.loop-i in

@@ -2,7 +2,7 @@
 use borrow.Author.Rules.{rules}
 use native.Mathlib.Omega.{arith}
 use Prim.Native.Nat.{ℕ}
-use mathlib.Core.Path.{◌≡◌, sym}
+use mathlib.Core.Path.{◌≡◌}
 use lib.ListN.{length}
 use Rattle.grammar.specs.Limits.{limits}
 use Rattle.grammar.specs.Grammar.{Grammar}
@@ -43,18 +43,6 @@ returns-then-states-gt-MAX_STATES c G m L = let Z = c.size_level-states.ensures 
       next = λ h. absurd (omega (arith, h, c.if-states-gt-MAX_STATES.true));
     }
 
-pub slice_bounds-write_level-end-4 : goal.slice_bounds-write_level-end-4
-slice_bounds-write_level-end-4 c = let p = c.requires in
-    sym (c.size_level-states.ensures p.0 p.1 (sizes c.before.before.before.before.before.before.before.before.before.before p.0 p.1 p.2)).first-size
-
-pub slice_bounds-write_level-end-5 : goal.slice_bounds-write_level-end-5
-slice_bounds-write_level-end-5 c = let p = c.requires in
-    sym (c.size_level-states.ensures p.0 p.1 (sizes c.before.before.before.before.before.before.before.before.before.before.before p.0 p.1 p.2)).cut.size
-
-pub slice_bounds-write_level-end-7 : goal.slice_bounds-write_level-end-7
-slice_bounds-write_level-end-7 c = let p = c.requires in
-    sym (c.size_level-states.ensures p.0 p.1 (sizes c.before.before.before.before.before.before.before.before.before.before.before.before.before p.0 p.1 p.2)).widths_size
-
 pub write_level-requires : goal.write_level-requires
 write_level-requires c = let a = c.args in
     let p = c.requires in
@@ -72,24 +60,12 @@ write_level-requires c = let a = c.args in
       };
     }
 
-pub slice_bounds-next_ranks-end : goal.slice_bounds-next_ranks-end
-slice_bounds-next_ranks-end c = let p = c.requires in
-    sym (c.size_level-states.ensures p.0 p.1 (sizes c.before.before.before.before.before.before.before.before.before.before.before.before.before.before.before.before.before.before.before.before.before.before.before.before p.0 p.1 p.2)).first-size
-
-pub slice_bounds-next_ranks-end-2 : goal.slice_bounds-next_ranks-end-2
-slice_bounds-next_ranks-end-2 c = let p = c.requires in
-    sym (c.size_level-states.ensures p.0 p.1 (sizes c.before.before.before.before.before.before.before.before.before.before.before.before.before.before.before.before.before.before.before.before.before.before.before.before.before p.0 p.1 p.2)).cut.size
-
 pub next_ranks-requires : goal.next_ranks-requires
 next_ranks-requires c = let a = c.args in
     let p = c.requires in
     let Z = c.size_level-states.ensures p.0 p.1 (sizes c.before.before.before.before.before.before.before.before.before.before.before.before.before.before.before.before.before.before.before.before.before.before.before.before.before.before.before p.0 p.1 p.2) in
     let z : length a.ranks.now ≡ limits.max_states = search rules in
     let h = c.if-states-gt-MAX_STATES.false in record { segments = segments p.0 p.1 _ _ _ _ _ _ p.2 _ _ _ _ _ Z _ _ c.write_level.ensures; q_in_bounds = (omega (arith, h, c.write_level.ensures.down.size), omega (arith, h, z), down-small p.0 p.1 _ _ _ _ _ _ p.2 _ _ _ _ _ Z _ _ c.write_level.ensures) }
-
-pub slice_bounds-pass_widths-end : goal.slice_bounds-pass_widths-end
-slice_bounds-pass_widths-end c = let p = c.requires in
-    sym (c.size_level-states.ensures p.0 p.1 (sizes c.before.before.before.before.before.before.before.before.before.before.before.before.before.before.before.before.before.before.before.before.before.before.before.before.before.before.before.before.before p.0 p.1 p.2)).widths_size
 
 pub pass_widths-requires : goal.pass_widths-requires
 pass_widths-requires c = let a = c.args in

@@ -2,7 +2,7 @@
 use borrow.Author.Rules.{rules}
 use native.Mathlib.Omega.{arith}
 use Prim.Native.Nat.{ℕ, ◌+◌}
-use mathlib.Core.Path.{◌≡◌, sym, ◌∙◌}
+use mathlib.Core.Path.{◌≡◌, ◌∙◌}
 use lib.ListN.{length}
 use Rattle.grammar.specs.Limits.{limits}
 use Rattle.grammar.specs.Grammar.{Grammar}
@@ -45,10 +45,6 @@ pub write_keys-requires : goal.write_keys-requires
 write_keys-requires c = let p = c.requires.by_index in
     let z : length c.args.ahead.now ≡ limits.max_states = search rules in
     (some-state p.0 p.1 c.args.q p.2.states, omega (arith, z, p.2.few), p.2.few, few-nonterminals _ (record_of_lem p.0 p.1 _ _ _ _ p.2))
-
-pub slice_bounds-sort-end : goal.slice_bounds-sort-end
-slice_bounds-sort-end c = let p = c.requires.by_index in
-    sym (keyed-at c.before.before.before p.0 p.1 p.2).size
 
 pub sort-requires : goal.sort-requires
 sort-requires c = let w = c.from-kinds.ensures in
