@@ -162,10 +162,7 @@ window_whole n i h = elim (dec_lt n (i / 8 + 8)) [
   | no m ↦ subst (λ (t : Bool). Whole n (choose t (i / 8 * 8 + 64) (i / 8 * 8 + 8))) (sym (le-leb (i / 8 + 8) n (omega arith))) (omega arith, omega arith)
 ]
 
--- bytes that are 0 are passed over: at first none, then eight more
-pub clear-start : (bytes : List ℕ) (from : ℕ) → from ≤ length bytes → ClearTo bytes from from
-clear-start bytes from h = record { low = omega arith; high = h; clear = λ k l u. absurd (omega arith) }
-
+-- bytes that are 0 are passed over, eight at a time
 pub clear_eight : (bytes : List ℕ) (from b w : ℕ) → ClearTo bytes from b → b + 8 ≤ length bytes → Word bytes b 8 w → w ≡ 0 → ClearTo bytes from (b + 8)
 clear_eight bytes from b w old h s z = record { low = omega (arith, old.low); high = h; clear = clear }
   where
