@@ -21,7 +21,6 @@ use grammar::{
     OUT_OF_RANGE, RULE_REPEATED, TOO_MANY_RULES, TOO_MANY_STATES, TableChecked, TableVerdict,
 };
 use live::has_sentence;
-use reading::code;
 pub use reading::read_rule;
 
 // One rule of the table: its length, or the refusal.
@@ -95,11 +94,7 @@ fn put_codes(codes: &mut [u16; MAX_STATES], used: usize, right: &[u16])
     requires { (length codes.old ≡ limits.max_states) × (used + length right.now ≤ limits.max_states) }
     ensures { codes.new ≡ paste codes.old used right.now (length right.now) }
 {
-    let mut i = 0;
-    while i < right.len() {
-        codes[used + i] = code(right[i]);
-        i += 1;
-    }
+    codes[used..used + right.len()].copy_from_slice(right);
 }
 
 fn refuse(cause: u8, at: usize) -> TableChecked
@@ -146,7 +141,7 @@ pub fn check_up_to(t: usize, n: usize, table: &[u16], whole: bool) -> TableCheck
             RuleRead::Length(k) => {
                 put_codes(&mut g.codes, used, &table[at + 2..at + 2 + k]);
                 g.offsets[count] = at as u16;
-                g.lefts[count] = code(table[at]);
+                g.lefts[count] = table[at];
                 g.lengths[count] = k as u16;
                 g.count = count + 1;
                 g.used = used + k;

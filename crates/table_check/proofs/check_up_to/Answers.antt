@@ -1,12 +1,11 @@
 -- check_up_to meets its contract: the record holds the rules before the offset, and checking on from there is checking from the
 -- start; where the whole is asked for, a grammar without a sentence is refused after that.
-use borrow.Author.Rules.{rules}
 use native.Mathlib.Omega.{arith}
 use Prim.Native.Nat.{ℕ, ◌+◌, ◌-◌, ◌≤◌}
-use mathlib.Core.Path.{◌≡◌, ap, sym, subst, ◌∙◌}
+use mathlib.Core.Path.{◌≡◌, refl, ap, sym, subst, ◌∙◌}
 use mathlib.Core.Bool.{Bool, true, false}
 use mathlib.Core.List.{List}
-use lib.ListN.{length, take, drop, length-drop}
+use lib.ListN.{length, take, drop, get_or, length-drop}
 use lib.Seq.{length-take-le}
 use Rattle.grammar.specs.Basics.{choose}
 use Rattle.grammar.specs.Limits.{limits}
@@ -123,40 +122,40 @@ pub bounds-table-at : goal.bounds-table-at
 bounds-table-at c = omega (arith, room c.before.before.before.before.before)
 
 pub offset_bounds-g-count-in-Length : goal.offset_bounds-g-count-in-Length
-offset_bounds-g-count-in-Length c = omega (arith, room c.before.before.before.before.before.before)
+offset_bounds-g-count-in-Length c = omega (arith, room c.before.before.before.before.before)
 
 pub bounds-g-count-in-Length : goal.bounds-g-count-in-Length
-bounds-g-count-in-Length c = (room c.before.before.before.before.before.before).count
+bounds-g-count-in-Length c = (room c.before.before.before.before.before).count
 
 pub overflow_cast-g-in-Length : goal.overflow_cast-g-in-Length
-overflow_cast-g-in-Length c = omega (arith, room c.before.before.before.before.before.before)
+overflow_cast-g-in-Length c = omega (arith, room c.before.before.before.before.before)
 
 pub offset_bounds-g-count-in-Length-2 : goal.offset_bounds-g-count-in-Length-2
-offset_bounds-g-count-in-Length-2 c = omega (arith, room c.before.before.before.before.before.before)
+offset_bounds-g-count-in-Length-2 c = omega (arith, room c.before.before.before.before.before)
 
 pub bounds-g-count-in-Length-2 : goal.bounds-g-count-in-Length-2
-bounds-g-count-in-Length-2 c = (room c.before.before.before.before.before.before).count
+bounds-g-count-in-Length-2 c = (room c.before.before.before.before.before).count
 
 pub overflow_add-g : goal.overflow_add-g
-overflow_add-g c = omega (arith, room c.before.before.before.before.before.before)
+overflow_add-g c = omega (arith, room c.before.before.before.before.before)
 
 pub overflow_add-g-in-Length : goal.overflow_add-g-in-Length
-overflow_add-g-in-Length c = omega (arith, room c.before.before.before.before.before.before)
+overflow_add-g-in-Length c = omega (arith, room c.before.before.before.before.before)
 
 pub overflow_add-g-in-Length-2 : goal.overflow_add-g-in-Length-2
-overflow_add-g-in-Length-2 c = omega (arith, room c.before.before.before.before.before.before)
+overflow_add-g-in-Length-2 c = omega (arith, room c.before.before.before.before.before)
 
 pub overflow_add-g-in-Length-3 : goal.overflow_add-g-in-Length-3
-overflow_add-g-in-Length-3 c = omega (arith, room c.before.before.before.before.before.before)
+overflow_add-g-in-Length-3 c = omega (arith, room c.before.before.before.before.before)
 
 pub overflow_add-at : goal.overflow_add-at
 overflow_add-at c = omega (arith, room c.before.before)
 
 pub overflow_add-at-in-Length-4 : goal.overflow_add-at-in-Length-4
-overflow_add-at-in-Length-4 c = omega (arith, room c.before.before.before.before.before.before)
+overflow_add-at-in-Length-4 c = omega (arith, room c.before.before.before.before.before)
 
 pub loop-at-smaller : goal.loop-at-smaller
-loop-at-smaller c = omega (arith, room c.before.before.before.before.before.before)
+loop-at-smaller c = omega (arith, room c.before.before.before.before.before)
 
 pub loop-at-preserved : goal.loop-at-preserved
 loop-at-preserved c = let b = c in
@@ -164,9 +163,9 @@ loop-at-preserved c = let b = c in
     let t = b in
     let a = t.args in
     let e : t.loop-at.at + 2 + k - (t.loop-at.at + 2) ≡ k = omega arith in
-    walk-on k c.code.result _ t.loop-at.invariant b.loop-at-test.true (told b.before.before.before.before.before.before)
-    (c.put_codes.ensures ∙ paste-part t.loop-at.g.codes (drop (t.loop-at.at + 2) a.table.now) t.loop-at.g.used (t.loop-at.at + 2 + k - (t.loop-at.at + 2)) k e (simp length-drop (omega (arith, (room b.before.before.before.before.before.before).whole))))
-    c.code.ensures
+    walk-on k (get_or a.table.now t.loop-at.at 0) _ t.loop-at.invariant b.loop-at-test.true (told b.before.before.before.before.before)
+    (c.put_codes.ensures ∙ paste-part t.loop-at.g.codes (drop (t.loop-at.at + 2) a.table.now) t.loop-at.g.used (t.loop-at.at + 2 + k - (t.loop-at.at + 2)) k e (simp length-drop (omega (arith, (room b.before.before.before.before.before).whole))))
+    refl
 
 abbrev Whole : Place-After-loop → Grammar
 Whole c = let a = c.args in grammar_of a.t a.n c.loop-at.invariant.rules

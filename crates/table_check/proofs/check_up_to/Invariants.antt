@@ -1,4 +1,4 @@
-use Prim.Native.Nat.{ℕ, ◌-◌}
+use Prim.Native.Nat.{◌-◌}
 use lib.ListN.{length}
 use Rattle.table_check.proofs.WalkLaws.{Walk}
 use Rattle.table_check.proofs.check_up_to.Given as goal

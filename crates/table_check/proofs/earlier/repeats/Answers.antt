@@ -1,6 +1,4 @@
 -- repeats meets its contract: the earlier rules are compared one by one.
-use native.Mathlib.Omega.{arith}
-use Prim.Native.Nat.{◌-◌}
 use mathlib.Core.Path.{sym, ◌∙◌}
 use Rattle.table_check.proofs.EarlierLaws.{behind_start, behind_here, behind_found, behind_more, behind_end}
 use Rattle.table_check.proofs.earlier.repeats.Goals as goal
@@ -13,12 +11,6 @@ is_repeat-requires c = behind_here c.loop-i.invariant c.loop-i-test.true
 
 pub returns-then-is_repeat : goal.returns-then-is_repeat
 returns-then-is_repeat c = let r = c in behind_found r.loop-i.invariant r.loop-i-test.true (sym r.is_repeat.ensures ∙ c.if-is_repeat.true)
-
-pub overflow_add-i : goal.overflow_add-i
-overflow_add-i c = omega (arith, c.loop-i-test.true, c.loop-i.invariant.few)
-
-pub loop-i-smaller : goal.loop-i-smaller
-loop-i-smaller c = omega (arith, c.loop-i-test.true)
 
 pub loop-i-preserved : goal.loop-i-preserved
 loop-i-preserved c = let r = c in behind_more r.loop-i.invariant r.loop-i-test.true (sym r.is_repeat.ensures ∙ c.if-is_repeat.false)

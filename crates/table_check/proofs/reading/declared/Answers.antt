@@ -1,7 +1,7 @@
 -- declared meets its contract: a code is tried as a terminal, then as a nonterminal.
 use native.Mathlib.Omega.{arith}
 use borrow.Author.Tests.{le-leb, lt-leb}
-use Prim.Native.Nat.{◌-◌, ◌<◌}
+use Prim.Native.Nat.{◌<◌}
 use Rattle.grammar.specs.Limits.{limits}
 use Rattle.table_check.proofs.RecordLaws.{below_shift}
 use Rattle.table_check.proofs.reading.declared.Goals as goal
