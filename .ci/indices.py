@@ -41,8 +41,6 @@ PLACES = {
     ("sentence_trees/src/lib.rt", "return TreesRoom::Entries(PLACES * PLACES * checked.grammar.states);"): "a number of entries",
     ("witness_check/src/lib.rt", "let square = q * q;"): "by which an index is taken apart",
     ("witness_check/src/lib.rt", "layer: i / square,"): "takes an index apart",
-    ("witness_records/src/lib.rt", "let square = q * q;"): "half the number of triples",
-    ("witness_records/src/lib.rt", "let count = 2 * square;"): "the number of triples",
 }
 NO_CODE = re.compile(r"//[^\n]*|^ghost use [^\n]*|^(?:pub )?const [^;]*;", re.MULTILINE)
 CLAUSE = re.compile(r"\b(?:(?:requires|ensures)\b[^{\n]*|ghost [^{;\n]*)\{")

@@ -1,234 +1,200 @@
 -- The walk over the records against the definition of the witness check. Assumes nothing.
-use Prim.Native.Nat.{ℕ, suc, ◌+◌, ◌-◌, ◌*◌, ◌≤◌, ◌<◌}
+use Rattle.std.specs.Prelude.{Option, Some, None, ◌⊎◌}
+use Prim.Native.Nat.{ℕ, zero, suc, ◌+◌, ◌*◌, ◌≤◌, ◌<◌}
 use mathlib.Core.Path.{◌≡◌, refl, ap, sym, ◌∙◌}
 use mathlib.Core.Bool.{Bool, true, false}
 use mathlib.Core.List.{List, [], ◌∷◌, map}
+use mathlib.Core.Logic.{inl, inr}
+use native.Mathlib.Decide.{ℕ_discrete, dec_lt}
 use native.Mathlib.Omega.{arith}
-use native.Mathlib.Numerals.{add-one}
 use native.Mathlib.Nat.{mul-le-mul}
-use lib.Dec.{eqb, leb}
 use lib.ListN.{length, get_or, drop}
-use lib.Seq.{drop-cons, drop-length}
-use borrow.Author.Tests.{le-leb, lt-leb, eq-eqb, ne_eqb, leb-true, leb-false, eqb-true, eqb-false}
-use Rattle.grammar.specs.Basics.{choose}
+use borrow.Author.Tests.{le-leb, lt-leb, eq-eqb, ne_eqb}
 use Rattle.grammar.specs.Limits.{limits}
 use Rattle.grammar.specs.Grammar.{Grammar}
-use Rattle.grammar.specs.Refusal.{Answer, done, refused, refuse_unless, and_then}
-use Rattle.grammar.specs.declared.TableVerdict.{TableVerdict}
-use Rattle.grammar.proofs.Answers.{unless_holds, unless_fails, then-goes, then_stops}
+use Rattle.grammar.specs.Refusal.{Answer, done, refused, and_then}
+use Rattle.grammar.specs.declared.TableVerdict.TheVariants as checked
+use Rattle.grammar.proofs.Answers.{then-goes, then_stops}
 use Rattle.automaton.specs.Moves.{Moves}
 use Rattle.automaton.specs.Callers.{check_with}
 use Rattle.automaton.specs.CallerMoves.{moves_with}
 use Rattle.triples.specs.Index.{index, triple_count}
-use Rattle.triples.specs.Smallest.{is_element, successors}
 use Rattle.triples.specs.Verdict.{check_verdict}
 use Rattle.triples.specs.Witness.{entry_of, check_on, check_row, check_witness_records}
-use Rattle.triples.specs.declared.CheckVerdict.TheVariants.{Accepted, Refused}
-use Rattle.triple_laws.proofs.CertificateCheck.{index-zero}
-use Rattle.prepared.specs.Prepared.{Sized}
+use Rattle.triples.specs.declared.CheckVerdict.{CheckVerdict}
+use Rattle.triples.specs.declared.CheckVerdict.TheVariants.{Refused}
 use Rattle.witness_check.specs.Clauses.{step_at}
-use Rattle.witness_check.proofs.WalkLaws.{step_element, beyond}
+use Rattle.witness_check.proofs.WalkLaws.{walk-empty, walk_first, walk_start, walk-beyond, walk_wrong, walk_more, walk-short, walk_ends}
 use Rattle.witness_records.specs.declared.TripleRecord.{TripleRecord}
 use Rattle.witness_records.specs.declared.Board.{Board}
 use Rattle.witness_records.specs.Records.{triple, triples}
-use Rattle.witness_records.specs.Walk.{none, after, walk_from, end_of, told, ending}
+use Rattle.witness_records.specs.Walk.{none, after, end_of}
 use Rattle.witness_records.specs.Clauses.{ReadyFor, Begun}
 use Rattle.witness_records.proofs.Entries.{index-end}
 
+-- the entry of a record of the list
+pub entry_at : (Q : ℕ) (es : List TripleRecord) (place : ℕ) → place < length es
+    → entry_of Q (triple (get_or es place none)) ≡ get_or (map (entry_of Q) (triples es)) place 0
+entry_at Q [] place h = absurd (omega arith)
+entry_at Q (e ∷ es) zero h = refl
+entry_at Q (e ∷ es) (suc place) h = entry_at Q es place (omega arith)
+
+pub entries_length : (Q : ℕ) (es : List TripleRecord) → length (map (entry_of Q) (triples es)) ≡ length es
+entries_length Q [] = refl
+entries_length Q (e ∷ es) = ap suc (entries_length Q es)
+
 -- the test of a step on a board's rows
 abbrev pub follows : Board → ℕ → ℕ → Bool
-follows w at j = step_at w.ahead w.after w.number w.member w.target w.terminals w.opening w.states at j
+follows w last j = step_at w.ahead w.after w.number w.member w.target w.terminals w.opening w.states last j
 
-module _ (w : Board) (at place j : ℕ) where
+module _ (w : Board) (last place j : ℕ) where
   -- the ways out of one turn
-  pub after_stuck : triple_count w.states ≤ at → at ≡ after w at place j
+  pub after-beyond : triple_count w.states ≤ j → ◌≡◌ {A = Option ℕ} None (after w last place j)
   unfolding after
-  after_stuck h = simp (le-leb (triple_count w.states) at h)
+  after-beyond h = simp (le-leb (triple_count w.states) j h)
 
-  pub after-beyond : at < triple_count w.states → triple_count w.states ≤ j → triple_count w.states + place ≡ after w at place j
+  pub after_first : j < triple_count w.states → place ≡ 0 → j ≡ 0 → ◌≡◌ {A = Option ℕ} (Some 0) (after w last place j)
   unfolding after
-  after-beyond l h = simp (lt-leb (triple_count w.states) at l, le-leb (triple_count w.states) j h)
+  after_first k p e = simp (lt-leb (triple_count w.states) j k, eq-eqb place 0 p, eq-eqb j 0 e)
 
-  pub after_first : at < triple_count w.states → j < triple_count w.states → place ≡ 0 → j ≡ 0 → ◌≡◌ {A = ℕ} 0 (after w at place j)
+  pub after-first_wrong : j < triple_count w.states → place ≡ 0 → (j ≡ 0 → ⊥) → ◌≡◌ {A = Option ℕ} None (after w last place j)
   unfolding after
-  after_first l k p e = simp (lt-leb (triple_count w.states) at l, lt-leb (triple_count w.states) j k, eq-eqb place 0 p, eq-eqb j 0 e)
+  after-first_wrong k p e = simp (lt-leb (triple_count w.states) j k, eq-eqb place 0 p, ne_eqb j 0 e)
 
-  pub after-first_wrong : at < triple_count w.states → j < triple_count w.states → place ≡ 0 → (j ≡ 0 → ⊥) → triple_count w.states ≡ after w at place j
+  pub after_next : j < triple_count w.states → (place ≡ 0 → ⊥) → follows w last j ≡ true → ◌≡◌ {A = Option ℕ} (Some j) (after w last place j)
   unfolding after
-  after-first_wrong l k p e = simp (lt-leb (triple_count w.states) at l, lt-leb (triple_count w.states) j k, eq-eqb place 0 p, ne_eqb j 0 e)
+  after_next k p e = simp (lt-leb (triple_count w.states) j k, ne_eqb place 0 p, e)
 
-  pub after_next : at < triple_count w.states → j < triple_count w.states → (place ≡ 0 → ⊥) → follows w at j ≡ true → j ≡ after w at place j
+  pub after_wrong : j < triple_count w.states → (place ≡ 0 → ⊥) → follows w last j ≡ false → ◌≡◌ {A = Option ℕ} None (after w last place j)
   unfolding after
-  after_next l k p e = simp (lt-leb (triple_count w.states) at l, lt-leb (triple_count w.states) j k, ne_eqb place 0 p, e)
+  after_wrong k p e = simp (lt-leb (triple_count w.states) j k, ne_eqb place 0 p, e)
 
-  pub after_wrong : at < triple_count w.states → j < triple_count w.states → (place ≡ 0 → ⊥) → follows w at j ≡ false
-      → triple_count w.states + place ≡ after w at place j
-  unfolding after
-  after_wrong l k p e = simp (lt-leb (triple_count w.states) at l, lt-leb (triple_count w.states) j k, ne_eqb place 0 p, e)
+-- before the entry at a place: nothing is done, or the check goes on from the entry before as the whole one
+abbrev pub Stands : Moves → Board → List ℕ → ℕ → ℕ → Type 0
+Stands M w row last place = ((place ≡ 0) × (last ≡ 0))
+    ⊎ ((1 ≤ place) × (last < triple_count w.states) × (check_on M last place (drop place row) ≡ check_row M row))
 
--- one record more of the list, and the list's end
-pub walk_more : (w : Board) (at place : ℕ) (es : List TripleRecord) → place < length es
-    → walk_from w at place (drop place es) ≡ walk_from w (after w at place (entry_of w.states (triple (get_or es place none)))) (place + 1) (drop (place + 1) es)
-unfolding walk_from
-walk_more w at place es h =
-    ap (walk_from w at place) (drop-cons es place none h)
-    ∙ ap (λ k. walk_from w (after w at place (entry_of w.states (triple (get_or es place none)))) (place + 1) (drop k es)) (sym (add-one place))
+none_some : (x : ℕ) → ◌≡◌ {A = Option ℕ} None (Some x) → ⊥
+none_some x e = cc
 
-pub walk_end : (w : Board) (at place : ℕ) (es : List TripleRecord) → walk_from w at place (drop (length es) es) ≡ at
-unfolding walk_from
-walk_end w at place es = rw drop-length
+module _ (M : Moves) (w : Board) (R : ReadyFor M w) (row : List ℕ) (last place : ℕ) where
+  many : 0 < triple_count w.states
+  many = let h = mul-le-mul {n₁ = 4} {m₁ = 4} R.regular.four R.regular.four in omega (arith, R.size, ap (λ (Q : ℕ). Q * Q) R.size, h)
 
--- a wrong entry stays the first
-stuck : (w : Board) (es : List TripleRecord) (at place : ℕ) → triple_count w.states ≤ at → walk_from w at place es ≡ at
-unfolding walk_from
-stuck w [] at place h = refl
-stuck w (e ∷ es) at place h =
-    ap (λ at. walk_from w at (place + 1) es) (sym (after_stuck w at place (entry_of w.states (triple e)) h)) ∙ stuck w es at (place + 1) h
+  some_entry : place < length row → (length row ≡ 0 → ⊥)
+  some_entry h e = omega arith
 
--- the answer at a wrong entry
-wrong : (Q place n : ℕ) → end_of Q (triple_count Q + place) n ≡ Refused 15 place
-unfolding end_of
-wrong Q place n =
-    let l : triple_count Q ≤ triple_count Q + place = omega arith in
-    let e : triple_count Q + place - triple_count Q ≡ place = omega arith in
-    simp (le-leb (triple_count Q) (triple_count Q + place) l) (ap (λ p. Refused 15 p) e)
-
--- the answer at the end
-at-end : (b : Bool) (place : ℕ) → choose b Accepted (Refused 15 place) ≡ check_verdict (refuse_unless 15 place b (done tt))
-unfolding refuse_unless
-at-end true place = refl
-at-end false place = refl
-
-module _ (M : Moves) (w : Board) (s : Sized w.states) (R : ReadyFor M w) where
-  many : 32 ≤ triple_count w.states
-  many = let h : 16 ≤ w.states * w.states = mul-le-mul {n₁ = 4} {m₁ = 4} s.least s.least in omega arith
-
-  ends : (at place : ℕ) → at < triple_count w.states → end_of w.states at place ≡ check_verdict (check_on M at place [])
-  unfolding end_of check_on
-  ends at place l =
-      let e : w.states * w.states + w.states + 1 ≡ index M.states 1 1 1 = sym (index-end w.states) ∙ ap (λ Q. index Q 1 1 1) R.size in
-      simp (lt-leb (triple_count w.states) at l)
-      (ap (λ i. choose (eqb at i) Accepted (Refused 15 place)) e ∙ at-end (eqb at (index M.states 1 1 1)) place)
-
-  -- a wrong entry ends the walk with its place
-  stops : (e : TripleRecord) (es : List TripleRecord) (at place n : ℕ)
-      → triple_count w.states + place ≡ after w at place (entry_of w.states (triple e)) → end_of w.states (walk_from w at place (e ∷ es)) n ≡ Refused 15 place
-  unfolding walk_from
-  stops e es at place n a =
-      let l : triple_count w.states ≤ triple_count w.states + place = omega arith in
-      ap (λ at. end_of w.states (walk_from w at (place + 1) es) n) (sym a)
-      ∙ ap (λ at. end_of w.states at n) (stuck w es (triple_count w.states + place) (place + 1) l) ∙ wrong w.states place n
-
-  no : (at place : ℕ) (j : ℕ) (is : List ℕ) → is_element j (successors M at) ≡ false → Refused 15 place ≡ check_verdict (check_on M at place (j ∷ is))
-  unfolding check_on
-  no at place j is e = ap check_verdict (sym (unless_fails 15 place (is_element j (successors M at)) (check_on M j (suc place) is) e))
-
-  yes : (at place : ℕ) (j : ℕ) (is : List ℕ) → is_element j (successors M at) ≡ true
-      → check_verdict (check_on M j (place + 1) is) ≡ check_verdict (check_on M at place (j ∷ is))
-  unfolding check_on
-  yes at place j is e =
-      ap (λ k. check_verdict (check_on M j k is)) (add-one place)
-      ∙ ap check_verdict (sym (unless_holds 15 place (is_element j (successors M at)) (check_on M j (suc place) is) e))
-
-  element : (at j : ℕ) → at < triple_count w.states → j < triple_count w.states → follows w at j ≡ is_element j (successors M at)
-  element at j = step_element M w.ahead w.after w.number w.member w.target w.terminals w.opening w.states R at j
-
-  outside : (at j : ℕ) → at < triple_count w.states → triple_count w.states ≤ j → is_element j (successors M at) ≡ false
-  outside at j = beyond M w.ahead w.after w.number w.member w.target w.terminals w.opening w.states R at j
-
-  -- from an entry in range on
-  on : (es : List TripleRecord) (at place n : ℕ) → at < triple_count w.states → 1 ≤ place → n ≡ place + length es
-      → end_of w.states (walk_from w at place es) n ≡ check_verdict (check_on M at place (map (entry_of w.states) (triples es)))
-  unfolding walk_from
-  on [] at place n l p e = let z : n ≡ place = omega arith in ap (end_of w.states at) z ∙ ends at place l
-  on (e ∷ es) at place n l p q =
-      turn (leb (triple_count w.states) (entry_of w.states (triple e))) refl (follows w at (entry_of w.states (triple e))) refl
-      (λ at. on es at (place + 1) n)
+  -- no entry follows: the place is that of the first wrong one
+  pub wrong : (j : ℕ) → j ≡ get_or row place 0 → place < length row → Stands M w row last place
+      → (found : Option ℕ) → found ≡ after w last place j → ((x : ℕ) → found ≡ Some x → ⊥) → Refused 15 place ≡ check_verdict (check_row M row)
+  wrong j q h s found f n = elim s [
+    | inl z ↦
+        let other : get_or row 0 0 ≡ 0 → ⊥ = λ e.
+        let o : j ≡ 0 = q ∙ ap (λ (k : ℕ). get_or row k 0) z.0 ∙ e in
+        n 0 (f ∙ sym (after_first w last place j (omega (arith, many)) z.0 o)) in
+        ap (λ (k : ℕ). Refused 15 k) z.0
+        ∙ ap check_verdict (walk_first M w.ahead w.after w.number w.member w.target w.terminals w.opening w.states R row (some_entry h) other)
+    | inr x ↦ later x (dec_lt j (triple_count w.states)) (follows w last j) refl
+  ]
     where
-      j : ℕ
-      j = entry_of w.states (triple e)
+      later : (1 ≤ place) × (last < triple_count w.states) × (check_on M last place (drop place row) ≡ check_row M row) → Dec (j < triple_count w.states)
+          → (b : Bool) → follows w last j ≡ b → Refused 15 place ≡ check_verdict (check_row M row)
+      later x (no k) b e =
+          ap check_verdict (walk-beyond M w.ahead w.after w.number w.member w.target w.terminals w.opening w.states R row last place h x.1 (omega (arith, k, q)) ∙ x.2)
+      later x (yes k) true e = absurd (n j (f ∙ sym (after_next w last place j k (λ z. omega (arith, x.0, z)) e)))
+      later x (yes k) false e =
+          ap check_verdict (walk_wrong M w.ahead w.after w.number w.member w.target w.terminals w.opening w.states R row last place h x.1 (omega (arith, k, q))
+          (ap (follows w last) (sym q) ∙ e) ∙ x.2)
 
-      is : List ℕ
-      is = map (entry_of w.states) (triples es)
-
-      later : ¬ (place ≡ 0)
-      later z = omega arith
-
-      turn : (b : Bool) → leb (triple_count w.states) j ≡ b → (c : Bool) → follows w at j ≡ c
-          → ((at : ℕ) → at < triple_count w.states → 1 ≤ place + 1 → n ≡ place + 1 + length es → end_of w.states (walk_from w at (place + 1) es) n ≡ check_verdict (check_on M at (place + 1) is))
-          → end_of w.states (walk_from w at place (e ∷ es)) n ≡ check_verdict (check_on M at place (j ∷ is))
-      turn true b c f go =
-          let h = leb-true (triple_count w.states) j b in stops e es at place n (after-beyond w at place j l h) ∙ no at place j is (outside at j l h)
-      turn false b true f go =
-          let h = leb-false (triple_count w.states) j b in
-          ap (λ at. end_of w.states (walk_from w at (place + 1) es) n) (sym (after_next w at place j l h later f))
-          ∙ go j h (omega arith) (omega arith) ∙ yes at place j is (sym (element at j l h) ∙ f)
-      turn false b false f go =
-          let h = leb-false (triple_count w.states) j b in
-          stops e es at place n (after_wrong w at place j l h later f) ∙ no at place j is (sym (element at j l h) ∙ f)
-
-  -- the first entry, then the rest
-  first_no : (j : ℕ) (is : List ℕ) → (j ≡ 0 → ⊥) → Refused 15 0 ≡ check_verdict (check_row M (j ∷ is))
-  unfolding check_row
-  first_no j is f =
-      ap check_verdict (sym (unless_fails 15 0 (eqb j (index M.states 0 0 0)) (check_on M j 1 is) (ap (eqb j) (index-zero M.states) ∙ ne_eqb j 0 f)))
-
-  first-yes : (j : ℕ) (is : List ℕ) → j ≡ 0 → check_verdict (check_on M 0 1 is) ≡ check_verdict (check_row M (j ∷ is))
-  unfolding check_row
-  first-yes j is f =
-      ap (λ i. check_verdict (check_on M i 1 is)) (sym f)
-      ∙ ap check_verdict (sym (unless_holds 15 0 (eqb j (index M.states 0 0 0)) (check_on M j 1 is) (ap (eqb j) (index-zero M.states) ∙ eq-eqb j 0 f)))
-
-  -- the walk over a list answers as the definition does on the records' entries
-  whole : (es : List TripleRecord) → end_of w.states (walk_from w 0 0 es) (length es) ≡ check_verdict (check_row M (map (entry_of w.states) (triples es)))
-  unfolding walk_from end_of check_row
-  whole [] =
-      let z : 0 < triple_count w.states = omega (arith, many) in
-      let n : ¬ (◌≡◌ {A = ℕ} 0 (w.states * w.states + w.states + 1)) = λ e. omega arith in
-      simp (lt-leb (triple_count w.states) 0 z, ne_eqb 0 (w.states * w.states + w.states + 1) n)
-  whole (e ∷ es) = turn (leb (triple_count w.states) j) refl (eqb j 0) refl
+  -- an entry follows: the check goes on from it
+  pub follow : (j : ℕ) → j ≡ get_or row place 0 → place < length row → Stands M w row last place
+      → (next : ℕ) → Some next ≡ after w last place j → Stands M w row next (place + 1)
+  follow j q h s next f = elim s [
+    | inl z ↦ begun z (ℕ_discrete j 0) (dec_lt j (triple_count w.states))
+    | inr x ↦ later x (dec_lt j (triple_count w.states)) (follows w last j) refl
+  ]
     where
-      j : ℕ
-      j = entry_of w.states (triple e)
+      begun : (place ≡ 0) × (last ≡ 0) → Dec (j ≡ 0) → Dec (j < triple_count w.states) → Stands M w row next (place + 1)
+      begun z (yes e) d =
+          let k : j < triple_count w.states = omega (arith, many, e) in
+          let p : Some next ≡ Some 0 = f ∙ sym (after_first w last place j k z.0 e) in
+          let x : next ≡ 0 = cc in
+          let one : place + 1 ≡ 1 = omega (arith, z.0) in
+          let first : get_or row 0 0 ≡ 0 = ap (λ (k : ℕ). get_or row k 0) (sym z.0) ∙ sym q ∙ e in
+          inr (
+            omega arith,
+            omega (arith, many, x),
+            ap (λ (i : ℕ). check_on M i (place + 1) (drop (place + 1) row)) x ∙ ap (λ (p : ℕ). check_on M 0 p (drop p row)) one
+                ∙ walk_start M w.ahead w.after w.number w.member w.target w.terminals w.opening w.states R row (some_entry h) first,
+          )
+      begun z (no e) (yes k) = absurd (none_some next (after-first_wrong w last place j k z.0 e ∙ sym f))
+      begun z (no e) (no k) = absurd (none_some next (after-beyond w last place j (omega (arith, k)) ∙ sym f))
 
-      is : List ℕ
-      is = map (entry_of w.states) (triples es)
+      later : (1 ≤ place) × (last < triple_count w.states) × (check_on M last place (drop place row) ≡ check_row M row) → Dec (j < triple_count w.states)
+          → (b : Bool) → follows w last j ≡ b → Stands M w row next (place + 1)
+      later x (no k) b e = absurd (none_some next (after-beyond w last place j (omega (arith, k)) ∙ sym f))
+      later x (yes k) true e =
+          let p : Some next ≡ Some j = f ∙ sym (after_next w last place j k (λ z. omega (arith, x.0, z)) e) in
+          let y : next ≡ j = cc in
+          inr (
+            omega arith,
+            omega (arith, k, y),
+            ap (λ (i : ℕ). check_on M i (place + 1) (drop (place + 1) row)) (y ∙ q)
+                ∙ walk_more M w.ahead w.after w.number w.member w.target w.terminals w.opening w.states R row last place h x.1 (omega (arith, k, q)) (ap (follows w last) (sym q) ∙ e) ∙ x.2,
+          )
+      later x (yes k) false e = absurd (none_some next (after_wrong w last place j k (λ z. omega (arith, x.0, z)) e ∙ sym f))
 
-      zero_in : 0 < triple_count w.states
-      zero_in = omega (arith, many)
-
-      turn : (b : Bool) → leb (triple_count w.states) j ≡ b → (c : Bool) → eqb j 0 ≡ c
-          → end_of w.states (walk_from w 0 0 (e ∷ es)) (length (e ∷ es)) ≡ check_verdict (check_row M (j ∷ is))
-      turn true b c f =
-          let h = leb-true (triple_count w.states) j b in
-          let n : ¬ (j ≡ 0) = λ z. omega (arith, many) in stops e es 0 0 (length (e ∷ es)) (after-beyond w 0 0 j zero_in h) ∙ first_no j is n
-      turn false b true f =
-          let h = leb-false (triple_count w.states) j b in
-          let z = eqb-true j 0 f in
-          let q : length (e ∷ es) ≡ 1 + length es = omega arith in
-          ap (λ at. end_of w.states (walk_from w at 1 es) (length (e ∷ es))) (sym (after_first w 0 0 j zero_in h refl z))
-          ∙ on es 0 1 (length (e ∷ es)) zero_in (omega arith) q ∙ first-yes j is z
-      turn false b false f =
-          let h = leb-false (triple_count w.states) j b in
-          let n = eqb-false j 0 f in
-          let o : triple_count w.states + 0 ≡ triple_count w.states = omega arith in
-          stops e es 0 0 (length (e ∷ es)) (o ∙ after-first_wrong w 0 0 j zero_in h refl n) ∙ first_no j is n
+  -- the end
+  pub ended : place ≡ length row → Stands M w row last place → end_of w.states last (length row) ≡ check_verdict (check_row M row)
+  unfolding end_of
+  ended h s = elim s [
+    | inl z ↦
+        let short : length row ≡ 0 = sym h ∙ z.0 in
+        let other : last ≡ w.states * w.states + w.states + 1 → ⊥ = λ e. omega (arith, z.1, e) in
+        simp (ne_eqb last (w.states * w.states + w.states + 1) other)
+        (ap (λ (n : ℕ). Refused 15 n) short ∙ ap check_verdict (walk-empty M w.ahead w.after w.number w.member w.target w.terminals w.opening w.states R row short))
+    | inr x ↦ last_one x (ℕ_discrete last (index w.states 1 1 1))
+  ]
+    where
+      last_one : (1 ≤ place) × (last < triple_count w.states) × (check_on M last place (drop place row) ≡ check_row M row) → Dec (last ≡ index w.states 1 1 1)
+          → end_of w.states last (length row) ≡ check_verdict (check_row M row)
+      last_one x (yes e) =
+          simp (eq-eqb last (w.states * w.states + w.states + 1) (e ∙ index-end w.states))
+          (ap check_verdict (walk_ends M w.ahead w.after w.number w.member w.target w.terminals w.opening w.states R row last place (omega (arith, h)) e ∙ x.2))
+      last_one x (no e) =
+          simp (ne_eqb last (w.states * w.states + w.states + 1) (λ z. e (z ∙ sym (index-end w.states))))
+          (ap (λ (n : ℕ). Refused 15 n) (sym h) ∙ ap check_verdict (walk-short M w.ahead w.after w.number w.member w.target w.terminals w.opening w.states R row last place (omega (arith, h)) e ∙ x.2))
 
 -- the answer is the definition's
-pub records-answer : (t n : ℕ) (table : List ℕ) (m : ℕ) (w : Board) (es : List TripleRecord) → Begun t n table m w
-    → ending w (walk_from w 0 0 es) (length es) ≡ check_verdict (check_witness_records limits t n table m (triples es))
-unfolding check_witness_records
-records-answer t n table m w es b = go (check_with limits t n table m) refl
-  where
-    then : Grammar → Answer Unit
-    then G = check_row (moves_with limits G m) (map (entry_of (moves_with limits G m).states) (triples es))
+module _ (t n : ℕ) (table : List ℕ) (m : ℕ) (w : Board) (es : List TripleRecord) (b : Begun t n table m w) where
+  abbrev then : Grammar → Answer Unit
+  then G = check_row (moves_with limits G m) (map (entry_of (moves_with limits G m).states) (triples es))
 
-    go : (o : Answer Grammar) → check_with limits t n table m ≡ o → ending w (walk_from w 0 0 es) (length es) ≡ check_verdict (and_then (check_with limits t n table m) then)
-    go (done G) e =
-        let g = b.goes G e in
-        ap (λ (v : TableVerdict). told v (end_of w.states (walk_from w 0 0 es) (length es))) g.0 ∙ whole (moves_with limits G m) w b.sized g.1 es
-        ∙ ap (λ Q. check_verdict (check_row (moves_with limits G m) (map (entry_of Q) (triples es)))) g.1.size
-        ∙ ap check_verdict (sym (then-goes (check_with limits t n table m) then G e))
-    go (refused c p) e =
-        ap (λ (v : TableVerdict). told v (end_of w.states (walk_from w 0 0 es) (length es))) (b.stops c p e)
-        ∙ ap check_verdict (sym (then_stops (check_with limits t n table m) then c p e))
+  -- of a table that passed
+  pub passed-answer : ((c p : ℕ) → w.verdict ≡ checked.Refused c p → ⊥) → (v : CheckVerdict)
+      → ((M : Moves) → ReadyFor M w → v ≡ check_verdict (check_row M (map (entry_of w.states) (triples es))))
+      → v ≡ check_verdict (check_witness_records limits t n table m (triples es))
+  unfolding check_witness_records
+  passed-answer other v walked = go (check_with limits t n table m) refl
+    where
+      go : (o : Answer Grammar) → check_with limits t n table m ≡ o → v ≡ check_verdict (and_then (check_with limits t n table m) then)
+      go (done G) e =
+          let g = b.goes G e in
+          walked (moves_with limits G m) g.1
+          ∙ ap (λ Q. check_verdict (check_row (moves_with limits G m) (map (entry_of Q) (triples es)))) g.1.size
+          ∙ ap check_verdict (sym (then-goes (check_with limits t n table m) then G e))
+      go (refused c p) e = absurd (other c p (b.stops c p e))
+
+  -- of one that is refused
+  pub refused-answer : (c p : ℕ) → w.verdict ≡ checked.Refused c p → Refused c p ≡ check_verdict (check_witness_records limits t n table m (triples es))
+  unfolding check_witness_records
+  refused-answer c p r = go (check_with limits t n table m) refl
+    where
+      go : (o : Answer Grammar) → check_with limits t n table m ≡ o → Refused c p ≡ check_verdict (and_then (check_with limits t n table m) then)
+      go (done G) e = let z : checked.Passed ≡ checked.Refused c p = sym (b.goes G e).0 ∙ r in absurd (cc)
+      go (refused d q) e =
+          let z : checked.Refused c p ≡ checked.Refused d q = sym r ∙ b.stops d q e in
+          let x : c ≡ d = cc in
+          let y : p ≡ q = cc in
+          ap (λ c. Refused c p) x ∙ ap (λ p. Refused d p) y
+          ∙ ap check_verdict (sym (then_stops (check_with limits t n table m) then d q e))

@@ -1,9 +1,10 @@
-use Prim.Native.Nat.{◌<◌, ◌^◌}
-use mathlib.Core.Path.{◌≡◌}
-use lib.ListN.{drop}
-use Rattle.witness_records.specs.Walk.{walk_from}
+use mathlib.Core.List.{map}
+use Rattle.automaton.specs.Moves.{Moves}
+use Rattle.triples.specs.Witness.{entry_of}
+use Rattle.witness_records.specs.Records.{triples}
+use Rattle.witness_records.specs.Clauses.{ReadyFor}
+use Rattle.witness_records.proofs.Walks.{Stands}
 use Rattle.witness_records.proofs.check_witness_records.Given as goal
 
--- after some records: the walk over the others goes on as the whole one
 abbrev pub invariant-loop-place : goal.invariant-loop-place
-invariant-loop-place l = (l.at < 2 ^ 64) × (walk_from l.w l.at l.place (drop l.place l.entries) ≡ walk_from l.w 0 0 l.entries)
+invariant-loop-place l = (M : Moves) → ReadyFor M l.w → Stands M l.w (map (entry_of l.w.states) (triples l.entries)) l.last l.place
