@@ -18,7 +18,7 @@ PLACES = {
     ("indices/src/lib.rt", "f * (q * q) + p * q + r"): "index_of itself",
     ("certificate_check/src/scan.rt", "return plan.left_base + usize::from(targets[plan.left_from + k]) * q;"): "from a base on: no layer enters",
     ("caller_rows/src/level.rt", "low += (k + 1) * below[i];"): "counts states",
-    ("caller_rows/src/widths.rt", "(wide(k) + 1) * wide(w)"): "counts states",
+    ("caller_rows/src/widths.rt", "(usize::from(k) + 1) * usize::from(w)"): "counts states",
     ("certificate_check/src/columns.rt", "let row = plans::layer_after(m, f, y) * q + a;"): "the number of a row of Q bits",
     ("certificate_check/src/columns.rt", "let base = row * q;"): "where the row of that number begins",
     ("certificate_check/src/columns.rt", "w = w & bits::wide_window(bytes, base + u * q);"): "from a base on",
