@@ -86,7 +86,7 @@ pub fn join_texts(robot: &[u8], addon: &[u8], table: &mut [u16]) -> TextRead
             if table.len() < entries {
                 return TextRead::Refused(BUFFER_TOO_SHORT, 0);
             }
-            text_read::copy_codes(&row[..entries], table);
+            table[..entries].copy_from_slice(&row[..entries]);
             TextRead::Read {
                 terminals: sizes.terminals,
                 nonterminals: sizes.nonterminals,

@@ -2,9 +2,9 @@
 
 #![tactic(auto)]
 
-ghost use Rattle.std.specs.Prelude.{◌≡◌, [], ◌≤◌, ◌<◌, length, get_or};
+ghost use Rattle.std.specs.Prelude.{◌≡◌, ◌≤◌, ◌<◌, length};
 ghost use Rattle.text.specs.Names.{within, is_name_byte, is_name, folded, same_name};
-ghost use Rattle.text.specs.Keys.{key_table, key_lengths};
+ghost use Rattle.text.specs.Keys.{key};
 ghost use Rattle.names.specs.Found.{Found};
 
 // The bytes that end a line, and that stand between names, after a left name, before a symbol, after a key.
@@ -25,8 +25,8 @@ pub const NONTERMINALS: usize = 1;
 
 pub const RULE: usize = 2;
 
-// The keys, padded with 0, and their lengths.
-const KEYS: [[u8; 12]; 3] = [
+// The keys, padded with 0, and their lengths: the form that the document wants.
+static KEYS: [[u8; 12]; 3] = [
     *b"terminals\0\0\0",
     *b"nonterminals",
     *b"rule\0\0\0\0\0\0\0\0",
@@ -86,17 +86,10 @@ pub fn same_name(a: &[u8], b: &[u8]) -> bool
     true
 }
 
-// Byte i of key k, and the key's length without its padding.
-pub fn key_byte(k: usize, i: usize) -> u8
-    requires { (k < 3) × (i < 12) }
-    ensures { result ≡ get_or (get_or key_table k []) i 0 }
-{
-    KEYS[k][i]
-}
-
-pub fn key_length(k: usize) -> usize
+// Key k, without its padding.
+pub fn key(k: usize) -> &'static [u8]
     requires { k < 3 }
-    ensures { result ≡ get_or key_lengths k 0 }
+    ensures { result.now ≡ key k }
 {
-    KEY_LENGTHS[k]
+    &KEYS[k][..KEY_LENGTHS[k]]
 }

@@ -8,9 +8,9 @@ use mathlib.Core.Option.{none, some}
 use native.Mathlib.Omega.{arith}
 use native.Mathlib.Nat.{add-zero}
 use native.Mathlib.Numerals.{add-one}
-use borrow.Author.Tests.{eq-eqb, ne_eqb, lt-leb}
+use borrow.Author.Tests.{eq-eqb, ne_eqb, eqb-true, eqb-false, lt-leb}
 use lib.Dec.{eqb, leb}
-use lib.ListN.{length, drop, get_or, drop_of_length-le, length-drop}
+use lib.ListN.{length, take, drop, get_or, length-drop}
 use lib.Seq.{drop-cons, take_all}
 use Rattle.grammar.specs.Basics.{choose}
 use Rattle.grammar.specs.Refusal.{refused, done, refuse_unless}
@@ -23,6 +23,7 @@ use Rattle.names.specs.Found.{part}
 use Rattle.text_read.specs.declared.Split.{Split}
 use Rattle.text_read.specs.declared.Split.TheVariants.{Value, Malformed}
 use Rattle.std.specs.Prelude.{Some, None}
+use Rattle.std.specs.Cmp.Lexicographic.{pointwise}
 use Rattle.text_read.specs.Values.{HasValue, SplitTold, counted, body_counted}
 
 -- ---- the key
@@ -38,27 +39,39 @@ value-short (x ∷ k) (b ∷ s) h = go (eqb b x) (value-short k s (omega arith))
     go true e = e
     go false e = refl
 
-module _ (k line : List ℕ) (i : ℕ) (in-key : i < length k) (in-line : i < length line) where
-  value-at : value_of (drop i k) (drop i line)
-      ≡ choose (eqb (get_or line i 0) (get_or k i 0)) (value_of (drop (i + 1) k) (drop (i + 1) line)) none
+-- a line that does not begin with the key
+pub value-differ : (k line : List ℕ) → false ≡ pointwise eqb k (take (length k) line) → value_of k line ≡ none
+unfolding value_of
+value-differ [] line h = cc
+value-differ (x ∷ k) [] h = refl
+value-differ (x ∷ k) (b ∷ s) h = go (eqb b x) refl (value-differ k s)
+  where
+    go : (t : Bool) → eqb b x ≡ t → (false ≡ pointwise eqb k (take (length k) s) → value_of k s ≡ none) → choose t (value_of k s) none ≡ none
+    go true e again = again (h ∙ rw (eq-eqb x b (sym (eqb-true b x e))))
+    go false e again = refl
+
+-- one that does: what follows the key
+pub value-past : (k line : List ℕ) → true ≡ pointwise eqb k (take (length k) line) → value_of k line ≡ value_of [] (drop (length k) line)
+unfolding value_of
+value-past [] line h = refl
+value-past (x ∷ k) [] h = cc
+value-past (x ∷ k) (b ∷ s) h = go (eqb b x) refl (value-past k s)
+  where
+    go : (t : Bool) → eqb b x ≡ t → (true ≡ pointwise eqb k (take (length k) s) → value_of k s ≡ value_of [] (drop (length k) s))
+        → choose t (value_of k s) none ≡ value_of [] (drop (length k) s)
+    go true e again = again (h ∙ rw (eq-eqb x b (sym (eqb-true b x e))))
+    go false e again = let z : eqb x b ≡ false = ne_eqb x b (λ q. eqb-false b x e (sym q)) in
+        let w : ◌≡◌ {A = Bool} true false = h ∙ rw z in cc
+
+module _ (line : List ℕ) (i : ℕ) (in-line : i < length line) where
+  value_sign : value_of [] (drop i line) ≡ choose (eqb (get_or line i 0) 61) (some (drop (i + 1) line)) none
   unfolding value_of
-  value-at = rw (add-one, drop-cons k i 0, drop-cons line i 0)
+  value_sign = rw (add-one, drop-cons line i 0)
 
-  pub value-step : get_or line i 0 ≡ get_or k i 0 → value_of (drop i k) (drop i line) ≡ value_of (drop (i + 1) k) (drop (i + 1) line)
-  value-step e = value-at ∙ rw (eq-eqb _ _ e)
-
-  pub value-differ : (get_or line i 0 ≡ get_or k i 0 → ⊥) → value_of (drop i k) (drop i line) ≡ none
-  value-differ e = value-at ∙ rw (ne_eqb _ _ e)
-
-module _ (k line : List ℕ) (i : ℕ) (past-key : length k ≤ i) (in-line : i < length line) where
-  value_sign : value_of (drop i k) (drop i line) ≡ choose (eqb (get_or line i 0) 61) (some (drop (i + 1) line)) none
-  unfolding value_of
-  value_sign = rw (add-one, drop_of_length-le k, drop-cons line i 0)
-
-  pub value-equals : get_or line i 0 ≡ 61 → value_of (drop i k) (drop i line) ≡ some (drop (i + 1) line)
+  pub value-equals : get_or line i 0 ≡ 61 → value_of [] (drop i line) ≡ some (drop (i + 1) line)
   value-equals e = value_sign ∙ rw (eq-eqb _ _ e)
 
-  pub value-other : (get_or line i 0 ≡ 61 → ⊥) → value_of (drop i k) (drop i line) ≡ none
+  pub value-other : (get_or line i 0 ≡ 61 → ⊥) → value_of [] (drop i line) ≡ none
   value-other e = value_sign ∙ rw (ne_eqb _ _ e)
 
 -- a part up to the end

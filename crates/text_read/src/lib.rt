@@ -76,14 +76,6 @@ pub enum TextKept {
     Fault(u8, usize),
 }
 
-// Copies a row to the front of another.
-pub fn copy_codes(front: &[u16], out: &mut [u16])
-    requires { length front.now ≤ length out.old }
-    ensures { out.new ≡ over front.now out.old }
-{
-    out[..front.len()].copy_from_slice(front);
-}
-
 // The reader, after the lines of a text: the last tests, 14, and what is kept goes to the lent rows.
 fn read_in(
     text: &[u8],

@@ -25,23 +25,12 @@ pub fn put_byte(out: &mut [u8], at: usize, b: u8) -> usize
     put_bytes(out, at, &[b])
 }
 
-fn put_word(out: &mut [u8], at: usize, k: usize) -> usize
-    requires { (k < 3) × (at + length (key k) ≤ length out.old) }
-    ensures { Wrote at (key k) out.old result out.new }
-{
-    let mut j = at;
-    for i in 0..names::key_length(k) {
-        j = put_byte(out, j, names::key_byte(k, i));
-    }
-    j
-}
-
 // Key k and its equals sign.
 pub fn put_key(out: &mut [u8], at: usize, k: usize) -> usize
     requires { (k < 3) × (at + length (key k ++ (equals ∷ [])) ≤ length out.old) }
     ensures { Wrote at (key k ++ (equals ∷ [])) out.old result out.new }
 {
-    let j = put_word(out, at, k);
+    let j = put_bytes(out, at, names::key(k));
     put_byte(out, j, EQUALS)
 }
 

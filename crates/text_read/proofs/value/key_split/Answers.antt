@@ -1,38 +1,34 @@
--- `text_read::value::key_split` meets its contract: the line has the key up to the cursor. Assumes nothing.
-use native.Mathlib.Omega.{arith}
-use mathlib.Core.Path.{◌≡◌, sym, ◌∙◌}
-use lib.ListN.{length}
-use Rattle.text.specs.Keys.{key}
-use Rattle.names.proofs.Keys.{key-length-most, length-key, key-at}
-use Rattle.text_read.proofs.Values.{value-short, value-step, value-differ, value-equals, value-other, split-value}
+-- `text_read::value::key_split` meets its contract: the line is longer than the key, begins with it, and has the sign behind. Assumes nothing.
+use Rattle.std.proofs.Common.{ℕ, ◌≡◌, ◌+◌, ◌<◌, ◌≤◌, ◌∙◌, List, true, false, eqb, ap, subst, length, get_or, take, drop}
+use Rattle.std.specs.Cmp.Lexicographic.{pointwise}
+use Rattle.std.proofs.Math.Option.{none, some}
+use Rattle.text.specs.Keys.{key, value_of}
+use Rattle.text_read.specs.Values.{HasValue}
+use Rattle.text_read.proofs.Values.{value-short, value-differ, value-past, value-equals, value-other, split-value}
 use Rattle.text_read.proofs.value.key_split.Goals as goal
+use Rattle.text_read.proofs.value.key_split.Goals.{then-n-m-via-then-n-m, then-n-m-via-else-n-m+then-not-starts_with, then-n-m-via-else-n-m+else-not-starts_with+then-line-m-ne-EQUALS}
+
+-- with the key as it was got
+module _ (k : ℕ) (line got : List ℕ) (is : got ≡ key k) where
+  short : length line ≤ length got → value_of (key k) line ≡ none
+  short h = subst (λ x. value_of x line ≡ none) is (value-short got line h)
+
+  differs : false ≡ pointwise eqb got (take (length got) line) → value_of (key k) line ≡ none
+  differs h = subst (λ x. value_of x line ≡ none) is (value-differ got line h)
+
+  unsigned : true ≡ pointwise eqb got (take (length got) line) → length got < length line → (get_or line (length got) 0 ≡ 61 → ⊥) → value_of (key k) line ≡ none
+  unsigned h l n = subst (λ x. value_of x line ≡ none) is (value-past got line h ∙ value-other line (length got) l n)
+
+  signed : true ≡ pointwise eqb got (take (length got) line) → length got < length line → get_or line (length got) 0 ≡ 61 → HasValue k line (length got + 1) (length line)
+  signed h l e = split-value k line (length got) (ap length is) l (subst (λ x. value_of x line ≡ some (drop (length got + 1) line)) is (value-past got line h ∙ value-equals line (length got) l e))
 
 pub returns-then-n-m : goal.returns-then-n-m
-returns-then-n-m c = value-short (key c.args.k) c.args.line.now (omega (arith, length-key c.args.k c.requires))
-
-pub key_byte-requires : goal.key_byte-requires
-key_byte-requires c = omega (arith, key-length-most c.args.k c.requires)
-
-pub returns-then-line-i : goal.returns-then-line-i
-returns-then-line-i c = let l = c.loop-i in
-    l.invariant ∙ value-differ (key c.args.k) c.args.line.now l.i (omega (arith, length-key c.args.k c.requires)) (omega arith)
-    (λ q. c.if-line-i.true (q ∙ key-at c.args.k l.i (omega arith) ∙ sym c.key_byte.ensures))
-
-pub loop-i-preserved : goal.loop-i-preserved
-loop-i-preserved c = let l = c.loop-i in
-    l.invariant ∙ value-step (key c.args.k) c.args.line.now l.i (omega (arith, length-key c.args.k c.requires)) (omega arith)
-    (c.if-line-i.false ∙ c.key_byte.ensures ∙ sym (key-at c.args.k l.i (omega arith)))
-
-pub returns-then-line-m-ne-EQUALS : goal.returns-then-line-m-ne-EQUALS
-returns-then-line-m-ne-EQUALS c = let l = c.loop-i in
-    let m = c.key_length-m.result in
-    let q : l.i ≡ m = omega arith in
-    l.invariant ∙ rw q (value-other (key c.args.k) c.args.line.now m (omega (arith, length-key c.args.k c.requires)) (omega arith) c.if-line-m-ne-EQUALS.true)
+returns-then-n-m c = elim c.then-n-m.branch [
+  | then-n-m-via-then-n-m w ↦ short c.args.k c.args.line.now c.key-key.result.now c.key-key.ensures w.if-n-m.true
+  | then-n-m-via-else-n-m+then-not-starts_with w ↦ differs c.args.k c.args.line.now c.key-key.result.now c.key-key.ensures w.if-not-starts_with.ensures.value
+  | then-n-m-via-else-n-m+else-not-starts_with+then-line-m-ne-EQUALS w ↦ unsigned c.args.k c.args.line.now c.key-key.result.now c.key-key.ensures
+      w.if-not-starts_with.ensures.value w.if-n-m.false w.if-line-m-ne-EQUALS.true
+]
 
 pub returns : goal.returns
-returns c = let l = c.loop-i in
-    let m = c.key_length-m.result in
-    let q : l.i ≡ m = omega arith in
-    let z : m ≡ length (key c.args.k) = omega (arith, length-key c.args.k c.requires) in
-    split-value c.args.k c.args.line.now m z (omega arith)
-    (l.invariant ∙ rw q (value-equals (key c.args.k) c.args.line.now m (omega arith) (omega arith) c.if-line-m-ne-EQUALS.false))
+returns c = signed c.args.k c.args.line.now c.key-key.result.now c.key-key.ensures c.if-not-starts_with.ensures.value c.if-n-m.false c.if-line-m-ne-EQUALS.false
