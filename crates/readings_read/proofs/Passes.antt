@@ -11,51 +11,73 @@ use lib.ListN.{length, take, drop, get_or, set, length-set, length-drop}
 use lib.Seq.{drop-cons}
 use Rattle.grammar.specs.Basics.{over}
 use Rattle.text.specs.Pieces.{split_on}
-use Rattle.text_read.proofs.Rows.{copy_more, copy_all}
+use lib.Seq.{take-suc, take-length, length-take-le, append_snoc, set_at}
 use Rattle.readings.specs.Readings.{word_of, words_of, pieces_of}
-use Rattle.readings_read.specs.declared.Piece.{Piece}
-use Rattle.readings_read.specs.declared.Form.{Form}
-use Rattle.readings_read.specs.declared.Form.TheVariants.{Known}
-use Rattle.readings_read.specs.Words.{entry_of, piece_form, worse, piece_of, entry_at, form_of}
+use Rattle.readings_read.specs.Words.{entry_of, piece_fault, worse, piece_of, entry_at, fault_of}
 use Rattle.readings_read.proofs.Words.{worse-known, worse_assoc, form_none, form_more, pieces_some}
+use Rattle.std.specs.Result.{result_unwrap_or}
+use Rattle.std.specs.Prelude.{Option as Maybe, None, Result, Ok, Err}
+use Rattle.readings_read.specs.declared.WordFault.{WordFault}
 
 -- ---- checked
 
+-- 0 for a piece that is no letter
+entry-unwrapped : (piece : Result ℕ WordFault) → result_unwrap_or piece 0 ≡ entry_of piece
+entry-unwrapped (Ok x) = refl
+entry-unwrapped (Err e) = refl
+
 module _ (t count : ℕ) (names : List (List ℕ)) where
-  pub record Checking (v : List ℕ) (f : Form) (k : ℕ) (rest : List (List ℕ)) : Type 0 where
-    pub formed : form_of t count names (words_of count (pieces_of v)) ≡ worse f (form_of t count names (words_of count rest))
+  pub record Checking (v : List ℕ) (f : Maybe WordFault) (k : ℕ) (rest : List (List ℕ)) : Type 0 where
+    pub formed : fault_of t count names (words_of count (pieces_of v)) ≡ worse f (fault_of t count names (words_of count rest))
     pub counted : length (pieces_of v) ≡ k + length rest
 
-  pub checking_start : (v : List ℕ) → 0 < length v → Checking v Known 0 (split_on 32 v)
+  pub checking_start : (v : List ℕ) → 0 < length v → Checking v None 0 (split_on 32 v)
   checking_start v h = record {
-    formed = ap (λ ps. form_of t count names (words_of count ps)) (pieces_some v h);
+    formed = ap (λ ps. fault_of t count names (words_of count ps)) (pieces_some v h);
     counted = ap length (pieces_some v h) ∙ omega arith;
   }
 
   -- one piece more
-  pub checking_more : (v : List ℕ) (f : Form) (k : ℕ) (now : List (List ℕ)) (p : List ℕ) (ps : List (List ℕ)) (piece : Piece)
+  pub checking_more : (v : List ℕ) (f : Maybe WordFault) (k : ℕ) (now : List (List ℕ)) (p : List ℕ) (ps : List (List ℕ)) (piece : Result ℕ WordFault)
       → now ≡ p ∷ ps → piece ≡ piece_of t count names (word_of count p) → Checking v f k now
-      → Checking v (worse f (piece_form piece)) (k + 1) ps
+      → Checking v (worse f (piece_fault piece)) (k + 1) ps
   checking_more v f k now p ps piece e q c = record {
-    formed = c.formed ∙ ap (λ ps. worse f (form_of t count names (words_of count ps))) e ∙ ap (worse f) (form_more t count names p ps)
-        ∙ worse_assoc f (piece_form (piece_of t count names (word_of count p))) (form_of t count names (words_of count ps))
-        ∙ ap (λ piece. worse (worse f (piece_form piece)) (form_of t count names (words_of count ps))) (sym q);
+    formed = c.formed ∙ ap (λ ps. worse f (fault_of t count names (words_of count ps))) e ∙ ap (worse f) (form_more t count names p ps)
+        ∙ worse_assoc f (piece_fault (piece_of t count names (word_of count p))) (fault_of t count names (words_of count ps))
+        ∙ ap (λ piece. worse (worse f (piece_fault piece)) (fault_of t count names (words_of count ps))) (sym q);
     counted = omega (arith, c.counted, ap length e);
   }
 
   -- all are checked
-  pub checking_form : (v : List ℕ) (f : Form) (k : ℕ) → Checking v f k [] → f ≡ form_of t count names (words_of count (pieces_of v))
+  pub checking_form : (v : List ℕ) (f : Maybe WordFault) (k : ℕ) → Checking v f k [] → f ≡ fault_of t count names (words_of count (pieces_of v))
   checking_form v f k c = sym (c.formed ∙ ap (worse f) (form_none t count names) ∙ worse-known f)
 
-  pub checking_count : (v : List ℕ) (f : Form) (k : ℕ) → Checking v f k [] → k ≡ length (pieces_of v)
+  pub checking_count : (v : List ℕ) (f : Maybe WordFault) (k : ℕ) → Checking v f k [] → k ≡ length (pieces_of v)
   checking_count v f k c = sym (c.counted ∙ add-zero k)
 
   -- the entry of a piece that is read
-  pub entry-at : (p : List ℕ) (piece : Piece) → piece ≡ piece_of t count names (word_of count p) → entry_of piece ≡ entry_at t count names p
+  pub entry-at : (p : List ℕ) (piece : Result ℕ WordFault) → piece ≡ piece_of t count names (word_of count p)
+      → result_unwrap_or piece 0 ≡ entry_at t count names p
   unfolding entry_at
-  entry-at p piece e = ap entry_of e
+  entry-at p piece e = entry-unwrapped piece ∙ ap entry_of e
 
 -- ---- written
+
+-- a row copied to the front of another
+module _ (front old : List ℕ) (i : ℕ) (h : length front ≤ length old) where
+  copy_more : i < length front → set (take i front ++ drop i old) i (get_or front i 0) ≡ take (i + 1) front ++ drop (i + 1) old
+  copy_more l =
+      let m : length (take i front) ≡ i = length-take-le i front (omega arith) in
+      ap (λ w. set (take i front ++ w) i (get_or front i 0)) (drop-cons old i 0 (omega arith))
+      ∙ set_at (take i front) (get_or old i 0) (drop (suc i) old) (get_or front i 0) i m
+      ∙ sym (append_snoc (take i front) (get_or front i 0) (drop (suc i) old))
+      ∙ rw add-one (ap (λ w. w ++ drop (suc i) old) (sym (take-suc front i 0 l)))
+
+  copy_all : length front ≤ i → i ≤ length front → take i front ++ drop i old ≡ over front old
+  unfolding over
+  copy_all l k =
+      let m : i ≡ length front = omega arith in
+      ap (λ i. take i front ++ drop i old) m ∙ ap (λ w. w ++ drop (length front) old) (take-length front)
 
 pub record Writing (front old : List ℕ) (j : ℕ) (row rest : List ℕ) : Type 0 where
   pub fits : length front ≤ length old

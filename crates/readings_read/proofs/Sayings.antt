@@ -20,25 +20,17 @@ use Rattle.text.proofs.Names.{no_value, some_inj}
 use Rattle.names.specs.Found.{part}
 use Rattle.readings.specs.Readings.{Word, word_of, joined, words_of, pieces_of, known_word, letter_of, read_words, read_strings}
 use Rattle.readings.specs.Letters.{letter_number}
-use Rattle.readings_read.specs.declared.Piece.TheVariants.{Entry, Unknown}
-use Rattle.readings_read.specs.declared.Form.{Form}
-use Rattle.readings_read.specs.declared.Form.TheVariants.{Known, Unknown as FormUnknown, Malformed as FormMalformed}
-use Rattle.readings_read.specs.declared.Start.{Start}
-use Rattle.readings_read.specs.declared.Start.TheVariants.{At, Malformed as StartMalformed}
 use Rattle.readings_read.specs.declared.Line.{Line}
 use Rattle.readings_read.specs.declared.Line.TheVariants.{Said as LineSaid, Fault as LineFault}
 use Rattle.readings_read.specs.declared.Lines.{Lines}
 use Rattle.readings_read.specs.declared.Lines.TheVariants.{Said, Fault}
-use Rattle.readings_read.specs.Words.{entry_of, piece_of, entry_at, form_of}
-use Rattle.readings_read.specs.Lines.{StartsAt, StartTold, Says, line_of, SaysAt, LineTold, BothSaid, LinesTold}
+use Rattle.readings_read.specs.Words.{entry_of, piece_of, entry_at, fault_of}
+use Rattle.readings_read.specs.Lines.{StartsAt, Says, line_of, SaysAt, LineTold, BothSaid, LinesTold}
+use Rattle.std.specs.Prelude.{Option as Maybe, None, Some, Ok, Err}
+use Rattle.readings_read.specs.declared.WordFault.{WordFault}
+use Rattle.readings_read.specs.declared.WordFault.TheVariants.{Unknown, Malformed}
 
 -- ---- what answers tell
-
-pub told-start : (key line : List ℕ) (r : Start) (start : ℕ) → r ≡ At start → StartTold key line r → StartsAt key line start
-told-start key line r start e w = subst (λ (r : Start). StartTold key line r) e w
-
-pub told_none : (key line : List ℕ) (r : Start) → r ≡ StartMalformed → StartTold key line r → value_of key line ≡ none
-told_none key line r e w = subst (λ (r : Start). StartTold key line r) e w
 
 module _ (t count : ℕ) (names : List (List ℕ)) where
   pub told-said : (at : ℕ) (key line : List ℕ) (r : Line) (start k : ℕ) → r ≡ LineSaid start k → LineTold t count names at key line r
@@ -65,8 +57,8 @@ module _ (t count : ℕ) (names : List (List ℕ)) where
   entries-said [] ws e h = ap (λ ws. map letter_number (map (letter_of limits t count names) ws)) (some_inj e)
   entries-said (p ∷ ps) ws e h = go (word_of count p) (words_of count ps) e (entries-said ps)
     where
-      known : (w : Word) (b : Bool) → b ≡ true → entry_of (choose b (Entry (letter_number (letter_of limits t count names w))) Unknown) ≡ letter_number (letter_of limits t count names w)
-      known w b e = ap (λ b. entry_of (choose b (Entry (letter_number (letter_of limits t count names w))) Unknown)) e
+      known : (w : Word) (b : Bool) → b ≡ true → entry_of (choose b (Ok (letter_number (letter_of limits t count names w))) (Err Unknown)) ≡ letter_number (letter_of limits t count names w)
+      known w b e = ap (λ b. entry_of (choose b (Ok (letter_number (letter_of limits t count names w))) (Err Unknown))) e
 
       go : (o : Option Word) (os : Option (List Word)) → joined o os ≡ some ws
           → ((vs : List Word) → os ≡ some vs → all (known_word limits t count names) vs ≡ true
@@ -82,48 +74,48 @@ module _ (t count : ℕ) (names : List (List ℕ)) where
           ∙ ap (λ ws. map letter_number (map (letter_of limits t count names) ws)) q
 
   -- forms told apart
-  abbrev rank : Form → ℕ
-  rank Known = 0
-  rank FormUnknown = 1
-  rank FormMalformed = 2
+  abbrev rank : Maybe WordFault → ℕ
+  rank None = 0
+  rank (Some Unknown) = 1
+  rank (Some Malformed) = 2
 
-  known-all : (b : Bool) → choose b Known FormUnknown ≡ Known → b ≡ true
+  known-all : (b : Bool) → choose b None (Some Unknown) ≡ None → b ≡ true
   known-all true e = refl
   known-all false e = absurd (let z = ap rank e in omega arith)
 
-  unknown_one : (b : Bool) → choose b Known FormUnknown ≡ FormUnknown → b ≡ false
+  unknown_one : (b : Bool) → choose b None (Some Unknown) ≡ Some Unknown → b ≡ false
   unknown_one true e = absurd (let z = ap rank e in omega arith)
   unknown_one false e = refl
 
-  never_malformed : (b : Bool) → choose b Known FormUnknown ≡ FormMalformed → ⊥
+  never_malformed : (b : Bool) → choose b None (Some Unknown) ≡ Some Malformed → ⊥
   never_malformed true e = let z = ap rank e in omega arith
   never_malformed false e = let z = ap rank e in omega arith
 
   module _ (at : ℕ) (v : List ℕ) where
-    value-malformed : form_of t count names (words_of count (pieces_of v)) ≡ FormMalformed → read_words limits t count names at v ≡ refused 16 at
-    unfolding read_words form_of refuse_none
+    value-malformed : fault_of t count names (words_of count (pieces_of v)) ≡ Some Malformed → read_words limits t count names at v ≡ refused 16 at
+    unfolding read_words fault_of refuse_none
     value-malformed h = go (words_of count (pieces_of v)) h
       where
-        go : (o : Option (List Word)) → form_of t count names o ≡ FormMalformed
+        go : (o : Option (List Word)) → fault_of t count names o ≡ Some Malformed
             → refuse_none 16 at o (λ ws. refuse_unless 17 at (all (known_word limits t count names) ws) (done (map (letter_of limits t count names) ws))) ≡ refused 16 at
         go none h = refl
         go (some ws) h = absurd (never_malformed (all (known_word limits t count names) ws) h)
 
-    value_unknown : form_of t count names (words_of count (pieces_of v)) ≡ FormUnknown → read_words limits t count names at v ≡ refused 17 at
-    unfolding read_words form_of refuse_none
+    value_unknown : fault_of t count names (words_of count (pieces_of v)) ≡ Some Unknown → read_words limits t count names at v ≡ refused 17 at
+    unfolding read_words fault_of refuse_none
     value_unknown h = go (words_of count (pieces_of v)) h
       where
-        go : (o : Option (List Word)) → form_of t count names o ≡ FormUnknown
+        go : (o : Option (List Word)) → fault_of t count names o ≡ Some Unknown
             → refuse_none 16 at o (λ ws. refuse_unless 17 at (all (known_word limits t count names) ws) (done (map (letter_of limits t count names) ws))) ≡ refused 17 at
         go none h = absurd (let z = ap rank h in omega arith)
         go (some ws) h = unless_fails 17 at _ _ (unknown_one (all (known_word limits t count names) ws) h)
 
-    value-known : (k : ℕ) → form_of t count names (words_of count (pieces_of v)) ≡ Known → k ≡ length (pieces_of v)
+    value-known : (k : ℕ) → fault_of t count names (words_of count (pieces_of v)) ≡ None → k ≡ length (pieces_of v)
         → (u : List Letter) × (read_words limits t count names at v ≡ done u) × Says t count names v u k
-    unfolding read_words form_of refuse_none
+    unfolding read_words fault_of refuse_none
     value-known k h n = go (words_of count (pieces_of v)) refl h
       where
-        go : (o : Option (List Word)) → words_of count (pieces_of v) ≡ o → form_of t count names o ≡ Known
+        go : (o : Option (List Word)) → words_of count (pieces_of v) ≡ o → fault_of t count names o ≡ None
             → (u : List Letter)
             × (refuse_none 16 at o (λ ws. refuse_unless 17 at (all (known_word limits t count names) ws) (done (map (letter_of limits t count names) ws))) ≡ done u)
             × Says t count names v u k
@@ -154,15 +146,15 @@ module _ (t count : ℕ) (names : List (List ℕ)) where
       line_on = rw s.value refl
 
       -- the words of its value are of some form
-      pub line-malformed : form_of t count names (words_of count (pieces_of (part start (length line) line))) ≡ FormMalformed
+      pub line-malformed : fault_of t count names (words_of count (pieces_of (part start (length line) line))) ≡ Some Malformed
           → line_of t count names at key line ≡ refused 16 at
       line-malformed h = line_on ∙ value-malformed at (part start (length line) line) h
 
-      pub line_unknown : form_of t count names (words_of count (pieces_of (part start (length line) line))) ≡ FormUnknown
+      pub line_unknown : fault_of t count names (words_of count (pieces_of (part start (length line) line))) ≡ Some Unknown
           → line_of t count names at key line ≡ refused 17 at
       line_unknown h = line_on ∙ value_unknown at (part start (length line) line) h
 
-      pub line_known : (k : ℕ) → form_of t count names (words_of count (pieces_of (part start (length line) line))) ≡ Known
+      pub line_known : (k : ℕ) → fault_of t count names (words_of count (pieces_of (part start (length line) line))) ≡ None
           → k ≡ length (pieces_of (part start (length line) line)) → SaysAt t count names at key line start k
       line_known k h n =
           let w = value-known at (part start (length line) line) k h n in

@@ -19,24 +19,24 @@ use Rattle.text.specs.Read.{number_of, code_of}
 use Rattle.text_read.proofs.Lookups.{known_out, known_in}
 use Rattle.readings.specs.Readings.{Word, bracket, name, rule_number, word_of, joined, words_of, pieces_of, known_word}
 use Rattle.readings.specs.Letters.{kind_unit, letter_number}
-use Rattle.readings_read.specs.declared.Piece.TheVariants.{Entry, Unknown, Malformed}
-use Rattle.readings_read.specs.declared.Form.{Form}
-use Rattle.readings_read.specs.declared.Form.TheVariants.{Known, Unknown as FormUnknown, Malformed as FormMalformed}
-use Rattle.readings_read.specs.Words.{mark_piece, name_piece, piece_form, worse, piece_of, form_of}
+use Rattle.readings_read.specs.Words.{mark_piece, name_piece, piece_fault, worse, piece_of, fault_of}
+use Rattle.std.specs.Prelude.{Option as Maybe, None, Some, Ok, Err}
+use Rattle.readings_read.specs.declared.WordFault.{WordFault}
+use Rattle.readings_read.specs.declared.WordFault.TheVariants.{Unknown, Malformed}
 
 -- ---- a name
 
 module _ (t : ℕ) (names : List (List ℕ)) (x : List ℕ) where
-  pub name_bad : is_name x ≡ false → name_piece t names x ≡ Malformed
+  pub name_bad : is_name x ≡ false → name_piece t names x ≡ Err Malformed
   unfolding name_piece
   name_bad e = rw e refl
 
   module _ (good : is_name x ≡ true) (i : ℕ) (at : i ≡ place (same_name x) names) where
-    pub name_unknown_lem : length names ≤ i → name_piece t names x ≡ Unknown
+    pub name_unknown_lem : length names ≤ i → name_piece t names x ≡ Err Unknown
     unfolding name_piece
     name_unknown_lem h = rw (good, known_out 0 names x i at (omega arith) h) refl
 
-    pub name-known : i < length names → name_piece t names x ≡ Entry (3 * kind_unit + code_of limits t i)
+    pub name-known : i < length names → name_piece t names x ≡ Ok (3 * kind_unit + code_of limits t i)
     unfolding name_piece number_of
     name-known h = rw (good, known_in 0 names x i at (omega arith) h, ← at) refl
 
@@ -49,12 +49,12 @@ module _ (t count : ℕ) (names : List (List ℕ)) where
   piece_rule kind make e s = go (is_decimal s && leb (number_from 0 s) count)
     where
       go : (b : Bool) → piece_of t count names (choose b (some (bracket (make (number_from 0 s)))) none)
-          ≡ choose b (Entry (kind * kind_unit + number_from 0 s)) Malformed
-      go true = ap (λ (n : ℕ). Entry n) (e (number_from 0 s))
+          ≡ choose b (Ok (kind * kind_unit + number_from 0 s)) (Err Malformed)
+      go true = ap (λ (n : ℕ). Ok n) (e (number_from 0 s))
       go false = refl
 
   -- nothing
-  pub piece_none : (p : List ℕ) → length p ≡ 0 → piece_of t count names (word_of count p) ≡ Malformed
+  pub piece_none : (p : List ℕ) → length p ≡ 0 → piece_of t count names (word_of count p) ≡ Err Malformed
   unfolding word_of
   piece_none [] h = refl
   piece_none (b ∷ p) h = absurd (omega arith)
@@ -79,55 +79,50 @@ module _ (t count : ℕ) (names : List (List ℕ)) where
   piece_name (b ∷ p) h m n = rw (ne_eqb b 40 m, ne_eqb b 41 n) (go (is_name (b ∷ p)))
     where
       go : (g : Bool) → piece_of t count names (choose g (some (name (b ∷ p))) none)
-          ≡ choose g (piece_of t count names (some (name (b ∷ p)))) Malformed
+          ≡ choose g (piece_of t count names (some (name (b ∷ p)))) (Err Malformed)
       go true = refl
       go false = refl
 
 -- ---- forms
 
-pub worse-known : (f : Form) → worse f Known ≡ f
-worse-known Known = refl
-worse-known FormUnknown = refl
-worse-known FormMalformed = refl
+pub worse-known : (f : Maybe WordFault) → worse f None ≡ f
+worse-known None = refl
+worse-known (Some Unknown) = refl
+worse-known (Some Malformed) = refl
 
-pub worse-malformed : (f : Form) → worse f FormMalformed ≡ FormMalformed
-worse-malformed Known = refl
-worse-malformed FormUnknown = refl
-worse-malformed FormMalformed = refl
-
-pub worse_assoc : (f g h : Form) → worse f (worse g h) ≡ worse (worse f g) h
-worse_assoc Known g h = refl
-worse_assoc FormMalformed g h = refl
-worse_assoc FormUnknown Known h = refl
-worse_assoc FormUnknown FormMalformed h = refl
-worse_assoc FormUnknown FormUnknown Known = refl
-worse_assoc FormUnknown FormUnknown FormUnknown = refl
-worse_assoc FormUnknown FormUnknown FormMalformed = refl
+pub worse_assoc : (f g h : Maybe WordFault) → worse f (worse g h) ≡ worse (worse f g) h
+worse_assoc None g h = refl
+worse_assoc (Some Malformed) g h = refl
+worse_assoc (Some Unknown) None h = refl
+worse_assoc (Some Unknown) (Some Malformed) h = refl
+worse_assoc (Some Unknown) (Some Unknown) None = refl
+worse_assoc (Some Unknown) (Some Unknown) (Some Unknown) = refl
+worse_assoc (Some Unknown) (Some Unknown) (Some Malformed) = refl
 
 -- ---- words
 
 module _ (t count : ℕ) (names : List (List ℕ)) where
-  pub form_none : form_of t count names (words_of count []) ≡ Known
-  unfolding form_of words_of all
+  pub form_none : fault_of t count names (words_of count []) ≡ None
+  unfolding fault_of words_of all
   form_none = refl
 
   -- the form of words is the worse of the first one's and the others'
   pub form_more : (p : List ℕ) (ps : List (List ℕ))
-      → form_of t count names (words_of count (p ∷ ps)) ≡ worse (piece_form (piece_of t count names (word_of count p))) (form_of t count names (words_of count ps))
-  unfolding form_of words_of all
+      → fault_of t count names (words_of count (p ∷ ps)) ≡ worse (piece_fault (piece_of t count names (word_of count p))) (fault_of t count names (words_of count ps))
+  unfolding fault_of words_of all
   form_more p ps = go (word_of count p) (words_of count ps)
     where
-      known : (a b : Bool) (n : ℕ) → choose (a && b) Known FormUnknown ≡ worse (piece_form (choose a (Entry n) Unknown)) (choose b Known FormUnknown)
+      known : (a b : Bool) (n : ℕ) → choose (a && b) None (Some Unknown) ≡ worse (piece_fault (choose a (Ok n) (Err Unknown))) (choose b None (Some Unknown))
       known true b n = refl
       known false true n = refl
       known false false n = refl
 
-      unknown : (a : Bool) (n : ℕ) → FormMalformed ≡ worse (piece_form (choose a (Entry n) Unknown)) FormMalformed
+      unknown : (a : Bool) (n : ℕ) → (Some Malformed) ≡ worse (piece_fault (choose a (Ok n) (Err Unknown))) (Some Malformed)
       unknown true n = refl
       unknown false n = refl
 
       go : (o : Option Word) (os : Option (List Word))
-          → form_of t count names (joined o os) ≡ worse (piece_form (piece_of t count names o)) (form_of t count names os)
+          → fault_of t count names (joined o os) ≡ worse (piece_fault (piece_of t count names o)) (fault_of t count names os)
       go none os = refl
       go (some w) none = unknown (known_word limits t count names w) _
       go (some w) (some ws) = known (known_word limits t count names w) (all (known_word limits t count names) ws) _

@@ -1,7 +1,7 @@
 -- What the functions that read two lines back tell of the lines. A fault is told by the definition's refusal, a result by a record
 -- of facts.
 -- Assumes nothing.
-use Rattle.std.specs.Prelude.{ℕ, ◌+◌, ◌≤◌, ◌<◌, ◌≡◌, ◌&&◌, List, map, leb, length, drop}
+use Rattle.std.specs.Prelude.{Option, None, Some, ℕ, ◌+◌, ◌≤◌, ◌<◌, ◌≡◌, ◌&&◌, List, map, leb, length, drop}
 use Rattle.std.proofs.Math.Option.{none, some}
 use Rattle.grammar.specs.Limits.{limits}
 use Rattle.grammar.specs.Refusal.{Answer, done, refused, refuse_unless, and_then, buffer_too_short, malformed}
@@ -16,8 +16,6 @@ use Rattle.readings.specs.Readings.{right_key, pieces_of, at_end, read_words, re
 use Rattle.readings.specs.Letters.{letter_number}
 use Rattle.readings.specs.Promise.{read_back, row_after}
 use Rattle.readings.specs.declared.ReadBack.{ReadBack}
-use Rattle.readings_read.specs.declared.Start.{Start}
-use Rattle.readings_read.specs.declared.Start.TheVariants.{At, Malformed}
 use Rattle.readings_read.specs.declared.Line.{Line}
 use Rattle.readings_read.specs.declared.Line.TheVariants.{Said as LineSaid, Fault as LineFault}
 use Rattle.readings_read.specs.declared.Lines.{Lines}
@@ -35,9 +33,9 @@ pub record StartsAt (key line : List ℕ) (start : ℕ) : Type 0 where
   pub value : value_of key line ≡ some (part start (length line) line)
 
 -- where the value starts, or that the line has no such key
-abbrev pub StartTold : List ℕ → List ℕ → Start → Type 0
-StartTold key line (At start) = StartsAt key line start
-StartTold key line Malformed = value_of key line ≡ none
+abbrev pub StartTold : List ℕ → List ℕ → Option ℕ → Type 0
+StartTold key line (Some start) = StartsAt key line start
+StartTold key line None = value_of key line ≡ none
 
 -- for a grammar of t terminals, so many rules and these names
 module _ (t count : ℕ) (names : List (List ℕ)) where

@@ -24,33 +24,10 @@ use text_read::{KEPT_ENTRIES, SMALL_TEXT};
 // these, less the states, are the rules.
 const NO_RULES: usize = 4;
 
-// What stands between two spaces: a letter as an entry of a row, a name that is not known, or no word.
-#[derive(Drop)]
-pub enum Piece {
-    Entry(u32),
+// What is wrong with what stands between two spaces: a name that is not known, or no word, which counts first.
+#[derive(Clone, Copy)]
+pub enum WordFault {
     Unknown,
-    Malformed,
-}
-
-// Of what form words are: all known, or one unknown, or one malformed, which counts first.
-#[derive(Drop)]
-pub enum Form {
-    Known,
-    Unknown,
-    Malformed,
-}
-
-// The form of a value's words, and how many they are.
-#[derive(Drop)]
-pub struct Value {
-    pub form: Form,
-    pub count: usize,
-}
-
-// Where a value starts in its line.
-#[derive(Drop)]
-pub enum Start {
-    At(usize),
     Malformed,
 }
 

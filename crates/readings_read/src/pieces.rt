@@ -4,9 +4,9 @@ ghost use Rattle.grammar.specs.Limits.{limits};
 ghost use Rattle.text.specs.Spelled.{spelled};
 ghost use Rattle.lexicon.specs.Tree.{Lexicon};
 ghost use Rattle.readings.specs.Readings.{word_of};
-ghost use Rattle.readings_read.specs.Words.{Symbols, mark_piece, name_piece, piece_of, entry_of};
+ghost use Rattle.readings_read.specs.Words.{Symbols, mark_piece, name_piece, piece_of};
 
-use super::Piece;
+use super::WordFault;
 use readings::{CLOSES, CLOSING, KIND_UNIT, OPENING, OPENS, SYMBOL};
 
 // The digits 0 and 9.
@@ -16,52 +16,56 @@ const NINE: u8 = 57;
 
 // The digits of a rule's number, decimal without leading zeros and at most count, as a letter of a kind. The value is left as
 // soon as it exceeds count, so it never overflows.
-fn mark(kind: u32, s: &[u8], count: usize) -> Piece
+fn mark(kind: u32, s: &[u8], count: usize) -> Result<u32, WordFault>
     requires { (kind ≤ 3) × (count ≤ limits.max_rules) }
     ensures { result ≡ mark_piece kind count s.now }
 {
     let n = s.len();
     if n == 0 {
-        return Piece::Malformed;
+        return Err(WordFault::Malformed);
     }
     if s[0] == ZERO {
         if n == 1 {
-            return Piece::Entry(kind * KIND_UNIT);
+            return Ok(kind * KIND_UNIT);
         }
-        return Piece::Malformed;
+        return Err(WordFault::Malformed);
     }
     let mut x = 0;
-    let mut i = 0;
-    while i < n {
-        let b = s[i];
-        if b < ZERO {
-            return Piece::Malformed;
+    for b in s {
+        if *b < ZERO {
+            return Err(WordFault::Malformed);
         }
-        if NINE < b {
-            return Piece::Malformed;
+        if NINE < *b {
+            return Err(WordFault::Malformed);
         }
-        x = x * 10 + (b - ZERO) as usize;
+        x = x * 10 + (*b - ZERO) as usize;
         if count < x {
-            return Piece::Malformed;
+            return Err(WordFault::Malformed);
         }
-        i += 1;
     }
-    Piece::Entry(kind * KIND_UNIT + x as u32)
+    Ok(kind * KIND_UNIT + x as u32)
 }
 
 // A name, if it is one, and its symbol's code, if it is known.
-fn name(x: &[u8], text: &[u8], starts: &[u32], lengths: &[u32], links: &[u16], t: usize) -> Piece
+fn name(
+    x: &[u8],
+    text: &[u8],
+    starts: &[u32],
+    lengths: &[u32],
+    links: &[u16],
+    t: usize,
+) -> Result<u32, WordFault>
     requires { (Lexicon text.now starts.now lengths.now links.now) × (t ≤ limits.max_terminals) × (length starts.now ≤ t + limits.max_nonterminals) }
     ensures { result ≡ name_piece t (spelled text.now starts.now lengths.now) x.now }
 {
     if names::is_name(x) {
         let i = lexicon::find(text, starts, lengths, links, x);
         if starts.len() <= i {
-            return Piece::Unknown;
+            return Err(WordFault::Unknown);
         }
-        return Piece::Entry(SYMBOL * KIND_UNIT + text_read::code_of(t, i) as u32);
+        return Ok(SYMBOL * KIND_UNIT + text_read::code_of(t, i) as u32);
     }
-    Piece::Malformed
+    Err(WordFault::Malformed)
 }
 
 // What a piece says in a grammar of t terminals and count rules, whose names the rows spell in its text and the links find.
@@ -73,30 +77,19 @@ pub fn read_piece(
     links: &[u16],
     t: usize,
     count: usize,
-) -> Piece
+) -> Result<u32, WordFault>
     requires { Symbols t count text.now starts.now lengths.now links.now }
     ensures { result ≡ piece_of t count (spelled text.now starts.now lengths.now) (word_of count p.now) }
 {
     let n = p.len();
     if n == 0 {
-        return Piece::Malformed;
+        return Err(WordFault::Malformed);
     }
     if p[0] == OPENS {
-        return mark(OPENING, &p[1..n], count);
+        return mark(OPENING, &p[1..], count);
     }
     if p[0] == CLOSES {
-        return mark(CLOSING, &p[1..n], count);
+        return mark(CLOSING, &p[1..], count);
     }
     name(p, text, starts, lengths, links, t)
-}
-
-// The entry of a letter; 0 for a piece that is none.
-pub fn entry(piece: Piece) -> u32
-    ensures { result ≡ entry_of piece }
-{
-    match piece {
-        Piece::Entry(x) => x,
-        Piece::Unknown => 0,
-        Piece::Malformed => 0,
-    }
 }

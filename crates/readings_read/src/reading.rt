@@ -4,30 +4,26 @@ ghost use Rattle.readings_read.specs.Words.{Symbols};
 ghost use Rattle.readings_read.specs.Lines.{StartTold, LineTold, FirstSaid, LinesTold, BackTold};
 
 use super::values::{check_value, put_value};
-use super::{Form, Line, Lines, Start};
+use super::{Line, Lines, WordFault};
 use grammar::{BUFFER_TOO_SHORT, MALFORMED, NAME_UNKNOWN};
 use names::{EQUALS, LINE_END};
 use readings::ReadBack;
 
-// Where the value of a line starts: after the key and the equals sign.
-fn value_start(key: &[u8], line: &[u8]) -> Start
+// Where the value of a line with this key starts: after the key and the equals sign.
+fn value_start(key: &[u8], line: &[u8]) -> Option<usize>
     ensures { StartTold key.now line.now result }
 {
     let m = key.len();
     if line.len() <= m {
-        return Start::Malformed;
+        return None;
     }
-    let mut i = 0;
-    while i < m {
-        if line[i] != key[i] {
-            return Start::Malformed;
-        }
-        i += 1;
+    if !line.starts_with(key) {
+        return None;
     }
     if line[m] != EQUALS {
-        return Start::Malformed;
+        return None;
     }
-    Start::At(m + 1)
+    Some(m + 1)
 }
 
 // Line number `at`, which has this key: 16, 17.
@@ -45,19 +41,13 @@ fn check_line(
     requires { Symbols t count text.now starts.now lengths.now links.now }
     ensures { LineTold t count (spelled text.now starts.now lengths.now) at key.now line.now result }
 {
-    let Start::At(start) = value_start(key, line) else {
+    let Some(start) = value_start(key, line) else {
         return Line::Fault(MALFORMED, at);
     };
-    let n = line.len();
-    let value = check_value(&line[start..n], text, starts, lengths, links, t, count);
-    let form = value.form;
-    match form {
-        Form::Malformed => Line::Fault(MALFORMED, at),
-        Form::Unknown => Line::Fault(NAME_UNKNOWN, at),
-        Form::Known => Line::Said {
-            start,
-            count: value.count,
-        },
+    match check_value(&line[start..], text, starts, lengths, links, t, count) {
+        Err(WordFault::Malformed) => Line::Fault(MALFORMED, at),
+        Err(WordFault::Unknown) => Line::Fault(NAME_UNKNOWN, at),
+        Ok(count) => Line::Said { start, count },
     }
 }
 

@@ -3,28 +3,27 @@ ghost use Rattle.std.specs.Prelude.{◌≡◌, map, ◌≤◌, length};
 ghost use Rattle.grammar.specs.Basics.{over};
 ghost use Rattle.text.specs.Spelled.{spelled};
 ghost use Rattle.readings.specs.Readings.{pieces_of};
-ghost use Rattle.readings_read.specs.Words.{Symbols, worse, piece_form, ValueTold, entry_at};
+ghost use Rattle.readings_read.specs.Words.{Symbols, worse, piece_fault, ValueTold, entry_at};
 
-use super::pieces::{entry, read_piece};
-use super::{Form, Piece, Value};
+use super::WordFault;
+use super::pieces::read_piece;
 use names::SPACE;
 
-// The form of words with one piece more.
-fn with_piece(form: Form, piece: Piece) -> Form
-    ensures { result ≡ worse form (piece_form piece) }
+// The fault of words with one piece more: a malformed one counts before an unknown one.
+fn with_piece(fault: Option<WordFault>, piece: Result<u32, WordFault>) -> Option<WordFault>
+    ensures { result ≡ worse fault (piece_fault piece) }
 {
     match piece {
-        Piece::Malformed => Form::Malformed,
-        Piece::Entry(_) => form,
-        Piece::Unknown => match form {
-            Form::Malformed => Form::Malformed,
-            Form::Known => Form::Unknown,
-            Form::Unknown => Form::Unknown,
+        Ok(_) => fault,
+        Err(WordFault::Malformed) => Some(WordFault::Malformed),
+        Err(WordFault::Unknown) => match fault {
+            Some(WordFault::Malformed) => Some(WordFault::Malformed),
+            _ => Some(WordFault::Unknown),
         },
     }
 }
 
-// Checks a value: the form of its words, and how many they are. The empty value has none.
+// Checks a value: how many words it has, or their fault. The empty value has none.
 pub fn check_value(
     v: &[u8],
     text: &[u8],
@@ -33,26 +32,29 @@ pub fn check_value(
     links: &[u16],
     t: usize,
     count: usize,
-) -> Value
+) -> Result<usize, WordFault>
     requires { Symbols t count text.now starts.now lengths.now links.now }
     ensures { ValueTold t count (spelled text.now starts.now lengths.now) v.now result }
 {
     let n = v.len();
-    let mut form = Form::Known;
     if n == 0 {
-        return Value { form, count: 0 };
+        return Ok(0);
     }
+    let mut fault = None;
     let mut a = 0;
     let mut k = 0;
     loop {
         let e = names::find(v, a, SPACE);
-        form = with_piece(
-            form,
+        fault = with_piece(
+            fault,
             read_piece(&v[a..e], text, starts, lengths, links, t, count),
         );
         k += 1;
         if n <= e {
-            return Value { form, count: k };
+            return match fault {
+                None => Ok(k),
+                Some(worst) => Err(worst),
+            };
         }
         a = e + 1;
     }
@@ -80,7 +82,7 @@ pub fn put_value(
     let mut j = 0;
     loop {
         let e = names::find(v, a, SPACE);
-        row[j] = entry(read_piece(&v[a..e], text, starts, lengths, links, t, count));
+        row[j] = read_piece(&v[a..e], text, starts, lengths, links, t, count).unwrap_or(0);
         if n <= e {
             return;
         }

@@ -5,9 +5,3 @@ use Rattle.readings_read.proofs.back_large.Goals as goal
 
 pub check_text-read-requires : goal.check_text-read-requires
 check_text-read-requires c = rows-large (length c.args.text.now)
-
-pub back_in-requires : goal.back_in-requires
-back_in-requires c = record { row = c.check_text-read.new.row; checks = c.check_text-read.ensures }
-
-pub returns : goal.returns
-returns c = c.back_in.ensures

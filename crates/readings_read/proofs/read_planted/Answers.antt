@@ -27,6 +27,3 @@ read_lines-requires c = let a = c.args in
           (c.plant.ensures.value ∙ (first_double_lem (spelled a.text.now a.starts.now a.lengths.now)).1 n.once
           ∙ length-spelled a.text.now a.starts.now a.lengths.now n.spans.paired);
     }
-
-pub returns : goal.returns
-returns c = c.read_lines.ensures

@@ -1,7 +1,6 @@
--- `readings_read::pieces::mark` meets its contract: the digits up to the cursor say x, which is at most the number of rules.
+-- `readings_read::pieces::mark` meets its contract: the digits up to the index say x, which is at most the number of rules.
 -- Assumes nothing.
 use native.Mathlib.Omega.{arith}
-use Prim.Native.Nat.{◌-◌}
 use mathlib.Core.Path.{sym, ◌∙◌}
 use Rattle.readings_read.proofs.Marks.{mark-none, mark-zero, mark-led, mark-start, mark-end, mark-low, mark-high, mark-more, mark_big}
 use Rattle.readings_read.proofs.pieces.mark.Goals as goal
@@ -16,29 +15,28 @@ pub returns-then-s-eq-ZERO : goal.returns-then-s-eq-ZERO
 returns-then-s-eq-ZERO c = let a = c.args in
     sym (mark-led a.kind a.count a.s.now (omega (arith, c.if-n-eq1.false, c.if-n-eq0.false)) c.if-s-eq-ZERO.true)
 
-pub loop-i-init : goal.loop-i-init
-loop-i-init c = let a = c.args in
-    (omega arith, omega arith, mark-start a.kind a.count a.s.now (omega (arith, c.if-n-eq0.false)) c.if-s-eq-ZERO.false)
+pub loop-b-init : goal.loop-b-init
+loop-b-init c = let a = c.args in
+    (omega arith, mark-start a.kind a.count a.s.now (omega (arith, c.if-n-eq0.false)) c.if-s-eq-ZERO.false)
 
 pub returns-then-b-lt-ZERO : goal.returns-then-b-lt-ZERO
 returns-then-b-lt-ZERO c = let a = c.args in
-    sym (c.loop-i.invariant.2 ∙ mark-low a.kind a.count c.loop-i.x a.s.now c.loop-i.i (omega arith) c.if-b-lt-ZERO.true)
+    sym (c.loop-b.invariant.1 ∙ mark-low a.kind a.count c.loop-b.x a.s.now c.loop-b.b-index (omega arith) c.if-b-lt-ZERO.true)
 
 pub returns-then-b-gt-NINE : goal.returns-then-b-gt-NINE
 returns-then-b-gt-NINE c = let a = c.args in
-    sym (c.loop-i.invariant.2 ∙ mark-high a.kind a.count c.loop-i.x a.s.now c.loop-i.i (omega arith) c.if-b-gt-NINE.true)
+    sym (c.loop-b.invariant.1 ∙ mark-high a.kind a.count c.loop-b.x a.s.now c.loop-b.b-index (omega arith) c.if-b-gt-NINE.true)
 
 pub returns-then-count-x : goal.returns-then-count-x
 returns-then-count-x c = let a = c.args in
-    sym (c.loop-i.invariant.2 ∙ mark_big a.kind a.count c.loop-i.x a.s.now c.loop-i.i (omega arith) c.if-b-lt-ZERO.false c.if-b-gt-NINE.false c.if-count-x.true)
+    sym (c.loop-b.invariant.1 ∙ mark_big a.kind a.count c.loop-b.x a.s.now c.loop-b.b-index (omega arith) c.if-b-lt-ZERO.false c.if-b-gt-NINE.false c.if-count-x.true)
 
-pub loop-i-preserved : goal.loop-i-preserved
-loop-i-preserved c = let a = c.args in (
-  omega arith,
+pub loop-b-preserved : goal.loop-b-preserved
+loop-b-preserved c = let a = c.args in (
   c.if-count-x.false,
-  c.loop-i.invariant.2 ∙ mark-more a.kind a.count c.loop-i.x a.s.now c.loop-i.i (omega arith) c.if-b-lt-ZERO.false c.if-b-gt-NINE.false,
+  c.loop-b.invariant.1 ∙ mark-more a.kind a.count c.loop-b.x a.s.now c.loop-b.b-index (omega arith) c.if-b-lt-ZERO.false c.if-b-gt-NINE.false,
 )
 
 pub returns : goal.returns
 returns c = let a = c.args in
-    sym (c.loop-i.invariant.2 ∙ mark-end a.kind a.count c.loop-i.x a.s.now c.loop-i.i (omega arith) c.loop-i.invariant.1)
+    sym (c.loop-b.invariant.1 ∙ mark-end a.kind a.count c.loop-b.x a.s.now c.loop-b.b-index (omega arith) c.loop-b.invariant.0)

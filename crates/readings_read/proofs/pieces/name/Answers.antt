@@ -9,7 +9,7 @@ use Rattle.text.specs.Names.{is_name}
 use Rattle.text.specs.Spelled.{spelled}
 use Rattle.text.proofs.Spans.{length-spelled}
 use Rattle.readings.specs.Letters.{kind_unit}
-use Rattle.readings_read.specs.declared.Piece.TheVariants.{Entry}
+use Rattle.std.specs.Prelude.{Ok}
 use Rattle.readings_read.proofs.Words.{name_bad, name_unknown_lem, name-known}
 use Rattle.readings_read.proofs.pieces.name.Goals as goal
 use Rattle.readings_read.proofs.pieces.name.Lts as lts
@@ -33,18 +33,12 @@ as_many e = length-spelled e.args.text.now e.args.starts.now e.args.lengths.now 
 good : (c : Place-After-find) → is_name c.args.x.now ≡ true
 good c = sym c.is_name.ensures ∙ c.if-is_name.true
 
-pub find-i-requires : goal.find-i-requires
-find-i-requires c = c.requires.0
-
 pub returns-then-starts-i : goal.returns-then-starts-i
 returns-then-starts-i c = sym (name_unknown_lem c.args.t (names c.before.before.before.before.before.before.before.before.before.before) c.args.x.now (good c.before.before) c.find-i.result c.find-i.ensures
     (omega (arith, as_many c.before.before.before.before.before.before.before.before.before.before, c.if-starts-i.true)))
 
-pub code_of-requires : goal.code_of-requires
-code_of-requires c = (c.requires.1, omega (arith, c.requires.2, c.if-starts-i.false))
-
 pub returns-then-is_name : goal.returns-then-is_name
-returns-then-is_name c = ap (λ n. Entry (3 * kind_unit + n)) c.code_of.ensures
+returns-then-is_name c = ap (λ n. Ok (3 * kind_unit + n)) c.code_of.ensures
     ∙ sym (name-known c.args.t (names c.before.before.before.before.before.before.before.before.before.before.before) c.args.x.now (good c.before.before.before) c.find-i.result c.find-i.ensures
     (omega (arith, as_many c.before.before.before.before.before.before.before.before.before.before.before, c.if-starts-i.false)))
 

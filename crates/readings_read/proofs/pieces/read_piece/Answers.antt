@@ -1,5 +1,4 @@
 -- `readings_read::pieces::read_piece` meets its contract: the cases of `word_of`, by the first byte. Assumes nothing.
-use borrow.Author.Rules.{rules}
 use native.Mathlib.Omega.{arith}
 use mathlib.Core.Path.{sym, ap, ◌∙◌}
 use Rattle.text.specs.Spelled.{spelled}
@@ -12,26 +11,17 @@ pub returns-then-n-eq0 : goal.returns-then-n-eq0
 returns-then-n-eq0 c = let a = c.args in
     sym (piece_none a.t a.count (spelled a.text.now a.starts.now a.lengths.now) a.p.now c.if-n-eq0.true)
 
-pub mark-requires : goal.mark-requires
-mark-requires c = (omega arith, c.requires.named.rules)
-
 pub returns-then-p-eq-OPENS : goal.returns-then-p-eq-OPENS
 returns-then-p-eq-OPENS c = let a = c.args in
     c.mark.ensures ∙ ap (mark_piece 1 a.count) (tail-part a.p.now 1)
     ∙ sym (piece_opening a.t a.count (spelled a.text.now a.starts.now a.lengths.now) a.p.now
     (omega (arith, c.if-n-eq0.false)) c.if-p-eq-OPENS.true)
 
-pub mark-requires-then-p-eq-CLOSES : goal.mark-requires-then-p-eq-CLOSES
-mark-requires-then-p-eq-CLOSES c = (omega arith, c.requires.named.rules)
-
 pub returns-then-p-eq-CLOSES : goal.returns-then-p-eq-CLOSES
 returns-then-p-eq-CLOSES c = let a = c.args in
     c.mark-then-p-eq-CLOSES.ensures ∙ ap (mark_piece 2 a.count) (tail-part a.p.now 1)
     ∙ sym (piece_closing a.t a.count (spelled a.text.now a.starts.now a.lengths.now) a.p.now
     (omega (arith, c.if-n-eq0.false)) c.if-p-eq-CLOSES.true)
-
-pub name-requires : goal.name-requires
-name-requires c = let s = c.requires in (s.lexicon, s.named.few, s.named.most)
 
 pub returns : goal.returns
 returns c = let a = c.args in

@@ -22,9 +22,6 @@ pub returns-then-lines-e : goal.returns-then-lines-e
 returns-then-lines-e c = let a = c.args in
     first-missing a.t a.count (names c.before.before.before.before.before.before.before.before) a.lines.now c.find-e.result c.find-e.ensures.at c.if-lines-e.true
 
-pub check_line-requires : goal.check_line-requires
-check_line-requires c = c.requires
-
 pub second_line-requires : goal.second_line-requires
 second_line-requires c = let a = c.args in (
   c.requires,
@@ -36,6 +33,3 @@ pub returns-in-Fault : goal.returns-in-Fault
 returns-in-Fault c = let a = c.args in
     first_fault a.t a.count (names c.before.before.before.before.before.before.before.before.before.before.before.before.before) a.lines.now c.find-e.result c.find-e.ensures.at c.if-lines-e.false c.in-Fault.cause c.in-Fault.at
     (told_fault a.t a.count (names c.before.before.before.before.before.before.before.before.before.before.before.before.before) 1 left_key (part 0 c.find-e.result a.lines.now) c.check_line.result c.in-Fault.cause c.in-Fault.at c.in-Fault.is c.check_line.ensures)
-
-pub returns-in-Said : goal.returns-in-Said
-returns-in-Said c = c.second_line.ensures

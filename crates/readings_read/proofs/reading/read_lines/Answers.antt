@@ -1,12 +1,10 @@
 -- `readings_read::reading::read_lines` meets its contract: the lines' faults, 14, and both strings written. Assumes nothing.
-use native.Mathlib.Omega.{arith}
 use Prim.Native.Nat.{ℕ}
 use mathlib.Core.List.{List}
 use Rattle.text.specs.Spelled.{spelled}
 use Rattle.readings_read.specs.Lines.{BothSaid}
-use Rattle.names.specs.Found.{part}
 use Rattle.readings_read.proofs.Sayings.{told-both, told-refused}
-use Rattle.readings_read.proofs.Back.{says_count, back-refused, short-left, short-right, both-written}
+use Rattle.readings_read.proofs.Back.{back-refused, short-left, short-right, both-written}
 use Rattle.readings_read.proofs.reading.read_lines.Goals as goal
 use Rattle.readings_read.proofs.reading.read_lines.Lts as lts
 use Rattle.readings_read.proofs.reading.read_lines.Reads as reads
@@ -27,9 +25,6 @@ both : (k : Place-Past-After-known_told2) → BothSaid k.args.t k.args.count (na
 both k = told-both k.args.t k.args.count (names k.before.before.before.before.before.before.before.before.before) k.args.lines.now k.check_lines.result k.in-Said.first k.in-Said.first_end k.in-Said.m k.in-Said.second k.in-Said.second_end k.in-Said.n
     k.in-Said.is k.check_lines.ensures
 
-pub check_lines-requires : goal.check_lines-requires
-check_lines-requires c = c.requires
-
 pub returns-then-left-m : goal.returns-then-left-m
 returns-then-left-m c = let a = c.args in
     short-left a.t a.count (names c.before.before.before.before.before.before.before.before.before.before.before) a.lines.now a.left.now a.right.now
@@ -39,30 +34,6 @@ pub returns-then-right-n : goal.returns-then-right-n
 returns-then-right-n c = let a = c.args in
     short-right a.t a.count (names c.before.before.before.before.before.before.before.before.before.before.before.before) a.lines.now a.left.now a.right.now
     c.in-Said.first c.in-Said.first_end c.in-Said.m c.in-Said.second c.in-Said.second_end c.in-Said.n (both c.before.before.before) c.if-right-n.true
-
-pub slice_bounds-put_value-count : goal.slice_bounds-put_value-count
-slice_bounds-put_value-count c = (both c.before.before.before).first
-
-pub slice_bounds-put_value-start : goal.slice_bounds-put_value-start
-slice_bounds-put_value-start c = (both c.before.before.before).first
-
-pub slice_bounds-put_value-end : goal.slice_bounds-put_value-end
-slice_bounds-put_value-end c = (both c.before.before.before).first-inside
-
-pub put_value-requires : goal.put_value-requires
-put_value-requires c = (c.requires, omega (arith, says_count c.args.t c.args.count (names c.before.before.before.before.before.before.before.before.before.before.before.before.before.before) (part c.in-Said.first c.in-Said.first_end c.args.lines.now) (both c.before.before.before.before.before).left c.in-Said.m (both c.before.before.before.before.before).left-says, c.if-left-m.false))
-
-pub slice_bounds-put_value-count-in-Said : goal.slice_bounds-put_value-count-in-Said
-slice_bounds-put_value-count-in-Said c = (both c.before.before.before.before.before.before.before.before).second
-
-pub slice_bounds-put_value-start-in-Said : goal.slice_bounds-put_value-start-in-Said
-slice_bounds-put_value-start-in-Said c = (both c.before.before.before.before.before.before.before.before).second
-
-pub slice_bounds-put_value-end-in-Said : goal.slice_bounds-put_value-end-in-Said
-slice_bounds-put_value-end-in-Said c = (both c.before.before.before.before.before.before.before.before).second-inside
-
-pub put_value-requires-in-Said : goal.put_value-requires-in-Said
-put_value-requires-in-Said c = (c.requires, omega (arith, says_count c.args.t c.args.count (names c.before.before.before.before.before.before.before.before.before.before.before.before.before.before.before.before.before.before.before) (part c.in-Said.second c.in-Said.second_end c.args.lines.now) (both c.before.before.before.before.before.before.before.before.before.before).right c.in-Said.n (both c.before.before.before.before.before.before.before.before.before.before).right-says, c.if-right-n.false))
 
 pub returns-in-Fault : goal.returns-in-Fault
 returns-in-Fault c = let a = c.args in
