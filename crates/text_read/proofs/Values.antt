@@ -10,7 +10,7 @@ use native.Mathlib.Nat.{add-zero}
 use native.Mathlib.Numerals.{add-one}
 use borrow.Author.Tests.{eq-eqb, ne_eqb, eqb-true, eqb-false, lt-leb}
 use lib.Dec.{eqb, leb}
-use lib.ListN.{length, take, drop, get_or, length-drop}
+use lib.ListN.{length, take, drop, get_or, drop_of_length-le, length-drop}
 use lib.Seq.{drop-cons, take_all}
 use Rattle.grammar.specs.Basics.{choose}
 use Rattle.grammar.specs.Refusal.{refused, done, refuse_unless}
@@ -51,27 +51,29 @@ value-differ (x ∷ k) (b ∷ s) h = go (eqb b x) refl (value-differ k s)
     go false e again = refl
 
 -- one that does: what follows the key
-pub value-past : (k line : List ℕ) → true ≡ pointwise eqb k (take (length k) line) → value_of k line ≡ value_of [] (drop (length k) line)
+pub value-past : (k line : List ℕ) → true ≡ pointwise eqb k (take (length k) line) → value_of k line ≡ value_of (drop (length k) k) (drop (length k) line)
 unfolding value_of
 value-past [] line h = refl
 value-past (x ∷ k) [] h = cc
 value-past (x ∷ k) (b ∷ s) h = go (eqb b x) refl (value-past k s)
   where
-    go : (t : Bool) → eqb b x ≡ t → (true ≡ pointwise eqb k (take (length k) s) → value_of k s ≡ value_of [] (drop (length k) s))
-        → choose t (value_of k s) none ≡ value_of [] (drop (length k) s)
+    go : (t : Bool) → eqb b x ≡ t → (true ≡ pointwise eqb k (take (length k) s) → value_of k s ≡ value_of (drop (length k) k) (drop (length k) s))
+        → choose t (value_of k s) none ≡ value_of (drop (length k) k) (drop (length k) s)
     go true e again = again (h ∙ rw (eq-eqb x b (sym (eqb-true b x e))))
-    go false e again = let z : eqb x b ≡ false = ne_eqb x b (λ q. eqb-false b x e (sym q)) in
-        let w : ◌≡◌ {A = Bool} true false = h ∙ rw z in cc
+    go false e again =
+        let z : eqb x b ≡ false = ne_eqb x b (λ q. eqb-false b x e (sym q)) in
+        let w : ◌≡◌ {A = Bool} true false = h ∙ rw z in
+        cc
 
-module _ (line : List ℕ) (i : ℕ) (in-line : i < length line) where
-  value_sign : value_of [] (drop i line) ≡ choose (eqb (get_or line i 0) 61) (some (drop (i + 1) line)) none
+module _ (k line : List ℕ) (i : ℕ) (past-key : length k ≤ i) (in-line : i < length line) where
+  value_sign : value_of (drop i k) (drop i line) ≡ choose (eqb (get_or line i 0) 61) (some (drop (i + 1) line)) none
   unfolding value_of
-  value_sign = rw (add-one, drop-cons line i 0)
+  value_sign = rw (add-one, drop_of_length-le k, drop-cons line i 0)
 
-  pub value-equals : get_or line i 0 ≡ 61 → value_of [] (drop i line) ≡ some (drop (i + 1) line)
+  pub value-equals : get_or line i 0 ≡ 61 → value_of (drop i k) (drop i line) ≡ some (drop (i + 1) line)
   value-equals e = value_sign ∙ rw (eq-eqb _ _ e)
 
-  pub value-other : (get_or line i 0 ≡ 61 → ⊥) → value_of [] (drop i line) ≡ none
+  pub value-other : (get_or line i 0 ≡ 61 → ⊥) → value_of (drop i k) (drop i line) ≡ none
   value-other e = value_sign ∙ rw (ne_eqb _ _ e)
 
 -- a part up to the end

@@ -1,5 +1,5 @@
 -- `text_read::value::key_split` meets its contract: the line is longer than the key, begins with it, and has the sign behind. Assumes nothing.
-use Rattle.std.proofs.Common.{ℕ, ◌≡◌, ◌+◌, ◌<◌, ◌≤◌, ◌∙◌, List, true, false, eqb, ap, subst, length, get_or, take, drop}
+use Rattle.std.proofs.Common.{arith, ℕ, ◌≡◌, ◌+◌, ◌<◌, ◌≤◌, ◌∙◌, List, true, false, eqb, ap, subst, length, get_or, take, drop}
 use Rattle.std.specs.Cmp.Lexicographic.{pointwise}
 use Rattle.std.proofs.Math.Option.{none, some}
 use Rattle.text.specs.Keys.{key, value_of}
@@ -17,10 +17,10 @@ module _ (k : ℕ) (line got : List ℕ) (is : got ≡ key k) where
   differs h = subst (λ x. value_of x line ≡ none) is (value-differ got line h)
 
   unsigned : true ≡ pointwise eqb got (take (length got) line) → length got < length line → (get_or line (length got) 0 ≡ 61 → ⊥) → value_of (key k) line ≡ none
-  unsigned h l n = subst (λ x. value_of x line ≡ none) is (value-past got line h ∙ value-other line (length got) l n)
+  unsigned h l n = subst (λ x. value_of x line ≡ none) is (value-past got line h ∙ value-other got line (length got) (omega arith) l n)
 
   signed : true ≡ pointwise eqb got (take (length got) line) → length got < length line → get_or line (length got) 0 ≡ 61 → HasValue k line (length got + 1) (length line)
-  signed h l e = split-value k line (length got) (ap length is) l (subst (λ x. value_of x line ≡ some (drop (length got + 1) line)) is (value-past got line h ∙ value-equals line (length got) l e))
+  signed h l e = split-value k line (length got) (ap length is) l (subst (λ x. value_of x line ≡ some (drop (length got + 1) line)) is (value-past got line h ∙ value-equals got line (length got) (omega arith) l e))
 
 pub returns-then-n-m : goal.returns-then-n-m
 returns-then-n-m c = elim c.then-n-m.branch [
