@@ -1,9 +1,9 @@
 -- digits_of meets its contract: one division gives the digits of the index.
 use native.Mathlib.Omega.{arith}
-use mathlib.Core.Path.{◌≡◌, refl}
+use mathlib.Core.Path.{◌≡◌}
 use Prim.Native.Nat.{ℕ, ◌-◌, ◌*◌, ◌%◌, ◌≤◌, ◌<◌}
 use Rattle.triples.specs.Index.{index}
-use Rattle.plans.proofs.PlanLaws.{by_digits, layer-of-row, layer-bit}
+use Rattle.plans.proofs.PlanLaws.{by_digits, layer-bit}
 use Rattle.plans.proofs.digits_of.Reads as reads
 use Rattle.plans.proofs.digits_of.Lts as lts
 use Rattle.plans.proofs.digits_of.Goals as goal
@@ -19,12 +19,6 @@ parts : (c : Place-After-layer_of) (b : ℕ) → let a = c.args in let r = c.row
     b ≡ a.i % a.q → (f * a.q ≤ r) × (r - f * a.q < a.q) × (b < a.q) × (index a.q f (r - f * a.q) b ≡ a.i)
 parts c b k =
     by_digits c.args.q c.args.i c.row_of-row.result c.layer_of-layer.result b (omega (arith, c.requires.0)) c.requires.2 c.row_of-row.ensures c.layer_of-layer.ensures k
-
-pub overflow_mul-left : goal.overflow_mul-left
-overflow_mul-left c = omega (arith, layer-of-row c.args.q c.row_of-row.result c.layer_of-layer.result c.layer_of-layer.ensures, c.requires.1)
-
-pub overflow_sub-left : goal.overflow_sub-left
-overflow_sub-left c = let d = parts c (c.args.i % c.args.q) refl in omega (arith, d.0)
 
 pub returns : goal.returns
 returns c = let d = parts c.before c.column_of-right.result c.column_of-right.ensures in

@@ -2,21 +2,8 @@
 use native.Mathlib.Omega.{arith}
 use mathlib.Core.Path.{sym}
 use Rattle.grammar.proofs.Answers.{no_bool}
-use Rattle.plans.proofs.PlanLaws.{span_le, codes-differ, none_idle}
+use Rattle.plans.proofs.PlanLaws.{codes-differ, none_idle}
 use Rattle.plans.proofs.is_idle.Goals as goal
-
-pub digits_of-d-requires : goal.digits_of-d-requires
-digits_of-d-requires c = let s = c.requires.fits in (s.four, s.few, c.requires.i_bound.0, c.requires.i_bound.1)
-
-pub side_of-x-requires : goal.side_of-x-requires
-side_of-x-requires c = c.requires.fits.side c.digits_of-d.result.left c.digits_of-d.ensures.1
-
-pub side_of-y-requires : goal.side_of-y-requires
-side_of-y-requires c = c.requires.fits.side c.digits_of-d.result.right c.digits_of-d.ensures.2
-
-pub overflow_add-x : goal.overflow_add-x
-overflow_add-x c = let a = c.args in
-    omega (arith, span_le a.member.now a.first.now c.digits_of-d.result.left c.side_of-x.result (c.requires.fits.side _ c.digits_of-d.ensures.1) c.side_of-x.ensures, span_le a.member.now a.first.now c.digits_of-d.result.right c.side_of-y.result (c.requires.fits.side _ c.digits_of-d.ensures.2) c.side_of-y.ensures)
 
 pub returns-then-x-y-ne0 : goal.returns-then-x-y-ne0
 returns-then-x-y-ne0 c = λ e. no_bool (sym e)

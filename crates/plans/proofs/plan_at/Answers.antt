@@ -7,9 +7,6 @@ use Rattle.plans.specs.Plan.{rows, plan_of}
 use Rattle.plans.proofs.PlanLaws.{plan-digits}
 use Rattle.plans.proofs.plan_at.Goals as goal
 
-pub digits_of-d-requires : goal.digits_of-d-requires
-digits_of-d-requires c = let s = c.requires.fits in (s.four, s.few, c.requires.i_bound.0, c.requires.i_bound.1)
-
 pub returns-then-d-eq0 : goal.returns-then-d-eq0
 returns-then-d-eq0 c = let a = c.args in let R = rows a.ahead.now a.number.now a.member.now a.first.now a.after.now in
     c.plan_of.ensures ∙ plan-digits R a.t a.m a.q _ _ _ c.digits_of-d.ensures.1 c.digits_of-d.ensures.2

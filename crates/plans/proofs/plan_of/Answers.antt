@@ -19,21 +19,6 @@ Place-After-pairs_of = lts.After-pairs_of tie.the-claims reads.Pre reads.Post ti
 abbrev Place-After-layer_after2 : Type 0
 Place-After-layer_after2 = lts.After-layer_after2 tie.the-claims reads.Pre reads.Post tie.handed_clauses
 
-pub side_of-x-requires : goal.side_of-x-requires
-side_of-x-requires c = c.requires.fits.side c.args.a c.requires.f_bound.1
-
-pub side_of-y-requires : goal.side_of-y-requires
-side_of-y-requires c = c.requires.fits.side c.args.b c.requires.f_bound.2
-
-pub alone_of-left-requires : goal.alone_of-left-requires
-alone_of-left-requires c = omega (arith, c.requires.f_bound.2, c.requires.fits.few)
-
-pub alone_of-right-requires : goal.alone_of-right-requires
-alone_of-right-requires c = omega (arith, c.requires.f_bound.1, c.requires.fits.few)
-
-pub shift_of-shift-requires : goal.shift_of-shift-requires
-shift_of-shift-requires c = (omega (arith, c.requires.f_bound.1, c.requires.fits.few), omega (arith, c.requires.f_bound.2, c.requires.fits.few))
-
 -- the sides have few targets
 spans : (c : Place-After-side_of2) → (c.side_of-x.result.span ≤ limits.max_states) × (c.side_of-y.result.span ≤ limits.max_states)
 spans c =
@@ -41,9 +26,6 @@ spans c =
       span_le a.member.now a.first.now a.a c.side_of-x.result (s a.a c.requires.f_bound.1) c.side_of-x.ensures,
       span_le a.member.now a.first.now a.b c.side_of-y.result (s a.b c.requires.f_bound.2) c.side_of-y.ensures,
     )
-
-pub pairs_of-pairs-requires : goal.pairs_of-pairs-requires
-pairs_of-pairs-requires c = (omega (arith, c.requires.f_bound.1, c.requires.fits.few), omega (arith, c.requires.f_bound.2, c.requires.fits.few), (spans c.before.before.before).0, (spans c.before.before.before).1)
 
 sizes : (c : Place-After-pairs_of) → (c.alone_of-left.result ≤ limits.max_states) × (c.alone_of-right.result ≤ limits.max_states) × (c.shift_of-shift.result ≤ 1) × (c.pairs_of-pairs.result ≤ most_square)
 sizes c =
@@ -65,12 +47,6 @@ small c = (
   omega (arith, c.requires.f_bound.2, c.requires.fits.few),
 )
 
-pub bounds-after-a : goal.bounds-after-a
-bounds-after-a c = let n = small c.before.before in omega (arith, n.4)
-
-pub bounds-after-b : goal.bounds-after-b
-bounds-after-b c = let n = small c.before.before.before.before in omega (arith, n.5)
-
 pub overflow_add-result : goal.overflow_add-result
 overflow_add-result c = let n = sizes c.before.before.before.before.before.before.before.before in omega (arith, n.0, n.1)
 
@@ -85,9 +61,6 @@ index_of-requires c = let n = small c.before.before.before.before.before.before 
 
 pub index_of-requires-2 : goal.index_of-requires-2
 index_of-requires-2 c = let n = small c.before.before.before.before.before.before.before in (n.0, omega (arith, n.2), omega (arith, n.4), omega arith)
-
-pub index_of-requires-3 : goal.index_of-requires-3
-index_of-requires-3 c = let n = small c.before.before.before.before.before.before.before.before in (n.0, omega (arith, n.3), omega (arith, c.fits-after c.args.a), omega (arith, c.fits-after c.args.b))
 
 pub returns : goal.returns
 returns c = let a = c.args in

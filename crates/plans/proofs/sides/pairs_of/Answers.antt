@@ -1,8 +1,6 @@
 -- pairs_of meets its contract: each return is one case of the definition.
-use native.Mathlib.Omega.{arith}
 use borrow.Author.Tests.{lt-ltb, le-ltb, eq-eqb, ne_eqb}
 use Rattle.plans.specs.Plan.{pairs_of}
-use Rattle.plans.proofs.PlanLaws.{product_le}
 use Rattle.plans.proofs.sides.pairs_of.Goals as goal
 
 pub returns-then-f-ne0 : goal.returns-then-f-ne0
@@ -20,9 +18,6 @@ returns-then-m-right c = simp (eq-eqb _ 0 c.if-f-ne0.false, lt-ltb _ _ c.if-m-le
 pub returns-then-number-a : goal.returns-then-number-a
 unfolding pairs_of
 returns-then-number-a c = simp (eq-eqb _ 0 c.if-f-ne0.false, lt-ltb _ _ c.if-m-left.false, lt-ltb _ _ c.if-m-right.false, eq-eqb _ _ c.if-number-a.true)
-
-pub overflow_mul-result : goal.overflow_mul-result
-overflow_mul-result c = omega (arith, product_le c.args.left.span c.args.right.span c.requires.2 c.requires.3)
 
 pub returns : goal.returns
 unfolding pairs_of

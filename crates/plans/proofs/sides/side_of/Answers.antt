@@ -1,16 +1,9 @@
 -- side_of meets its contract: the class, and two entries of the row of beginnings.
-use native.Mathlib.Omega.{arith}
 use mathlib.Core.Path.{◌≡◌, ap, ◌∙◌}
 use Prim.Native.Nat.{ℕ, ◌+◌, ◌-◌}
 use lib.ListN.{get_or}
 use Rattle.plans.proofs.PlanLaws.{side_from}
 use Rattle.plans.proofs.sides.side_of.Goals as goal
-
-pub overflow_sub-result : goal.overflow_sub-result
-overflow_sub-result c = let a = c.args in
-    let x : c.from-from.result ≡ get_or a.first.now (get_or a.member.now a.p 0) 0 = c.from-from.ensures ∙ ap (λ (n : ℕ). get_or a.first.now n 0) c.from-c.ensures in
-    let y : c.from-end.result ≡ get_or a.first.now (get_or a.member.now a.p 0 + 1) 0 = c.from-end.ensures ∙ ap (λ (n : ℕ). get_or a.first.now (n + 1) 0) c.from-c.ensures in
-    omega (arith, x, y, c.requires.order)
 
 pub returns : goal.returns
 returns c = let a = c.args in
