@@ -3,11 +3,13 @@ ghost use Rattle.std.specs.Prelude.{◌≡◌, ◌+◌, ◌<◌, get_or};
 ghost use Rattle.grammar.specs.Limits.{limits};
 ghost use Rattle.live.specs.Marks.{before, right_at};
 ghost use Rattle.caller_rows.specs.Clauses.{start_of};
-ghost use Rattle.caller_rule.specs.RuleRows.{six, Wide, RuleWritten};
+ghost use Rattle.caller_rule.specs.RuleRows.{Wide, RuleWritten};
+ghost use Rattle.caller_rule.specs.Lent.{six_of, SameLoans};
 ghost use Rattle.caller_rows.specs.LevelRows.{callers_of, Levelled, LevelWritten, RulesWritten};
 
 use super::front::write_front;
 use super::widths::{rule_states, segment_at};
+use caller_rule::Rows;
 
 // The states of one rule, from the rows of all rules; its codes begin at u.
 fn write_one<'a>(
@@ -25,20 +27,16 @@ fn write_one<'a>(
     below: &'a [u16],
     widths: &'a [u16],
     ranks: &'a [u16],
-    ahead: &mut [u16],
-    number: &mut [u16],
-    member: &mut [u16],
-    target: &mut [u16],
-    after: &mut [u16],
-    down: &mut [u16],
+    rows: &mut Rows<'_>,
 )
     requires levelled { Levelled lefts.now lengths.now codes.now count kinds first.now callers.now below.now widths.now ranks.now }
     requires i_lt_count { (i < count) × (u ≡ before lengths.now i) × (low ≡ start_of lengths.now below.now i) × (at ≡ start_of lengths.now widths.now i) }
-    requires wide { Wide limits.max_states (six ahead.old number.old member.old target.old after.old down.old) }
-    ensures { RuleWritten (i + 1) (right_at lengths.now codes.now i) kinds
+    requires wide { Wide limits.max_states (six_of rows.old) }
+    ensures written { RuleWritten (i + 1) (right_at lengths.now codes.now i) kinds
         (callers_of lefts.now first.now widths.now callers.now i) ranks.now (get_or below.now i 0) low at (get_or lengths.now i 0 + 1)
-        (six ahead.old number.old member.old target.old after.old down.old)
-        (six ahead.new number.new member.new target.new after.new down.new) }
+        (six_of rows.old)
+        (six_of rows.new) }
+    ensures same_loans { SameLoans rows.old rows.new }
 {
     let k = usize::from(lengths[i]);
     let w = usize::from(widths[i]);
@@ -54,12 +52,7 @@ fn write_one<'a>(
         below[i],
         low,
         at,
-        ahead,
-        number,
-        member,
-        target,
-        after,
-        down,
+        rows,
     );
 }
 
@@ -75,18 +68,14 @@ fn write_rules<'a>(
     below: &'a [u16],
     widths: &'a [u16],
     ranks: &'a [u16],
-    ahead: &mut [u16],
-    number: &mut [u16],
-    member: &mut [u16],
-    target: &mut [u16],
-    after: &mut [u16],
-    down: &mut [u16],
+    rows: &mut Rows<'_>,
 )
     requires levelled { Levelled lefts.now lengths.now codes.now count kinds first.now callers.now below.now widths.now ranks.now }
-    requires wide { Wide limits.max_states (six ahead.old number.old member.old target.old after.old down.old) }
-    ensures { RulesWritten lefts.now lengths.now codes.now kinds first.now callers.now below.now widths.now ranks.now count
-        (six ahead.old number.old member.old target.old after.old down.old)
-        (six ahead.new number.new member.new target.new after.new down.new) }
+    requires wide { Wide limits.max_states (six_of rows.old) }
+    ensures written { RulesWritten lefts.now lengths.now codes.now kinds first.now callers.now below.now widths.now ranks.now count
+        (six_of rows.old)
+        (six_of rows.new) }
+    ensures same_loans { SameLoans rows.old rows.new }
 {
     let mut at = 4;
     let mut low = 4;
@@ -94,7 +83,7 @@ fn write_rules<'a>(
     for i in 0..count {
         write_one(
             i, u, low, at, lefts, lengths, codes, count, kinds, first, callers, below, widths,
-            ranks, ahead, number, member, target, after, down,
+            ranks, rows,
         );
         let k = lengths[i];
         at += rule_states(k, widths[i]);
@@ -115,22 +104,17 @@ pub fn write_level<'a>(
     below: &'a [u16],
     widths: &'a [u16],
     ranks: &'a [u16],
-    ahead: &mut [u16],
-    number: &mut [u16],
-    member: &mut [u16],
-    target: &mut [u16],
-    after: &mut [u16],
-    down: &mut [u16],
+    rows: &mut Rows<'_>,
 )
     requires levelled { Levelled lefts.now lengths.now codes.now count kinds first.now callers.now below.now widths.now ranks.now }
-    requires wide { Wide limits.max_states (six ahead.old number.old member.old target.old after.old down.old) }
-    ensures { LevelWritten lefts.now lengths.now codes.now kinds first.now callers.now below.now widths.now ranks.now count
-        (six ahead.old number.old member.old target.old after.old down.old)
-        (six ahead.new number.new member.new target.new after.new down.new) }
+    requires wide { Wide limits.max_states (six_of rows.old) }
+    ensures written { LevelWritten lefts.now lengths.now codes.now kinds first.now callers.now below.now widths.now ranks.now count
+        (six_of rows.old)
+        (six_of rows.new) }
+    ensures same_loans { SameLoans rows.old rows.new }
 {
-    write_front(kinds, ranks, ahead, number, member, target, after, down);
+    write_front(kinds, ranks, rows);
     write_rules(
-        lefts, lengths, codes, count, kinds, first, callers, below, widths, ranks, ahead, number,
-        member, target, after, down,
+        lefts, lengths, codes, count, kinds, first, callers, below, widths, ranks, rows,
     );
 }

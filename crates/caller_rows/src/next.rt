@@ -6,6 +6,7 @@ ghost use Rattle.caller_rows.specs.Levels.{written_from, Level, Added};
 use super::level::write_level;
 use super::ranks::next_ranks;
 use super::widths::{STARTS, pass_widths, size_level};
+use caller_rule::Rows;
 use grammar::{MAX_RULES, MAX_STATES};
 
 // The next level, in place of the q states of the one below it: its rows; of each rule the number of its chains, and of each state
@@ -50,11 +51,18 @@ pub fn add_level<'a>(
         return states;
     }
     let mut down = [0u16; MAX_STATES];
+    let mut rows = Rows {
+        ahead,
+        number,
+        member,
+        target,
+        after,
+        down: &mut down,
+    };
     write_level(
-        lefts, lengths, codes, count, q as u16, &first, &callers, below, &widths, ranks, ahead,
-        number, member, target, after, &mut down,
+        lefts, lengths, codes, count, q as u16, &first, &callers, below, &widths, ranks, &mut rows,
     );
-    next_ranks(&first, &callers, n, &down, states, ranks);
+    next_ranks(&first, &callers, n, rows.down, states, ranks);
     pass_widths(&widths, count, below);
     states
 }

@@ -1,1 +1,2 @@
 pub mod RuleRows
+pub mod Lent

@@ -5,9 +5,22 @@
 ghost use Rattle.std.specs.Prelude.{◌≡◌, ◌+◌, ◌*◌, ◌≤◌, eqb, length, get_or};
 ghost use Rattle.std.specs.Option.{is_none, unwrap_or};
 ghost use Rattle.grammar.specs.Limits.{limits};
-ghost use Rattle.caller_rule.specs.RuleRows.{member_class, target_class, Small, six, Wide, ItemWritten, code_before, low_before, Ruled, RuleWritten};
+ghost use Rattle.caller_rule.specs.RuleRows.{member_class, target_class, Small, Wide, ItemWritten, code_before, low_before, Ruled, RuleWritten};
+ghost use Rattle.caller_rule.specs.Lent.{six_of, SameLoans};
 
 use grammar::NONTERMINAL_BASE;
+
+// Six rows with an entry for each state: the code ahead, the rule's number, the class that the state moves by and the class that leads to
+// it, the state after a shift, and what the state is with its farthest caller dropped.
+#[derive(Drop)]
+pub struct Rows<'a> {
+    pub ahead: &'a mut [u16],
+    pub number: &'a mut [u16],
+    pub member: &'a mut [u16],
+    pub target: &'a mut [u16],
+    pub after: &'a mut [u16],
+    pub down: &'a mut [u16],
+}
 
 // The class that a state moves by, where `x` is the code ahead of its dot, if there is one.
 fn member_class(x: Option<u16>, kinds: u16, c: u16, d: u16) -> u16
@@ -44,21 +57,24 @@ fn write_item<'a>(
     low: u16,
     behind: u16,
     at: usize,
-    ahead: &mut [u16],
-    number: &mut [u16],
-    member: &mut [u16],
-    target: &mut [u16],
-    after: &mut [u16],
-    down: &mut [u16],
+    rows: &mut Rows<'_>,
 )
     requires small { Small callers.now ranks.now kinds low behind at }
-    requires wide { Wide (at + length callers.now) (six ahead.old number.old member.old target.old after.old down.old) }
-    ensures { ItemWritten i (unwrap_or x 0) (unwrap_or y 0) (is_none y) (is_none x) kinds callers.now ranks.now low behind at (length callers.now)
-        (six ahead.old number.old member.old target.old after.old down.old)
-        (six ahead.new number.new member.new target.new after.new down.new) }
+    requires wide { Wide (at + length callers.now) (six_of rows.old) }
+    ensures written { ItemWritten i (unwrap_or x 0) (unwrap_or y 0) (is_none y) (is_none x) kinds callers.now ranks.now low behind at (length callers.now)
+        (six_of rows.old)
+        (six_of rows.new) }
+    ensures same_loans { SameLoans rows.old rows.new }
 {
     let w = callers.len();
     let code = x.unwrap_or(0);
+    // The loop goes over slices of its own, so that no write has it look into `rows` again.
+    let ahead = &mut *rows.ahead;
+    let number = &mut *rows.number;
+    let member = &mut *rows.member;
+    let target = &mut *rows.target;
+    let after = &mut *rows.after;
+    let down = &mut *rows.down;
     for (r, &c) in callers.iter().enumerate() {
         let k = ranks[usize::from(c)];
         ahead[at + r] = code;
@@ -112,18 +128,14 @@ pub fn write_rule<'a>(
     narrow: u16,
     low: u16,
     at: usize,
-    ahead: &mut [u16],
-    number: &mut [u16],
-    member: &mut [u16],
-    target: &mut [u16],
-    after: &mut [u16],
-    down: &mut [u16],
+    rows: &mut Rows<'_>,
 )
     requires ruled { Ruled codes.now callers.now ranks.now kinds narrow low at }
-    requires wide { Wide (at + (length codes.now + 1) * length callers.now) (six ahead.old number.old member.old target.old after.old down.old) }
-    ensures { RuleWritten i codes.now kinds callers.now ranks.now narrow low at (length codes.now + 1)
-        (six ahead.old number.old member.old target.old after.old down.old)
-        (six ahead.new number.new member.new target.new after.new down.new) }
+    requires wide { Wide (at + (length codes.now + 1) * length callers.now) (six_of rows.old) }
+    ensures written { RuleWritten i codes.now kinds callers.now ranks.now narrow low at (length codes.now + 1)
+        (six_of rows.old)
+        (six_of rows.new) }
+    ensures same_loans { SameLoans rows.old rows.new }
 {
     let w = callers.len();
     let mut p = at;
@@ -132,10 +144,7 @@ pub fn write_rule<'a>(
         let x = code_at(codes, d);
         let y = code_before(codes, d);
         let before = low_before(l, narrow, d);
-        write_item(
-            i, x, y, kinds, callers, ranks, l, before, p, ahead, number, member, target, after,
-            down,
-        );
+        write_item(i, x, y, kinds, callers, ranks, l, before, p, rows);
         p += w;
         l += narrow;
     }
