@@ -31,36 +31,25 @@ pub one_each : (a b : ℕ) → a ≡ 1 → b ≡ 1 → 1 ≡ cap (a * b)
 unfolding cap
 one_each a b e d = rw (e, d) refl
 
--- one place more of two rows; none left
-pub dot-more : (xs ys : List ℕ) (k : ℕ) → k < length xs → k < length ys → dot (drop k xs) (drop k ys) ≡ get_or xs k 0 * get_or ys k 0 + dot (drop (k + 1) xs) (drop (k + 1) ys)
+-- one turn, t the product and s the new sum: what the sum and the rest of the rows give stays
+pub turn : {x y t s W : ℕ} {xs ys l r : List ℕ} (sum : ℕ) → l ≡ x ∷ xs → r ≡ y ∷ ys → t ≡ cap (x * y) → s ≡ cap (sum + t)
+    → cap (sum + dot l r) ≡ W → cap (s + dot xs ys) ≡ W
 unfolding dot
-dot-more xs ys k h g = let e : k + 1 ≡ suc k = omega arith in rw (drop-cons xs k 0 h, drop-cons ys k 0 g, e) refl
+turn {x} {y} {xs = xs} {ys} sum d e p q g =
+    let z : sum + x * y + dot xs ys ≡ sum + (x * y + dot xs ys) = omega arith in
+    ap (λ k. cap (k + dot xs ys)) (q ∙ ap (λ k. cap (sum + k)) p)
+    ∙ cap_early (sum + cap (x * y)) (dot xs ys) ∙ cap_late sum (x * y) (dot xs ys)
+    ∙ ap cap (z ∙ ap (λ k. sum + k) (sym (ap₂ dot d e))) ∙ g
 
-pub dot-none : (xs ys : List ℕ) (k : ℕ) → length xs ≤ k → dot (drop k xs) (drop k ys) ≡ 0
+pub full : {s W : ℕ} (r : ℕ) → s ≡ 2 → cap (s + r) ≡ W → 2 ≡ W
+full {s} r h e = sym (cap_many (s + r) (omega arith)) ∙ e
+
+-- no row is left
+pub ended : {sum W : ℕ} {l r : List ℕ} → l ≡ [] → r ≡ [] → sum ≤ 1 → cap (sum + dot l r) ≡ W → sum ≡ W
 unfolding dot
-dot-none xs ys k h = rw (drop_of_length-le xs {i = k} h) refl
-
--- one turn: what the sum and the rest give stays
-pub turn : (xs ys : List ℕ) (k sum : ℕ) → k < length xs → k < length ys
-    → cap (cap (sum + cap (get_or xs k 0 * get_or ys k 0)) + dot (drop (k + 1) xs) (drop (k + 1) ys)) ≡ cap (sum + dot (drop k xs) (drop k ys))
-turn xs ys k sum h g =
-    let x = get_or xs k 0 * get_or ys k 0 in
-    let r = dot (drop (k + 1) xs) (drop (k + 1) ys) in
-    cap_early (sum + cap x) r ∙ cap_late sum x r ∙ ap cap (let e : sum + x + r ≡ sum + (x + r) = omega arith in e) ∙ ap (λ z. cap (sum + z)) (sym (dot-more xs ys k h g))
-
--- the same from what the two calls gave: t the product, s the new sum
-pub again : (xs ys : List ℕ) (k sum t s W : ℕ) → k < length xs → k < length ys → t ≡ cap (get_or xs k 0 * get_or ys k 0) → s ≡ cap (sum + t)
-    → cap (sum + dot (drop k xs) (drop k ys)) ≡ W → cap (s + dot (drop (k + 1) xs) (drop (k + 1) ys)) ≡ W
-again xs ys k sum t s W h g p q e =
-    ap (λ z. cap (z + dot (drop (k + 1) xs) (drop (k + 1) ys))) (q ∙ ap (λ z. cap (sum + z)) p) ∙ turn xs ys k sum h g ∙ e
-
-pub full : (s r W : ℕ) → s ≡ 2 → cap (s + r) ≡ W → 2 ≡ W
-full s r W h e = sym (cap_many (s + r) (omega arith)) ∙ e
-
-pub ended : (xs ys : List ℕ) (k sum W : ℕ) → length xs ≤ k → sum ≤ 1 → cap (sum + dot (drop k xs) (drop k ys)) ≡ W → sum ≡ W
-ended xs ys k sum W h g e =
-    let z : sum + dot (drop k xs) (drop k ys) ≡ sum = omega (arith, dot-none xs ys k h) in
-    sym (cap-same sum (omega arith)) ∙ ap cap (sym z) ∙ e
+ended {sum} d e h g =
+    let z : sum ≡ sum + 0 = omega arith in
+    sym (cap-same sum (omega arith)) ∙ ap cap (z ∙ ap (λ k. sum + k) (sym (ap₂ dot d e))) ∙ g
 
 pub small : (n s : ℕ) → s ≡ cap n → (s ≡ 2 → ⊥) → s ≤ 1
 small n s e h = omega (arith, cap-most n)

@@ -44,13 +44,11 @@ pub fn products<'a>(xs: &'a [u32], ys: &'a [u32]) -> u32
     ensures { result ≡ cap (dot xs.now ys.now) }
 {
     let mut sum = 0;
-    let mut k = 0;
-    while k < xs.len() {
-        sum = plus(sum, times(xs[k], ys[k]));
+    for (x, y) in xs.iter().zip(ys) {
+        sum = plus(sum, times(*x, *y));
         if sum == 2 {
             return 2;
         }
-        k += 1;
     }
     sum
 }

@@ -1,28 +1,28 @@
 -- products meets its contract: what the sum and the rest of the rows give stays.
-use Prim.Native.Nat.{◌-◌}
-use mathlib.Core.Path.{ap}
+use mathlib.Core.Path.{ap, ap₂, ◌∙◌}
 use native.Mathlib.Omega.{arith}
-use native.Mathlib.Nat.{zero-add}
+use borrow.Author.Rules.{rules}
+use Rattle.std.proofs.lemmas.Grind.{common_steps}
+use Rattle.std.proofs.lemmas.Iterator.{empty_from_Zip}
 use Rattle.tree_laws.specs.Chart.{cap}
 use Rattle.counts.specs.Counts.{dot}
-use Rattle.counts.proofs.Laws.{again, full, ended, small}
+use Rattle.counts.proofs.Laws.{turn, full, ended, small}
 use Rattle.counts.proofs.products.Goals as goal
 
-pub loop-k-init : goal.loop-k-init
-loop-k-init c = (omega arith, omega arith, ap cap (zero-add (dot c.args.xs.now c.args.ys.now)))
+pub loop-x-init : goal.loop-x-init
+loop-x-init c = search rules
 
 pub returns-then-sum-eq2 : goal.returns-then-sum-eq2
-returns-then-sum-eq2 c = let a = c.args in
-    full c.plus-sum.result _ _ c.if-sum-eq2.true
-    (again a.xs.now a.ys.now c.loop-k.k c.loop-k.sum c.times.result c.plus-sum.result _ (omega arith) (omega arith) c.times.ensures c.plus-sum.ensures c.loop-k.invariant.2)
+returns-then-sum-eq2 c = let e = c.in-Some.ensures.steps in
+    full _ c.if-sum-eq2.true (turn c.loop-x.sum e.0 e.1 c.times.ensures c.plus-sum.ensures c.loop-x.invariant.2)
 
-pub loop-k-preserved : goal.loop-k-preserved
-loop-k-preserved c = let a = c.args in (
-  omega arith,
+pub loop-x-preserved : goal.loop-x-preserved
+loop-x-preserved c = let e = c.in-Some.ensures.steps in (
   small _ c.plus-sum.result c.plus-sum.ensures c.if-sum-eq2.false,
-  again a.xs.now a.ys.now c.loop-k.k c.loop-k.sum c.times.result c.plus-sum.result _ (omega arith) (omega arith) c.times.ensures c.plus-sum.ensures c.loop-k.invariant.2,
+  grind (arith, common_steps, c.in-Some.ensures.steps),
+  turn c.loop-x.sum e.0 e.1 c.times.ensures c.plus-sum.ensures c.loop-x.invariant.2,
 )
 
 pub returns : goal.returns
-returns c = let a = c.args in
-    ended a.xs.now a.ys.now c.loop-k.k c.loop-k.sum _ (omega arith) (omega arith) c.loop-k.invariant.2
+returns c = let e = empty_from_Zip c.loop-x.x-iterator c.next.new.self c.next.result c.in-None.is c.next.ensures.steps c.loop-x.invariant.1 in
+    ended e.0 e.1 c.loop-x.invariant.0 c.loop-x.invariant.2
