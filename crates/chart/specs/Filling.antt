@@ -7,7 +7,8 @@ use Rattle.tree_laws.specs.Chart.{Places, Chart, SoundTo, Sums, Settled}
 use Rattle.tree_laws.specs.Filling.{Past, Column, Looking}
 use Rattle.counts.specs.Counts.{item_cell, whole_cell}
 use Rattle.counts.specs.View.{nonzeros, view_of}
-use Rattle.chart.specs.Rows.{home_of}
+use Rattle.chart.specs.Rows.{home_of, made_at, Span}
+use Rattle.chart.specs.declared.rows.GrammarRows.{GrammarRows}
 
 -- the first code, or 0
 unfoldable pub code_of : List ℕ → ℕ
@@ -71,22 +72,42 @@ module _ (G : Grammar) (P : Places limits G) (Q : ℕ) (home w : List ℕ) where
     pub counted : Counted row
     pub settled : (p x k l : ℕ) (α : List ℕ) → P.rest p ≡ x ∷ α → k ≤ l → l ≤ length w → Settled limits G w (chart_of row) x p k l
 
+-- the places before, between and after the terminals
+abbrev pub width : GrammarRows → ℕ
+width R = length R.sentence.now + 1
+
+-- a span of a work row that has cells for all states and places
+abbrev pub SpanIn : GrammarRows → (row : List ℕ) (i j : ℕ) → Type 0
+SpanIn R row i j = Span row R.states (width R) i j
+
+-- what the work row makes of the count of the state before q, from i to j
+abbrev pub made_in : GrammarRows → (row : List ℕ) (q i j : ℕ) → ℕ
+made_in R row q i j = made_at row R.ahead.now R.home.now R.sentence.now q i j
+
+-- the rows show the places of a grammar
+abbrev pub Shows : (G : Grammar) → Places limits G → GrammarRows → Type 0
+Shows G P R = Sheet G P R.states R.ahead.now R.lead.now R.home.now
+
 -- whatever grammar the rows show: a look keeps what is known of the span at work
-abbrev pub Looks : (Q : ℕ) (ahead lead home w row row' active active' flags flags' : List ℕ) (q r i j : ℕ) → Type 0
-Looks Q ahead lead home w row row' active active' flags flags' q r i j =
-    (G : Grammar) (P : Places limits G) → Sheet G P Q ahead lead home → Working G P Q home w row active flags (suc q) i j → Working G P Q home w row' active' flags' r i j
+abbrev pub Looks : (R : GrammarRows) (row row' active active' flags flags' : List ℕ) (q r i j : ℕ) → Type 0
+Looks R row row' active active' flags flags' q r i j =
+    (G : Grammar) (P : Places limits G) → Shows G P R → Working G P R.states R.home.now R.sentence.now row active flags (suc q) i j
+    → Working G P R.states R.home.now R.sentence.now row' active' flags' r i j
 
 -- from one span that is done to another
-abbrev pub Fills : (Q : ℕ) (ahead lead home w row row' active active' : List ℕ) (k l i j : ℕ) → Type 0
-Fills Q ahead lead home w row row' active active' k l i j =
-    (G : Grammar) (P : Places limits G) → Sheet G P Q ahead lead home → Filled G P Q home w row active k l → Filled G P Q home w row' active' i j
+abbrev pub Fills : (R : GrammarRows) (row row' active active' : List ℕ) (k l i j : ℕ) → Type 0
+Fills R row row' active active' k l i j =
+    (G : Grammar) (P : Places limits G) → Shows G P R → Filled G P R.states R.home.now R.sentence.now row active k l
+    → Filled G P R.states R.home.now R.sentence.now row' active' i j
 
 -- all spans that end at j
-abbrev pub FillsColumn : (Q : ℕ) (ahead lead home w row row' marks : List ℕ) (j : ℕ) → Type 0
-FillsColumn Q ahead lead home w row row' marks j =
-    (G : Grammar) (P : Places limits G) → Sheet G P Q ahead lead home → Filled G P Q home w row marks (suc j) j → (active : List ℕ) × Filled G P Q home w row' active 0 j
+abbrev pub FillsColumn : (R : GrammarRows) (row row' marks : List ℕ) (j : ℕ) → Type 0
+FillsColumn R row row' marks j =
+    (G : Grammar) (P : Places limits G) → Shows G P R → Filled G P R.states R.home.now R.sentence.now row marks (suc j) j
+    → (active : List ℕ) × Filled G P R.states R.home.now R.sentence.now row' active 0 j
 
 -- all spans
-abbrev pub FillsAll : (Q : ℕ) (ahead lead home w row row' : List ℕ) → Type 0
-FillsAll Q ahead lead home w row row' =
-    (G : Grammar) (P : Places limits G) → Sheet G P Q ahead lead home → Begun G P Q home w row → Complete G P Q home w row'
+abbrev pub FillsAll : (R : GrammarRows) (row row' : List ℕ) → Type 0
+FillsAll R row row' =
+    (G : Grammar) (P : Places limits G) → Shows G P R → Begun G P R.states R.home.now R.sentence.now row
+    → Complete G P R.states R.home.now R.sentence.now row'

@@ -1,12 +1,12 @@
 -- From span to span. Assumes nothing.
-use Prim.Native.Nat.{ℕ, suc, ◌+◌, ◌-◌, ◌*◌, ◌/◌, ◌≤◌, ◌<◌}
+use Prim.Native.Nat.{ℕ, suc, ◌-◌, ◌*◌, ◌/◌, ◌≤◌, ◌<◌}
 use mathlib.Core.Path.{◌≡◌, sym, ap, ◌∙◌}
 use mathlib.Core.List.{List, []}
 use mathlib.Core.Logic.{inl, inr}
 use native.Mathlib.Omega.{arith}
 use native.Mathlib.Decide.{ℕ_discrete}
 use lib.ListN.{length, get_or, set, replicate, get_or-replicate}
-use lib.Seq.{get_or-set_same, get_or-set_other}
+use lib.Seq.{get_or-set_other}
 use Rattle.grammar.specs.Limits.{limits}
 use Rattle.grammar.specs.Grammar.{Grammar}
 use Rattle.tree_laws.specs.Chart.{Places}
@@ -64,18 +64,6 @@ module _ {G : Grammar} {P : Places limits G} {Q : ℕ} {ahead lead home : List �
     counted = F.counted;
     settled = λ p x k l α e g n. F.past.settled p x k l α e g n (inl (omega arith));
   }
-
--- one mark more
-pub mark-more : (ahead marks : List ℕ) (p v : ℕ) → p < length marks → (get_or ahead p 0 ≡ 0 → v ≡ 1) → ((s : ℕ) → s < p → get_or ahead s 0 ≡ 0 → get_or marks s 0 ≡ 1)
-    → (s : ℕ) → s < p + 1 → get_or ahead s 0 ≡ 0 → get_or (set marks p v) s 0 ≡ 1
-mark-more ahead marks p v h e m s g z = elim (ℕ_discrete s p) [
-  | yes f ↦ ap (λ k. get_or (set marks p v) k 0) f ∙ get_or-set_same marks p v 0 h ∙ e (ap (λ k. get_or ahead k 0) (sym f) ∙ z)
-  | no f ↦ get_or-set_other marks p s v 0 f ∙ m s (omega arith) z
-]
-
--- one flag more that is not set
-pub clear_more : (flags : List ℕ) (p q : ℕ) → get_or flags (p - 1) 0 ≡ 0 → ((h : ℕ) → p ≤ h → h < q → get_or flags h 0 ≡ 0) → (h : ℕ) → p - 1 ≤ h → h < q → get_or flags h 0 ≡ 0
-clear_more flags p q e c h a b = elim (ℕ_discrete h (p - 1)) [ yes f ↦ ap (λ z. get_or flags z 0) f ∙ e | no f ↦ c h (omega arith) b ]
 
 -- none is set up to q, and none from q on
 pub clear_from : {Q : ℕ} (flags : List ℕ) (r q : ℕ) → ((h : ℕ) → r ≤ h → h < q → get_or flags h 0 ≡ 0) → Clear Q flags q → Clear Q flags r

@@ -127,8 +127,7 @@ homes_turn member home home' n p y e z h a b H = elim (lt_or_le y n) [
     some o = elim (ℕ_discrete p 0) [ yes f ↦ absurd (omega (arith, ap (λ k. get_or member k 0) f)) | no f ↦ omega arith ]
 
 -- the states below p are wired, and the rows are as long as they were
-pub record WiredTo (ahead member target : List ℕ) (n Q : ℕ) (lead₀ next₀ head₀ home₀ lead next head home : List ℕ) (p : ℕ) : Type 0 where
-  pub within : p ≤ Q
+pub record WiredTo (ahead member target : List ℕ) (n : ℕ) (lead₀ next₀ head₀ home₀ lead next head home : List ℕ) (p : ℕ) : Type 0 where
   pub leads : Leads target n p lead
   pub links : Links ahead p next head
   pub homes : Homes member n p home

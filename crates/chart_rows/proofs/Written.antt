@@ -14,7 +14,7 @@ use Rattle.grammar.specs.declared.CheckedGrammar.{CheckedGrammar}
 use Rattle.automaton.specs.Items.{states, base}
 use Rattle.moves.specs.Tables.{row_from, member_line, target_line, number_line, kinds, all_lines, kept, blanked, blanked_from}
 use Rattle.moves.specs.Clauses.{write, front_classes, front_items, ahead_line, StateRows, AllWritten, Wide, column_states, live_line}
-use Rattle.moves.proofs.Lines.{right, line_base, row-length, number_full, number_at, member_full, target-full}
+use Rattle.moves.proofs.Lines.{line_base, row-length, number_full, number_at, member_full, target-full}
 use Rattle.moves.proofs.Links.{lines-states, same_base}
 use Rattle.moves.proofs.Writes.{write-front}
 use Rattle.moves.proofs.Columns.{Read, read}

@@ -9,7 +9,6 @@ ghost use Rattle.grammar.specs.Record.{IsRecord};
 ghost use Rattle.chart_rows.specs.Wiring.{Wirable, Zeros, Roomy, lead_of, Leads, Links, Homes};
 ghost use Rattle.chart_rows.specs.Preparing.{Prepares};
 
-use chart::wide;
 use grammar::{CheckedGrammar, MAX_NONTERMINALS, MAX_RULES, MAX_STATES, NONTERMINAL_BASE};
 use moves::writing::write_rows;
 
@@ -28,7 +27,7 @@ fn lead_of(n: u16, z: u16) -> u16
 }
 
 // Links a state to the next lower one before the same nonterminal.
-fn link<'a>(next: &'a mut [u16], head: &'a mut [u16], p: usize, x: u16)
+fn link(next: &mut [u16], head: &mut [u16], p: usize, x: u16)
     requires { (p < length next.old) × (p < limits.max_states) × (x < start limits + length head.old) × (length head.old ≡ limits.max_nonterminals) }
     ensures next_unchanged { x < start limits → (next.new ≡ next.old) × (head.new ≡ head.old) }
     ensures next_after { start limits ≤ x → (next.new ≡ set next.old p (get_or head.old (x - start limits) 0)) × (head.new ≡ set head.old (x - start limits) p) }
@@ -36,7 +35,7 @@ fn link<'a>(next: &'a mut [u16], head: &'a mut [u16], p: usize, x: u16)
     if x < NONTERMINAL_BASE {
         return;
     }
-    let c = wide(x - NONTERMINAL_BASE);
+    let c = (x - NONTERMINAL_BASE) as usize;
     next[p] = head[c];
     head[c] = p as u16;
 }
@@ -50,21 +49,20 @@ fn house(home: &mut [u16], p: usize, y: u16, n: u16)
     if n <= y {
         return;
     }
-    let c = wide(y);
-    home[c] = p as u16;
+    home[y as usize] = p as u16;
 }
 
 // Leads, links and homes, state by state, into rows of 0.
-pub fn wire<'a>(
-    ahead: &'a [u16; MAX_STATES],
-    member: &'a [u16; MAX_STATES],
-    target: &'a [u16; MAX_STATES],
+pub fn wire(
+    ahead: &[u16; MAX_STATES],
+    member: &[u16; MAX_STATES],
+    target: &[u16; MAX_STATES],
     n: u16,
     states: usize,
-    lead: &'a mut [u16],
-    next: &'a mut [u16],
-    head: &'a mut [u16],
-    home: &'a mut [u16],
+    lead: &mut [u16],
+    next: &mut [u16],
+    head: &mut [u16],
+    home: &mut [u16],
 )
     requires wirable { Wirable ahead.now member.now n states }
     requires roomy { Roomy states lead.old next.old head.old home.old }
@@ -73,18 +71,16 @@ pub fn wire<'a>(
     ensures links { Links ahead.now states next.new head.new }
     ensures homes { Homes member.now n states home.new }
 {
-    let mut p = 0;
-    while p < states {
+    for p in 0..states {
         lead[p] = lead_of(n, target[p]);
         link(next, head, p, ahead[p]);
         house(home, p, member[p], n);
-        p += 1;
     }
 }
 
 // The rows of a checked grammar; all its rules are shown, also those that no sentence uses.
 pub fn prepare(
-    g: CheckedGrammar,
+    g: &CheckedGrammar,
     ahead: &mut [u16; MAX_STATES],
     number: &mut [u16; MAX_STATES],
     lead: &mut [u16; MAX_STATES],
@@ -92,9 +88,9 @@ pub fn prepare(
     head: &mut [u16; MAX_NONTERMINALS],
     home: &mut [u16; MAX_NONTERMINALS],
 )
-    requires fact { IsRecord g }
+    requires fact { IsRecord g.now }
     requires zeros { Zeros next.old × Zeros head.old × Zeros home.old }
-    ensures { Prepares g ahead.new number.new lead.new next.new head.new home.new }
+    ensures { Prepares g.now ahead.new number.new lead.new next.new head.new home.new }
 {
     let mut member = [0u16; MAX_STATES];
     let mut target = [0u16; MAX_STATES];

@@ -3,10 +3,12 @@ use Rattle.std.specs.Prelude.{ℕ, suc, ◌+◌, ◌≤◌, ◌<◌, ◌≡◌, 
 use Rattle.grammar.specs.Basics.{choose}
 use Rattle.grammar.specs.Limits.{limits}
 use Rattle.grammar.specs.Grammar.{Grammar, rule}
+use Rattle.grammar.specs.declared.CheckedGrammar.{CheckedGrammar}
 use Rattle.tree_laws.specs.Chart.{cap, Places, Chart, kin}
 use Rattle.counts.specs.Counts.{item_cell, whole_cell}
 use Rattle.chart.specs.Rows.{home_of}
-use Rattle.chart.specs.Filling.{code_of, Sheet, Begun}
+use Rattle.chart.specs.Filling.{code_of, Begun, Shows}
+use Rattle.chart.specs.declared.rows.GrammarRows.{GrammarRows}
 
 -- the diagonal of a plane is raised by 1
 pub record Diagonal (m h n : ℕ) (row row' : List ℕ) : Type 0 where
@@ -34,7 +36,8 @@ module _ (G : Grammar) (P : Places limits G) (Q : ℕ) (home : List ℕ) (m : �
     pub empty : (p x i j : ℕ) (α : List ℕ) → P.rest p ≡ x ∷ α → i < m → j < m → get_or row (item_cell m p i j) 0 ≡ 0
     pub wholes : (b i j : ℕ) → i < m → j < m → 1 ≤ home_of home b → get_or row (whole_cell m (home_of home b) i j) 0 ≡ cap (kin limits G P (bare G P) b i j r)
 
--- whatever grammar the rows show: from a row of 0 to a chart that is begun
-abbrev pub Sows : (Q : ℕ) (ahead lead home w lefts lengths : List ℕ) (count : ℕ) (row row' : List ℕ) → Type 0
-Sows Q ahead lead home w lefts lengths count row row' =
-    (G : Grammar) (P : Places limits G) → Sheet G P Q ahead lead home → Columned G count lefts lengths → ((k : ℕ) → get_or row k 0 ≡ 0) → Begun G P Q home w row'
+-- whatever grammar the rows and the record's columns show: from a row of 0 to a chart that is begun
+abbrev pub Sows : (R : GrammarRows) (g : CheckedGrammar) (row row' : List ℕ) → Type 0
+Sows R g row row' =
+    (G : Grammar) (P : Places limits G) → Shows G P R → Columned G g.count g.lefts g.lengths → ((k : ℕ) → get_or row k 0 ≡ 0)
+    → Begun G P R.states R.home.now R.sentence.now row'

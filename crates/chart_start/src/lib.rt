@@ -2,73 +2,52 @@
 
 #![tactic(auto)]
 
-ghost use Rattle.std.specs.Prelude.{ℕ, ◌+◌, ◌*◌, ◌≤◌, ◌<◌, ◌≡◌, length, get_or};
+ghost use Rattle.std.specs.Prelude.{ℕ, ◌+◌, ◌≤◌, ◌<◌, ◌≡◌, get_or};
 ghost use Rattle.grammar.specs.Limits.{limits};
 ghost use Rattle.grammar.specs.Grammar.{start};
-ghost use Rattle.trees.specs.Trees.{places};
-ghost use Rattle.chart.specs.Rows.{home_of, Ready};
+ghost use Rattle.chart.specs.Rows.{home_of};
+ghost use Rattle.chart.specs.Filling.{width, SpanIn};
 ghost use Rattle.chart_start.specs.Sown.{Diagonal, Sows};
 
-use chart::{ENDS, cell, home_of};
+use chart::{ENDS, GrammarRows};
 use counts::plus;
-use grammar::{MAX_NONTERMINALS, MAX_RULES, MAX_STATES};
+use grammar::CheckedGrammar;
 
 // Raises the diagonal of a plane by 1.
-fn diagonal(work: &mut [u32], m: usize, states: usize, h: usize)
-    requires { (states * m * m ≤ length work.old) × (m ≤ places) × (states ≤ limits.max_states) × (h < states) }
-    ensures { Diagonal m h m work.old work.new }
+fn diagonal(work: &mut [u32], rows: &GrammarRows, h: usize)
+    requires span { SpanIn rows.now work.old 0 0 }
+    requires h_bound { h < rows.now.states }
+    ensures { Diagonal (width rows.now) h (width rows.now) work.old work.new }
 {
-    let mut i = 0;
-    while i < m {
-        let at = cell(m, h, i, i);
+    let places = rows.sentence.len() + 1;
+    for i in 0..places {
+        let at = rows.cell(h, i, i);
         work[at] = plus(work[at], 1);
-        i += 1;
     }
 }
 
 // A rule of b with k symbols: if it has none, b derives the empty row.
-fn sow_rule<'a>(
-    work: &'a mut [u32],
-    home: &'a [u16; MAX_NONTERMINALS],
-    m: usize,
-    states: usize,
-    b: u16,
-    k: u16,
-)
-    requires m_in_bounds { (states * m * m ≤ length work.old) × (m ≤ places) × (states ≤ limits.max_states) × ((c : ℕ) → get_or home.now c 0 < states) × (1 ≤ states) }
+fn sow_rule(work: &mut [u32], rows: &GrammarRows, b: u16, k: u16)
+    requires span { SpanIn rows.now work.old 0 0 }
     requires limits_bound { (start limits ≤ b) × (b < start limits + limits.max_nonterminals) }
-    ensures diagonal { k ≡ 0 → Diagonal m (home_of home.now b) m work.old work.new }
+    ensures diagonal { k ≡ 0 → Diagonal (width rows.now) (home_of rows.now.home.now b) (width rows.now) work.old work.new }
     ensures work_unchanged { (k ≡ 0 → ⊥) → work.new ≡ work.old }
 {
     if k != 0 {
         return;
     }
-    let h = home_of(home, b);
-    diagonal(work, m, states, h);
+    let h = rows.home_of(b);
+    diagonal(work, rows, h);
 }
 
 // Ends derive the empty row, and so do nonterminals with an empty right side.
-pub fn sow<'a>(
-    work: &'a mut [u32],
-    ahead: &'a [u16; MAX_STATES],
-    lead: &'a [u16; MAX_STATES],
-    home: &'a [u16; MAX_NONTERMINALS],
-    row: &'a [u16],
-    lefts: &'a [u16; MAX_RULES],
-    lengths: &'a [u16; MAX_RULES],
-    count: usize,
-    states: usize,
-)
-    requires ready { Ready states ahead.now home.now }
-    requires row_in_bounds { (states * (length row.now + 1) * (length row.now + 1) ≤ length work.old) × (length row.now < places) }
-    requires count_le_max_rules { (count ≤ limits.max_rules) × ((r : ℕ) → r < count → (start limits ≤ get_or lefts.now r 0) × (get_or lefts.now r 0 < start limits + limits.max_nonterminals)) }
-    ensures { Sows states ahead.now lead.now home.now row.now lefts.now lengths.now count work.old work.new }
+pub fn sow(work: &mut [u32], rows: &GrammarRows, g: &CheckedGrammar)
+    requires span { SpanIn rows.now work.old 0 0 }
+    requires count_le_max_rules { (g.now.count ≤ limits.max_rules) × ((r : ℕ) → r < g.now.count → (start limits ≤ get_or g.now.lefts r 0) × (get_or g.now.lefts r 0 < start limits + limits.max_nonterminals)) }
+    ensures { Sows rows.now g.now work.old work.new }
 {
-    let m = row.len() + 1;
-    diagonal(work, m, states, ENDS);
-    let mut r = 0;
-    while r < count {
-        sow_rule(work, home, m, states, lefts[r], lengths[r]);
-        r += 1;
+    diagonal(work, rows, ENDS);
+    for r in 0..g.count {
+        sow_rule(work, rows, g.lefts[r], g.lengths[r]);
     }
 }

@@ -8,8 +8,9 @@ use Rattle.grammar.specs.Limits.{limits}
 use Rattle.grammar.specs.Grammar.{Grammar, rule, start}
 use Rattle.grammar.specs.declared.CheckedGrammar.{CheckedGrammar}
 use Rattle.grammar.proofs.Derives.{rule-listed}
-use Rattle.chart.specs.Filling.{FillsAll}
-use Rattle.chart_start.specs.Sown.{Sows}
+use Rattle.tree_laws.specs.Chart.{Places}
+use Rattle.chart.specs.Filling.{Sheet, Begun, Complete}
+use Rattle.chart_start.specs.Sown.{Columned}
 use Rattle.chart_rows.specs.Wiring.{Zeros}
 use Rattle.chart_rows.specs.Preparing.{Showing}
 use Rattle.tree_walk.specs.Charted.{rows, Charted}
@@ -29,7 +30,10 @@ module _ (G : Grammar) (g : CheckedGrammar) (ahead number lead next head home : 
         (omega (arith, S.columned.left r h, i.0), omega (arith, S.columned.left r h, i.1, S.sheet.well_formed.nonterminals.1)),
   )
 
-  pub charted_of : (w row sown filled : List ℕ) → Zeros row → Sows g.states ahead lead home w g.lefts g.lengths g.count row sown → FillsAll g.states ahead lead home w sown filled
+  -- the chart that is begun and filled
+  pub charted_of : (w row sown filled : List ℕ) → Zeros row
+      → ((G : Grammar) (P : Places limits G) → Sheet G P g.states ahead lead home → Columned G g.count g.lefts g.lengths → Zeros row → Begun G P g.states home w sown)
+      → ((G : Grammar) (P : Places limits G) → Sheet G P g.states ahead lead home → Begun G P g.states home w sown → Complete G P g.states home w filled)
       → Charted G S.places (rows g.states ahead lead number home w) filled
   charted_of w row sown filled z a b = record {
     ready = S.wired.ready;

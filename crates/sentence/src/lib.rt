@@ -6,71 +6,67 @@ ghost use Rattle.std.specs.Prelude.{◌+◌, ◌*◌, ◌≤◌, ◌<◌, length
 ghost use Rattle.grammar.specs.Record.{IsRecord};
 ghost use Rattle.trees.specs.Trees.{places};
 ghost use Rattle.chart_rows.specs.Wiring.{Zeros};
-ghost use Rattle.tree_walk.specs.Charted.{rows, Roomy};
+ghost use Rattle.tree_walk.specs.Charted.{rows_of, Roomy};
 ghost use Rattle.sentence.specs.Answered.{HasChart, Answers, Judges};
 
-use chart::cell;
+use chart::GrammarRows;
 use chart_fill::fill;
 use chart_rows::prepare;
 use chart_start::sow;
 use grammar::{CheckedGrammar, MAX_NONTERMINALS, MAX_STATES};
 use tree_walk::{count_rules, write_rules};
 
-// One comes with how many rules there are; a list that is too short for them is left as it was.
-#[derive(Drop)]
+// One comes with how many rules there are.
+#[derive(Clone, Copy)]
 pub enum Outcome {
     Nothing,
     One(usize),
     Several,
-    Short,
 }
 
+// There is one tree, and the list is too short for its rules; it is left as it was.
+#[derive(Clone, Copy)]
+pub struct ListTooShort;
+
 // The answer that a complete chart holds.
-pub fn answer<'a>(
-    work: &'a mut [u32],
-    ahead: &'a [u16; MAX_STATES],
-    lead: &'a [u16; MAX_STATES],
-    number: &'a [u16; MAX_STATES],
-    home: &'a [u16; MAX_NONTERMINALS],
-    row: &'a [u16],
-    states: usize,
-    list: &'a mut [u16],
-) -> Outcome
-    requires has_chart { HasChart (rows states ahead.now lead.now number.now home.now row.now) work.old }
-    requires roomy { Roomy (rows states ahead.now lead.now number.now home.now row.now) work.old }
-    ensures { Answers (rows states ahead.now lead.now number.now home.now row.now)
-        work.old list.old list.new result }
+pub fn answer(
+    work: &mut [u32],
+    rows: &GrammarRows,
+    list: &mut [u16],
+) -> Result<Outcome, ListTooShort>
+    requires has_chart { HasChart (rows_of rows.now) work.old }
+    requires roomy { Roomy (rows_of rows.now) work.old }
+    ensures { Answers (rows_of rows.now) work.old list.old list.new result }
 {
-    let n = row.len();
-    let at = cell(n + 1, 2, 0, n);
+    let at = rows.cell(2, 0, rows.sentence.len());
     let c = work[at];
     if c == 0 {
-        return Outcome::Nothing;
+        return Ok(Outcome::Nothing);
     }
     if c > 1 {
-        return Outcome::Several;
+        return Ok(Outcome::Several);
     }
     let limit = list.len();
-    let size = count_rules(work, ahead, lead, number, home, row, states, limit);
+    let size = count_rules(work, rows, limit);
     if limit < size {
-        return Outcome::Short;
+        return Err(ListTooShort);
     }
-    write_rules(work, ahead, lead, number, home, row, states, list);
-    Outcome::One(size)
+    write_rules(work, rows, list);
+    Ok(Outcome::One(size))
 }
 
 // The trees of a row of terminals of a checked grammar; the work row is all 0 and has m × m entries for each state, where m is one
 // more than the row has terminals.
-pub fn judge<'a>(
-    g: CheckedGrammar,
-    row: &'a [u16],
-    work: &'a mut [u32],
-    list: &'a mut [u16],
-) -> Outcome
-    requires fact { IsRecord g }
-    requires row_in_bounds { (g.states * (length row.now + 1) * (length row.now + 1) ≤ length work.old) × (length row.now < places) }
+pub fn judge(
+    g: &CheckedGrammar,
+    row: &[u16],
+    work: &mut [u32],
+    list: &mut [u16],
+) -> Result<Outcome, ListTooShort>
+    requires fact { IsRecord g.now }
+    requires row_in_bounds { (g.now.states * (length row.now + 1) * (length row.now + 1) ≤ length work.old) × (length row.now < places) }
     requires zeros { Zeros work.old }
-    ensures { Judges g row.now list.old list.new result }
+    ensures { Judges g.now row.now list.old list.new result }
 {
     let mut ahead = [0u16; MAX_STATES];
     let mut number = [0u16; MAX_STATES];
@@ -78,10 +74,6 @@ pub fn judge<'a>(
     let mut next = [0u16; MAX_STATES];
     let mut head = [0u16; MAX_NONTERMINALS];
     let mut home = [0u16; MAX_NONTERMINALS];
-    let count = g.count;
-    let states = g.states;
-    let lefts = g.lefts;
-    let lengths = g.lengths;
     prepare(
         g,
         &mut ahead,
@@ -91,9 +83,17 @@ pub fn judge<'a>(
         &mut head,
         &mut home,
     );
-    sow(
-        work, &ahead, &lead, &home, row, &lefts, &lengths, count, states,
-    );
-    fill(work, &ahead, &lead, &next, &head, &home, row, states);
-    answer(work, &ahead, &lead, &number, &home, row, states, list)
+    let rows = GrammarRows {
+        states: g.states,
+        ahead: &ahead,
+        lead: &lead,
+        number: &number,
+        next: &next,
+        head: &head,
+        home: &home,
+        sentence: row,
+    };
+    sow(work, &rows, g);
+    fill(work, &rows);
+    answer(work, &rows, list)
 }

@@ -17,7 +17,9 @@ use Rattle.trees.specs.declared.TreesFound.{TreesFound}
 use Rattle.trees.specs.declared.TreesFound.TheVariants as found
 use Rattle.sentence.specs.Answered.{Answered}
 use Rattle.sentence.specs.declared.Outcome.{Outcome}
-use Rattle.sentence.specs.declared.Outcome.TheVariants.{Nothing, One, Several, Short}
+use Rattle.sentence.specs.declared.Outcome.TheVariants.{Nothing, One, Several}
+use Rattle.sentence.specs.declared.ListTooShort.{ListTooShort}
+use Rattle.std.proofs.Common.{Result, Ok, Err}
 use Rattle.sentence_trees.proofs.Faults.{fault_most}
 
 -- the states and terminals of a grammar's record
@@ -30,11 +32,11 @@ unfolding record_of
 terminals-of g G e = ap (λ g. g.terminals) e
 
 -- what is told of an outcome
-abbrev pub told : Outcome → TreesFound
-told Nothing = found.Nothing
-told (One k) = found.One k
-told Several = found.Several
-told Short = found.Refused buffer_too_short 0
+abbrev pub told : Result Outcome ListTooShort → TreesFound
+told (Ok Nothing) = found.Nothing
+told (Ok (One k)) = found.One k
+told (Ok Several) = found.Several
+told (Err e) = found.Refused buffer_too_short 0
 
 module _ (t n : ℕ) (table w work list : List ℕ) where
   pub table-refused : (cause at : ℕ) → check_table limits t n table ≡ refused cause at
@@ -65,15 +67,15 @@ module _ (t n : ℕ) (table w work list : List ℕ) where
     pub row-few : length w ≤ f → length w < places
     row-few h = omega (arith, fault_most t max_row w)
 
-    pub answered : length w ≤ f → work_size G ≤ length work → (r : Outcome) (list' : List ℕ) → Answered G w list list' r
+    pub answered : length w ≤ f → work_size G ≤ length work → (r : Result Outcome ListTooShort) (list' : List ℕ) → Answered G w list list' r
         → FindsTrees t n table w work list (told r) (cleared G work) list'
-    answered h g Nothing list' (a, l) =
+    answered h g (Ok Nothing) list' (a, l) =
         subst (FindsTrees t n table w work list found.Nothing (cleared G work)) (sym l) (no_tree G (of-done h g) a)
-    answered h g Several list' (a, l) =
+    answered h g (Ok Several) list' (a, l) =
         subst (FindsTrees t n table w work list found.Several (cleared G work)) (sym l) (several-trees G (of-done h g) a)
-    answered h g Short list' (rules, (a, s, l)) =
+    answered h g (Err x) list' (rules, (a, s, l)) =
         subst (FindsTrees t n table w work list (found.Refused buffer_too_short 0) (cleared G work)) (sym l) (too_short G (of-done h g) rules a s)
-    answered h g (One k) list' (rules, (a, c, s, l)) =
+    answered h g (Ok (One k)) list' (rules, (a, c, s, l)) =
         subst (λ z. FindsTrees t n table w work list (found.One z) (cleared G work) list') (sym c)
         (subst (FindsTrees t n table w work list (found.One (length rules)) (cleared G work)) (sym l)
         (one-tree G (of-done h g) rules a (omega arith)))

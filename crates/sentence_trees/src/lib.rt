@@ -2,7 +2,7 @@
 
 #![tactic(auto)]
 
-ghost use Rattle.std.specs.Prelude.{◌≡◌, ◌*◌, ◌≤◌, ◌<◌, length, replicate};
+ghost use Rattle.std.specs.Prelude.{◌≡◌, ◌*◌, ◌≤◌, ◌<◌, length, replicate, MatchOption};
 ghost use Rattle.grammar.specs.Basics.{over};
 ghost use Rattle.grammar.specs.Record.{IsRecord};
 ghost use Rattle.trees.specs.Trees.{row_fault, max_row, places};
@@ -11,40 +11,38 @@ ghost use Rattle.sentence.specs.Answered.{Judges};
 
 use clearing::clear;
 use grammar::{BUFFER_TOO_SHORT, CheckedGrammar, ROW_WRONG, TableVerdict};
-use sentence::{Outcome, judge};
+use sentence::{ListTooShort, Outcome, judge};
 use trees::{MAX_ROW, PLACES, TreesFound, TreesRoom};
 
-// The first place at fault, or the row's length: a code that is no terminal, or a terminal too many.
-fn row_fault(t: u16, row: &[u16]) -> usize
-    ensures { result ≡ row_fault t max_row row.now }
+// The first place at fault: a code that is no terminal, or a terminal too many.
+fn row_fault(t: u16, row: &[u16]) -> Option<usize>
+    ensures { let fault = row_fault t max_row row.now in MatchOption result (length row.now ≤ fault) (λ i. (i ≡ fault) × (i < length row.now)) }
 {
-    let mut i = 0;
-    while i < row.len() {
+    for (i, &x) in row.iter().enumerate() {
         if MAX_ROW <= i {
-            return i;
+            return Some(i);
         }
-        if row[i] < 1 {
-            return i;
+        if x < 1 {
+            return Some(i);
         }
-        if t < row[i] {
-            return i;
+        if t < x {
+            return Some(i);
         }
-        i += 1;
     }
-    i
+    None
 }
 
 // The answer for a checked grammar and row; the work row's entries are 0 afterwards.
-fn judge_in<'a>(
-    g: CheckedGrammar,
-    row: &'a [u16],
-    work: &'a mut [u32],
-    list: &'a mut [u16],
-) -> Outcome
-    requires fact { IsRecord g }
-    requires states_in_bounds { (places * places * g.states ≤ length work.old) × (length row.now < places) }
-    ensures judges { Judges g row.now list.old list.new result }
-    ensures work_after { work.new ≡ over (replicate (places * places * g.states) 0) work.old }
+fn judge_in(
+    g: &CheckedGrammar,
+    row: &[u16],
+    work: &mut [u32],
+    list: &mut [u16],
+) -> Result<Outcome, ListTooShort>
+    requires fact { IsRecord g.now }
+    requires states_in_bounds { (places * places * g.now.states ≤ length work.old) × (length row.now < places) }
+    ensures judges { Judges g.now row.now list.old list.new result }
+    ensures work_after { work.new ≡ over (replicate (places * places * g.now.states) 0) work.old }
 {
     let states = g.states;
     let m = row.len() + 1;
@@ -57,13 +55,13 @@ fn judge_in<'a>(
 }
 
 // No tree, one with its rules in front of the list and how many they are, or several; or the first refusal.
-pub fn find_trees<'a>(
+pub fn find_trees(
     t: usize,
     n: usize,
-    table: &'a [u16],
-    row: &'a [u16],
-    work: &'a mut [u32],
-    list: &'a mut [u16],
+    table: &[u16],
+    row: &[u16],
+    work: &mut [u32],
+    list: &mut [u16],
 ) -> TreesFound
     ensures { FindsTrees t n table.now row.now work.old list.old result work.new list.new }
 {
@@ -74,27 +72,24 @@ pub fn find_trees<'a>(
             return TreesFound::Refused(cause, at);
         }
         TableVerdict::Passed => {
-            let g = checked.grammar;
-            let fault = row_fault(g.terminals, row);
-            if fault < row.len() {
+            let g = &checked.grammar;
+            if let Some(fault) = row_fault(g.terminals, row) {
                 return TreesFound::Refused(ROW_WRONG, fault);
             }
-            let states = g.states;
-            if work.len() < PLACES * PLACES * states {
+            if work.len() < PLACES * PLACES * g.states {
                 return TreesFound::Refused(BUFFER_TOO_SHORT, 0);
             }
-            let outcome = judge_in(g, row, work, list);
-            match outcome {
-                Outcome::Nothing => {
+            match judge_in(g, row, work, list) {
+                Ok(Outcome::Nothing) => {
                     return TreesFound::Nothing;
                 }
-                Outcome::One(k) => {
+                Ok(Outcome::One(k)) => {
                     return TreesFound::One(k);
                 }
-                Outcome::Several => {
+                Ok(Outcome::Several) => {
                     return TreesFound::Several;
                 }
-                Outcome::Short => {
+                Err(ListTooShort) => {
                     return TreesFound::Refused(BUFFER_TOO_SHORT, 0);
                 }
             }

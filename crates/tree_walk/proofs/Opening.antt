@@ -21,7 +21,8 @@ use Rattle.chart.specs.Filling.{code_of, Sheet}
 use Rattle.chart.proofs.Reading.{read_plane}
 use Rattle.chart.proofs.MadeLaws.{home_in}
 use Rattle.tree_walk.specs.Charted.{Rows, width, Both, Begins}
-use Rattle.tree_walk.specs.Walking.{frame, decode, stack_of, Course, chart, WalkAt}
+use Rattle.tree_walk.specs.Walking.{frame, decode, stack_of, Course, chart, WalkAt, Walks}
+use Rattle.tree_walk.specs.declared.Walker.{Walker}
 use Rattle.tree_walk.proofs.Stack.{stack_length, stack_other, stack_last, decode-code, upper, lower}
 use Rattle.tree_walk.proofs.Stable.{kinds, stable, kin-some}
 use Rattle.tree_walk.proofs.Turns.{inside, ahead_of}
@@ -195,3 +196,7 @@ module _ (R : Rows) (c : Course) (out row : List ℕ) (p i j depth : ℕ) (W : W
     pub opened : (g : ℕ) → g ≡ item_cell m (p + 1) k j
         → WalkAt R c (out ++ (get_or R.number s 0 ∷ [])) (set row depth (get_or row depth 0 % 4 + 4 * g)) s i k (depth + 1)
     opened = turn_open k f.low f.high split-shows s f.state rule-shows
+
+-- the next state, whatever the walk goes through
+pub walks_past : {R : Rows} {row : List ℕ} {w : Walker} → Walks R row w → start limits ≤ get_or R.ahead w.p 0 → suc w.p < R.states
+walks_past {R} {row} {w} x o = past R x.course x.out row w.p w.i w.j w.depth x.at o

@@ -1,48 +1,42 @@
--- Rules counted and listed turn by turn, and the measure of a turn. Assumes nothing.
-use Prim.Native.Nat.{ℕ, ◌+◌, ◌-◌, ◌*◌, ◌≤◌, ◌<◌}
+-- Rules counted and listed one by one. Assumes nothing.
+use Prim.Native.Nat.{ℕ, ◌+◌, ◌≤◌, ◌<◌}
 use mathlib.Core.Path.{◌≡◌, refl, sym, ap, ap₂, ◌∙◌}
+use mathlib.Core.Bool.{true, false}
 use mathlib.Core.Logic.{inl, inr}
-use mathlib.Core.List.{List, [], ◌∷◌, ◌++◌}
+use mathlib.Core.List.{List, [], ◌∷◌, ◌++◌, append-nil}
 use native.Mathlib.Omega.{arith}
-use native.Mathlib.Decide.{ℕ_discrete}
 use lib.ListN.{length, set, length-append}
+use Rattle.std.proofs.Common.{Option, None, Some}
+use Rattle.std.specs.Option.{is_some}
 use Rattle.grammar.specs.Basics.{over}
-use Rattle.grammar.specs.Limits.{limits}
+use Rattle.grammar.proofs.Answers.{no_bool}
 use Rattle.trees.specs.Trees.{rules_below}
 use Rattle.tree_walk.specs.Charted.{Rows}
-use Rattle.tree_walk.specs.Walking.{Course, Low, WalkAt, Begun, Progress, at_work, ended, Turned, same, more, Walks, Turns, Total}
+use Rattle.tree_walk.specs.Walking.{Course, Low, Begun, At, Walks, Found, Total}
 use Rattle.tree_walk.specs.declared.Walker.{Walker}
 use Rattle.tree_walk.proofs.Turns.{at_same}
 
--- while rules are counted: so many are written
-pub record Counting (R : Rows) (c : Course) (row : List ℕ) (r : Walker) (out going : ℕ) : Type 0 where
-  pub written : List ℕ
-  pub number : length written ≡ out
-  pub progress : Progress R c row r written going
+-- what was found, by whether it is a rule
+pub found_none : (R : Rows) (c : Course) (out row : List ℕ) (v : Walker) (r : Option ℕ) → is_some r ≡ false → Found R c out row v r → (out ≡ c.all) × Low c.counts row
+found_none R c out row v None e f = f
+found_none R c out row v (Some x) e f = no_bool e
 
--- while they are listed: they stand in front of the list
-pub record Listing (R : Rows) (c : Course) (list row list' : List ℕ) (r : Walker) (out going : ℕ) : Type 0 where
+pub found_some : (R : Rows) (c : Course) (out row : List ℕ) (v : Walker) (r : Option ℕ) → is_some r ≡ true → Found R c out row v r → (rule : ℕ) × At R c (out ++ (rule ∷ [])) row v
+found_some R c out row v None e f = no_bool (sym e)
+found_some R c out row v (Some x) e f = (x, f)
+
+-- so many rules are written
+pub record Counting (R : Rows) (c : Course) (row : List ℕ) (w : Walker) (n : ℕ) : Type 0 where
   pub written : List ℕ
-  pub number : length written ≡ out
+  pub number : length written ≡ n
+  pub at : At R c written row w
+
+-- and stand in front of the list
+pub record Listing (R : Rows) (c : Course) (list row list' : List ℕ) (w : Walker) (n : ℕ) : Type 0 where
+  pub written : List ℕ
+  pub number : length written ≡ n
+  pub at : At R c written row w
   pub front : list' ≡ over written list
-  pub progress : Progress R c row r written going
-
--- the measure: rules to come, places that wait, states to come, and one step more for the last turn
-abbrev pub measure : ℕ → ℕ → Walker → ℕ → ℕ
-measure limit out w going =
-    (limit + 1 - out) * (2 * (limits.max_states + 1)) + w.depth * (limits.max_states + 1) + (limits.max_states - w.p) + going * (limits.max_states + 1)
-
--- a turn takes from it
-pub turn_less : (limit out f going : ℕ) (w r : Walker) → out + f ≤ limit → f ≡ r.fresh → r.depth ≤ w.depth + r.fresh → r.fresh ≤ 1 → r.going ≤ 1 → 1 ≤ going
-    → (r.fresh ≡ 0 → r.going ≡ 1 → r.depth * (limits.max_states + 1) + (limits.max_states - r.p) < w.depth * (limits.max_states + 1) + (limits.max_states - w.p))
-    → measure limit (out + f) r r.going < measure limit out w going
-turn_less limit out f going w r a q b d e h l = elim (ℕ_discrete r.fresh 0) [
-  | yes z ↦ elim (ℕ_discrete r.going 1) [
-    | yes y ↦ omega (arith, l z y)
-    | no y ↦ omega arith
-  ]
-  | no z ↦ omega arith
-]
 
 -- one rule more in front of a list
 over-more : (o list : List ℕ) (v : ℕ) → length o < length list → set (over o list) (length o) v ≡ over (o ++ (v ∷ [])) list
@@ -56,103 +50,62 @@ over_none : (list : List ℕ) → list ≡ over [] list
 unfolding over
 over_none list = refl
 
-module _ (R : Rows) (c : Course) where
-  -- the walk that goes on is at a place
-  walking : (row : List ℕ) (r : Walker) (o : List ℕ) (going : ℕ) → 1 ≤ going → Progress R c row r o going → WalkAt R c o row r.p r.i r.j r.depth
-  walking row r o going h (at_work e W) = W
-  walking row r o going h (ended e q l) = absurd (omega arith)
+-- a front as long as the whole is the whole
+whole : (o l a : List ℕ) → o ++ l ≡ a → length a ≤ length o → o ≡ a
+whole o [] a e h = sym (append-nil o) ∙ e
+whole o (x ∷ l) a e h = absurd (omega (arith, ap length e, length-append o (x ∷ l)))
 
-  -- no more than all is written, and the counts stay
-  written-most : (row : List ℕ) (r : Walker) (o : List ℕ) (going : ℕ) → Progress R c row r o going → length o ≤ length c.all
-  written-most row r o going (at_work e W) = omega (arith, ap length W.walk.written, length-append o (rules_below W.walk.now ++ W.walk.rest))
-  written-most row r o going (ended e q l) = omega (arith, ap length q)
+-- at the root nothing is written
+abbrev Root : Rows → Walker → Type 0
+Root R w = (w.p ≡ 2) × (w.i ≡ 0) × (w.j ≡ length R.sentence) × (w.depth ≡ 0)
 
-  low_of : (row : List ℕ) (r : Walker) (o : List ℕ) (going : ℕ) → Progress R c row r o going → Low c.counts row
-  low_of row r o going (at_work e W) = W.low
-  low_of row r o going (ended e q l) = l
+module _ {R : Rows} {c : Course} {row : List ℕ} {w : Walker} where
+  -- no more than all is written
+  most : {out : List ℕ} → At R c out row w → length out ≤ length c.all
+  most {out} W = omega (arith, ap length W.walk.written, length-append out (rules_below W.walk.now ++ W.walk.rest))
 
-  all-written : (row : List ℕ) (r : Walker) (o : List ℕ) (going : ℕ) → going < 1 → Progress R c row r o going → o ≡ c.all
-  all-written row r o going h (at_work e W) = absurd (omega arith)
-  all-written row r o going h (ended e q l) = q
+  root : Root R w → Begun R c row → At R c [] row w
+  root (a, b, d, e) W = at_same R c [] row a b d e W
 
-  -- at the root nothing is written
-  abbrev Root : Walker → Type 0
-  Root r = (r.p ≡ 2) × (r.i ≡ 0) × (r.j ≡ length R.sentence) × (r.depth ≡ 0) × (r.going ≡ 1)
+  pub counting_start : Root R w → Begun R c row → Counting R c row w 0
+  counting_start r W = record { written = []; number = refl; at = root r W }
 
-  pub counting_start : (row : List ℕ) (r : Walker) → Root r → Begun R c row → Counting R c row r 0 1
-  counting_start row r (a, b, d, e, g) W = record { written = []; number = refl; progress = at_work refl (at_same R c [] row a b d e W) }
+  pub counting_walks : {n : ℕ} → Counting R c row w n → Walks R row w
+  counting_walks k = record { course = c; out = k.written; at = k.at }
 
-  pub counting_walks : (row : List ℕ) (r : Walker) (out going : ℕ) → 1 ≤ going → Counting R c row r out going → Walks R row r.p r.i r.j r.depth
-  counting_walks row r out going h k = record { course = c; out = k.written; at = walking row r k.written going h k.progress }
-
-  pub counting_turn : (row row' : List ℕ) (r s : Walker) (out going : ℕ) → 1 ≤ going → Turns R row row' r.p r.i r.j r.depth s
-      → Counting R c row r out going → Counting R c row' s (out + s.fresh) s.going
-  counting_turn row row' r s out going h t k = go (t c k.written (walking row r k.written going h k.progress))
-    where
-      go : Turned R c k.written row' s → Counting R c row' s (out + s.fresh) s.going
-      go (same f p) = record { written = k.written; number = omega (arith, f, k.number); progress = p }
-      go (more f p) = record {
-        written = k.written ++ (s.rule ∷ []);
-        number = omega (arith, f, k.number, length-append k.written (s.rule ∷ []));
-        progress = p;
-      }
+  pub counting_more : {n : ℕ} {row' : List ℕ} {v : Walker} (rule : ℕ) (k : Counting R c row w n) → At R c (k.written ++ (rule ∷ [])) row' v → Counting R c row' v (n + 1)
+  counting_more rule k W = record {
+    written = k.written ++ (rule ∷ []);
+    number = omega (arith, k.number, length-append k.written (rule ∷ []));
+    at = W;
+  }
 
   -- past the limit, or at the end
-  pub counting_over : (row : List ℕ) (r : Walker) (out going limit : ℕ) → limit < out → out ≤ limit + 1 → Counting R c row r out going
-      → Total c.all limit out × Low c.counts row
-  counting_over row r out going limit h g k = (
-    inr (omega arith, omega (arith, k.number, written-most row r k.written going k.progress)),
-    low_of row r k.written going k.progress,
-  )
+  pub counting_over : {limit : ℕ} → Counting R c row w (limit + 1) → Total c.all limit (limit + 1) × Low c.counts row
+  counting_over k = (inr (refl, omega (arith, k.number, most k.at)), k.at.low)
 
-  pub counting_end : (row : List ℕ) (r : Walker) (out going limit : ℕ) → going < 1 → out ≤ limit → Counting R c row r out going
-      → Total c.all limit out × Low c.counts row
-  counting_end row r out going limit h g k = (
-    inl (sym k.number ∙ ap length (all-written row r k.written going h k.progress), g),
-    low_of row r k.written going k.progress,
-  )
+  pub counting_end : {n : ℕ} (row' : List ℕ) (limit : ℕ) (k : Counting R c row w n) → n ≤ limit → (k.written ≡ c.all) × Low c.counts row' → Total c.all limit n × Low c.counts row'
+  counting_end row' limit k h (e, l) = (inl (sym k.number ∙ ap length e, h), l)
 
-  module _ (list : List ℕ) where
-    pub listing_start : (row : List ℕ) (r : Walker) → Root r → Begun R c row → Listing R c list row list r 0 1
-    listing_start row r (a, b, d, e, g) W = record { written = []; number = refl; front = over_none list; progress = at_work refl (at_same R c [] row a b d e W) }
+  module _ {list : List ℕ} where
+    pub listing_start : Root R w → Begun R c row → Listing R c list row list w 0
+    listing_start r W = record { written = []; number = refl; at = root r W; front = over_none list }
 
-    pub listing_walks : (row list' : List ℕ) (r : Walker) (out going : ℕ) → 1 ≤ going → Listing R c list row list' r out going
-        → Walks R row r.p r.i r.j r.depth
-    listing_walks row list' r out going h k = record { course = c; out = k.written; at = walking row r k.written going h k.progress }
+    pub listing_walks : {list' : List ℕ} {n : ℕ} → Listing R c list row list' w n → Walks R row w
+    listing_walks k = record { course = c; out = k.written; at = k.at }
 
-    module _ (row row' list' : List ℕ) (r s : Walker) (out going : ℕ) (h : 1 ≤ going) (t : Turns R row row' r.p r.i r.j r.depth s)
-        (k : Listing R c list row list' r out going) where
-      turned : Turned R c k.written row' s
-      turned = t c k.written (walking row r k.written going h k.progress)
+    pub listing_more : {n : ℕ} {list' row' : List ℕ} {v : Walker} (rule : ℕ) (k : Listing R c list row list' w n) → n < length list
+        → At R c (k.written ++ (rule ∷ [])) row' v → Listing R c list row' (set list' n rule) v (n + 1)
+    listing_more rule k h W = record {
+      written = k.written ++ (rule ∷ []);
+      number = omega (arith, k.number, length-append k.written (rule ∷ []));
+      at = W;
+      front = ap₂ (λ l n. set l n rule) k.front (sym k.number) ∙ over-more k.written list rule (omega (arith, k.number));
+    }
 
-      -- nothing opened
-      pub listing_on : s.fresh < 1 → Listing R c list row' list' s out s.going
-      listing_on f = go turned
-        where
-          go : Turned R c k.written row' s → Listing R c list row' list' s out s.going
-          go (same e p) = record { written = k.written; number = k.number; front = k.front; progress = p }
-          go (more e p) = absurd (omega arith)
+    -- all are written, or the list is full
+    pub listing_end : {list' : List ℕ} {n : ℕ} (k : Listing R c list row list' w n) → k.written ≡ c.all → list' ≡ over c.all list
+    listing_end k e = k.front ∙ ap (λ o. over o list) e
 
-      -- a rule opened: there is room for it
-      pub listing_room : length c.all ≤ length list → 1 ≤ s.fresh → out < length list
-      listing_room fit f = go turned
-        where
-          go : Turned R c k.written row' s → out < length list
-          go (same e p) = absurd (omega arith)
-          go (more e p) =
-              omega (arith, fit, k.number, length-append k.written (s.rule ∷ []), written-most row' s (k.written ++ (s.rule ∷ [])) s.going p)
-
-      pub listing_more : out < length list → 1 ≤ s.fresh → Listing R c list row' (set list' out s.rule) s (out + 1) s.going
-      listing_more room f = go turned
-        where
-          go : Turned R c k.written row' s → Listing R c list row' (set list' out s.rule) s (out + 1) s.going
-          go (same e p) = absurd (omega arith)
-          go (more e p) = record {
-            written = k.written ++ (s.rule ∷ []);
-            number = omega (arith, k.number, length-append k.written (s.rule ∷ []));
-            front = ap₂ (λ l n. set l n s.rule) k.front (sym k.number) ∙ over-more k.written list s.rule (omega (arith, k.number));
-            progress = p;
-          }
-
-    pub listing_end : (row list' : List ℕ) (r : Walker) (out going : ℕ) → going < 1 → Listing R c list row list' r out going → list' ≡ over c.all list
-    listing_end row list' r out going h k = k.front ∙ ap (λ o. over o list) (all-written row r k.written going h k.progress)
+    pub listing_full : {list' : List ℕ} {n : ℕ} → Listing R c list row list' w n → length c.all ≤ length list → length list ≤ n → list' ≡ over c.all list
+    listing_full k h g = listing_end k (whole k.written (rules_below k.at.walk.now ++ k.at.walk.rest) c.all k.at.walk.written (omega (arith, k.number)))

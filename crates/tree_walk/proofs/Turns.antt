@@ -11,10 +11,12 @@ use Rattle.tree_laws.specs.Chart.{Places}
 use Rattle.tree_laws.specs.Walk.{Walk}
 use Rattle.tree_laws.proofs.Spans.{spans_rise, spans_within}
 use Rattle.tree_laws.proofs.Walk.{walk-leaf, walk-back, walk-done}
-use Rattle.chart.specs.Filling.{Sheet}
+use Rattle.chart.specs.Filling.{Sheet, SpanIn}
+use Rattle.chart.specs.declared.rows.GrammarRows.{GrammarRows}
 use Rattle.chart.proofs.Reading.{either, some-code, end-code, no_code}
-use Rattle.tree_walk.specs.Charted.{Rows, width}
-use Rattle.tree_walk.specs.Walking.{frame, decode, stack_of, Course, chart, WalkAt}
+use Rattle.tree_walk.specs.Charted.{Rows, rows_of, width, Roomy}
+use Rattle.tree_walk.specs.Walking.{frame, decode, stack_of, Course, chart, WalkAt, Walks}
+use Rattle.tree_walk.specs.declared.Walker.{Walker}
 use Rattle.tree_walk.proofs.Stack.{stack_length, stack_last, stack_none}
 use Rattle.tree_walk.proofs.Stable.{kinds, stable}
 
@@ -98,3 +100,15 @@ pub at_same : (R : Rows) (c : Course) (out row : List ℕ) {p q i k j l d e : �
     → WalkAt R c out row p i j d → WalkAt R c out row q k l e
 at_same R c out row {p} {q} {i} {k} {j} {l} {d} {e} x y z v W =
     subst₂ (λ q k. WalkAt R c out row q k l e) (sym x) (sym y) (subst₂ (λ l e. WalkAt R c out row p i l e) (sym z) (sym v) W)
+
+-- whatever the walk goes through
+module _ {R : Rows} {row : List ℕ} {w : Walker} (x : Walks R row w) where
+  pub walks_inside : (w.i ≤ w.j) × (w.j < width R)
+  walks_inside = inside R x.course x.out row w.p w.i w.j w.depth x.at
+
+  pub walks_deep : w.depth ≤ length row
+  walks_deep = deep R x.course x.out row w.p w.i w.j w.depth x.at
+
+-- a span of the work row
+pub span_in : {row : List ℕ} {i j : ℕ} (R : GrammarRows) → Roomy (rows_of R) row → i ≤ j → j < width (rows_of R) → SpanIn R row i j
+span_in R r h g = record { cells = r.cells; small = omega (arith, r.small); rises = h; inside = g }

@@ -7,6 +7,7 @@ use Rattle.tree_laws.specs.Chart.{Places}
 use Rattle.counts.specs.Counts.{item_cell, whole_cell}
 use Rattle.chart.specs.Rows.{plane_of, Ready}
 use Rattle.chart.specs.Filling.{Sheet, Complete}
+use Rattle.chart.specs.declared.rows.GrammarRows.{GrammarRows}
 
 -- the rows of a grammar that the walk reads, and the row of terminals
 pub record Rows : Type 0 where
@@ -19,6 +20,10 @@ pub record Rows : Type 0 where
 
 abbrev pub rows : ℕ → List ℕ → List ℕ → List ℕ → List ℕ → List ℕ → Rows
 rows Q ahead lead number home w = record { states = Q; ahead = ahead; lead = lead; number = number; home = home; sentence = w }
+
+-- those of a grammar's rows
+abbrev pub rows_of : GrammarRows → Rows
+rows_of G = rows G.states G.ahead.now G.lead.now G.number.now G.home.now G.sentence.now
 
 -- the places before, between and after the terminals
 abbrev pub width : Rows → ℕ

@@ -1,6 +1,6 @@
 -- The walk through the one tree of a chart. What waits stands in the upper bits of the work row's entries, the counts in the two
 -- lowest; a place of the walk is a state, and the part of the row that is still to be derived from there. Assumes nothing.
-use Rattle.std.specs.Prelude.{ℕ, zero, suc, ◌+◌, ◌/◌, ◌%◌, ◌≤◌, ◌<◌, ◌≡◌, ◌⊎◌, List, [], ◌∷◌, ◌++◌, length, get_or}
+use Rattle.std.specs.Prelude.{ℕ, zero, suc, ◌+◌, ◌/◌, ◌%◌, ◌≤◌, ◌<◌, ◌≡◌, ◌⊎◌, List, [], ◌∷◌, ◌++◌, Option, None, Some, length, get_or}
 use Rattle.grammar.specs.Basics.{over}
 use Rattle.grammar.specs.Limits.{limits}
 use Rattle.grammar.specs.Grammar.{Grammar}
@@ -50,29 +50,28 @@ pub record WalkAt (R : Rows) (c : Course) (out row : List ℕ) (p i j depth : �
 abbrev pub Begun : Rows → Course → List ℕ → Type 0
 Begun R c row = WalkAt R c [] row 2 0 (length R.sentence) 0
 
--- these rules are written, and the walk goes on or is at its end
-pub data Progress (R : Rows) (c : Course) (row : List ℕ) (r : Walker) (out : List ℕ) (going : ℕ) : Type 0 where
-  at_work : going ≡ 1 → WalkAt R c out row r.p r.i r.j r.depth → Progress R c row r out going
-  ended : going ≡ 0 → out ≡ c.all → Low c.counts row → Progress R c row r out going
+-- the walk is where a walker stands
+abbrev pub At : Rows → Course → (out row : List ℕ) → Walker → Type 0
+At R c out row w = WalkAt R c out row w.p w.i w.j w.depth
 
--- after a turn: no rule more, or one
-pub data Turned (R : Rows) (c : Course) (out row : List ℕ) (r : Walker) : Type 0 where
-  same : r.fresh ≡ 0 → Progress R c row r out r.going → Turned R c out row r
-  more : r.fresh ≡ 1 → Progress R c row r (out ++ (r.rule ∷ [])) r.going → Turned R c out row r
-
--- the walk is at a place, whatever it goes through
-pub record Walks (R : Rows) (row : List ℕ) (p i j depth : ℕ) : Type 0 where
+-- the same, whatever it goes through
+pub record Walks (R : Rows) (row : List ℕ) (w : Walker) : Type 0 where
   pub course : Course
   pub out : List ℕ
-  pub at : WalkAt R course out row p i j depth
+  pub at : At R course out row w
 
--- and goes into the next rule, or does a turn
-abbrev pub Opens : Rows → List ℕ → List ℕ → (p i j depth : ℕ) → Walker → Type 0
-Opens R row row' p i j depth r =
-    (c : Course) (out : List ℕ) → WalkAt R c out row p i j depth → WalkAt R c (out ++ (r.rule ∷ [])) row' r.p r.i r.j r.depth
+-- into a rule
+abbrev pub Opens : Rows → (row row' : List ℕ) → (w v : Walker) → (rule : ℕ) → Type 0
+Opens R row row' w v rule = (c : Course) (out : List ℕ) → At R c out row w → At R c (out ++ (rule ∷ [])) row' v
 
-abbrev pub Turns : Rows → List ℕ → List ℕ → (p i j depth : ℕ) → Walker → Type 0
-Turns R row row' p i j depth r = (c : Course) (out : List ℕ) → WalkAt R c out row p i j depth → Turned R c out row' r
+-- one rule more is written, or all are
+abbrev pub Found : Rows → Course → (out row : List ℕ) → Walker → Option ℕ → Type 0
+Found R c out row v None = (out ≡ c.all) × Low c.counts row
+Found R c out row v (Some rule) = At R c (out ++ (rule ∷ [])) row v
+
+-- on to the next rule, or to the end
+abbrev pub Finds : Rows → (row row' : List ℕ) → (w v : Walker) → Option ℕ → Type 0
+Finds R row row' w v r = (c : Course) (out : List ℕ) → At R c out row w → Found R c out row' v r
 
 -- the walk begins, whatever it goes through; and a list has room for all rules
 pub record Starts (R : Rows) (row : List ℕ) : Type 0 where

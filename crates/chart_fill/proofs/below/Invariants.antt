@@ -4,7 +4,4 @@ use lib.ListN.{get_or}
 use Rattle.chart_fill.proofs.below.Given as goal
 
 abbrev pub invariant-loop-p : goal.invariant-loop-p
-invariant-loop-p l = (l.low ≤ l.p) × (l.p ≤ l.q) × ((h : ℕ) → l.p ≤ h → h < l.q → get_or l.flags h 0 ≡ 0)
-
-abbrev pub decreases-loop-p : goal.decreases-loop-p
-decreases-loop-p l = l.p
+invariant-loop-p l = (h : ℕ) → l.p ≤ h → h < l.q → get_or l.flags h 0 ≡ 0

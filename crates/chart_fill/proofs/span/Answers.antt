@@ -2,7 +2,6 @@
 use Prim.Native.Nat.{suc, ◌-◌, ◌/◌}
 use mathlib.Core.Path.{◌≡◌, refl, sym, subst, ◌∙◌}
 use native.Mathlib.Omega.{arith}
-use lib.ListN.{length}
 use borrow.Author.Rules.{rules}
 use Rattle.grammar.specs.Limits.{limits}
 use Rattle.chart.specs.Rows.{block}
@@ -10,25 +9,16 @@ use Rattle.chart.specs.Filling.{Working}
 use Rattle.chart.proofs.MadeLaws.{span_at}
 use Rattle.chart_fill.proofs.Laws.{span_start, span_down, span_end, all_covered}
 use Rattle.chart_fill.proofs.span.Goals as goal
-use Rattle.chart_fill.proofs.span.Lts as lts
-use Rattle.chart_fill.proofs.span.Reads as reads
-use Rattle.chart_fill.proofs.span.Tie as tie
-
-abbrev Start : Type 0
-Start = lts.Start tie.the-claims reads.Pre reads.Post goal.the-invariant-loop-q goal.the-decreases-loop-q tie.handed_clauses
-
-long : (e : Start) → length e.args.active ≡ limits.max_states
-long e = search rules
 
 pub loop-q-init : goal.loop-q-init
 loop-q-init c = let a = c.args in (
   c.find-q.ensures.upper_bound,
   refl,
-  λ G P S F. let y = c.find-q.ensures.finds (λ h x g. absurd (omega arith)) (all_covered a.states (limits.max_states / block) a.active (omega (arith, c.requires.wired.ready.few))) in
-      (span_down S c.find-q.result y.0 (span_start S c.requires.span.rises F), y.1),
-  long c.before.before.before.before.before.before.before,
-  long c.before.before.before.before.before.before.before,
-  c.find-q.auto.blocks,
+  λ G P S F. let y = c.find-q.ensures.finds (λ h x g. absurd (omega arith)) (all_covered a.rows.now.states (limits.max_states / block) a.active.now (omega (arith, c.args.rows.now.wired.ready.few))) in
+      (span_down S c.find-q.result y.0 (span_start S c.requires.rises F), y.1),
+  search rules,
+  search rules,
+  search rules,
 )
 
 pub slice_bounds-look-end : goal.slice_bounds-look-end
@@ -41,7 +31,7 @@ pub slice_bounds-look-end-in-loop-q-2 : goal.slice_bounds-look-end-in-loop-q-2
 slice_bounds-look-end-in-loop-q-2 c = sym c.loop-q.invariant.5
 
 pub look-r-requires : goal.look-r-requires
-look-r-requires c = let few = c.requires.wired.ready.few in record { wired = c.requires.wired; span = span_at c.requires.span c.loop-q.invariant.1 c.requires.span.rises c.requires.span.inside; le_q = (omega arith, omega (arith, c.loop-q.invariant.0)); states_in_bounds = (omega (arith, few, c.loop-q.invariant.3), omega (arith, few, c.loop-q.invariant.4), omega (arith, few, c.loop-q.invariant.5)) }
+look-r-requires c = let few = c.args.rows.now.wired.ready.few in record { span = span_at c.requires c.loop-q.invariant.1 c.requires.rises c.requires.inside; le_q = (omega arith, omega (arith, c.loop-q.invariant.0)); states_in_bounds = (omega (arith, few, c.loop-q.invariant.3), omega (arith, few, c.loop-q.invariant.4), omega (arith, few, c.loop-q.invariant.5)) }
 
 pub loop-q-smaller : goal.loop-q-smaller
 loop-q-smaller c = omega (arith, c.look-r.ensures.upper_bound.1, c.find-q-in-loop-q.ensures.upper_bound)
@@ -53,7 +43,7 @@ loop-q-preserved c = let k = c.loop-q in
       c.look-r.auto.work ∙ k.invariant.1,
       λ G P S F. let x = k.invariant.2 G P S F in
           let W = c.look-r.ensures.looks G P S
-          (subst (λ z. Working G P a.states a.home.now a.row.now k.work k.seen k.flags z a.i a.j) (let z : k.q ≡ suc (k.q - 1) = omega arith in z) x.0) in
+          (subst (λ z. Working G P a.rows.now.states a.rows.now.home.now a.rows.now.sentence.now k.work k.active k.flags z a.i a.j) (let z : k.q ≡ suc (k.q - 1) = omega arith in z) x.0) in
           let y = c.find-q-in-loop-q.ensures.finds W.looking.high (c.look-r.ensures.covered x.1) in
           (span_down S c.find-q-in-loop-q.result y.0 W, y.1),
       c.look-r.auto.active ∙ k.invariant.3,

@@ -1,7 +1,6 @@
 -- house meets its contract: one entry is written, or none.
-use mathlib.Core.Path.{refl, ap}
+use mathlib.Core.Path.{refl}
 use native.Mathlib.Omega.{arith}
-use lib.ListN.{set}
 use Rattle.chart_rows.proofs.house.Goals as goal
 
 pub returns-then-n-y : goal.returns-then-n-y
@@ -9,4 +8,4 @@ returns-then-n-y c = record { home_after = λ q. absurd (omega (arith, c.if-n-y.
 
 pub returns : goal.returns
 returns c = let a = c.args in
-    record { home_after = λ q. ap (λ k. set a.home.now k a.p) c.wide-c.ensures; home_unchanged = λ q. absurd (omega (arith, c.if-n-y.false)) }
+    record { home_after = λ q. refl; home_unchanged = λ q. absurd (omega (arith, c.if-n-y.false)) }

@@ -1,7 +1,6 @@
 -- link meets its contract: two entries are written, or none.
-use mathlib.Core.Path.{refl, ap}
+use mathlib.Core.Path.{refl}
 use native.Mathlib.Omega.{arith}
-use lib.ListN.{get_or, set}
 use Rattle.chart_rows.proofs.link.Goals as goal
 
 pub returns-then-x-lt-NONTERMINAL_BASE : goal.returns-then-x-lt-NONTERMINAL_BASE
@@ -9,4 +8,4 @@ returns-then-x-lt-NONTERMINAL_BASE c = record { next_unchanged = λ q. (refl, re
 
 pub returns : goal.returns
 returns c = let a = c.args in
-    let w = c.wide-c.ensures in record { next_unchanged = λ q. absurd (omega (arith, c.if-x-lt-NONTERMINAL_BASE.false)); next_after = λ q. (ap (λ k. set a.next.now a.p (get_or a.head.now k 0)) w, ap (λ k. set a.head.now k a.p) w) }
+    record { next_unchanged = λ q. absurd (omega (arith, c.if-x-lt-NONTERMINAL_BASE.false)); next_after = λ q. (refl, refl) }

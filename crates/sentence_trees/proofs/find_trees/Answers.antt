@@ -1,8 +1,10 @@
 -- find_trees meets its contract: each test is the next of the order, and what is told is the outcome.
 use native.Mathlib.Omega.{arith}
 use mathlib.Core.Path.{◌≡◌, sym, ap, subst, ◌∙◌}
-use Prim.Native.Nat.{◌*◌, ◌≤◌}
-use lib.ListN.{replicate}
+use Prim.Native.Nat.{ℕ, ◌*◌, ◌≤◌}
+use mathlib.Core.List.{List}
+use lib.ListN.{length, replicate}
+use Rattle.std.proofs.Common.{Result, Ok}
 use Rattle.grammar.specs.Basics.{over}
 use Rattle.grammar.specs.Limits.{limits}
 use Rattle.grammar.proofs.WellFormed.{room}
@@ -10,101 +12,88 @@ use Rattle.grammar.proofs.Sentence.{takes_only}
 use Rattle.table_check.proofs.Callers.{PassedTable, passed-table, refused-table}
 use Rattle.trees.specs.Trees.{row_fault, max_row, places, work_size, cleared}
 use Rattle.trees.specs.Promise.{FindsTrees}
-use Rattle.sentence.specs.Answered.{Answered}
+use Rattle.sentence.specs.Answered.{Answered, Judges}
+use Rattle.sentence.specs.declared.ListTooShort.{ListTooShort}
 use Rattle.sentence.specs.declared.Outcome.{Outcome}
-use Rattle.sentence.specs.declared.Outcome.TheVariants.{Nothing, One, Several, Short}
 use Rattle.sentence_trees.proofs.Order.{told, states-of, terminals-of, table-refused, row-refused, work_refused, row-few, answered}
 use Rattle.sentence_trees.proofs.find_trees.Goals as goal
-use Rattle.sentence_trees.proofs.find_trees.Lts as lts
-use Rattle.sentence_trees.proofs.find_trees.Reads as reads
-use Rattle.sentence_trees.proofs.find_trees.Tie as tie
-
-abbrev Place-Past-After-enum_told : Type 0
-Place-Past-After-enum_told = lts.Past-After-enum_told tie.the-claims reads.Pre reads.Post tie.handed_clauses
-
-abbrev Place-After-row_fault : Type 0
-Place-After-row_fault = lts.After-row_fault tie.the-claims reads.Pre reads.Post tie.handed_clauses
-
-abbrev Place-After-judge_in : Type 0
-Place-After-judge_in = lts.After-judge_in tie.the-claims reads.Pre reads.Post tie.handed_clauses
+use Rattle.sentence_trees.proofs.find_trees.Goals.{In-Passed}
 
 -- the table passes
-passed : (c : Place-Past-After-enum_told) → let a = c.args in
-    PassedTable a.t a.n a.table.now c.check_table-checked.result.grammar
-passed c =
-    let a = c.args in
-    passed-table a.t a.n a.table.now c.check_table-checked.result c.check_table-checked.ensures c.in-Passed.is
+passed : (c : In-Passed) → let a = c.args in PassedTable a.t a.n a.table.now c.check_table-checked.result.grammar
+passed c = let a = c.args in passed-table a.t a.n a.table.now c.check_table-checked.result c.check_table-checked.ensures c.in-Passed.is
 
 -- the entries of its work row, which are few
-states_are : (c : Place-Past-After-enum_told) → places * places * c.check_table-checked.result.grammar.states ≡ work_size (passed c).grammar
+states_are : (c : In-Passed) → places * places * c.check_table-checked.result.grammar.states ≡ work_size (passed c).grammar
 states_are c = ap (λ q. places * places * q) (states-of c.check_table-checked.result.grammar (passed c).grammar (passed c).same)
 
-few : (c : Place-Past-After-enum_told) → places * places * c.check_table-checked.result.grammar.states ≤ places * places * limits.max_states
-few c = omega (arith, states_are c, (passed c).well_formed.size)
+-- its terminals are those that were told
+abbrev fault : In-Passed → ℕ
+fault c = row_fault c.check_table-checked.result.grammar.terminals max_row c.args.row.now
 
--- the row's first fault
-fault : (c : Place-After-row_fault) → c.row_fault-fault.result ≡ row_fault c.args.t max_row c.args.row.now
-fault c =
-    let p = passed c.before.before in
-    let a = c.args in
-    c.row_fault-fault.ensures
-    ∙ ap (λ z. row_fault z max_row a.row.now)
-    (terminals-of c.check_table-checked.result.grammar p.grammar p.same
-    ∙ (takes_only limits room a.t a.n a.table.now p.grammar p.checked).terminals)
+fault_is : (c : In-Passed) → fault c ≡ row_fault c.args.t max_row c.args.row.now
+fault_is c = let a = c.args in
+    let p = passed c in
+    ap (λ z. row_fault z max_row a.row.now)
+    (terminals-of c.check_table-checked.result.grammar p.grammar p.same ∙ (takes_only limits room a.t a.n a.table.now p.grammar p.checked).terminals)
 
 pub returns-in-Refused : goal.returns-in-Refused
 returns-in-Refused c = let a = c.args in
     table-refused a.t a.n a.table.now a.row.now a.work.now a.list.now c.in-Refused.cause c.in-Refused.at
     (refused-table a.t a.n a.table.now c.check_table-checked.result c.check_table-checked.ensures c.in-Refused.cause c.in-Refused.at c.in-Refused.is)
 
-pub returns-then-fault-row : goal.returns-then-fault-row
-returns-then-fault-row c = let a = c.args in
-    let p = passed c.before.before.before.before in
-    row-refused a.t a.n a.table.now a.row.now a.work.now a.list.now p.grammar p.checked
-    c.row_fault-fault.result (fault c.before.before) c.if-fault-row.true
+pub returns-in-Some : goal.returns-in-Some
+returns-in-Some c = let a = c.args in
+    let d = (goal.at.returns-in-Some c).In-Passed in
+    let p = passed d in
+    row-refused a.t a.n a.table.now a.row.now a.work.now a.list.now p.grammar p.checked c.in-Some.fault (c.in-Some.ensures.0 ∙ fault_is d) c.in-Some.ensures.1
 
-pub overflow_mul-states : goal.overflow_mul-states
-overflow_mul-states c = omega (arith, few c.before.before.before.before)
+pub overflow_mul-g : goal.overflow_mul-g
+overflow_mul-g c = let d = (goal.at.overflow_mul-g c).In-Passed in omega (arith, states_are d, (passed d).well_formed.size)
 
-pub returns-then-work-states : goal.returns-then-work-states
-returns-then-work-states c = let a = c.args in
-    let p = passed c.before.before.before.before.before in
-    work_refused a.t a.n a.table.now a.row.now a.work.now a.list.now p.grammar p.checked
-    c.row_fault-fault.result (fault c.before.before.before) (omega (arith, c.if-fault-row.false)) (omega (arith, c.if-work-states.true, states_are c.before.before.before.before.before))
+pub returns-then-work-g : goal.returns-then-work-g
+returns-then-work-g c = let a = c.args in
+    let d = (goal.at.returns-then-work-g c).In-Passed in
+    let p = passed d in
+    work_refused a.t a.n a.table.now a.row.now a.work.now a.list.now p.grammar p.checked (fault d) (fault_is d) c.in_default.ensures (omega (arith, c.if-work-g.true, states_are d))
 
-pub judge_in-outcome-requires : goal.judge_in-outcome-requires
-judge_in-outcome-requires c = let a = c.args in
-    let p = passed c.before.before.before.before.before.before.before in record {
-      fact = record { grammar = p.grammar; well_formed = p.well_formed; same = p.same };
-      states_in_bounds = (
-        omega (arith, c.if-work-states.false),
-        row-few a.t a.n a.table.now a.row.now a.work.now a.list.now p.grammar p.checked
-            c.row_fault-fault.result (fault c.before.before.before.before.before) (omega (arith, c.if-fault-row.false)),
-      );
-    }
+pub judge_in-requires-clause-fact : goal.judge_in-requires-clause-fact
+judge_in-requires-clause-fact c = let p = passed (goal.at.judge_in-requires-clause-fact c).In-Passed in record { grammar = p.grammar; well_formed = p.well_formed; same = p.same }
+
+pub judge_in-requires-clause-states_in_bounds : goal.judge_in-requires-clause-states_in_bounds
+judge_in-requires-clause-states_in_bounds c = let a = c.args in
+    let d = (goal.at.judge_in-requires-clause-states_in_bounds c).In-Passed in
+    let p = passed d in
+    (c.if-work-g.false, row-few a.t a.n a.table.now a.row.now a.work.now a.list.now p.grammar p.checked (fault d) (fault_is d) c.in_default.ensures)
 
 -- what is told of the outcome
-answer : (c : Place-After-judge_in) (r : Outcome) → c.judge_in-outcome.result ≡ r → let a = c.args in
-    FindsTrees a.t a.n a.table.now a.row.now a.work.now a.list.now (told r) c.judge_in-outcome.new.work c.judge_in-outcome.new.list
-answer c r e =
+answer : (c : In-Passed) {r s : Result Outcome ListTooShort} {work' list' : List ℕ} → r ≡ s → let a = c.args in
+    let g = c.check_table-checked.result.grammar in
+    length a.row.now ≤ fault c → places * places * g.states ≤ length a.work.now → Judges g a.row.now a.list.now list' r
+    → work' ≡ over (replicate (places * places * g.states) 0) a.work.now → FindsTrees a.t a.n a.table.now a.row.now a.work.now a.list.now (told s) work' list'
+answer c {r} {s} {work'} {list'} e h l j z =
     let a = c.args in
-    let p = passed c.before.before.before.before.before.before.before in
-    let list' = c.judge_in-outcome.new.list in
-    let zero : c.judge_in-outcome.new.work ≡ cleared p.grammar a.work.now
-    = c.judge_in-outcome.ensures.work_after ∙ ap (λ k. over (replicate k 0) a.work.now) (states_are c.before.before.before.before.before.before.before) in
-    subst (λ w. FindsTrees a.t a.n a.table.now a.row.now a.work.now a.list.now (told r) w list') (sym zero)
-    (answered a.t a.n a.table.now a.row.now a.work.now a.list.now p.grammar p.checked
-    c.row_fault-fault.result (fault c.before.before.before.before.before) (omega (arith, c.if-fault-row.false)) (omega (arith, c.if-work-states.false, states_are c.before.before.before.before.before.before.before)) r list'
-    (subst (Answered p.grammar a.row.now a.list.now list') e (c.judge_in-outcome.ensures.judges p.grammar p.well_formed p.same)))
+    let p = passed c in
+    let cleared-work : work' ≡ cleared p.grammar a.work.now = z ∙ ap (λ k. over (replicate k 0) a.work.now) (states_are c) in
+    subst (λ w. FindsTrees a.t a.n a.table.now a.row.now a.work.now a.list.now (told s) w list') (sym cleared-work)
+    (answered a.t a.n a.table.now a.row.now a.work.now a.list.now p.grammar p.checked (fault c) (fault_is c) h (omega (arith, l, states_are c)) s list'
+    (subst (Answered p.grammar a.row.now a.list.now list') e (j p.grammar p.well_formed p.same)))
 
-pub returns-in-Nothing : goal.returns-in-Nothing
-returns-in-Nothing c = answer c.before.before.before.before.before.before Nothing c.in-Nothing.is
+pub returns-in-Ok-Nothing : goal.returns-in-Ok-Nothing
+returns-in-Ok-Nothing c = let j = c.judge_in.ensures in
+    let x = c.in-Ok-Nothing in
+    answer (goal.at.returns-in-Ok-Nothing c).In-Passed (x.is ∙ ap Ok x.field-0-is) c.in_default.ensures c.if-work-g.false j.judges j.work_after
 
-pub returns-in-One : goal.returns-in-One
-returns-in-One c = answer c.before.before.before.before.before.before (One c.in-One.k) c.in-One.is
+pub returns-in-Ok-One : goal.returns-in-Ok-One
+returns-in-Ok-One c = let j = c.judge_in.ensures in
+    let x = c.in-Ok-One in
+    answer (goal.at.returns-in-Ok-One c).In-Passed (x.is ∙ ap Ok x.field-0-is) c.in_default.ensures c.if-work-g.false j.judges j.work_after
 
-pub returns-in-Several : goal.returns-in-Several
-returns-in-Several c = answer c.before.before.before.before.before.before Several c.in-Several.is
+pub returns-in-Ok-Several : goal.returns-in-Ok-Several
+returns-in-Ok-Several c = let j = c.judge_in.ensures in
+    let x = c.in-Ok-Several in
+    answer (goal.at.returns-in-Ok-Several c).In-Passed (x.is ∙ ap Ok x.field-0-is) c.in_default.ensures c.if-work-g.false j.judges j.work_after
 
-pub returns-in-Short : goal.returns-in-Short
-returns-in-Short c = answer c.before.before.before.before.before.before Short c.in-Short.is
+pub returns-in-Err : goal.returns-in-Err
+returns-in-Err c = let j = c.judge_in.ensures in
+    answer (goal.at.returns-in-Err c).In-Passed c.in-Err.is c.in_default.ensures c.if-work-g.false j.judges j.work_after

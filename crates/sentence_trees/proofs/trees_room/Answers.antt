@@ -4,25 +4,12 @@ use mathlib.Core.Path.{sym, ap, ◌∙◌}
 use Prim.Native.Nat.{◌*◌}
 use Rattle.grammar.specs.Refusal.{done}
 use Rattle.grammar.proofs.Answers.{then-goes, then_stops}
-use Rattle.table_check.proofs.Callers.{PassedTable, passed-table, refused-table}
+use Rattle.table_check.proofs.Callers.{passed-table, refused-table}
 use Rattle.trees.specs.Trees.{places, work_size, trees_room}
 use Rattle.trees.specs.Promise.{room_told}
 use Rattle.trees.specs.declared.TreesRoom.TheVariants.{Entries}
 use Rattle.sentence_trees.proofs.Order.{states-of}
 use Rattle.sentence_trees.proofs.trees_room.Goals as goal
-use Rattle.sentence_trees.proofs.trees_room.Lts as lts
-use Rattle.sentence_trees.proofs.trees_room.Reads as reads
-use Rattle.sentence_trees.proofs.trees_room.Tie as tie
-
-abbrev Place-Past-After-enum_told : Type 0
-Place-Past-After-enum_told = lts.Past-After-enum_told tie.the-claims reads.Pre reads.Post
-
--- the table passes
-passed : (c : Place-Past-After-enum_told) → let a = c.args in
-    PassedTable a.t a.n a.table.now c.check_table-checked.result.grammar
-passed c =
-    let a = c.args in
-    passed-table a.t a.n a.table.now c.check_table-checked.result c.check_table-checked.ensures c.in-Passed.is
 
 pub returns-in-Refused : goal.returns-in-Refused
 unfolding trees_room
@@ -31,11 +18,13 @@ returns-in-Refused c = let a = c.args in
     (refused-table a.t a.n a.table.now c.check_table-checked.result c.check_table-checked.ensures c.in-Refused.cause c.in-Refused.at c.in-Refused.is)))
 
 pub overflow_mul-result-in-Passed : goal.overflow_mul-result-in-Passed
-overflow_mul-result-in-Passed c = let p = passed c.before.before in
+overflow_mul-result-in-Passed c = let a = c.args in
+    let p = passed-table a.t a.n a.table.now c.check_table-checked.result c.check_table-checked.ensures c.in-Passed.is in
     omega (arith, states-of c.check_table-checked.result.grammar p.grammar p.same, p.well_formed.size)
 
 pub returns-in-Passed : goal.returns-in-Passed
 unfolding trees_room
-returns-in-Passed c = let p = passed c.before.before in
+returns-in-Passed c = let a = c.args in
+    let p = passed-table a.t a.n a.table.now c.check_table-checked.result c.check_table-checked.ensures c.in-Passed.is in
     ap (λ q. Entries (places * places * q)) (states-of c.check_table-checked.result.grammar p.grammar p.same)
     ∙ ap room_told (sym (then-goes _ (λ G. done (work_size G)) p.grammar p.checked))
