@@ -91,11 +91,12 @@ fn mention(flags: &mut [u8], rows: &GrammarRows, c: usize, q: usize, blocks: &mu
     ensures covered { Covered rows.now.states flags.old blocks.old → Covered rows.now.states flags.new blocks.new }
 {
     let top = rows.head[c] as usize;
+    let next = rows.next;
     let mut p = top;
     while 0 < p {
         flags[p + 1] = 1;
         blocks[(p + 1) / BLOCK] = 1;
-        p = rows.next[p] as usize;
+        p = next[p] as usize;
     }
     if q < top + 2 {
         return top + 2;

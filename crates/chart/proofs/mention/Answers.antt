@@ -23,11 +23,11 @@ overflow_add-blocks c = omega (arith, c.loop-p.invariant.0.room, c.args.rows.now
 pub bounds-blocks-p : goal.bounds-blocks-p
 bounds-blocks-p c = omega (arith, c.loop-p.invariant.0.room, c.loop-p.invariant.1, c.requires.states_in_bounds.1)
 
-pub offset_bounds-rows-p : goal.offset_bounds-rows-p
-offset_bounds-rows-p c = omega (arith, c.loop-p.invariant.0.room, c.args.rows.now.wired.linked.few)
+pub offset_bounds-next-p : goal.offset_bounds-next-p
+offset_bounds-next-p c = omega (arith, c.loop-p.invariant.0.room, c.args.rows.now.wired.linked.few)
 
-pub bounds-rows-p : goal.bounds-rows-p
-bounds-rows-p c = omega (arith, c.loop-p.invariant.0.room, c.args.rows.now.wired.linked.few)
+pub bounds-next-p : goal.bounds-next-p
+bounds-next-p c = omega (arith, c.loop-p.invariant.0.room, c.args.rows.now.wired.linked.few)
 
 pub loop-p-smaller : goal.loop-p-smaller
 loop-p-smaller c = omega (arith, c.args.rows.now.wired.linked.nexts c.loop-p.p (omega arith) (omega (arith, c.loop-p.invariant.0.room)))
