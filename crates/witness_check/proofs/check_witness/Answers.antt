@@ -13,9 +13,6 @@ unfolding check_witness
 returns-in-Refused c = ap check_verdict (sym (then_stops _ (λ G. check_row (moves_with limits G c.args.callers) c.args.row.now) c.in-Refused.cause c.in-Refused.at
     (c.prepare-w.ensures.refused_as c.in-Refused.cause c.in-Refused.at c.in-Refused.is)))
 
-pub walk-requires : goal.walk-requires
-walk-requires c = let s = c.prepare-w.ensures.sized in (s.least, s.most)
-
 pub returns-in-Passed : goal.returns-in-Passed
 unfolding check_witness
 returns-in-Passed c = let p = c.prepare-w.ensures.passed_as c.in-Passed.is in

@@ -25,12 +25,6 @@ returns-then-row-eq0 c = let a = c.args in λ G R. ap check_verdict (walk-empty 
 pub returns-then-row-ne0 : goal.returns-then-row-ne0
 returns-then-row-ne0 c = let a = c.args in λ G R. ap check_verdict (walk_first G a.ahead.now a.after.now a.number.now a.member.now a.target.now a.t a.m a.q R a.row.now c.if-row-eq0.false c.if-row-ne0.true)
 
-pub overflow_mul-count : goal.overflow_mul-count
-overflow_mul-count c = omega (arith, square c.args.q c.requires.0 c.requires.1)
-
-pub overflow_mul-count-2 : goal.overflow_mul-count-2
-overflow_mul-count-2 c = omega (arith, square c.args.q c.requires.0 c.requires.1)
-
 pub loop-place-init : goal.loop-place-init
 loop-place-init c = let a = c.args in (
   omega arith,
@@ -43,9 +37,6 @@ pub returns-then-count-next : goal.returns-then-count-next
 returns-then-count-next c = let a = c.args in
     let l = c.loop-place in
     λ G R. ap check_verdict (walk-beyond G a.ahead.now a.after.now a.number.now a.member.now a.target.now a.t a.m a.q R a.row.now l.last l.place c.loop-place-test.true l.invariant.2 (omega (arith, c.if-count-next.true)) ∙ l.invariant.3 G R)
-
-pub is_successor-requires : goal.is_successor-requires
-is_successor-requires c = (omega (arith, c.requires.0), c.requires.1)
 
 pub returns-then-not-is_successor : goal.returns-then-not-is_successor
 returns-then-not-is_successor c = let a = c.args in
@@ -62,9 +53,6 @@ loop-place-preserved c = let a = c.args in
       λ G R. walk_more G a.ahead.now a.after.now a.number.now a.member.now a.target.now a.t a.m a.q R a.row.now l.last l.place c.loop-place-test.true l.invariant.2 (omega (arith, c.if-count-next.false))
           (sym c.is_successor.ensures ∙ c.if-not-is_successor.false) ∙ l.invariant.3 G R,
     )
-
-pub index_of-requires : goal.index_of-requires
-index_of-requires c = (c.requires.1, omega arith, omega arith, omega arith)
 
 pub returns-then-last-index_of : goal.returns-then-last-index_of
 returns-then-last-index_of c = let a = c.args in

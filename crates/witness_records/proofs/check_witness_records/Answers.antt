@@ -1,8 +1,7 @@
 -- check_witness_records meets its contract: up to each record the check goes on as the whole one, and its end is the definition's.
 use native.Mathlib.Omega.{arith}
-use mathlib.Core.Path.{refl, ap, sym, ◌∙◌}
+use mathlib.Core.Path.{ap, sym, ◌∙◌}
 use mathlib.Core.List.{map}
-use mathlib.Core.Logic.{inl}
 use Rattle.triples.specs.Witness.{entry_of}
 use Rattle.witness_records.specs.Records.{triples}
 use Rattle.witness_records.specs.Walk.{end_of}
@@ -12,9 +11,6 @@ use Rattle.witness_records.proofs.check_witness_records.Goals as goal
 pub returns-in-Refused : goal.returns-in-Refused
 returns-in-Refused c = let a = c.args in
     refused-answer a.t a.n a.table.now a.callers c.begin-w.result a.entries.now c.begin-w.ensures _ _ c.in-Refused.is
-
-pub loop-place-init : goal.loop-place-init
-loop-place-init c = λ M r. inl (refl, refl)
 
 pub returns-in_default-step : goal.returns-in_default-step
 returns-in_default-step c = let a = c.args in let w = c.begin-w.result in let l = c.loop-place in let es = c.args.entries.now in

@@ -1,13 +1,9 @@
 -- end_of meets its contract: the index is that of (1,1,1), or another.
-use native.Mathlib.Omega.{arith}
 use mathlib.Core.Path.{sym, ◌∙◌}
 use borrow.Author.Tests.{eq-eqb, ne_eqb}
 use Rattle.witness_records.specs.Walk.{end_of}
 use Rattle.witness_records.proofs.Entries.{index-end}
 use Rattle.witness_records.proofs.end_of.Goals as goal
-
-pub index_of-requires : goal.index_of-requires
-index_of-requires c = (c.requires, omega arith, omega arith, omega arith)
 
 pub returns-then-last-index_of : goal.returns-then-last-index_of
 unfolding end_of

@@ -1,5 +1,4 @@
 -- step meets its contract: the tests in the order of the definition.
-use native.Mathlib.Omega.{arith}
 use mathlib.Core.Path.{◌≡◌, ap, sym, ◌∙◌}
 use Prim.Native.Nat.{ℕ}
 use Rattle.triples.specs.Witness.{entry_of}
@@ -7,7 +6,6 @@ use Rattle.witness_records.specs.declared.Board.{Board}
 use Rattle.witness_records.specs.declared.TripleRecord.{TripleRecord}
 use Rattle.witness_records.specs.Records.{triple}
 use Rattle.witness_records.specs.Walk.{after}
-use Rattle.witness_records.proofs.Entries.{square}
 use Rattle.witness_records.proofs.Walks.{after-beyond, after_first, after-first_wrong, after_next, after_wrong}
 use Rattle.witness_records.proofs.step.Goals as goal
 
@@ -15,12 +13,6 @@ use Rattle.witness_records.proofs.step.Goals as goal
 entered : (w : Board) (last place : ℕ) (e : TripleRecord) (next : ℕ) → next ≡ entry_of w.states (triple e)
     → after w last place next ≡ after w last place (entry_of w.states (triple e))
 entered w last place e next h = ap (after w last place) h
-
-pub overflow_mul-q : goal.overflow_mul-q
-overflow_mul-q c = omega (arith, square c.args.w.now.states c.requires.most)
-
-pub overflow_mul-q-2 : goal.overflow_mul-q-2
-overflow_mul-q-2 c = omega (arith, square c.args.w.now.states c.requires.most)
 
 pub returns-then-q-next : goal.returns-then-q-next
 returns-then-q-next c = let a = c.args in
