@@ -1,5 +1,5 @@
 -- What the program prints for the bytes of its input, however many they are, is the report of those read. Assumes nothing.
-use Rattle.std.proofs.Common.{◌≡◌, ℕ, ◌+◌, ◌≤◌, ◌<◌, List, [], ◌++◌, Option, None, Some, IfSome, length, take, arith, sym, ap, ◌∙◌, subst, append-nil, length-append, length-take-le, inl, inr}
+use Rattle.std.proofs.Common.{◌≡◌, ℕ, ◌+◌, ◌≤◌, ◌<◌, List, [], ◌++◌, Option, None, Some, Ok, IfSome, length, take, arith, sym, ap, ◌∙◌, subst, append-nil, length-append, length-take-le, inl, inr}
 use Rattle.std.proofs.lemmas.Bool.{cases_lt}
 use Rattle.std.proofs.Math.Seq.{take-append_seam}
 use borrow.Author.Tests.{lt-leb}
@@ -14,7 +14,6 @@ use Rattle.report.specs.declared.Reported.TheVariants.{Written}
 use Rattle.report.proofs.Sizes.{never_short}
 use Rattle.report.proofs.Written.{report_done}
 use Rattle.ambig.specs.Input.{ReadsText}
-use Rattle.ambig.specs.declared.Input.TheVariants.{Bytes}
 
 -- an output of report_size bytes is long enough: its front is the report
 module _ (text out : List ℕ) (r : Reported) (out' : List ℕ) (h : Reports text out r out') (room : report_size ≤ length out) where
@@ -45,7 +44,7 @@ same_report read rest all e end =
 
 -- so what holds of the report of the bytes read holds of that of the whole input
 pub report_of_input : (old new : Option (List ℕ)) (n : ℕ) (text : List ℕ) (P : List ℕ → Type 0) → length text ≡ program_text + 1 → n ≤ length text
-    → ReadsText old new (Bytes n) text → P (report_of (take n text)) → IfSome old (λ xs. P (report_of xs))
+    → ReadsText old new (Ok n) text → P (report_of (take n text)) → IfSome old (λ xs. P (report_of xs))
 report_of_input None new n text P size fits read p = tt
 report_of_input (Some xs) None n text P size fits read p = absurd read.0
 report_of_input (Some xs) (Some ys) n text P size fits read p =

@@ -4,24 +4,16 @@
 // the text: nothing is then written to standard output, and a line to standard error says so. The same line tells of a failed write.
 #![tactic(auto)]
 
-ghost use Rattle.std.specs.Prelude.{length, IfSome, OnOk, IsErrOf};
-ghost use Rattle.std.specs.Bool.{OnTrue};
+ghost use Rattle.std.specs.Prelude.{◌≡◌, ◌≤◌, length, IfSome, IfOk, IfErr, OnOk, IsErrOf};
 ghost use Rattle.std.specs.Io.KnownBytes.{Appends, Keeps};
 ghost use Rattle.report.specs.Report.{report_of};
-ghost use Rattle.ambig.specs.Input.{Within, ReadsPart, ReadsText};
+ghost use Rattle.ambig.specs.Input.{ReadsText};
 ghost use Rattle.ambig.specs.Output.{AppendsFront};
 
 use report::{PROGRAM_TEXT, REPORT_SIZE, Reported};
 use std::io::{Read, Write};
 
 const COMPLAINT: &[u8] = b"ambig: standard input or output failed\n";
-
-// How many bytes were read; or that a read failed.
-#[derive(Drop)]
-pub enum Input {
-    Bytes(usize),
-    Failed,
-}
 
 // A read of the text failed, or a write of what is printed for it.
 #[derive(Clone, Copy)]
@@ -31,64 +23,56 @@ pub enum Failure {
 }
 
 // Writes all of the bytes, or stops at the first write that takes nothing or fails.
-fn write_bytes<W: Write>(output: &mut W, bytes: &[u8]) -> bool
-    ensures all { OnTrue result (Appends (W.contents output.old) (W.contents output.new) bytes.now) }
+fn write_bytes<W: Write>(output: &mut W, bytes: &[u8]) -> Result<(), Failure>
+    ensures all { OnOk result (Appends (W.contents output.old) (W.contents output.new) bytes.now) }
     ensures front { AppendsFront (W.contents output.old) (W.contents output.new) bytes.now }
+    ensures failed { IfErr result (λ e. e ≡ Failure.Write) }
 {
     let n = bytes.len();
     let mut at = 0;
     while at < n {
         let Ok(k) = output.write(&bytes[at..]) else {
-            return false;
+            return Err(Failure::Write);
         };
         if k == 0 {
-            return false;
+            return Err(Failure::Write);
         }
         at += k;
     }
-    true
+    Ok(())
 }
 
+// Where this write fails too, nothing more can be told.
 fn complain<W: Write>(errors: &mut W)
     ensures { AppendsFront (W.contents errors.old) (W.contents errors.new) COMPLAINT.now }
 {
-    write_bytes(errors, COMPLAINT);
-}
-
-// One read: 0 bytes at the end of the input.
-fn read_part<R: Read>(input: &mut R, part: &mut [u8]) -> Input
-    ensures within { Within result (length part.new) }
-    ensures read { ReadsPart (R.remaining input.old) (R.remaining input.new) result part.new }
-{
-    match input.read(part) {
-        Ok(k) => Input::Bytes(k),
-        Err(_) => Input::Failed,
-    }
+    let _ = write_bytes(errors, COMPLAINT);
 }
 
 // Reads until the text is full or the input ends.
-fn read_input<R: Read>(input: &mut R, text: &mut [u8]) -> Input
-    ensures within { Within result (length text.new) }
+fn read_input<R: Read>(input: &mut R, text: &mut [u8]) -> Result<usize, Failure>
+    ensures within { IfOk result (λ n. n ≤ length text.new) }
     ensures read { ReadsText (R.remaining input.old) (R.remaining input.new) result text.new }
 {
     let n = text.len();
     let mut at = 0;
     while at < n {
-        let Input::Bytes(k) = read_part(input, &mut text[at..n]) else {
-            return Input::Failed;
+        let Ok(k) = input.read(&mut text[at..]) else {
+            return Err(Failure::Read);
         };
         if k == 0 {
-            return Input::Bytes(at);
+            return Ok(at);
         }
         at += k;
     }
-    Input::Bytes(at)
+    Ok(at)
 }
 
 // Writes what is printed for a text. The output lent is never too short.
-fn print_report<W: Write>(output: &mut W, text: &[u8]) -> bool
-    ensures all { OnTrue result (Appends (W.contents output.old) (W.contents output.new) (report_of text.now)) }
+fn print_report<W: Write>(output: &mut W, text: &[u8]) -> Result<(), Failure>
+    ensures all { OnOk result (Appends (W.contents output.old) (W.contents output.new) (report_of text.now)) }
     ensures front { AppendsFront (W.contents output.old) (W.contents output.new) (report_of text.now) }
+    ensures failed { IfErr result (λ e. e ≡ Failure.Write) }
 {
     let mut out = [0u8; REPORT_SIZE];
     let reported = report::report(text, &mut out);
@@ -108,13 +92,8 @@ pub fn judge_input<R: Read, W: Write>(input: &mut R, output: &mut W) -> Result<(
     ensures unread { IsErrOf result Failure.Read → Keeps (W.contents output.old) (W.contents output.new) }
 {
     let mut text = [0u8; PROGRAM_TEXT + 1];
-    let Input::Bytes(n) = read_input(input, &mut text) else {
-        return Err(Failure::Read);
-    };
-    if !print_report(output, &text[..n]) {
-        return Err(Failure::Write);
-    }
-    Ok(())
+    let n = read_input(input, &mut text)?;
+    print_report(output, &text[..n])
 }
 
 fn main(rt: HostRuntime) {

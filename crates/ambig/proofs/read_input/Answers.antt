@@ -18,6 +18,6 @@ pub loop-at-preserved : goal.loop-at-preserved
 loop-at-preserved g c = record {
   inside = search rules;
   all = search rules;
-  read = subst (Consumes _ _) (sym (front_grows c.loop-at.at _ c.in-Bytes.k c.loop-at.text c.read_part.new.part (omega arith) c.in-Bytes.ensures.within))
-      (Consumes-trans _ _ _ _ _ c.loop-at.invariant.read c.in-Bytes.ensures.read.0);
+  read = subst (Consumes _ _) (sym (front_grows c.loop-at.at _ c.in-Ok.k c.loop-at.text c.read.new.buf (omega arith) c.in-Ok.ensures.bound.0))
+      (Consumes-trans _ _ _ _ _ c.loop-at.invariant.read c.in-Ok.ensures.bytes.0);
 }
