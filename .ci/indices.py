@@ -45,7 +45,8 @@ PLACES = {
 NO_CODE = re.compile(r"//[^\n]*|^ghost use [^\n]*|^(?:pub )?const [^;]*;", re.MULTILINE)
 CLAUSE = re.compile(r"\b(?:(?:requires|ensures)\b[^{\n]*|ghost [^{;\n]*)\{")
 PLAIN = re.compile(r"\b2 \* \(q \* q\)|/ \(q \* q\)")
-PRODUCT = re.compile(r"(\S*[\w)\]])\s*\*=?\s*(?=(\S+))")
+# No value stands before a `*` that reads what a reference points to.
+PRODUCT = re.compile(r"(\S*[\w)\]])(?<!\bmut)(?<!\bif)(?<!\bin)(?<!\bmatch)(?<!\breturn)\s*\*=?\s*(?=(\S+))")
 CONSTANT = r"(?:\d\w*|(?:\w+::)*[A-Z][A-Z_0-9]*)"
 
 
