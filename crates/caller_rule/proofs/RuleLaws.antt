@@ -4,12 +4,11 @@ use mathlib.Core.Path.{◌≡◌, refl, ap, ◌∙◌}
 use mathlib.Core.Bool.{Bool}
 use mathlib.Core.List.{List}
 use native.Mathlib.Omega.{arith}
-use native.Mathlib.Nat.{suc-mul}
 use lib.Dec.{eqb}
 use lib.ListN.{length, get_or}
 use Rattle.grammar.specs.Limits.{limits}
-use Rattle.caller_rule.specs.RuleRows.{code_before, low_before, Six, Small, Wide, member_class, target_class, ItemWritten, Ruled, RuleWritten}
-use Rattle.caller_rule.proofs.WroteLaws.{blocks_none, next_mul, less_mul, blocks_next}
+use Rattle.caller_rule.specs.RuleRows.{code_before, low_before, Six, Small, member_class, target_class, ItemWritten, Ruled, RuleWritten}
+use Rattle.caller_rule.proofs.WroteLaws.{next_mul, less_mul, blocks_next}
 
 -- the code before a dot that is not the first
 pub before-code : (codes : List ℕ) (d : ℕ) → (d ≡ 0 → ⊥) → get_or codes (d - 1) 0 ≡ code_before codes d
@@ -26,22 +25,7 @@ low_less : (l narrow d : ℕ) → low_before l narrow d ≤ l
 low_less l narrow zero = omega arith
 low_less l narrow (suc d) = omega arith
 
--- at a dot that is not the first there is such a number
-pub step_less : (d n l low : ℕ) → l ≡ low + d * n → (d ≡ 0 → ⊥) → n ≤ l
-step_less zero n l low e m = absurd (m refl)
-step_less (suc d) n l low e m = let q = suc-mul d n in omega (arith, q, e)
-
 module _ (i : ℕ) (codes : List ℕ) (K : ℕ) (callers ranks : List ℕ) (narrow low at : ℕ) where
-  pub rule-none : (old : Six) → RuleWritten i codes K callers ranks narrow low at 0 old old
-  rule-none old = record {
-    ahead = blocks_none _ _ _ _;
-    number = blocks_none _ _ _ _;
-    member = blocks_none _ _ _ _;
-    target = blocks_none _ _ _ _;
-    after = blocks_none _ _ _ _;
-    down = blocks_none _ _ _ _;
-  }
-
   module _ (d l p : ℕ) (el : l ≡ low + d * narrow) (ep : p ≡ at + d * length callers) where
     pub rule-small : (b : ℕ) → Ruled codes callers ranks K narrow low at → d ≤ length codes → b ≡ low_before l narrow d → Small callers ranks K l b p
     rule-small b R h eb =
@@ -70,19 +54,6 @@ module _ (i : ℕ) (codes : List ℕ) (K : ℕ) (callers ranks : List ℕ) (narr
 
     pub rule-low : l + narrow ≡ low + (d + 1) * narrow
     rule-low = let q = next_mul d narrow in omega (arith, q, el)
-
-    pub rule-wide : (old new : Six) → d ≤ length codes → Wide (at + (length codes + 1) * length callers) old
-        → RuleWritten i codes K callers ranks narrow low at d old new → Wide (p + length callers) new
-    rule-wide old new h W X =
-        let x = less_mul d (length codes + 1) (length callers) (omega (arith, h)) in
-        record {
-          ahead = omega (arith, x, ep, W.ahead, X.ahead.size);
-          number = omega (arith, x, ep, W.number, X.number.size);
-          member = omega (arith, x, ep, W.member, X.member.size);
-          target = omega (arith, x, ep, W.target, X.target.size);
-          after = omega (arith, x, ep, W.after, X.after.size);
-          down = omega (arith, x, ep, W.down, X.down.size);
-        }
 
     pub rule-next : (x y : ℕ) (begins ends : Bool) (b : ℕ) (old mid new : Six) → x ≡ get_or codes d 0 → y ≡ code_before codes d → begins ≡ eqb d 0
         → ends ≡ eqb d (length codes) → b ≡ low_before l narrow d → RuleWritten i codes K callers ranks narrow low at d old mid

@@ -34,10 +34,6 @@ past_end (x ∷ l) (suc d) h = past_end l d (omega arith)
 
 -- ---- blocks
 
--- no block is written
-pub blocks_none : (old : List ℕ) (at w : ℕ) (f : ℕ → ℕ → ℕ) → WroteBlocks old old at w 0 f
-blocks_none old at w f = record { size = refl; inside = λ d r h. absurd (omega arith); outside = λ k h. refl }
-
 -- one time more
 pub next_mul : (n w : ℕ) → (n + 1) * w ≡ n * w + w
 next_mul n w = ap (λ (k : ℕ). k * w) (add-one n) ∙ suc-mul n w
