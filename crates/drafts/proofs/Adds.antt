@@ -1,5 +1,5 @@
 -- A rule added past the draft's last one. Assumes nothing.
-use Prim.Native.Nat.{ℕ, suc, ◌+◌, ◌-◌, ◌≤◌, ◌<◌}
+use Prim.Native.Nat.{ℕ, suc, ◌+◌, ◌≤◌, ◌<◌}
 use mathlib.Core.Path.{◌≡◌, refl, ap, ap₂, sym, ◌∙◌}
 use mathlib.Core.Bool.{Bool, true, false}
 use mathlib.Core.List.{List, [], ◌∷◌, ◌++◌}
@@ -23,7 +23,6 @@ use Rattle.drafts.specs.Draft.{Draft, add, with_rules, add_rule, taken}
 use Rattle.drafts.specs.Row.{draft_with, draft_in, splice, stepped}
 use Rattle.drafts.specs.Edits.{add_read, Appendable, appended, entries_read, longest, open_row}
 use Rattle.drafts.proofs.Unread.{unread_longest}
-use Rattle.drafts.proofs.Copies.{below-kept}
 use Rattle.drafts.proofs.Removals.{cell-counts, shape}
 use Rattle.drafts.proofs.Opens.{open_done, step-done, step-refused}
 
@@ -32,17 +31,6 @@ looked_cut m h = simp (lt-ltb longest m h)
 
 pub looked-all : (m : ℕ) → m ≤ longest → m ≡ entries_read m
 looked-all m h = simp (le-ltb longest m h)
-
-pub append_cell : (row now entries : List ℕ) (end k : ℕ) → Appendable row end entries k → now ≡ paste row (2 + end) entries (2 + k) → get_or now 2 0 ≡ get_or row 2 0
-append_cell row now entries end k a e =
-    let p = a.past in
-    let r = a.room in
-    ap (λ (l : List ℕ). get_or l 2 0) e ∙ below-kept row entries (2 + end) (2 + k) 2 (omega (arith, p)) (omega (arith, r))
-
-pub append_row : (row now entries : List ℕ) (end k : ℕ) → Appendable row end entries k → now ≡ paste row (2 + end) entries (2 + k)
-    → set now 2 (get_or now 2 0 + 1) ≡ appended row end entries k
-append_row row now entries end k a e =
-    ap (λ (c : ℕ). set now 2 (c + 1)) (append_cell row now entries end k a e) ∙ ap (λ (l : List ℕ). set l 2 (get_or row 2 0 + 1)) e
 
 -- the rule that is read is the one that is added
 table_reads : (d : Draft) (entries : List ℕ) → let table = encode d.rules ++ entries in let at = length (encode d.rules) in

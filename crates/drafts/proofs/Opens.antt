@@ -1,6 +1,6 @@
 -- A row that holds a draft, and one that holds none; what an entry leaves. Assumes nothing.
 use Prim.Native.Nat.{ℕ, ◌+◌, ◌-◌, ◌≤◌, ◌<◌}
-use mathlib.Core.Path.{◌≡◌, refl, ap, ap₂, sym, ◌∙◌}
+use mathlib.Core.Path.{◌≡◌, ap, ap₂, sym, ◌∙◌}
 use mathlib.Core.List.{List}
 use mathlib.Core.Option.{Option, none, some}
 use mathlib.Core.Logic.{inl, inr}
@@ -17,30 +17,28 @@ use Rattle.grammar.proofs.Answers.{unless_holds, unless_fails, unless_done, then
 use Rattle.grammar.proofs.Lists.{lt_or_le}
 use Rattle.drafts.specs.Draft.{Draft, Edit, taken}
 use Rattle.drafts.specs.Row.{block_size, block_at, draft_room, block_of, end_of, rules_to, rules_in, draft_with, draft_or, draft_in, image, put, target, stepped}
-use Rattle.drafts.specs.Promise.{answered, row_after, Leaves}
-use Rattle.drafts.specs.Edits.{ending, end_or, open_row, opening}
+use Rattle.drafts.specs.Promise.{answered, row_after, Leaves, EditsDraft}
+use Rattle.drafts.specs.Edits.{end_or, open_row, opening}
 use Rattle.drafts.specs.declared.DraftAnswer.TheVariants.{Done, Refused}
-use Rattle.drafts.specs.declared.Ending.TheVariants.{Ends, Nothing}
+use Rattle.drafts.specs.declared.FoundDraft.{FoundDraft}
 use Rattle.drafts.specs.declared.FoundDraft.TheVariants.{Opened, Shut}
 use Rattle.drafts.proofs.Walks.{held-block}
 
 -- ---- the code's answers tell the definitions'
 
-pub ends-told : (o : Option ℕ) (e : ℕ) → ending o ≡ Ends e → o ≡ some e
-ends-told none e q = let z : ◌≡◌ {A = ℕ} 0 1 = cc in absurd (let o : ⊥ = omega arith in o)
-ends-told (some d) e q = let z : d ≡ e = cc in ap some z
-
-pub nothing-told : (o : Option ℕ) → ending o ≡ Nothing → o ≡ none
-nothing-told none q = refl
-nothing-told (some d) q = let z : ◌≡◌ {A = ℕ} 0 1 = cc in absurd (let o : ⊥ = omega arith in o)
-
-pub opened-told : (o : Answer ℕ) (e : ℕ) → opening o ≡ Opened e → o ≡ done e
+opened-told : (o : Answer ℕ) (e : ℕ) → opening o ≡ Opened e → o ≡ done e
 opened-told (done d) e q = let z : d ≡ e = cc in ap done z
 opened-told (refused c p) e q = let z : ◌≡◌ {A = ℕ} 0 1 = cc in absurd (let o : ⊥ = omega arith in o)
 
-pub shut-told : (o : Answer ℕ) (c p : ℕ) → opening o ≡ Shut c p → o ≡ refused c p
+shut-told : (o : Answer ℕ) (c p : ℕ) → opening o ≡ Shut c p → o ≡ refused c p
 shut-told (done d) c p q = let z : ◌≡◌ {A = ℕ} 0 1 = cc in absurd (let o : ⊥ = omega arith in o)
 shut-told (refused d r) c p q = let x : d ≡ c = cc in let y : r ≡ p = cc in ap₂ (λ c p. refused c p) x y
+
+pub opened_at : (row : List ℕ) (f : FoundDraft) (end : ℕ) → f ≡ opening (open_row row) → f ≡ Opened end → open_row row ≡ done end
+opened_at row f end e q = opened-told (open_row row) end (sym e ∙ q)
+
+pub shut_at : (row : List ℕ) (f : FoundDraft) (c p : ℕ) → f ≡ opening (open_row row) → f ≡ Shut c p → open_row row ≡ refused c p
+shut_at row f c p e q = shut-told (open_row row) c p (sym e ∙ q)
 
 -- ---- opening
 
@@ -52,11 +50,11 @@ open_room : (row : List ℕ) → draft_room ≤ length row → open_row row ≡ 
 unfolding open_row
 open_room row h = unless_holds buffer_too_short 0 (leb draft_room (length row)) (end_or (end_of (block_of row 0))) (le-leb draft_room (length row) h)
 
-pub open_ends : (row : List ℕ) (e : ℕ) → draft_room ≤ length row → ending (end_of (block_of row 0)) ≡ Ends e → open_row row ≡ done e
-open_ends row e h q = open_room row h ∙ ap end_or (ends-told (end_of (block_of row 0)) e q)
+pub open_ends : (row : List ℕ) (e : ℕ) → draft_room ≤ length row → end_of (block_of row 0) ≡ some e → open_row row ≡ done e
+open_ends row e h q = open_room row h ∙ ap end_or q
 
-pub open_nothing : (row : List ℕ) → draft_room ≤ length row → ending (end_of (block_of row 0)) ≡ Nothing → open_row row ≡ refused not_present 0
-open_nothing row h q = open_room row h ∙ ap end_or (nothing-told (end_of (block_of row 0)) q)
+pub open_nothing : (row : List ℕ) → draft_room ≤ length row → end_of (block_of row 0) ≡ none → open_row row ≡ refused not_present 0
+open_nothing row h q = open_room row h ∙ ap end_or q
 
 -- what the front of a block says of the row
 pub record InBlock (row : List ℕ) (j end : ℕ) : Type 0 where
@@ -135,3 +133,7 @@ leaves_refused o row c p e = record { answer = sym (ap answered e); leaves = sym
 
 pub leaves_done : (o : Answer (List ℕ)) (row after now : List ℕ) → o ≡ done after → now ≡ after → Leaves o row Done now
 leaves_done o row after now e q = record { answer = sym (ap answered e); leaves = q ∙ sym (ap (row_after row) e) }
+
+-- one that holds no draft refuses every edit
+pub leaves_shut : (row : List ℕ) (s : Edit) (f : FoundDraft) (c p : ℕ) → f ≡ opening (open_row row) → f ≡ Shut c p → EditsDraft row s (Refused c p) row
+leaves_shut row s f c p e q = leaves_refused (stepped row s) row c p (shut_steps row s c p (shut_at row f c p e q))

@@ -98,11 +98,3 @@ part_fits row end e =
     let d3 = length-drop 3 row in
     let pl : length (take (2 + end - 3) (drop 3 row)) ≡ 2 + end - 3 = length-take-le (2 + end - 3) (drop 3 row) (omega (arith, d3, r.1, r.2)) in
     omega (arith, pl, r.0)
-
-pub prefix_size : (row es T1 T2 : List ℕ) (end m j : ℕ) → Gathered row es T1 end m → T2 ≡ paste T1 (end - 1) es m → j ≤ try_room → j ≡ length (take j T2)
-prefix_size row es T1 T2 end m j a e h =
-    let s = a.size in
-    let f = a.few in
-    let r = a.fits in
-    let z : length T2 ≡ length T1 = ap length e ∙ length-paste T1 (end - 1) es m (omega (arith, s, f.1, r.1)) f.0 in
-    sym (length-take-le j T2 (omega (arith, z, s, h)))

@@ -6,7 +6,6 @@ ghost use Rattle.grammar.specs.TableCheck.{is_among};
 ghost use Rattle.table_check.specs.Clauses.{rule_read, next_or_full};
 ghost use Rattle.drafts.specs.Edits.{open_row, Leading, Led, Appendable, appended, add_read, entries_read};
 
-use super::blocks::wide;
 use super::edits::put_entries;
 use grammar::{MAX_LENGTH, MAX_RULES, MAX_STATES, RULE_REPEATED, TOO_MANY_RULES, TOO_MANY_STATES};
 use table_check::{RuleRead, read_rule, same_rule};
@@ -20,10 +19,7 @@ const TRY_ROOM: usize = MAX_RULES + MAX_STATES + LONGEST;
 fn at_most(m: usize) -> usize
     ensures { result ≡ entries_read m }
 {
-    if LONGEST < m {
-        return LONGEST;
-    }
-    m
+    m.min(LONGEST)
 }
 
 // Does one of the rules up to an offset equal the one of length k there?
@@ -33,7 +29,7 @@ fn stands_before(table: &[u16], at: usize, k: usize) -> bool
 {
     let mut o = 0;
     while o < at {
-        let m = wide(table[o + 1]);
+        let m = usize::from(table[o + 1]);
         if same_rule(table, o, m, at, k) {
             return true;
         }
@@ -79,7 +75,7 @@ pub fn try_rule(draft: &[u16], entries: &[u16], end: usize) -> RuleRead
     let total = at + m;
     let t = draft[0];
     let n = draft[1];
-    let count = wide(draft[2]) - 1;
+    let count = usize::from(draft[2]) - 1;
     next_rule(&table[..total], t, n, count, at)
 }
 

@@ -7,19 +7,17 @@ ghost use Rattle.drafts.specs.Draft.{marks_count};
 ghost use Rattle.drafts.specs.Edits.{Reaches, Removable, removed};
 
 use super::MARKS;
-use super::blocks::{BLOCK, copy_within, wide};
+use super::blocks::BLOCK;
 
 // Where the rule after so many rules begins.
 fn place_in(block: &[u16], m: usize) -> usize
     requires { Reaches block.now m }
     ensures { walk m block.now 1 ≡ some result }
 {
-    let mut i = 0;
     let mut at = 1;
-    while i < m {
-        let k = wide(block[at + 1]);
+    for _ in 0..m {
+        let k = usize::from(block[at + 1]);
         at = at + 2 + k;
-        i += 1;
     }
     at
 }
@@ -37,8 +35,8 @@ pub fn remove(row: &mut [u16], from: usize, end: usize)
     requires { Removable row.old from end }
     ensures { row.new ≡ removed row.old from end }
 {
-    let next = from + 2 + wide(row[from + 1]);
-    copy_within(row, next, from, 2 + end - next);
+    let next = from + 2 + usize::from(row[from + 1]);
+    row.copy_within(next..2 + end, from);
     row[2] = row[2] - 1;
 }
 
@@ -47,20 +45,14 @@ pub fn put_entries(row: &mut [u16], at: usize, entries: &[u16], m: usize)
     requires { (at + m ≤ length row.old) × (m ≤ length entries.now) }
     ensures { row.new ≡ paste row.old at entries.now m }
 {
-    let mut i = 0;
-    while i < m {
-        row[at + i] = entries[i];
-        i += 1;
-    }
+    row[at..at + m].copy_from_slice(&entries[..m]);
 }
 
 fn empty_marks(row: &mut [u16])
     requires { draft_room ≤ length row.old }
     ensures { row.new ≡ emptied marks_count row.old }
 {
-    let mut k = 0;
-    while k < MARKS {
-        k += 1;
+    for k in 1..=MARKS {
         row[2 + k * BLOCK] = 0;
     }
 }

@@ -11,7 +11,7 @@ ghost use Rattle.drafts.specs.Draft.{mark, return, withdraw, add};
 ghost use Rattle.drafts.specs.Promise.{EditsDraft, BeginsDraft};
 
 use adding::{append, try_rule};
-use blocks::{BLOCK, DRAFT_ROOM, copy_within, held, wide};
+use blocks::{BLOCK, DRAFT_ROOM, held};
 use edits::{begin, remove, rule_place};
 use grammar::{BUFFER_TOO_SHORT, NOT_PRESENT, TableVerdict};
 use reading::open_draft;
@@ -48,13 +48,6 @@ pub enum TablePlace {
     Refused(u8, usize),
 }
 
-// Where the rules of a block end, if it holds rules.
-#[derive(Drop)]
-pub enum Ending {
-    Ends(usize),
-    Nothing,
-}
-
 // Where the draft's rules end in its block, or why the row holds no draft.
 #[derive(Drop)]
 pub enum FoundDraft {
@@ -72,14 +65,11 @@ pub fn set_mark(draft: &mut [u16], number: usize) -> DraftAnswer
             return DraftAnswer::Refused(cause, at);
         }
         FoundDraft::Opened(end) => {
-            if number < 1 {
-                return DraftAnswer::Refused(NOT_PRESENT, number);
-            }
-            if MARKS < number {
+            if number < 1 || MARKS < number {
                 return DraftAnswer::Refused(NOT_PRESENT, number);
             }
             let to = 2 + number * BLOCK;
-            copy_within(draft, 2, to, end);
+            draft.copy_within(2..2 + end, to);
             return DraftAnswer::Done;
         }
     }
@@ -95,23 +85,15 @@ pub fn return_to_mark(draft: &mut [u16], number: usize) -> DraftAnswer
             return DraftAnswer::Refused(cause, at);
         }
         FoundDraft::Opened(_end) => {
-            if number < 1 {
+            if number < 1 || MARKS < number {
                 return DraftAnswer::Refused(NOT_PRESENT, number);
             }
-            if MARKS < number {
+            let Some(end) = held(draft, number) else {
                 return DraftAnswer::Refused(NOT_PRESENT, number);
-            }
-            let found = held(draft, number);
-            match found {
-                Ending::Nothing => {
-                    return DraftAnswer::Refused(NOT_PRESENT, number);
-                }
-                Ending::Ends(end) => {
-                    let from = 2 + number * BLOCK;
-                    copy_within(draft, from, 2, end);
-                    return DraftAnswer::Done;
-                }
-            }
+            };
+            let from = 2 + number * BLOCK;
+            draft.copy_within(from..from + end, 2);
+            return DraftAnswer::Done;
         }
     }
 }
@@ -126,10 +108,8 @@ pub fn withdraw_rule(draft: &mut [u16], number: usize) -> DraftAnswer
             return DraftAnswer::Refused(cause, at);
         }
         FoundDraft::Opened(end) => {
-            if number < 1 {
-                return DraftAnswer::Refused(NOT_PRESENT, number);
-            }
-            if wide(draft[2]) <= number {
+            let cell = usize::from(draft[2]);
+            if number < 1 || cell <= number {
                 return DraftAnswer::Refused(NOT_PRESENT, number);
             }
             let place = rule_place(draft, number - 1);

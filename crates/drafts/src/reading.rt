@@ -4,8 +4,8 @@ ghost use Rattle.drafts.specs.Row.{draft_room};
 ghost use Rattle.drafts.specs.Edits.{open_row, opening};
 ghost use Rattle.drafts.specs.Reading.{ShowsTable, CountsDraft, PlacesTable};
 
-use super::blocks::{DRAFT_ROOM, held, wide};
-use super::{DraftCounts, Ending, FoundDraft, TablePlace};
+use super::blocks::{DRAFT_ROOM, held};
+use super::{DraftCounts, FoundDraft, TablePlace};
 use grammar::{BUFFER_TOO_SHORT, NOT_PRESENT};
 
 // No row of a draft may be shorter.
@@ -21,14 +21,9 @@ pub fn open_draft(draft: &[u16]) -> FoundDraft
     if draft.len() < DRAFT_ROOM {
         return FoundDraft::Shut(BUFFER_TOO_SHORT, 0);
     }
-    let found = held(draft, 0);
-    match found {
-        Ending::Ends(end) => {
-            return FoundDraft::Opened(end);
-        }
-        Ending::Nothing => {
-            return FoundDraft::Shut(NOT_PRESENT, 0);
-        }
+    match held(draft, 0) {
+        Some(end) => FoundDraft::Opened(end),
+        None => FoundDraft::Shut(NOT_PRESENT, 0),
     }
 }
 
@@ -36,15 +31,9 @@ pub fn open_draft(draft: &[u16]) -> FoundDraft
 pub fn draft_table(draft: &[u16]) -> &[u16]
     ensures { ShowsTable draft.now result.now }
 {
-    let opened = open_draft(draft);
-    match opened {
-        FoundDraft::Shut(_cause, _at) => {
-            return &draft[0..0];
-        }
-        FoundDraft::Opened(end) => {
-            let to = 2 + end;
-            return &draft[3..to];
-        }
+    match open_draft(draft) {
+        FoundDraft::Shut(_cause, _at) => &draft[..0],
+        FoundDraft::Opened(end) => &draft[3..2 + end],
     }
 }
 
@@ -58,9 +47,9 @@ pub fn draft_counts(draft: &[u16]) -> DraftCounts
             return DraftCounts::Refused(cause, at);
         }
         FoundDraft::Opened(end) => {
-            let terminals = wide(draft[0]);
-            let nonterminals = wide(draft[1]);
-            let rules = wide(draft[2]) - 1;
+            let terminals = usize::from(draft[0]);
+            let nonterminals = usize::from(draft[1]);
+            let rules = usize::from(draft[2]) - 1;
             let entries = end - 1;
             let states = entries + 4 - rules;
             return DraftCounts::Counts {

@@ -1,68 +1,48 @@
 -- `drafts::return_to_mark` meets its contract: the front of the mark's block is copied to block 0.
 -- Assumes nothing.
-use Prim.Native.Nat.{◌-◌}
-use mathlib.Core.Path.{◌≡◌, sym, ◌∙◌}
-use mathlib.Core.Logic.{inl, inr}
+use Prim.Native.Nat.{◌+◌, ◌-◌, ◌*◌}
+use mathlib.Core.Path.{◌≡◌, ap, ◌∙◌}
 use native.Mathlib.Omega.{arith}
-use Rattle.grammar.specs.Refusal.{done, not_present}
-use Rattle.drafts.specs.Edits.{open_row}
+use lib.ListN.{drop}
+use lib.Seq.{paste}
+use Rattle.grammar.specs.Refusal.{not_present}
 use Rattle.drafts.specs.Draft.{return}
-use Rattle.drafts.specs.Row.{stepped}
-use Rattle.drafts.proofs.Opens.{opened-told, shut-told, shut_steps, leaves_refused, leaves_done}
-use Rattle.drafts.proofs.Marks.{return_unknown, return-nothing, return-done, return_apart, open_holds}
-use Rattle.drafts.proofs.return_to_mark.Reads as reads
-use Rattle.drafts.proofs.return_to_mark.Lts as lts
+use Rattle.drafts.specs.Row.{block_size, stepped}
+use Rattle.drafts.proofs.Opens.{opened_at, leaves_shut, leaves_refused, leaves_done}
+use Rattle.drafts.proofs.Marks.{return_unknown, return-nothing, return-done, return_fits, open_holds}
 use Rattle.drafts.proofs.return_to_mark.Goals as goal
-use Rattle.drafts.proofs.return_to_mark.Lts as lts
-use Rattle.drafts.proofs.return_to_mark.Reads as reads
-use Rattle.drafts.proofs.return_to_mark.Tie as tie
-
-abbrev Place-Past-After-known_told2 : Type 0
-Place-Past-After-known_told2 = lts.Past-After-known_told2 tie.the-claims reads.Pre reads.Post
-
--- the row holds a draft
-opened-at : (c : Place-Past-After-known_told2) → open_row c.args.draft.now ≡ done c.in-Opened._end
-opened-at c = opened-told (open_row c.args.draft.now) c.in-Opened._end (sym c.open_draft-opened.ensures ∙ c.in-Opened.is)
 
 pub returns-in-Shut : goal.returns-in-Shut
-returns-in-Shut c = let a = c.args in
-    leaves_refused (stepped a.draft.now (return a.number)) a.draft.now c.in-Shut.cause c.in-Shut.at
-    (shut_steps a.draft.now (return a.number) c.in-Shut.cause c.in-Shut.at (shut-told (open_row a.draft.now) c.in-Shut.cause c.in-Shut.at (sym c.open_draft-opened.ensures ∙ c.in-Shut.is)))
+returns-in-Shut c = leaves_shut c.args.draft.now (return c.args.number) _ c.in-Shut.cause c.in-Shut.at c.open_draft-opened.ensures c.in-Shut.is
 
 pub returns-then-number-lt1 : goal.returns-then-number-lt1
-returns-then-number-lt1 c = let a = c.args in
-    leaves_refused (stepped a.draft.now (return a.number)) a.draft.now not_present a.number (return_unknown a.draft.now _ a.number (opened-at c.before) (inl c.if-number-lt1.true))
+returns-then-number-lt1 c = let row = c.args.draft.now in
+    let k = c.args.number in
+    leaves_refused (stepped row (return k)) row not_present k (return_unknown row _ k (opened_at _ _ _ c.open_draft-opened.ensures c.in-Opened.is) c.then-number-lt1.either)
 
-pub returns-then-number-gt-MARKS : goal.returns-then-number-gt-MARKS
-returns-then-number-gt-MARKS c = let a = c.args in
-    leaves_refused (stepped a.draft.now (return a.number)) a.draft.now not_present a.number (return_unknown a.draft.now _ a.number (opened-at c.before.before) (inr c.if-number-gt-MARKS.true))
+pub held-requires : goal.held-requires
+held-requires c = open_holds c.args.draft.now _ c.args.number (opened_at _ _ _ c.open_draft-opened.ensures c.in-Opened.is) (omega arith)
 
-pub held-found-requires : goal.held-found-requires
-held-found-requires c = let a = c.args in
-    open_holds a.draft.now _ a.number (opened-at c.before.before) (omega (arith, c.if-number-gt-MARKS.false))
+pub returns-in_default : goal.returns-in_default
+returns-in_default c = let row = c.args.draft.now in
+    let k = c.args.number in
+    leaves_refused (stepped row (return k)) row not_present k (return-nothing row _ k (opened_at _ _ _ c.open_draft-opened.ensures c.in-Opened.is) (omega arith) (omega arith) c.in_default.ensures)
 
-pub returns-in-Nothing : goal.returns-in-Nothing
-returns-in-Nothing c = let h = c in
-    let two = h in
-    let o = two in
-    let a = o.args in
-    let row = a.draft.now in
-    leaves_refused (stepped row (return a.number)) row not_present a.number
-    (return-nothing row _ a.number (opened-at o.before.before.before.before) (omega (arith, two.if-number-lt1.false)) (omega (arith, two.if-number-gt-MARKS.false)) (sym h.held-found.ensures ∙ c.in-Nothing.is))
+pub overflow_add-from-in-Opened : goal.overflow_add-from-in-Opened
+overflow_add-from-in-Opened c = let f = return_fits c.args.draft.now _ c.args.number _ (opened_at _ _ _ c.open_draft-opened.ensures c.in-Opened.is) (omega arith) c.in-Some.ensures in omega (arith, f.0)
 
-pub copy_within-requires : goal.copy_within-requires
-copy_within-requires c = let h = c in
-    let two = h in
-    let o = two in
-    let a = o.args in
-    return_apart a.draft.now _ a.number c.in-Ends.end (opened-at o.before.before.before.before.before) (omega (arith, two.if-number-gt-MARKS.false)) (sym h.held-found.ensures ∙ c.in-Ends.is)
+pub copy_within-requires-clause-in_bounds : goal.copy_within-requires-clause-in_bounds
+copy_within-requires-clause-in_bounds c = (return_fits c.args.draft.now _ c.args.number _ (opened_at _ _ _ c.open_draft-opened.ensures c.in-Opened.is) (omega arith) c.in-Some.ensures).0
 
-pub returns-in-Ends : goal.returns-in-Ends
-returns-in-Ends c = let h = c in
-    let two = h in
-    let o = two in
-    let a = o.args in
-    let row = a.draft.now in
-    leaves_done (stepped row (return a.number)) row _ _
-    (return-done row _ a.number c.in-Ends.end (opened-at o.before.before.before.before.before.before.before.before.before) (omega (arith, two.if-number-lt1.false)) (omega (arith, two.if-number-gt-MARKS.false)) (sym h.held-found.ensures ∙ c.in-Ends.is))
-    c.copy_within.ensures
+pub copy_within-requires-clause-dest_in_bounds : goal.copy_within-requires-clause-dest_in_bounds
+copy_within-requires-clause-dest_in_bounds c = let f = return_fits c.args.draft.now _ c.args.number _ (opened_at _ _ _ c.open_draft-opened.ensures c.in-Opened.is) (omega arith) c.in-Some.ensures in omega (arith, f.1)
+
+pub returns-in-Opened : goal.returns-in-Opened
+returns-in-Opened c = let row = c.args.draft.now in
+    let k = c.args.number in
+    let from = 2 + k * block_size in
+    let end = c.in-Some.end in
+    let z : from + end - from ≡ end = omega arith in
+    leaves_done (stepped row (return k)) row _ _
+    (return-done row _ k end (opened_at _ _ _ c.open_draft-opened.ensures c.in-Opened.is) (omega arith) (omega arith) c.in-Some.ensures)
+    (c.copy_within.ensures.after ∙ ap (paste row 2 (drop from row)) z)

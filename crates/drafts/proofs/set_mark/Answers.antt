@@ -1,52 +1,39 @@
 -- `drafts::set_mark` meets its contract: the front of block 0 is copied to the block of the mark.
 -- Assumes nothing.
-use Prim.Native.Nat.{◌-◌}
-use mathlib.Core.Path.{◌≡◌, sym, ◌∙◌}
-use mathlib.Core.Logic.{inl, inr}
+use Prim.Native.Nat.{◌+◌, ◌-◌, ◌*◌}
+use mathlib.Core.Path.{◌≡◌, ap, ◌∙◌}
 use native.Mathlib.Omega.{arith}
-use Rattle.grammar.specs.Refusal.{done, not_present}
-use Rattle.drafts.specs.Edits.{open_row}
+use lib.ListN.{drop}
+use lib.Seq.{paste}
+use Rattle.grammar.specs.Refusal.{not_present}
 use Rattle.drafts.specs.Draft.{mark}
-use Rattle.drafts.specs.Row.{stepped}
-use Rattle.drafts.proofs.Opens.{opened-told, shut-told, shut_steps, leaves_refused, leaves_done}
-use Rattle.drafts.proofs.Marks.{mark_unknown, mark-done, mark_apart}
-use Rattle.drafts.proofs.set_mark.Reads as reads
-use Rattle.drafts.proofs.set_mark.Lts as lts
+use Rattle.drafts.specs.Row.{block_size, stepped}
+use Rattle.drafts.proofs.Opens.{opened_at, leaves_shut, leaves_refused, leaves_done}
+use Rattle.drafts.proofs.Marks.{mark_unknown, mark-done, mark_fits}
 use Rattle.drafts.proofs.set_mark.Goals as goal
-use Rattle.drafts.proofs.set_mark.Lts as lts
-use Rattle.drafts.proofs.set_mark.Reads as reads
-use Rattle.drafts.proofs.set_mark.Tie as tie
-
-abbrev Place-Past-After-known_told2 : Type 0
-Place-Past-After-known_told2 = lts.Past-After-known_told2 tie.the-claims reads.Pre reads.Post
-
--- the row holds a draft
-opened-at : (c : Place-Past-After-known_told2) → open_row c.args.draft.now ≡ done c.in-Opened.end
-opened-at c = opened-told (open_row c.args.draft.now) c.in-Opened.end (sym c.open_draft-opened.ensures ∙ c.in-Opened.is)
 
 pub returns-in-Shut : goal.returns-in-Shut
-returns-in-Shut c = let a = c.args in
-    leaves_refused (stepped a.draft.now (mark a.number)) a.draft.now c.in-Shut.cause c.in-Shut.at
-    (shut_steps a.draft.now (mark a.number) c.in-Shut.cause c.in-Shut.at (shut-told (open_row a.draft.now) c.in-Shut.cause c.in-Shut.at (sym c.open_draft-opened.ensures ∙ c.in-Shut.is)))
+returns-in-Shut c = leaves_shut c.args.draft.now (mark c.args.number) _ c.in-Shut.cause c.in-Shut.at c.open_draft-opened.ensures c.in-Shut.is
 
 pub returns-then-number-lt1 : goal.returns-then-number-lt1
-returns-then-number-lt1 c = let a = c.args in
-    leaves_refused (stepped a.draft.now (mark a.number)) a.draft.now not_present a.number (mark_unknown a.draft.now _ a.number (opened-at c.before) (inl c.if-number-lt1.true))
+returns-then-number-lt1 c = let row = c.args.draft.now in
+    let k = c.args.number in
+    leaves_refused (stepped row (mark k)) row not_present k (mark_unknown row _ k (opened_at _ _ _ c.open_draft-opened.ensures c.in-Opened.is) c.then-number-lt1.either)
 
-pub returns-then-number-gt-MARKS : goal.returns-then-number-gt-MARKS
-returns-then-number-gt-MARKS c = let a = c.args in
-    leaves_refused (stepped a.draft.now (mark a.number)) a.draft.now not_present a.number (mark_unknown a.draft.now _ a.number (opened-at c.before.before) (inr c.if-number-gt-MARKS.true))
+pub overflow_add-end : goal.overflow_add-end
+overflow_add-end c = let f = mark_fits c.args.draft.now _ c.args.number (opened_at _ _ _ c.open_draft-opened.ensures c.in-Opened.is) (omega arith) in omega (arith, f.0)
 
-pub copy_within-requires : goal.copy_within-requires
-copy_within-requires c = let o = c in
-    let a = o.args in
-    mark_apart a.draft.now _ a.number (opened-at o.before.before.before) (omega (arith, c.if-number-lt1.false)) (omega (arith, c.if-number-gt-MARKS.false))
+pub copy_within-requires-clause-in_bounds : goal.copy_within-requires-clause-in_bounds
+copy_within-requires-clause-in_bounds c = (mark_fits c.args.draft.now _ c.args.number (opened_at _ _ _ c.open_draft-opened.ensures c.in-Opened.is) (omega arith)).0
+
+pub copy_within-requires-clause-dest_in_bounds : goal.copy_within-requires-clause-dest_in_bounds
+copy_within-requires-clause-dest_in_bounds c = let f = mark_fits c.args.draft.now _ c.args.number (opened_at _ _ _ c.open_draft-opened.ensures c.in-Opened.is) (omega arith) in omega (arith, f.1)
 
 pub returns-in-Opened : goal.returns-in-Opened
-returns-in-Opened c = let two = c in
-    let o = two in
-    let a = o.args in
-    let row = a.draft.now in
-    leaves_done (stepped row (mark a.number)) row _ _
-    (mark-done row _ a.number (opened-at o.before.before.before.before.before.before.before) (omega (arith, two.if-number-lt1.false)) (omega (arith, two.if-number-gt-MARKS.false)))
-    c.copy_within.ensures
+returns-in-Opened c = let row = c.args.draft.now in
+    let k = c.args.number in
+    let end = c.in-Opened.end in
+    let z : 2 + end - 2 ≡ end = omega arith in
+    leaves_done (stepped row (mark k)) row _ _
+    (mark-done row end k (opened_at _ _ _ c.open_draft-opened.ensures c.in-Opened.is) (omega arith) (omega arith))
+    (c.copy_within.ensures.after ∙ ap (paste row (2 + k * block_size) (drop 2 row)) z)

@@ -1,6 +1,6 @@
 -- `drafts::adding::stands_before` meets its contract: the rules up to the offset are compared one by one.
 -- Assumes nothing.
-use Prim.Native.Nat.{ℕ, ◌-◌}
+use Prim.Native.Nat.{ℕ}
 use mathlib.Core.Path.{ap, sym, ◌∙◌}
 use native.Mathlib.Omega.{arith}
 use Rattle.grammar.specs.Table.{rule_at}
@@ -11,46 +11,23 @@ use Rattle.drafts.proofs.adding.stands_before.Goals as goal
 pub loop-o-init : goal.loop-o-init
 loop-o-init c = behind_start _ _ _ c.requires
 
-pub overflow_add-o : goal.overflow_add-o
-overflow_add-o c = let w = c.loop-o.invariant.whole in let h = c.loop-o-test.true in omega (arith, w, h)
-
-pub bounds-table-o : goal.bounds-table-o
-bounds-table-o c = let w = c.loop-o.invariant.whole in let h = c.loop-o-test.true in omega (arith, w, h)
-
 pub same_rule-requires : goal.same_rule-requires
 same_rule-requires c = let l = c.loop-o in
     let w = l.invariant.whole in
     let h = behind_whole _ _ _ _ l.invariant c.loop-o-test.true in
-    let e = c.wide-m.ensures in
+    let e = c.from-m.ensures in
     (omega (arith, w, h, e), w)
 
 pub returns-then-same_rule : goal.returns-then-same_rule
 returns-then-same_rule c = let a = c.args in
     let l = c.loop-o in
     behind_found _ _ _ _ l.invariant c.loop-o-test.true
-    (ap (λ (m : ℕ). same_rule (rule_at a.table.now l.o m) (rule_at a.table.now a.at a.k)) (sym c.wide-m.ensures)
+    (ap (λ (m : ℕ). same_rule (rule_at a.table.now l.o m) (rule_at a.table.now a.at a.k)) (sym c.from-m.ensures)
     ∙ sym c.same_rule.ensures ∙ c.if-same_rule.true)
-
-pub overflow_add-o-in-loop-o : goal.overflow_add-o-in-loop-o
-overflow_add-o-in-loop-o c = let l = c.loop-o in
-    let w = l.invariant.whole in
-    let h = c.loop-o-test.true in
-    omega (arith, w, h)
-
-pub overflow_add-o-in-loop-o-2 : goal.overflow_add-o-in-loop-o-2
-overflow_add-o-in-loop-o-2 c = let l = c.loop-o in
-    let w = l.invariant.whole in
-    let h = behind_whole _ _ _ _ l.invariant c.loop-o-test.true in
-    let e = c.wide-m.ensures in
-    omega (arith, w, h, e)
-
-pub loop-o-smaller : goal.loop-o-smaller
-loop-o-smaller c = let h = c.loop-o-test.true in
-    omega (arith, h)
 
 pub loop-o-preserved : goal.loop-o-preserved
 loop-o-preserved c = let l = c.loop-o in
-    behind_more _ _ _ _ l.invariant _ c.wide-m.ensures c.loop-o-test.true
+    behind_more _ _ _ _ l.invariant _ c.from-m.ensures c.loop-o-test.true
     (sym c.same_rule.ensures ∙ c.if-same_rule.false)
 
 pub returns : goal.returns

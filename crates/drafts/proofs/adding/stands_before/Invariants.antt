@@ -1,4 +1,4 @@
-use Prim.Native.Nat.{ℕ, ◌-◌}
+use Prim.Native.Nat.{◌-◌}
 use Rattle.drafts.proofs.Earlier.{Behind}
 use Rattle.drafts.proofs.adding.stands_before.Given as goal
 

@@ -1,11 +1,7 @@
-use Prim.Native.Nat.{ℕ, ◌-◌, ◌≤◌}
+use Prim.Native.Nat.{◌-◌}
 use mathlib.Core.Path.{◌≡◌}
 use Rattle.drafts.specs.Row.{emptied}
-use Rattle.drafts.specs.Draft.{marks_count}
 use Rattle.drafts.proofs.edits.empty_marks.Given as goal
 
 abbrev pub invariant-loop-k : goal.invariant-loop-k
-invariant-loop-k l = (l.k ≤ marks_count) × (l.row ≡ emptied l.k l.initial.row)
-
-abbrev pub decreases-loop-k : goal.decreases-loop-k
-decreases-loop-k l = marks_count - l.k
+invariant-loop-k l = l.row ≡ emptied (l.k - 1) l.initial.row
