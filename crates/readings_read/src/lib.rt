@@ -8,9 +8,10 @@ mod pieces;
 mod reading;
 mod values;
 
-ghost use Rattle.std.specs.Prelude.{◌≤◌, length};
+ghost use Rattle.std.specs.Prelude.{◌≤◌, length, replicate};
 ghost use Rattle.text.specs.Spelled.{spelled};
-ghost use Rattle.text_read.specs.Texts.{small_text};
+ghost use Rattle.text_read.specs.Lines.{kept_entries};
+ghost use Rattle.text_read.specs.Texts.{Rows};
 ghost use Rattle.readings.specs.Promise.{ReadsBack};
 ghost use Rattle.readings_read.specs.Words.{Named};
 ghost use Rattle.readings_read.specs.Lines.{BackTold, GrammarChecked};
@@ -108,23 +109,20 @@ fn back_in(
     }
 }
 
-fn back_small(text: &[u8], lines: &[u8], left: &mut [u32], right: &mut [u32]) -> ReadBack
-    requires { length text.now ≤ small_text }
+// Reading back over rows of its own, of E entries and of N names, which suffice for the grammar's text.
+fn back_with<const E: usize, const N: usize>(
+    text: &[u8],
+    lines: &[u8],
+    left: &mut [u32],
+    right: &mut [u32],
+) -> ReadBack
+    requires rows { Rows (length text.now) (replicate E 0) (replicate N 0) (replicate N 0) }
+    requires entries_few { E ≤ kept_entries }
     ensures { ReadsBack text.now lines.now left.old right.old result left.new right.new }
 {
-    let mut row = [0u16; SMALL_TEXT];
-    let mut starts = [0u32; SMALL_TEXT];
-    let mut lengths = [0u32; SMALL_TEXT];
-    let read = text_read::check_text(text, &mut row, &mut starts, &mut lengths);
-    back_in(read, text, &starts, &lengths, lines, left, right)
-}
-
-fn back_large(text: &[u8], lines: &[u8], left: &mut [u32], right: &mut [u32]) -> ReadBack
-    ensures { ReadsBack text.now lines.now left.old right.old result left.new right.new }
-{
-    let mut row = [0u16; KEPT_ENTRIES];
-    let mut starts = [0u32; MAX_NAMES];
-    let mut lengths = [0u32; MAX_NAMES];
+    let mut row = [0u16; E];
+    let mut starts = [0u32; N];
+    let mut lengths = [0u32; N];
     let read = text_read::check_text(text, &mut row, &mut starts, &mut lengths);
     back_in(read, text, &starts, &lengths, lines, left, right)
 }
@@ -135,7 +133,7 @@ pub fn read_back(text: &[u8], lines: &[u8], left: &mut [u32], right: &mut [u32])
     ensures { ReadsBack text.now lines.now left.old right.old result left.new right.new }
 {
     if text.len() <= SMALL_TEXT {
-        return back_small(text, lines, left, right);
+        return back_with::<SMALL_TEXT, SMALL_TEXT>(text, lines, left, right);
     }
-    back_large(text, lines, left, right)
+    back_with::<KEPT_ENTRIES, MAX_NAMES>(text, lines, left, right)
 }

@@ -9,10 +9,11 @@ mod rules;
 mod symbols;
 mod value;
 
-ghost use Rattle.std.specs.Prelude.{◌≡◌, ◌≤◌, length};
+ghost use Rattle.std.specs.Prelude.{◌≡◌, ◌≤◌, length, replicate};
 ghost use Rattle.grammar.specs.Basics.{over};
 ghost use Rattle.text.specs.Promise.{ReadsText};
-ghost use Rattle.text_read.specs.Texts.{small_text, TextIn};
+ghost use Rattle.text_read.specs.Lines.{kept_entries};
+ghost use Rattle.text_read.specs.Texts.{Rows, TextIn};
 
 use grammar::{BUFFER_TOO_SHORT, MAX_LENGTH, MAX_NAMES, MAX_RULES};
 use keeping::{check_kept, keep_text};
@@ -116,23 +117,20 @@ fn read_in(
     read
 }
 
-fn read_small(text: &[u8], table: &mut [u16], starts: &mut [u32], lengths: &mut [u32]) -> TextRead
-    requires { length text.now ≤ small_text }
+// The reader over rows of its own, of E entries and of N names, which suffice for the text.
+fn read_with<const E: usize, const N: usize>(
+    text: &[u8],
+    table: &mut [u16],
+    starts: &mut [u32],
+    lengths: &mut [u32],
+) -> TextRead
+    requires rows { Rows (length text.now) (replicate E 0) (replicate N 0) (replicate N 0) }
+    requires entries_few { E ≤ kept_entries }
     ensures { ReadsText text.now table.old starts.old lengths.old result table.new starts.new lengths.new }
 {
-    let mut row = [0u16; SMALL_TEXT];
-    let mut begins = [0u32; SMALL_TEXT];
-    let mut sizes = [0u32; SMALL_TEXT];
-    let kept = keep_text(text, &mut row, &mut begins, &mut sizes);
-    read_in(text, kept, &row, &begins, &sizes, table, starts, lengths)
-}
-
-fn read_large(text: &[u8], table: &mut [u16], starts: &mut [u32], lengths: &mut [u32]) -> TextRead
-    ensures { ReadsText text.now table.old starts.old lengths.old result table.new starts.new lengths.new }
-{
-    let mut row = [0u16; KEPT_ENTRIES];
-    let mut begins = [0u32; MAX_NAMES];
-    let mut sizes = [0u32; MAX_NAMES];
+    let mut row = [0u16; E];
+    let mut begins = [0u32; N];
+    let mut sizes = [0u32; N];
     let kept = keep_text(text, &mut row, &mut begins, &mut sizes);
     read_in(text, kept, &row, &begins, &sizes, table, starts, lengths)
 }
@@ -148,7 +146,7 @@ pub fn read_text(
     ensures { ReadsText text.now table.old starts.old lengths.old result table.new starts.new lengths.new }
 {
     if text.len() <= SMALL_TEXT {
-        return read_small(text, table, starts, lengths);
+        return read_with::<SMALL_TEXT, SMALL_TEXT>(text, table, starts, lengths);
     }
-    read_large(text, table, starts, lengths)
+    read_with::<KEPT_ENTRIES, MAX_NAMES>(text, table, starts, lengths)
 }
