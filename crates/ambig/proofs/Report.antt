@@ -5,7 +5,7 @@ use Rattle.std.proofs.Math.Seq.{take-append_seam}
 use borrow.Author.Tests.{lt-leb}
 use lib.Dec.{leb}
 use Rattle.grammar.specs.Basics.{over}
-use Rattle.grammar.specs.Refusal.{done, refused}
+use Rattle.grammar.specs.Refusal.{done, refused, buffer_too_short}
 use Rattle.grammar.proofs.Answers.{unless_fails}
 use Rattle.text.specs.Promise.{afterwards}
 use Rattle.report.specs.Report.{program_text, report_size, judge, printed, report_of, report_into, reported, Reports}
@@ -31,9 +31,9 @@ module _ (text out : List ℕ) (r : Reported) (out' : List ℕ) (h : Reports tex
       (q, ap (λ m. take m out') q ∙ ap (take (length (report_of text))) z ∙ take-append_seam (report_of text) _)
 
 -- any two texts that are too long have one report
-too_long : (text : List ℕ) → program_text < length text → report_of text ≡ printed (refused 14 0)
+too_long : (text : List ℕ) → program_text < length text → report_of text ≡ printed (refused buffer_too_short 0)
 unfolding report_of judge
-too_long text h = ap printed (unless_fails 14 0 (leb (length text) program_text) _ (lt-leb (length text) program_text h))
+too_long text h = ap printed (unless_fails buffer_too_short 0 (leb (length text) program_text) _ (lt-leb (length text) program_text h))
 
 same_report : (read rest all : List ℕ) → all ≡ read ++ rest → (length read ≤ program_text → rest ≡ []) → report_of read ≡ report_of all
 same_report read rest all e end =

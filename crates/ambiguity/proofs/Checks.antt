@@ -9,6 +9,7 @@ use Rattle.grammar.specs.Grammar.{Grammar}
 use Rattle.grammar.specs.Refusal.{Answer, done, refused, and_then}
 use Rattle.grammar.proofs.Answers.{then-goes, then_stops}
 use Rattle.grammar.proofs.WellFormed.{room}
+use Rattle.grammar.specs.declared.Cause.{Cause}
 use Rattle.automaton.specs.Automaton.{Automaton}
 use Rattle.automaton.specs.Moves.{Regular, Lists}
 use Rattle.automaton.specs.Position.{position}
@@ -55,7 +56,7 @@ witness_reached A (begins e l) = leads_reached A origin l
 module _ (t n : ℕ) (table : List ℕ) (m : ℕ) where
   -- the refusals up to 8 come first in a check that begins with them
   stops_first : (go : Grammar → Answer Unit) (v : CheckVerdict) → v ≡ check_verdict (and_then (check_with limits t n table m) go)
-      → (cause at : ℕ) → StopsAt t n table m cause at → v ≡ check.Refused cause at
+      → (cause : Cause) (at : ℕ) → StopsAt t n table m cause at → v ≡ check.Refused cause at
   stops_first go v h cause at e = h ∙ ap check_verdict (then_stops (check_with limits t n table m) go cause at (stops t n table m e))
 
   -- and otherwise it accepts exactly if what follows is done

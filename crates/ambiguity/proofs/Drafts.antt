@@ -12,13 +12,14 @@ use Rattle.grammar.specs.Limits.{limits}
 use Rattle.grammar.specs.Grammar.{Rule, Grammar, state_count}
 use Rattle.grammar.specs.Table.{encode}
 use Rattle.grammar.specs.Live.{has_sentence}
-use Rattle.grammar.specs.Refusal.{Answer, done, refused, refuse_unless, and_then, buffer_too_short, no_sentence, not_present}
+use Rattle.grammar.specs.Refusal.{Answer, done, refused, refuse_unless, and_then, buffer_too_short, no_sentence, not_present, cause_number}
 use Rattle.grammar.specs.TableCheck.{stored_table, check_table, table_checked}
 use Rattle.grammar.specs.declared.TableChecked.{TableChecked}
 use Rattle.grammar.proofs.Answers.{no_answer, no_bool, done_inj, unless_holds, unless_fails, unless_done, then-done, then-goes, then_stops}
 use Rattle.grammar.proofs.Causes.{CausedBy, cause, up_to, stored_causes}
 use Rattle.grammar.proofs.WellFormed.{room, stores_all, stored-only}
 use Rattle.grammar.proofs.Sentence.{refuses_exactly}
+use Rattle.grammar.specs.declared.Cause.{Cause}
 use Rattle.table_check.proofs.Callers.{refused-table}
 use Rattle.drafts.specs.Draft.{Draft, Edit, add, return, marks_count, is_mark, with_rules, restored, kept, new_draft, taken, after}
 use Rattle.drafts.specs.Row.{draft_room, table_at, block_of, rules_in, draft_or, draft_in, begun, new_row, stepped}
@@ -57,7 +58,7 @@ unfolding draft_in
 empty-row row h e =
     unless_holds buffer_too_short 0 (leb draft_room (length row)) (draft_or row (rules_in (block_of row 0))) (le-leb draft_room (length row) h) ∙ ap (draft_or row) e
 
-no_step_lem : (row : List ℕ) (s : Edit) (c p : ℕ) → draft_in row ≡ refused c p → stepped row s ≡ refused c p
+no_step_lem : (row : List ℕ) (s : Edit) (c : Cause) (p : ℕ) → draft_in row ≡ refused c p → stepped row s ≡ refused c p
 unfolding stepped
 no_step_lem row s c p e = then_stops (draft_in row) _ c p e
 
@@ -134,7 +135,7 @@ module _ (t n : ℕ) (table before : List ℕ) where
   unfolding new_draft
   fresh G e = (_, then-goes (stored_table limits t n table) _ G e)
 
-  not-begun : (c p : ℕ) → stored_table limits t n table ≡ refused c p → new_row t n table before ≡ refused c p
+  not-begun : (c : Cause) (p : ℕ) → stored_table limits t n table ≡ refused c p → new_row t n table before ≡ refused c p
   unfolding new_row new_draft
   not-begun c p e = then_stops _ _ c p (then_stops (stored_table limits t n table) _ c p e)
 
@@ -156,7 +157,7 @@ module _ (t n : ℕ) (table before : List ℕ) where
       (g.0, is_table t n table g.0 (stored-only limits room t n table g.0 g.1), leb-true draft_room (length before) u.0)
 
   -- the table check refuses it with another cause than 19: so it is not stored
-  refused-stored : (k at : ℕ) → check_table limits t n table ≡ refused k at → ¬ (k ≡ no_sentence) → stored_table limits t n table ≡ refused k at
+  refused-stored : (k : Cause) (at : ℕ) → check_table limits t n table ≡ refused k at → ¬ (k ≡ no_sentence) → stored_table limits t n table ≡ refused k at
   unfolding check_table refuse_unless and_then
   refused-stored k at e other = go (stored_table limits t n table) refl e
     where
@@ -176,7 +177,7 @@ module _ (t n : ℕ) (table before : List ℕ) where
     where
       last : (b : Bool) (row : List ℕ) → refuse_unless buffer_too_short 0 b (done row) ≡ refused no_sentence at → ⊥
       last true row q = no_answer (sym q)
-      last false row q = let z : buffer_too_short ≡ no_sentence = cc in omega (arith, z)
+      last false row q = let z : buffer_too_short ≡ no_sentence = cc in let n : cause_number buffer_too_short ≡ cause_number no_sentence = ap cause_number z in omega arith
 
       go : (o : Answer Grammar) → stored_table limits t n table ≡ o → CausedBy (up_to 8) o → ⊥
       go (done G) s c =
@@ -185,7 +186,7 @@ module _ (t n : ℕ) (table before : List ℕ) where
       go (refused k p) s (cause h) =
           let z : ◌≡◌ {A = Answer (List ℕ)} (refused k p) (refused no_sentence at) = sym (not-begun k p s) ∙ e in
           let w : k ≡ no_sentence = cc in
-          no_bool (sym (subst (λ c. up_to 8 c ≡ true) w h))
+          no_bool (sym (subst (λ (c : Cause). up_to 8 (cause_number c) ≡ true) w h))
 
   pub begin_theorems : (r : DraftAnswer) (row : List ℕ) → BeginsDraft t n table before r row → BeginTheorems t n table before r row
   begin_theorems r row a =

@@ -15,6 +15,7 @@ use Rattle.grammar.proofs.Live.{is_live_lem}
 use Rattle.grammar.proofs.Lists.{lt_or_le}
 use Rattle.grammar.proofs.WellFormed.{Taken, room}
 use Rattle.grammar.proofs.Sentence.{passes_exactly}
+use Rattle.grammar.specs.declared.Cause.{Cause}
 use Rattle.automaton.specs.Moves.{Regular, Lists}
 use Rattle.automaton.specs.Callers.{callers, most_callers, check_with}
 use Rattle.automaton.specs.CallerMoves.{moves_with}
@@ -65,7 +66,7 @@ module _ (t n : ℕ) (table : List ℕ) (m : ℕ) where
       }
 
   -- a refusal up to 8 is that of the check with callers
-  pub stops : {cause at : ℕ} → StopsAt t n table m cause at → check_with limits t n table m ≡ refused cause at
+  pub stops : {cause : Cause} {at : ℕ} → StopsAt t n table m cause at → check_with limits t n table m ≡ refused cause at
   stops {cause} {at} (by-table r a d) = table_stops limits t n table m cause at (refused-table t n table r a cause at d)
   stops (by-callers G s h) = table-goes limits t n table m G (checked t n table G s) ∙ many_callers limits G m h
   stops (by-states G s h k) =
@@ -74,7 +75,7 @@ module _ (t n : ℕ) (table : List ℕ) (m : ℕ) where
 
   -- one stops it, or it passes
   abbrev Either : Type 0
-  Either = ((cause at : ℕ) × StopsAt t n table m cause at) ⊎ ((G : Grammar) × StoresAt t n table m G)
+  Either = ((cause : Cause) × (at : ℕ) × StopsAt t n table m cause at) ⊎ ((G : Grammar) × StoresAt t n table m G)
 
   judged : (G : Grammar) → Stores t n table G → (most_callers < m) ⊎ (m ≤ most_callers)
       → (limits.max_states < states_at G m) ⊎ (states_at G m ≤ limits.max_states) → Either

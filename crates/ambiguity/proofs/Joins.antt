@@ -14,7 +14,7 @@ use Rattle.grammar.specs.Grammar.{Grammar}
 use Rattle.grammar.specs.Tree.{Tree, HasTree}
 use Rattle.grammar.specs.Live.{HasSentence}
 use Rattle.grammar.specs.Table.{encode, decode}
-use Rattle.grammar.specs.Refusal.{Answer, done, refused, refuse_unless, and_then, out_of_range, buffer_too_short, name_repeated, no_sentence, kinds_clash}
+use Rattle.grammar.specs.Refusal.{Answer, done, refused, refuse_unless, and_then, out_of_range, buffer_too_short, name_repeated, no_sentence, kinds_clash, cause_number}
 use Rattle.grammar.specs.declared.TableChecked.{TableChecked}
 use Rattle.grammar.specs.declared.TableVerdict.TheVariants.{Passed}
 use Rattle.grammar.specs.TableCheck.{check_table, table_checked, TableAnswer}
@@ -22,6 +22,7 @@ use Rattle.grammar.proofs.Sentence.{passes_exactly}
 use Rattle.grammar.proofs.Causes.{CausedBy, cause, up_to}
 use Rattle.grammar.proofs.Answers.{no_answer, no_bool, done_inj, unless_done, unless_holds, unless_fails, then-done, then-goes, then_stops}
 use Rattle.grammar.proofs.Rules.{decode-encode}
+use Rattle.grammar.specs.declared.Cause.{Cause}
 use Rattle.text.specs.Read.{Source, symbol_names, grammar_of}
 use Rattle.text.specs.Rules.{last_tests, check_text, check_module, read_into}
 use Rattle.text.specs.Print.{printed}
@@ -50,18 +51,18 @@ use Rattle.ambiguity.specs.Joins.{JoinTheorems, ShownTheorems, JoinedTextTheorem
 -- ---- refusals
 
 module _ (robot addon table : List ℕ) (v : TextRead) (table' : List ℕ) (p : JoinsTexts robot addon table v table') where
-  stops : (cause at : ℕ) → join_texts limits robot addon ≡ refused cause at → (v ≡ Refused cause at) × (table' ≡ table)
+  stops : (cause : Cause) (at : ℕ) → join_texts limits robot addon ≡ refused cause at → (v ≡ Refused cause at) × (table' ≡ table)
   unfolding joined_table_into
   stops c at e =
       let o = then_stops (join_texts limits robot addon) (λ s. refuse_unless buffer_too_short 0 (leb (length (encode s.rules)) (length table)) (done s)) c at e in
       (p.answer ∙ ap text_read o, p.table-after ∙ ap (λ o. afterwards o (λ s. encode s.rules) table) o)
 
 module _ (robot addon : List ℕ) where
-  at-robot : (cause at : ℕ) → check_text limits robot ≡ refused cause at → join_texts limits robot addon ≡ refused cause at
+  at-robot : (cause : Cause) (at : ℕ) → check_text limits robot ≡ refused cause at → join_texts limits robot addon ≡ refused cause at
   unfolding join_texts
   at-robot c at e = then_stops _ _ c at e
 
-  at_module : (r : Source) → check_text limits robot ≡ done r → (cause at : ℕ) → check_module limits addon ≡ refused cause at
+  at_module : (r : Source) → check_text limits robot ≡ done r → (cause : Cause) (at : ℕ) → check_module limits addon ≡ refused cause at
       → join_texts limits robot addon ≡ refused cause at
   unfolding join_texts
   at_module r e c at f = then-goes (check_text limits robot) _ r e ∙ then_stops _ _ c at f
@@ -192,10 +193,10 @@ module _ (robot addon table : List ℕ) (t n e q : ℕ) (table' : List ℕ) (p :
 
 -- ---- 19
 
-never_among : (o : Answer Source) → CausedBy (up_to name_repeated) o → (at : ℕ) → ¬ (o ≡ refused no_sentence at)
-never_among o h at e = go (subst (λ (o : Answer Source). CausedBy (up_to name_repeated) o) e h)
+never_among : (o : Answer Source) → CausedBy (up_to (cause_number name_repeated)) o → (at : ℕ) → ¬ (o ≡ refused no_sentence at)
+never_among o h at e = go (subst (λ (o : Answer Source). CausedBy (up_to (cause_number name_repeated)) o) e h)
   where
-    go : CausedBy (up_to name_repeated) {A = Source} (refused no_sentence at) → ⊥
+    go : CausedBy (up_to (cause_number name_repeated)) {A = Source} (refused no_sentence at) → ⊥
     go (cause h) = no_bool (sym h)
 
 -- the tests of a module's text never give it
@@ -233,12 +234,12 @@ module _ (robot addon : List ℕ) (r m : Source) (e : check_text limits robot �
       last (refused c i) p g = unfold and_then in p ∙ g' (unfold and_then in g)
         where
           g' : {A B : Type 0} → ◌≡◌ {A = Answer A} (refused c i) (refused no_sentence at) → ◌≡◌ {A = Answer B} (refused c i) (refused no_sentence at)
-          g' g = let x : c ≡ no_sentence = cc g in let y : i ≡ at = cc g in ap₂ (λ (c i : ℕ). refused c i) x y
+          g' g = let x : c ≡ no_sentence = cc g in let y : i ≡ at = cc g in ap₂ (λ (c : Cause) (i : ℕ). refused c i) x y
 
       go : (a : Bool) → leb (length (joined_terminals r m)) limits.max_terminals ≡ a → (b : Bool) → leb (length (joined_nonterminals r m)) limits.max_nonterminals ≡ b
           → ¬ (refuse_unless out_of_range 1 a (refuse_unless out_of_range 2 b (and_then (last_tests limits (joined limits r m)) (λ G. done (joined limits r m)))) ≡ refused no_sentence at)
-      go false p b q g = unfold refuse_unless in absurd (let z : out_of_range ≡ no_sentence = cc g in omega arith)
-      go true p false q g = unfold refuse_unless in absurd (let z : out_of_range ≡ no_sentence = cc g in omega arith)
+      go false p b q g = unfold refuse_unless in absurd (let z : out_of_range ≡ no_sentence = cc g in let n : cause_number out_of_range ≡ cause_number no_sentence = ap cause_number z in omega arith)
+      go true p false q g = unfold refuse_unless in absurd (let z : out_of_range ≡ no_sentence = cc g in let n : cause_number out_of_range ≡ cause_number no_sentence = ap cause_number z in omega arith)
       go true p true q g =
           let w = joined_well limits apart r m wr wm h k short (leb-true (length (joined_terminals r m)) limits.max_terminals p)
           (leb-true (length (joined_nonterminals r m)) limits.max_nonterminals q) in
@@ -251,12 +252,12 @@ join_never robot addon r e at d = go (check_module limits addon) refl
     go (refused c i) f =
         let z : refused c i ≡ refused no_sentence at = sym (at_module robot addon r e c i f) ∙ d in
         let x : c ≡ no_sentence = cc z in
-        module-never addon i (f ∙ ap (λ (c : ℕ). refused c i) x)
+        module-never addon i (f ∙ ap (λ (c : Cause). refused c i) x)
     go (done m) f = in-kinds (meet m.terminals r.nonterminals) refl (meet m.nonterminals r.terminals) refl
       where
         in-kinds : (a : Bool) → meet m.terminals r.nonterminals ≡ a → (b : Bool) → meet m.nonterminals r.terminals ≡ b → ⊥
-        in-kinds true p b q = let z : ◌≡◌ {A = Answer Source} (refused kinds_clash 1) (refused no_sentence at) = sym (at_first robot addon r m e f p) ∙ d in let y : kinds_clash ≡ no_sentence = cc z in omega arith
-        in-kinds false p true q = let z : ◌≡◌ {A = Answer Source} (refused kinds_clash 2) (refused no_sentence at) = sym (at_second robot addon r m e f p q) ∙ d in let y : kinds_clash ≡ no_sentence = cc z in omega arith
+        in-kinds true p b q = let z : ◌≡◌ {A = Answer Source} (refused kinds_clash 1) (refused no_sentence at) = sym (at_first robot addon r m e f p) ∙ d in let y : kinds_clash ≡ no_sentence = cc z in let n : cause_number kinds_clash ≡ cause_number no_sentence = ap cause_number y in omega arith
+        in-kinds false p true q = let z : ◌≡◌ {A = Answer Source} (refused kinds_clash 2) (refused no_sentence at) = sym (at_second robot addon r m e f p q) ∙ d in let y : kinds_clash ≡ no_sentence = cc z in let n : cause_number kinds_clash ≡ cause_number no_sentence = ap cause_number y in omega arith
         in-kinds false p false q = joined_never robot addon r m e f p q at (sym (at_joined robot addon r m e f p q) ∙ d)
 
 -- 14 is not 19
@@ -268,12 +269,12 @@ into_never entries robot addon r e at d = go (join_texts limits robot addon) ref
     go (refused c i) f =
         let z : refused c i ≡ refused no_sentence at = sym (then_stops (join_texts limits robot addon) _ c i f) ∙ d in
         let x : c ≡ no_sentence = cc z in
-        join_never robot addon r e i (f ∙ ap (λ (c : ℕ). refused c i) x)
+        join_never robot addon r e i (f ∙ ap (λ (c : Cause). refused c i) x)
     go (done s) f = room (leb (length (encode s.rules)) entries) (sym (then-goes (join_texts limits robot addon) _ s f) ∙ d)
       where
         room : (b : Bool) → ¬ (refuse_unless buffer_too_short 0 b (done s) ≡ refused no_sentence at)
         room true g = unfold refuse_unless in no_answer (sym g)
-        room false g = unfold refuse_unless in absurd (let z : buffer_too_short ≡ no_sentence = cc g in omega arith)
+        room false g = unfold refuse_unless in absurd (let z : buffer_too_short ≡ no_sentence = cc g in let n : cause_number buffer_too_short ≡ cause_number no_sentence = ap cause_number z in omega arith)
 
 -- ---- the theorems
 
@@ -307,7 +308,7 @@ shown_theorems robot addon i part p = record {
 pub place_theorems : (robot addon : List ℕ) (i : ℕ) (place : Place) → ShowsPlace robot addon i place → ShownTheorems robot addon i (part_of robot addon place)
 place_theorems robot addon i place p = shown_theorems robot addon i (part_of robot addon place) (ap (part_of robot addon) p.is)
 
-joined_stops : (robot addon out : List ℕ) (cause at : ℕ) → join_texts limits robot addon ≡ refused cause at
+joined_stops : (robot addon out : List ℕ) (cause : Cause) (at : ℕ) → join_texts limits robot addon ≡ refused cause at
     → joined_text_into limits (length out) robot addon ≡ refused cause at
 unfolding joined_text_into
 joined_stops robot addon out c at e = then_stops _ _ c at e

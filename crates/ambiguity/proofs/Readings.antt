@@ -16,6 +16,7 @@ use Rattle.grammar.specs.Refusal.{Answer, done, refused, buffer_too_short}
 use Rattle.grammar.proofs.Answers.{then-goes, then_stops, unless_holds, unless_fails, both_and}
 use Rattle.grammar.proofs.WellFormed.{room}
 use Rattle.grammar.proofs.Sentence.{takes_only}
+use Rattle.grammar.specs.declared.Cause.{Cause}
 use Rattle.automaton.specs.Items.{states}
 use Rattle.automaton.specs.PositionMoves.{moves_of}
 use Rattle.automaton.specs.Position.{position}
@@ -85,7 +86,7 @@ module _ (text lines a b : List ℕ) (r : ReadBack) (a' b' : List ℕ) (h : Read
     h.right-after ∙ ap (λ (o : Back). row_after o (λ p. p.1) b) e,
   )
 
-  grammar-refused : (cause at : ℕ) → check_text limits text ≡ refused cause at → (r ≡ GrammarRefused cause at) × Unchanged a b a' b'
+  grammar-refused : (cause : Cause) (at : ℕ) → check_text limits text ≡ refused cause at → (r ≡ GrammarRefused cause at) × Unchanged a b a' b'
   unfolding read_back_into
   grammar-refused cause at e =
       let t = told (refused cause at) (then_stops (check_text limits text) _ cause at e) in
@@ -100,7 +101,7 @@ module _ (text lines a b : List ℕ) (r : ReadBack) (a' b' : List ℕ) (h : Read
         → (r ≡ read_back (done o)) × (a' ≡ row_after (done o) (λ p. p.0) a) × (b' ≡ row_after (done o) (λ p. p.1) b)
     from o e = told (done o) (into ∙ ap (λ (o : Answer (List Letter × List Letter)). done o) e)
 
-    lines-refused : (cause at : ℕ) → strings_of s lines ≡ refused cause at → (r ≡ Refused cause at) × Unchanged a b a' b'
+    lines-refused : (cause : Cause) (at : ℕ) → strings_of s lines ≡ refused cause at → (r ≡ Refused cause at) × Unchanged a b a' b'
     unfolding strings_into
     lines-refused cause at e =
         let t = from (refused cause at) (then_stops (strings_of s lines) _ cause at e) in

@@ -10,10 +10,11 @@ use lib.Dec.{leb, eqb}
 use lib.ListN.{length}
 use Rattle.grammar.specs.Limits.{limits}
 use Rattle.grammar.specs.Grammar.{Grammar}
-use Rattle.grammar.specs.Refusal.{Answer, done, refused, buffer_too_short, name_repeated, no_sentence}
+use Rattle.grammar.specs.Refusal.{Answer, done, refused, buffer_too_short, name_repeated, no_sentence, cause_number}
 use Rattle.grammar.specs.TableCheck.{check_table}
 use Rattle.grammar.proofs.Answers.{no_bool, no_answer, and_both, both_and, then-goes, then_stops}
 use Rattle.grammar.proofs.Causes.{CausedBy, result, cause, unless, next, up_to, caused_more, stored_causes}
+use Rattle.grammar.specs.declared.Cause.{Cause}
 use Rattle.automaton.specs.AllMoves.{move_count}
 use Rattle.automaton.specs.Callers.{check_with}
 use Rattle.automaton.specs.CallerMoves.{moves_with}
@@ -79,7 +80,7 @@ less_short Q l h = go (is_enough Q l) refl
 
 -- a verdict is no refusal
 verdict_given : (t n : ℕ) (table : List ℕ) (m : ℕ) (G : Grammar) (v : SearchVerdict) (written : List ℕ)
-    → ((k l : ℕ) × (v ≡ search.Potential k l)) ⊎ Certifies t n table m G v written → (c p : ℕ) → ¬ (v ≡ search.Refused c p)
+    → ((k l : ℕ) × (v ≡ search.Potential k l)) ⊎ Certifies t n table m G v written → (c : Cause) (p : ℕ) → ¬ (v ≡ search.Refused c p)
 verdict_given t n table m G v written (inl (k, l, q)) c p e = let z : search.Potential k l ≡ search.Refused c p = sym q ∙ e in absurd (let y : ◌≡◌ {A = ℕ} 0 1 = cc in omega arith)
 verdict_given t n table m G v written (inr k) c p e = let z = sym k.verdict ∙ e in absurd (let y : ◌≡◌ {A = ℕ} 0 1 = cc in omega arith)
 
@@ -103,7 +104,7 @@ module _ (t n : ℕ) (table : List ℕ) (m : ℕ) where
     unfolding search_room
     room-passed G e = h ∙ ap room_told (then-goes (check_with limits t n table m) (λ G. done (room_of (moves_with limits G m))) G e)
 
-    room-refused : (c p : ℕ) → check_with limits t n table m ≡ refused c p → r ≡ room.Refused c p
+    room-refused : (c : Cause) (p : ℕ) → check_with limits t n table m ≡ refused c p → r ≡ room.Refused c p
     unfolding search_room
     room-refused c p e = h ∙ ap room_told (then_stops (check_with limits t n table m) (λ G. done (room_of (moves_with limits G m))) c p e)
 
@@ -153,15 +154,15 @@ module _ (t n : ℕ) (table : List ℕ) (m : ℕ) where
 
 -- every cause but 14
 abbrev not_short : ℕ → Bool
-not_short c = not (eqb c buffer_too_short)
+not_short c = not (eqb c (cause_number buffer_too_short))
 
 few_causes : (c : ℕ) → up_to 8 c ≡ true → not_short c ≡ true
 few_causes c h =
     let k : c ≤ 8 = leb-true c 8 (and_both (leb 1 c) (leb c 8) h).1 in
-    go (eqb c buffer_too_short) refl k
+    go (eqb c (cause_number buffer_too_short)) refl k
   where
-    go : (b : Bool) → eqb c buffer_too_short ≡ b → c ≤ 8 → not b ≡ true
-    go true e k = let z : c ≡ buffer_too_short = eqb-true c buffer_too_short e in absurd (omega arith)
+    go : (b : Bool) → eqb c (cause_number buffer_too_short) ≡ b → c ≤ 8 → not b ≡ true
+    go true e k = let z : c ≡ cause_number buffer_too_short = eqb-true c (cause_number buffer_too_short) e in absurd (omega arith)
     go false e k = refl
 
 text_causes : (t n : ℕ) (table bytes starts lengths : List ℕ) → CausedBy not_short (text_from limits t n table bytes starts lengths)
@@ -174,7 +175,7 @@ not_caused : {A : Type 0} (o : Answer A) (at : ℕ) → CausedBy not_short o →
 not_caused (done a) at h e = no_answer (sym e)
 not_caused (refused c p) at (cause h) e =
     let z : c ≡ buffer_too_short = cc in
-    no_bool (sym (subst (λ c. not_short c ≡ true) z h))
+    no_bool (sym (subst (λ (c : Cause). not_short (cause_number c) ≡ true) z h))
 
 module _ (t n : ℕ) (table bytes starts lengths : List ℕ) (r : TextLength) (h : LengthAnswer t n table bytes starts lengths r) where
   abbrev text : Answer (List ℕ)

@@ -17,6 +17,7 @@ use Rattle.grammar.specs.TableCheck.{is_terminal, check_table}
 use Rattle.grammar.proofs.Answers.{no_bool, done_inj, unless_holds, unless_fails, unless_done, then-done, then-goes, then_stops}
 use Rattle.grammar.proofs.Lists.{lt_or_le}
 use Rattle.grammar.proofs.Plain.{is_terminal_lem}
+use Rattle.grammar.specs.declared.Cause.{Cause}
 use Rattle.trees.specs.Trees.{row_fault, max_row, work_size, check_row}
 use Rattle.ambiguity.specs.Entries.{Stores}
 use Rattle.ambiguity.specs.Trees.{IsRow, FaultAt}
@@ -108,7 +109,7 @@ module _ (t n : ℕ) (table w work : List ℕ) where
       refuse_unless row_wrong (row_fault t max_row w) (leb (length w) (row_fault t max_row w))
       (refuse_unless buffer_too_short 0 (leb (work_size G) (length work)) (done G))
 
-  pub table_stops : (cause at : ℕ) → check_table limits t n table ≡ refused cause at → check_row limits t n table w work ≡ refused cause at
+  pub table_stops : (cause : Cause) (at : ℕ) → check_table limits t n table ≡ refused cause at → check_row limits t n table w work ≡ refused cause at
   unfolding check_row
   table_stops = then_stops (check_table limits t n table) go_on
 

@@ -12,6 +12,7 @@ use Rattle.grammar.specs.Limits.{limits}
 use Rattle.grammar.specs.Grammar.{Grammar, WellFormed}
 use Rattle.grammar.specs.Refusal.{Answer, done, refused, refuse_unless, buffer_too_short}
 use Rattle.grammar.proofs.Answers.{done_inj, unless_holds, unless_fails, unless_done, then-done, then-goes, then_stops}
+use Rattle.grammar.specs.declared.Cause.{Cause}
 use Rattle.automaton.specs.Automaton.{Automaton}
 use Rattle.automaton.specs.Moves.{Moves, Regular, Lists}
 use Rattle.automaton.specs.Callers.{callers, check_with}
@@ -51,10 +52,10 @@ front_of front old k e = ap (λ (n : ℕ). take n (over front old)) (sym e) ∙ 
 pub no_two : {A : Type 0} {n m k l : ℕ} → search.Unambiguous n m ≡ search.Potential k l → A
 no_two e = let z : ◌≡◌ {A = ℕ} 0 1 = cc in absurd (let o : ⊥ = omega arith in o)
 
-no_refusal : {A : Type 0} {cause at k l : ℕ} → search.Refused cause at ≡ search.Potential k l → A
+no_refusal : {A : Type 0} {cause : Cause} {at k l : ℕ} → search.Refused cause at ≡ search.Potential k l → A
 no_refusal e = let z : ◌≡◌ {A = ℕ} 0 1 = cc in absurd (let o : ⊥ = omega arith in o)
 
-no_certificate : {A : Type 0} {cause at k l : ℕ} → search.Refused cause at ≡ search.Unambiguous k l → A
+no_certificate : {A : Type 0} {cause : Cause} {at k l : ℕ} → search.Refused cause at ≡ search.Unambiguous k l → A
 no_certificate e = let z : ◌≡◌ {A = ℕ} 0 1 = cc in absurd (let o : ⊥ = omega arith in o)
 
 -- and tell their numbers

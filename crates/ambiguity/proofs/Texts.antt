@@ -10,12 +10,13 @@ use lib.Seq.{take_at}
 use Rattle.grammar.specs.Basics.{over}
 use Rattle.grammar.specs.Limits.{limits}
 use Rattle.grammar.specs.Table.{encode}
-use Rattle.grammar.specs.Refusal.{Answer, done, refused, refuse_unless, and_then, buffer_too_short, no_sentence}
+use Rattle.grammar.specs.Refusal.{Answer, done, refused, refuse_unless, and_then, buffer_too_short, no_sentence, cause_number}
 use Rattle.grammar.specs.TableCheck.{check_table, table_checked, TableAnswer}
 use Rattle.grammar.specs.declared.TableChecked.{TableChecked}
 use Rattle.grammar.specs.declared.TableVerdict.TheVariants.{Passed, Refused}
 use Rattle.grammar.proofs.Answers.{done_inj, no_answer, then-goes, then_stops}
 use Rattle.grammar.proofs.WellFormed.{room}
+use Rattle.grammar.specs.declared.Cause.{Cause}
 use Rattle.table_check.proofs.Callers.{passed-table, refused-table}
 use Rattle.text.specs.Read.{Source, symbol_names, grammar_of, read_text}
 use Rattle.text.specs.Rules.{last_tests, check_text, read_into}
@@ -53,7 +54,7 @@ only_14 e a b text s c at h = go _ (sym (then-goes (check_text limits text) _ s 
   where
     go : (ok : Bool) → ¬ (refuse_unless buffer_too_short 0 ok (done s) ≡ refused no_sentence at)
     go true h = unfold refuse_unless in no_answer (sym h)
-    go false h = unfold refuse_unless in absurd (let z : buffer_too_short ≡ no_sentence = cc in omega arith)
+    go false h = unfold refuse_unless in absurd (let z : buffer_too_short ≡ no_sentence = cc in let n : cause_number buffer_too_short ≡ cause_number no_sentence = ap cause_number z in omega arith)
 
 -- the reader refuses with 19 where the tests before 14 do
 without : (text table starts lengths : List ℕ) (v : TextRead) (table' starts' lengths' : List ℕ)
@@ -85,7 +86,7 @@ module _ (text : List ℕ) (s : Source) (d : read_text limits text ≡ done s) (
   abbrev rest : Source → Answer Source
   rest s = and_then (last_tests limits s) (λ G. done s)
 
-  last_tests_lem : (cause at : ℕ) → r.verdict ≡ Refused cause at → v ≡ reader.Refused cause at
+  last_tests_lem : (cause : Cause) (at : ℕ) → r.verdict ≡ Refused cause at → v ≡ reader.Refused cause at
   unfolding read_into check_text
   last_tests_lem cause at e =
       let c = refused-table (length s.terminals) (length s.nonterminals) (encode s.rules) r h cause at e in
@@ -160,7 +161,7 @@ module _ (text table starts lengths : List ℕ) (t n e q : ℕ) (table' starts' 
 -- the writer's table faults
 write-refused : (t n : ℕ) (table bytes starts lengths out : List ℕ) (r : TextWritten) (out' : List ℕ)
     → WritesText t n table bytes starts lengths out r out'
-    → (c : TableChecked) (cause at : ℕ) → TableAnswer t n table c → c.verdict ≡ Refused cause at
+    → (c : TableChecked) (cause : Cause) (at : ℕ) → TableAnswer t n table c → c.verdict ≡ Refused cause at
     → (r ≡ writer.Refused cause at) × (out' ≡ out)
 write-refused t n table bytes starts lengths out r out' w c cause at h e =
     let o : write_into limits t n table bytes starts lengths (length out) ≡ refused cause at

@@ -8,10 +8,11 @@ use lib.ListN.{length}
 use Rattle.grammar.specs.Limits.{limits}
 use Rattle.grammar.specs.Grammar.{Grammar}
 use Rattle.grammar.specs.Tree.{Tree, HasTwoTrees}
-use Rattle.grammar.specs.Refusal.{Answer, done, refused, buffer_too_short, row_wrong}
+use Rattle.grammar.specs.Refusal.{Answer, done, refused, buffer_too_short, row_wrong, cause_number}
 use Rattle.grammar.specs.TableCheck.{check_table, table_checked}
 use Rattle.grammar.proofs.Answers.{no_answer, done_inj, then-goes, then_stops}
 use Rattle.grammar.proofs.Lists.{lt_or_le}
+use Rattle.grammar.specs.declared.Cause.{Cause}
 use Rattle.triples.specs.Verdict.{CertificateAnswer}
 use Rattle.triples.specs.declared.CheckVerdict.TheVariants as check
 use Rattle.table_check.proofs.Callers.{refused-table}
@@ -43,7 +44,7 @@ certified t n table m bytes h G s sentence =
 
 module _ (t n : ℕ) (table w work list : List ℕ) where
   -- a refusal beforehand, and otherwise the answer
-  stops_at_lem : {r : TreesFound} {work' list' : List ℕ} (cause at : ℕ) → check_row limits t n table w work ≡ refused cause at
+  stops_at_lem : {r : TreesFound} {work' list' : List ℕ} (cause : Cause) (at : ℕ) → check_row limits t n table w work ≡ refused cause at
       → FindsTrees t n table w work list r work' list' → (r ≡ Refused cause at) × (work' ≡ work) × (list' ≡ list)
   stops_at_lem cause at e (refuses c p q) =
       let z : refused c p ≡ refused cause at = sym q ∙ e in
@@ -70,10 +71,10 @@ module _ (t n : ℕ) (table w work list : List ℕ) where
   tells G e (too_short H q rules a h) = told_of G H e q (told-short rules a h)
 
   -- why it was refused
-  stopped_for : (cause at : ℕ) → check_row limits t n table w work ≡ refused cause at → RefusedFor t n table w work list work list cause at
+  stopped_for : (cause : Cause) (at : ℕ) → check_row limits t n table w work ≡ refused cause at → RefusedFor t n table w work list work list cause at
   stopped_for cause at e = go (check_table limits t n table) refl
     where
-      is : (c p : ℕ) → check_row limits t n table w work ≡ refused c p → RefusedFor t n table w work list work list c p
+      is : (c : Cause) (p : ℕ) → check_row limits t n table w work ≡ refused c p → RefusedFor t n table w work list work list c p
           → RefusedFor t n table w work list work list cause at
       is c p q x =
           let z : ◌≡◌ {A = Answer Grammar} (refused c p) (refused cause at) = sym q ∙ e in
@@ -95,7 +96,7 @@ module _ (t n : ℕ) (table w work list : List ℕ) where
             ]
           ]
 
-  why : {work' list' : List ℕ} (cause at : ℕ) → FindsTrees t n table w work list (Refused cause at) work' list'
+  why : {work' list' : List ℕ} (cause : Cause) (at : ℕ) → FindsTrees t n table w work list (Refused cause at) work' list'
       → RefusedFor t n table w work list work' list' cause at
   why cause at (refuses c p e) = stopped_for cause at e
   why cause at (too_short G e rules a h) =
@@ -117,11 +118,11 @@ module _ (t n : ℕ) (table w work list : List ℕ) where
   not-several m bytes c (several-trees G e a) = never_several limits G w (certified t n table m bytes c G (row-passed t n table w work G e).0 w) a
 
   -- with a work row that is long enough 14 is given for the list
-  for_list : {work' list' : List ℕ} {cause at : ℕ} (G : Grammar) → Stores t n table G → work_size G ≤ length work → cause ≡ buffer_too_short
+  for_list : {work' list' : List ℕ} {cause : Cause} {at : ℕ} (G : Grammar) → Stores t n table G → work_size G ≤ length work → cause ≡ buffer_too_short
       → RefusedFor t n table w work list work' list' cause at
       → (G : Grammar) × Stores t n table G × ((tree : Tree) × OneTree G w tree × (length list < length (rules_of tree)))
   for_list {cause = cause} {at = at} G s h q (by-table c a d x y) = no_answer (sym (refused-table t n table c a cause at d) ∙ checked t n table G s)
-  for_list G s h q (by_row H x y z u) = absurd (omega arith)
+  for_list G s h q (by_row H x y z u) = absurd (let n : cause_number row_wrong ≡ cause_number buffer_too_short = ap cause_number q in omega arith)
   for_list G s h q (by_work H x y l z u) =
       let e : H ≡ G = done_inj (sym (checked t n table H x) ∙ checked t n table G s) in
       absurd (let l' = subst (λ (G : Grammar). length work < work_size G) e l in omega arith)
@@ -178,7 +179,7 @@ module _ (t n : ℕ) (table : List ℕ) (r : TreesRoom) (h : TreesRoomAnswer t n
   unfolding trees_room
   room-passed G e = h ∙ ap room_told (then-goes (check_table limits t n table) (λ G. done (work_size G)) G e)
 
-  room-refused : (cause at : ℕ) → check_table limits t n table ≡ refused cause at → r ≡ room.Refused cause at
+  room-refused : (cause : Cause) (at : ℕ) → check_table limits t n table ≡ refused cause at → r ≡ room.Refused cause at
   unfolding trees_room
   room-refused cause at e = h ∙ ap room_told (then_stops (check_table limits t n table) (λ G. done (work_size G)) cause at e)
 

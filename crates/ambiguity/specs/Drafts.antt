@@ -13,6 +13,7 @@ use Rattle.grammar.specs.Refusal.{done, and_then, buffer_too_short, no_sentence,
 use Rattle.grammar.specs.TableCheck.{TableAnswer}
 use Rattle.grammar.specs.declared.TableChecked.{TableChecked}
 use Rattle.grammar.specs.declared.TableVerdict.TheVariants as verdict
+use Rattle.grammar.specs.declared.Cause.{Cause}
 use Rattle.drafts.specs.Draft.{Draft, Edit, withdraw, mark, return, add, marks_count, kept, taken, after, or_same, new_draft}
 use Rattle.drafts.specs.Row.{draft_room, block_of, rules_in, draft_in, put, target}
 use Rattle.drafts.specs.Promise.{Leaves, EditsDraft, BeginsDraft}
@@ -32,7 +33,7 @@ module _ (before : List ℕ) (s : Edit) where
     -- 14 for a row that is too short, then 23 at 0 for one that holds no draft; a refusal leaves the row as it was
     pub short : length before < draft_room → r ≡ Refused buffer_too_short 0
     pub empty : draft_room ≤ length before → rules_in (block_of before 0) ≡ none → r ≡ Refused not_present 0
-    pub refused : (cause at : ℕ) → r ≡ Refused cause at → row ≡ before
+    pub refused : (cause : Cause) (at : ℕ) → r ≡ Refused cause at → row ≡ before
     -- else the row holds the draft after the edit, which is the same draft if the edit was refused
     pub edited : (d : Draft) → draft_in before ≡ done d → draft_in row ≡ done (or_same limits d (taken limits d s))
     -- the answer and the row afterwards are determined
@@ -79,11 +80,11 @@ module _ (t n : ℕ) (table before : List ℕ) where
     pub begins : (G : Grammar) → IsTableOf t n table G → draft_room ≤ length before → r ≡ Done
     pub begins-only : r ≡ Done → (G : Grammar) × IsTableOf t n table G × (draft_room ≤ length before)
     -- refused as the table check refuses, but never with 19; 14 comes last; a refusal leaves the row as it was
-    pub table-refused : (c : TableChecked) (cause at : ℕ) → TableAnswer t n table c → c.verdict ≡ verdict.Refused cause at
+    pub table-refused : (c : TableChecked) (cause : Cause) (at : ℕ) → TableAnswer t n table c → c.verdict ≡ verdict.Refused cause at
         → ¬ (cause ≡ no_sentence) → r ≡ Refused cause at
     pub never_19 : (at : ℕ) → ¬ (r ≡ Refused no_sentence at)
     pub short : (G : Grammar) → IsTableOf t n table G → length before < draft_room → r ≡ Refused buffer_too_short 0
-    pub refused : (cause at : ℕ) → r ≡ Refused cause at → row ≡ before
+    pub refused : (cause : Cause) (at : ℕ) → r ≡ Refused cause at → row ≡ before
     -- after any row of edits, marks and returns the rules are those the history gives, refused edits changing nothing
     pub histories : r ≡ Done → (d : Draft) × (new_draft limits t n table ≡ done d)
         × ((history : List Edit) (last : List ℕ) → Called row history last → HistoryTheorems t n (after limits d history) last)

@@ -19,6 +19,7 @@ use Rattle.grammar.specs.Refusal.{too_many_states, too_many_callers}
 use Rattle.grammar.specs.TableCheck.{TableAnswer}
 use Rattle.grammar.specs.declared.TableChecked.{TableChecked}
 use Rattle.grammar.specs.declared.TableVerdict.TheVariants.{Refused}
+use Rattle.grammar.specs.declared.Cause.{Cause}
 use Rattle.automaton.specs.Callers.{most_callers}
 use Rattle.automaton.specs.CallerMoves.{moves_with}
 use Rattle.steps.specs.Steps.{NthAnswer}
@@ -47,8 +48,8 @@ pub record StoresAt (t n : ℕ) (table : List ℕ) (m : ℕ) (G : Grammar) : Typ
   pub few-states : states_at G m ≤ limits.max_states
 
 -- a refusal up to [11]'s 8: as the table check gives it; 21 at 0 for a greater m; then 8 at 0 for too many states with m callers
-pub data StopsAt (t n : ℕ) (table : List ℕ) (m : ℕ) : ℕ → ℕ → Type 0 where
-  by-table : {cause at : ℕ} (r : TableChecked) → TableAnswer t n table r → r.verdict ≡ Refused cause at → StopsAt t n table m cause at
+pub data StopsAt (t n : ℕ) (table : List ℕ) (m : ℕ) : Cause → ℕ → Type 0 where
+  by-table : {cause : Cause} {at : ℕ} (r : TableChecked) → TableAnswer t n table r → r.verdict ≡ Refused cause at → StopsAt t n table m cause at
   by-callers : (G : Grammar) → Stores t n table G → most_callers < m → StopsAt t n table m too_many_callers 0
   by-states : (G : Grammar) → Stores t n table G → m ≤ most_callers → limits.max_states < states_at G m → StopsAt t n table m too_many_states 0
 

@@ -45,6 +45,7 @@ use Rattle.modules.specs.Shown.{part_of}
 use Rattle.modules.specs.Promise.{JoinsTexts, WritesJoined, ShowsPlace, ShowsName}
 use Rattle.modules.specs.declared.Place.{Place}
 use Rattle.grammar.specs.Refusal.{done, no_sentence}
+use Rattle.grammar.specs.declared.Cause.{Cause}
 use Rattle.text.specs.Read.{Source}
 use Rattle.text.specs.Rules.{check_text}
 use Rattle.readings.specs.Promise.{ReadsBack}
@@ -88,7 +89,7 @@ module _ (t n : ℕ) (table : List ℕ) where
 module _ (t n : ℕ) (table : List ℕ) (m : ℕ) where
   pub record StepTheorems (f p q : ℕ) (ask : ℕ → StepAnswer) : Type 0 where
     -- the refusals up to [11]'s 8 come first
-    pub refused : (cause at : ℕ) → StopsAt t n table m cause at → (k : ℕ) → Usize k → ask k ≡ step.Refused cause at
+    pub refused : (cause : Cause) (at : ℕ) → StopsAt t n table m cause at → (k : ℕ) → Usize k → ask k ≡ step.Refused cause at
     -- of a triple out of range every answer is that there are no more
     pub outside : (G : Grammar) → StoresAt t n table m G → ¬ ((f < 2) × (p < states_at G m) × (q < states_at G m)) → (k : ℕ) → Usize k → ask k ≡ step.NoMore
     -- of a triple in range the answers are exactly the steps to its successors
@@ -103,14 +104,14 @@ module _ (t n : ℕ) (table : List ℕ) (m : ℕ) where
 
   pub record WitnessTheorems (row : List ℕ) (v : CheckVerdict) : Type 0 where
     -- the refusals up to [11]'s 8 come first
-    pub refused : (cause at : ℕ) → StopsAt t n table m cause at → v ≡ check.Refused cause at
+    pub refused : (cause : Cause) (at : ℕ) → StopsAt t n table m cause at → v ≡ check.Refused cause at
     -- accepted exactly if the row is a witness of the grammar
     pub accepted : (G : Grammar) → StoresAt t n table m G → (v ≡ check.Accepted) ↔ Witness (callers limits G m) row
     -- demand 2: an accepted row shows that two strings part
     pub potential : (G : Grammar) → StoresAt t n table m G → v ≡ check.Accepted → Potential (callers limits G m)
 
   pub record RecordTheorems (entries : List TripleRecord) (v : CheckVerdict) : Type 0 where
-    pub refused : (cause at : ℕ) → StopsAt t n table m cause at → v ≡ check.Refused cause at
+    pub refused : (cause : Cause) (at : ℕ) → StopsAt t n table m cause at → v ≡ check.Refused cause at
     -- records in range are answered as the row of their indices is
     pub alike : (G : Grammar) → StoresAt t n table m G → ((e : TripleRecord) → Mem e entries → InRange (states_at G m) e)
         → (w : CheckVerdict) → WitnessAnswer t n table m (map (index_of (states_at G m)) entries) w → v ≡ w
@@ -122,7 +123,7 @@ module _ (t n : ℕ) (table : List ℕ) (m : ℕ) where
     pub potential : (G : Grammar) → StoresAt t n table m G → v ≡ check.Accepted → Potential (callers limits G m)
 
   pub record CertificateTheorems (bytes : List ℕ) (v : CheckVerdict) : Type 0 where
-    pub refused : (cause at : ℕ) → StopsAt t n table m cause at → v ≡ check.Refused cause at
+    pub refused : (cause : Cause) (at : ℕ) → StopsAt t n table m cause at → v ≡ check.Refused cause at
     -- demand 3: accepted exactly if the bytes are an acceptable certificate of the grammar
     pub accepted : (G : Grammar) → StoresAt t n table m G → (v ≡ check.Accepted) ↔ AcceptableCertificate (callers limits G m) bytes
     -- and if it accepts them, no sentence of that grammar has two derivation trees
@@ -137,7 +138,7 @@ module _ (t n : ℕ) (table : List ℕ) (m : ℕ) where
 pub record FrontPage : Type 1 where
   pub tables : (t n : ℕ) (table : List ℕ) (r : TableChecked) → TableAnswer t n table r → TableTheorems t n table r
   -- document 02, [11]: for each m by itself, and for every input: either a refusal up to [11]'s 8 stops it or the states fit
-  pub stopped : (t n : ℕ) (table : List ℕ) (m : ℕ) → ((cause at : ℕ) × StopsAt t n table m cause at) ⊎ ((G : Grammar) × StoresAt t n table m G)
+  pub stopped : (t n : ℕ) (table : List ℕ) (m : ℕ) → ((cause : Cause) × (at : ℕ) × StopsAt t n table m cause at) ⊎ ((G : Grammar) × StoresAt t n table m G)
   pub steps : (t n : ℕ) (table : List ℕ) (m f p q : ℕ) (ask : ℕ → StepAnswer) → StepAnswers t n table m f p q ask
       → StepTheorems t n table m f p q ask
   pub witnesses : (t n : ℕ) (table : List ℕ) (m : ℕ) (row : List ℕ) (v : CheckVerdict) → WitnessAnswer t n table m row v

@@ -10,6 +10,7 @@ use Rattle.grammar.specs.Refusal.{done, refused, buffer_too_short, no_sentence, 
 use Rattle.grammar.specs.declared.TableChecked.{TableChecked}
 use Rattle.grammar.specs.declared.TableVerdict.TheVariants.{Passed}
 use Rattle.grammar.specs.TableCheck.{TableAnswer}
+use Rattle.grammar.specs.declared.Cause.{Cause}
 use Rattle.text.specs.Names.{any, same_name}
 use Rattle.text.specs.Read.{Source, symbol_names, number_of}
 use Rattle.text.specs.Rules.{check_text, check_module}
@@ -30,9 +31,9 @@ module _ (robot addon : List ℕ) where
   -- whatever answers as join_texts promises
   pub record JoinTheorems (table : List ℕ) (v : TextRead) (table' : List ℕ) : Type 0 where
     -- the faults of the robot's text come first, 19 among them; a refusal changes nothing
-    pub robot-first : (cause at : ℕ) → check_text limits robot ≡ refused cause at → (v ≡ Refused cause at) × (table' ≡ table)
+    pub robot-first : (cause : Cause) (at : ℕ) → check_text limits robot ≡ refused cause at → (v ≡ Refused cause at) × (table' ≡ table)
     -- then those of the module's text read alone
-    pub module_next : (r : Source) → check_text limits robot ≡ done r → (cause at : ℕ) → check_module limits addon ≡ refused cause at
+    pub module_next : (r : Source) → check_text limits robot ≡ done r → (cause : Cause) (at : ℕ) → check_module limits addon ≡ refused cause at
         → (v ≡ Refused cause at) × (table' ≡ table)
     -- then 20, at the module's first line that declares a name of the other kind
     pub clash_first : (r m : Source) → check_text limits robot ≡ done r → check_module limits addon ≡ done m
@@ -43,7 +44,7 @@ module _ (robot addon : List ℕ) where
     -- then the faults that the reader gives for the joined text
     pub joined-last : (r m : Source) → check_text limits robot ≡ done r → check_module limits addon ≡ done m
         → meet m.terminals r.nonterminals ≡ false → meet m.nonterminals r.terminals ≡ false
-        → (cause at : ℕ) → check_text limits (joined_text limits r m) ≡ refused cause at → (v ≡ Refused cause at) × (table' ≡ table)
+        → (cause : Cause) (at : ℕ) → check_text limits (joined_text limits r m) ≡ refused cause at → (v ≡ Refused cause at) × (table' ≡ table)
     -- a module's text read alone may lack sentences, and the joined one has those of the robot: past the robot's text there is no 19
     pub never_19 : (r : Source) → check_text limits robot ≡ done r → (at : ℕ) → ¬ (v ≡ Refused no_sentence at)
     -- what is joined: the robot's lists, then the names that the module adds; the robot's rules, then those of the module that are not
@@ -88,12 +89,12 @@ module _ (robot addon : List ℕ) where
         let size = get_or (name_lengths (symbol_names m)) number 0 in
         (shown limits robot addon i ≡ Module start size) × (part ≡ part_at addon start size)
     -- and empty for texts that are refused, before 14
-    pub none : (cause at : ℕ) → join_texts limits robot addon ≡ refused cause at → part ≡ []
+    pub none : (cause : Cause) (at : ℕ) → join_texts limits robot addon ≡ refused cause at → part ≡ []
 
   -- whatever answers as write_joined promises
   pub record JoinedTextTheorems (out : List ℕ) (w : TextWritten) (out' : List ℕ) : Type 0 where
     -- it refuses what join_texts refuses before 14
-    pub refuses : (cause at : ℕ) → join_texts limits robot addon ≡ refused cause at → (w ≡ writer.Refused cause at) × (out' ≡ out)
+    pub refuses : (cause : Cause) (at : ℕ) → join_texts limits robot addon ≡ refused cause at → (w ≡ writer.Refused cause at) × (out' ≡ out)
     -- lent enough, it writes the text of the joined lists and rules; as many bytes as the reader takes are always enough
     pub written : (s : Source) → join_texts limits robot addon ≡ done s → length (printed limits s) ≤ length out
         → (w ≡ Written (length (printed limits s))) × (out' ≡ over (printed limits s) out)

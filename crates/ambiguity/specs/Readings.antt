@@ -5,6 +5,7 @@ use Rattle.grammar.specs.Basics.{over}
 use Rattle.grammar.specs.Limits.{limits}
 use Rattle.grammar.specs.Grammar.{Grammar}
 use Rattle.grammar.specs.Refusal.{Answer, done, refused, buffer_too_short}
+use Rattle.grammar.specs.declared.Cause.{Cause}
 use Rattle.automaton.specs.Strings.{Letter, PartingStrings}
 use Rattle.automaton.specs.Items.{states}
 use Rattle.automaton.specs.Position.{position}
@@ -74,8 +75,8 @@ Unchanged a b a' b' = (a' ≡ a) × (b' ≡ b)
 
 pub record BackTheorems (text lines a b : List ℕ) (r : ReadBack) (a' b' : List ℕ) : Type 0 where
   -- the faults of the grammar's text come first, as the reader gives them; then those of the lines; demand 1: nothing is changed
-  pub grammar-refused : (cause at : ℕ) → check_text limits text ≡ refused cause at → (r ≡ GrammarRefused cause at) × Unchanged a b a' b'
-  pub lines-refused : (s : Source) → check_text limits text ≡ done s → (cause at : ℕ) → strings_of s lines ≡ refused cause at
+  pub grammar-refused : (cause : Cause) (at : ℕ) → check_text limits text ≡ refused cause at → (r ≡ GrammarRefused cause at) × Unchanged a b a' b'
+  pub lines-refused : (s : Source) → check_text limits text ≡ done s → (cause : Cause) (at : ℕ) → strings_of s lines ≡ refused cause at
       → (r ≡ Refused cause at) × Unchanged a b a' b'
   -- then 14
   pub short : (s : Source) → check_text limits text ≡ done s → (u v : List Letter) → strings_of s lines ≡ done (u, v)

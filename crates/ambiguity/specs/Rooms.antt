@@ -7,6 +7,7 @@ use Rattle.grammar.specs.Refusal.{buffer_too_short}
 use Rattle.grammar.specs.declared.TableChecked.{TableChecked}
 use Rattle.grammar.specs.declared.TableVerdict.TheVariants.{Refused}
 use Rattle.grammar.specs.TableCheck.{TableAnswer}
+use Rattle.grammar.specs.declared.Cause.{Cause}
 use Rattle.automaton.specs.AllMoves.{MoveOf, ListsMoves}
 use Rattle.automaton.specs.Callers.{callers}
 use Rattle.triples.specs.Index.{triple_count}
@@ -33,7 +34,7 @@ LentLess b e l = (length l.certificate < b) ⊎ ((length l.queue < e) ⊎ ((leng
 module _ (t n : ℕ) (table : List ℕ) (m : ℕ) where
   pub record RoomTheorems (r : SearchRoom) : Type 1 where
     -- the refusals up to [11]'s 8; else Q, the bytes that hold 2Q² bits, 2Q², and M
-    pub refused : (cause at : ℕ) → StopsAt t n table m cause at → r ≡ room.Refused cause at
+    pub refused : (cause : Cause) (at : ℕ) → StopsAt t n table m cause at → r ≡ room.Refused cause at
     pub told : (G : Grammar) → StoresAt t n table m G
         → (x : ℕ) × (r ≡ room.Room (states_at G m) (byte_count (states_at G m)) (triple_count (states_at G m)) x)
     -- a search lent that much never answers 14
@@ -53,9 +54,9 @@ module _ (t n : ℕ) (table : List ℕ) (m : ℕ) where
 module _ (t n : ℕ) (table bytes starts lengths : List ℕ) where
   pub record LengthTheorems (r : TextLength) : Type 0 where
     -- the faults of the table come first, as the table check gives them
-    pub table-refused : (c : TableChecked) (cause at : ℕ) → TableAnswer t n table c → c.verdict ≡ Refused cause at → r ≡ size.Refused cause at
+    pub table-refused : (c : TableChecked) (cause : Cause) (at : ℕ) → TableAnswer t n table c → c.verdict ≡ Refused cause at → r ≡ size.Refused cause at
     -- the writer's refusals but 14: whatever output is lent, it refuses so, and the output is unchanged
-    pub refused : (cause at : ℕ) → r ≡ size.Refused cause at → (out : List ℕ) (v : TextWritten) (out' : List ℕ)
+    pub refused : (cause : Cause) (at : ℕ) → r ≡ size.Refused cause at → (out : List ℕ) (v : TextWritten) (out' : List ℕ)
         → WritesText t n table bytes starts lengths out v out' → (v ≡ writer.Refused cause at) × (out' ≡ out)
     -- the writer, lent that many bytes, writes as many
     pub enough : (k : ℕ) → r ≡ size.Bytes k → (out : List ℕ) (v : TextWritten) (out' : List ℕ)

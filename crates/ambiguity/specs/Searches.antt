@@ -7,6 +7,7 @@ use Rattle.grammar.specs.Limits.{limits}
 use Rattle.grammar.specs.Grammar.{Grammar}
 use Rattle.grammar.specs.Tree.{HasTwoTrees}
 use Rattle.grammar.specs.Refusal.{buffer_too_short}
+use Rattle.grammar.specs.declared.Cause.{Cause}
 use Rattle.automaton.specs.Strings.{Potential, Unambiguous}
 use Rattle.automaton.specs.Callers.{Spot, number_of, callers}
 use Rattle.automaton.specs.CallerMoves.{moves_with}
@@ -70,7 +71,7 @@ module _ (t n : ℕ) (table : List ℕ) (m : ℕ) where
 
   pub record SearchTheorems (before : Lent) (r : SearchVerdict) (after : Lent) : Type 1 where
     -- the refusals up to [11]'s 8 come first, then 14; demand 1: these refusals change nothing
-    pub refused : (cause at : ℕ) → StopsAt t n table m cause at → (r ≡ search.Refused cause at) × (after ≡ before)
+    pub refused : (cause : Cause) (at : ℕ) → StopsAt t n table m cause at → (r ≡ search.Refused cause at) × (after ≡ before)
     pub short : (G : Grammar) → StoresAt t n table m G → is_enough (states_at G m) before ≡ false
         → (r ≡ search.Refused buffer_too_short 0) × (after ≡ before)
     -- lent enough, it answers; the certificate is the front of what was lent

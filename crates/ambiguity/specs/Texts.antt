@@ -10,6 +10,7 @@ use Rattle.grammar.specs.Refusal.{done, no_sentence}
 use Rattle.grammar.specs.declared.TableChecked.{TableChecked}
 use Rattle.grammar.specs.declared.TableVerdict.TheVariants.{Passed, Refused}
 use Rattle.grammar.specs.TableCheck.{TableAnswer}
+use Rattle.grammar.specs.declared.Cause.{Cause}
 use Rattle.text.specs.Names.{folded}
 use Rattle.text.specs.Read.{Source, symbol_names, grammar_of, read_text}
 use Rattle.text.specs.Spelling.{spelled_text, AsDeclared}
@@ -61,7 +62,7 @@ pub record TextTheorems : Type 0 where
       → TableAnswer (length s.terminals) (length s.nonterminals) (encode s.rules) r
       → (table starts lengths : List ℕ) (v : TextRead) (table' starts' lengths' : List ℕ)
       → ReadsText text table starts lengths v table' starts' lengths'
-      → (cause at : ℕ) → r.verdict ≡ Refused cause at → v ≡ reader.Refused cause at
+      → (cause : Cause) (at : ℕ) → r.verdict ≡ Refused cause at → v ≡ reader.Refused cause at
   -- and where it passes, the reader, lent enough, reads
   pub reads : (text : List ℕ) (s : Source) → read_text limits text ≡ done s → (r : TableChecked)
       → TableAnswer (length s.terminals) (length s.nonterminals) (encode s.rules) r
@@ -88,5 +89,5 @@ pub record TextTheorems : Type 0 where
   -- for the writer too the faults of the table come first, as the table check gives them; demand 1: the output is unchanged
   pub write-refused : (t n : ℕ) (table bytes starts lengths out : List ℕ) (r : TextWritten) (out' : List ℕ)
       → WritesText t n table bytes starts lengths out r out'
-      → (c : TableChecked) (cause at : ℕ) → TableAnswer t n table c → c.verdict ≡ Refused cause at
+      → (c : TableChecked) (cause : Cause) (at : ℕ) → TableAnswer t n table c → c.verdict ≡ Refused cause at
       → (r ≡ writer.Refused cause at) × (out' ≡ out)

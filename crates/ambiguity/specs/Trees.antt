@@ -10,6 +10,7 @@ use Rattle.grammar.specs.Refusal.{buffer_too_short, row_wrong}
 use Rattle.grammar.specs.TableCheck.{TableAnswer}
 use Rattle.grammar.specs.declared.TableChecked.{TableChecked}
 use Rattle.grammar.specs.declared.TableVerdict.TheVariants as verdict
+use Rattle.grammar.specs.declared.Cause.{Cause}
 use Rattle.triples.specs.Verdict.{CertificateAnswer}
 use Rattle.triples.specs.declared.CheckVerdict.TheVariants as check
 use Rattle.trees.specs.Trees.{rules_of, max_row, work_size, cleared}
@@ -58,8 +59,8 @@ module _ (t n : ℕ) (table w work list : List ℕ) where
 
   -- why a refusal was given, and what is left: all is unchanged, but after the 14 for the list, known only once the work row has
   -- been used
-  pub data RefusedFor (work' list' : List ℕ) : ℕ → ℕ → Type 0 where
-    by-table : {cause at : ℕ} (c : TableChecked) → TableAnswer t n table c → c.verdict ≡ verdict.Refused cause at
+  pub data RefusedFor (work' list' : List ℕ) : Cause → ℕ → Type 0 where
+    by-table : {cause : Cause} {at : ℕ} (c : TableChecked) → TableAnswer t n table c → c.verdict ≡ verdict.Refused cause at
         → work' ≡ work → list' ≡ list → RefusedFor work' list' cause at
     by_row : {at : ℕ} (G : Grammar) → Stores t n table G → FaultAt t w at → work' ≡ work → list' ≡ list → RefusedFor work' list' row_wrong at
     by_work : (G : Grammar) → Stores t n table G → IsRow t w → length work < work_size G
@@ -69,7 +70,7 @@ module _ (t n : ℕ) (table w work list : List ℕ) where
 
   pub record TreesTheorems (r : TreesFound) (work' list' : List ℕ) : Type 0 where
     -- refusals in their order, demand 1: table faults, 22 at the first place at fault, 14 for the work row; both rows are unchanged
-    pub table-refused : (c : TableChecked) (cause at : ℕ) → TableAnswer t n table c → c.verdict ≡ verdict.Refused cause at
+    pub table-refused : (c : TableChecked) (cause : Cause) (at : ℕ) → TableAnswer t n table c → c.verdict ≡ verdict.Refused cause at
         → (r ≡ Refused cause at) × (work' ≡ work) × (list' ≡ list)
     pub row-refused : (G : Grammar) → Stores t n table G → (at : ℕ) → FaultAt t w at
         → (r ≡ Refused row_wrong at) × (work' ≡ work) × (list' ≡ list)
@@ -80,7 +81,7 @@ module _ (t n : ℕ) (table w work list : List ℕ) where
     -- then the answer
     pub answers : (G : Grammar) → Stores t n table G → IsRow t w → work_size G ≤ length work → AnswerTheorems G r work' list'
     -- a refusal was given for one of these reasons
-    pub refused-only : (cause at : ℕ) → r ≡ Refused cause at → RefusedFor work' list' cause at
+    pub refused-only : (cause : Cause) (at : ℕ) → r ≡ Refused cause at → RefusedFor work' list' cause at
     -- with two trees one is never the answer
     pub never_one : (G : Grammar) → Stores t n table G → HasTwoTrees limits G w → (k : ℕ) → ¬ (r ≡ One k)
     -- with an accepted certificate, at whatever m, several is never the answer
@@ -96,7 +97,7 @@ pub record ListedTheorems (G : Grammar) : Type 0 where
 module _ (t n : ℕ) (table : List ℕ) where
   pub record TreesRoomTheorems (r : TreesRoom) : Type 0 where
     -- the faults of the table, as the table check gives them; else 65 × 65 × Q
-    pub table-refused : (c : TableChecked) (cause at : ℕ) → TableAnswer t n table c → c.verdict ≡ verdict.Refused cause at → r ≡ room.Refused cause at
+    pub table-refused : (c : TableChecked) (cause : Cause) (at : ℕ) → TableAnswer t n table c → c.verdict ≡ verdict.Refused cause at → r ≡ room.Refused cause at
     pub told : (G : Grammar) → Stores t n table G → r ≡ room.Entries (work_size G)
     -- lent that many entries, 14 is answered for the list alone; lent fewer, for the work row
     pub enough : (e : ℕ) → r ≡ room.Entries e → (w work list : List ℕ) (v : TreesFound) (work' list' : List ℕ)

@@ -10,7 +10,7 @@ use mathlib.Core.List.{List}
 use mathlib.Core.Logic.{inl, inr}
 use Rattle.grammar.specs.Limits.{limits}
 use Rattle.grammar.specs.Grammar.{Grammar}
-use Rattle.grammar.specs.Refusal.{Answer, done, refused, and_then, no_sentence, buffer_too_short, kinds_clash, too_many_callers, row_wrong, not_present}
+use Rattle.grammar.specs.Refusal.{Answer, done, refused, and_then, no_sentence, buffer_too_short, kinds_clash, too_many_callers, row_wrong, not_present, cause_number}
 use Rattle.grammar.specs.TableCheck.{table_checked}
 use Rattle.grammar.specs.declared.TableVerdict.TheVariants.{Passed}
 use Rattle.grammar.proofs.Answers.{no_answer, and_both, or_one}
@@ -51,6 +51,7 @@ use Rattle.witness_records.specs.Records.{triples}
 use Rattle.ambiguity_c.specs.Replies.{table_reply, step_reply, check_reply, search_reply, room_reply, read_reply, write_reply, length_reply, report_reply, read_back_reply, trees_reply, trees_room_reply, draft_reply, draft_counts_reply, draft_table_reply, plan_reply}
 use Rattle.ambiguity_c.specs.Causes.{Tells, TellsOr, JoinTells, CallerTells, RowTells, DraftTells, IsRead, IsRoom, IsVerdict, IsStep, IsFound, IsPlan, IsCounts, CauseTheorems}
 use Rattle.grammar.proofs.Causes.{cause}
+use Rattle.grammar.specs.declared.Cause.{Cause}
 use Rattle.ambiguity_c.proofs.Refusals.{is_cause, Caused, is_cause_or, CausedOr, JoinCaused, CallerCaused, join_into, joined_into, check-table, nth-step, check_witness_lem, check-records, check-certificate, search_asked, search_room_lem, check-text, read_into_lem, text-from, write_into_lem, report_into_lem, strings_into_lem, check_sentence, trees-room, DraftCaused, new-draft, draft_in_lem, edit_row}
 
 -- nothing is refused
@@ -60,9 +61,9 @@ tells_done x = record { known = omega arith; zero = λ e. x }
 -- a refusal is not told by 0
 tells_refused : {X : Type 0} (c : ℕ) → is_cause c ≡ true → Tells c X
 tells_refused c h =
-    let b = and_both (leb 1 c) (leb c no_sentence) h in
+    let b = and_both (leb 1 c) (leb c (cause_number no_sentence)) h in
     let low : 1 ≤ c = leb-true 1 c b.0 in
-    let high : c ≤ no_sentence = leb-true c no_sentence b.1 in
+    let high : c ≤ cause_number no_sentence = leb-true c (cause_number no_sentence) b.1 in
     record { known = high; zero = λ e. absurd (omega arith) }
 
 -- with one other cause
@@ -77,21 +78,21 @@ refusal_told other c l h = elim (or_one (is_cause c) (eqb c other) h) [
       record { known = inr z; zero = λ e. absurd (omega arith) }
 ]
 
-caller_told : {X : Type 0} (c : ℕ) → is_cause_or too_many_callers c ≡ true → CallerTells c X
-caller_told c = refusal_told too_many_callers c (omega arith)
+caller_told : {X : Type 0} (c : ℕ) → is_cause_or (cause_number too_many_callers) c ≡ true → CallerTells c X
+caller_told c = refusal_told (cause_number too_many_callers) c (omega arith)
 
 table_tells : (o : Answer Grammar) → Caused o → Tells (table_reply (table_checked o)).cause ((table_checked o).verdict ≡ Passed)
 table_tells (done G) h = tells_done refl
-table_tells (refused c p) (cause h) = tells_refused c h
+table_tells (refused c p) (cause h) = tells_refused (cause_number c) h
 
 step_tells : (o : Answer (Option Step)) → CallerCaused o → CallerTells (step_reply (step_answer o)).cause (IsStep (step_answer o))
 step_tells (done none) h = answer-told (inr (refl, refl))
 step_tells (done (some s)) h = answer-told (inl (refl, (s, refl)))
-step_tells (refused c p) (cause h) = caller_told c h
+step_tells (refused c p) (cause h) = caller_told (cause_number c) h
 
 check_tells : (o : Answer Unit) → CallerCaused o → CallerTells (check_reply (check_verdict o)).cause (check_verdict o ≡ Accepted)
 check_tells (done u) h = answer-told refl
-check_tells (refused c p) (cause h) = caller_told c h
+check_tells (refused c p) (cause h) = caller_told (cause_number c) h
 
 verdict_tells : (o : Answer Unit) (v : CheckVerdict) → CallerCaused o → v ≡ check_verdict o → CallerTells (check_reply v).cause (v ≡ Accepted)
 verdict_tells o v h a = subst (λ v. CallerTells (check_reply v).cause (v ≡ Accepted)) (sym a) (check_tells o h)
@@ -107,41 +108,41 @@ search_tells : (m : ℕ) (o : Answer Grammar) (before : Lent) (v : SearchVerdict
     → CallerTells (search_reply v).cause (IsVerdict v)
 search_tells m (done G) before v after h a = told_tells (is_potential (moves_with limits G m)) (moves_with limits G m) before v after a
 search_tells m (refused c p) before v after (cause h) a =
-    subst (λ v. CallerTells (search_reply v).cause (IsVerdict v)) (sym a.0) (caller_told c h)
+    subst (λ v. CallerTells (search_reply v).cause (IsVerdict v)) (sym a.0) (caller_told (cause_number c) h)
 
 room_tells : (o : Answer Room) → CallerCaused o → CallerTells (room_reply (search_room.room_told o)).cause (IsRoom (search_room.room_told o))
 room_tells (done r) h = answer-told refl
-room_tells (refused c p) (cause h) = caller_told c h
+room_tells (refused c p) (cause h) = caller_told (cause_number c) h
 
 read_tells : (o : Answer Source) → Caused o → Tells (read_reply (text_read o)).cause (IsRead (text_read o))
 read_tells (done s) h = tells_done refl
-read_tells (refused c p) (cause h) = tells_refused c h
+read_tells (refused c p) (cause h) = tells_refused (cause_number c) h
 
 write_tells : (o : Answer (List ℕ)) → Caused o
     → Tells (write_reply (text_written o)).cause (text_written o ≡ Written (write_reply (text_written o)).length)
 write_tells (done s) h = tells_done refl
-write_tells (refused c p) (cause h) = tells_refused c h
+write_tells (refused c p) (cause h) = tells_refused (cause_number c) h
 
 length_tells : (o : Answer (List ℕ)) → Caused o → Tells (length_reply (text_length o)).cause (text_length o ≡ measured.Bytes (length_reply (text_length o)).length)
 length_tells (done s) h = tells_done refl
-length_tells (refused c p) (cause h) = tells_refused c h
+length_tells (refused c p) (cause h) = tells_refused (cause_number c) h
 
 report_tells : (o : Answer (List ℕ)) → Caused o
     → Tells (report_reply (reported o)).cause (reported o ≡ report.Written (report_reply (reported o)).length)
 report_tells (done s) h = tells_done refl
-report_tells (refused c p) (cause h) = tells_refused c h
+report_tells (refused c p) (cause h) = tells_refused (cause_number c) h
 
 strings_tell : (o : Answer (List Letter × List Letter)) → Caused o
     → Tells (read_back_reply (read_back (done o))).cause
     (read_back (done o) ≡ back.Read (read_back_reply (read_back (done o))).left (read_back_reply (read_back (done o))).right)
 strings_tell (done p) h = tells_done refl
-strings_tell (refused c p) (cause h) = tells_refused c h
+strings_tell (refused c p) (cause h) = tells_refused (cause_number c) h
 
 back_tells : (a b : ℕ) (lines : List ℕ) (o : Answer Source) → Caused o → let w = read_back (and_then o (λ s. done (strings_into limits a b lines s))) in
     Tells (read_back_reply w).cause (w ≡ back.Read (read_back_reply w).left (read_back_reply w).right)
 unfolding and_then
 back_tells a b lines (done s) h = strings_tell (strings_into limits a b lines s) (strings_into_lem limits a b lines s)
-back_tells a b lines (refused c p) (cause h) = tells_refused c h
+back_tells a b lines (refused c p) (cause h) = tells_refused (cause_number c) h
 
 back_promised : (a b : ℕ) (text lines : List ℕ) → let w = read_back (read_back_into limits a b text lines) in
     Tells (read_back_reply w).cause (w ≡ back.Read (read_back_reply w).left (read_back_reply w).right)
@@ -151,30 +152,30 @@ back_promised a b text lines = back_tells a b lines (check_text limits text) (ch
 -- over two texts
 join-read_tells : (o : Answer Source) → JoinCaused o → JoinTells (read_reply (text_read o)).cause (IsRead (text_read o))
 join-read_tells (done s) h = answer-told refl
-join-read_tells (refused c p) (cause h) = refusal_told kinds_clash c (omega arith) h
+join-read_tells (refused c p) (cause h) = refusal_told (cause_number kinds_clash) (cause_number c) (omega arith) h
 
 join-write_tells : (o : Answer (List ℕ)) → JoinCaused o
     → JoinTells (write_reply (text_written o)).cause (text_written o ≡ Written (write_reply (text_written o)).length)
 join-write_tells (done s) h = answer-told refl
-join-write_tells (refused c p) (cause h) = refusal_told kinds_clash c (omega arith) h
+join-write_tells (refused c p) (cause h) = refusal_told (cause_number kinds_clash) (cause_number c) (omega arith) h
 
 -- of a row of terminals
-row-refused : (o : Answer Grammar) (c p : ℕ) → CausedOr row_wrong o → o ≡ refused c p → is_cause_or row_wrong c ≡ true
+row-refused : (o : Answer Grammar) (c : Cause) (p : ℕ) → CausedOr (cause_number row_wrong) o → o ≡ refused c p → is_cause_or (cause_number row_wrong) (cause_number c) ≡ true
 row-refused (done G) c p h e = no_answer (sym e)
-row-refused (refused d q) c p (cause h) e = let z : d ≡ c = cc in subst (λ (c : ℕ). is_cause_or row_wrong c ≡ true) z h
+row-refused (refused d q) c p (cause h) e = let z : d ≡ c = cc in subst (λ (c : Cause). is_cause_or (cause_number row_wrong) (cause_number c) ≡ true) z h
 
 row_tells : (t n : ℕ) (table row work list : List ℕ) {v : TreesFound} {work' list' : List ℕ} → FindsTrees t n table row work list v work' list'
     → RowTells (trees_reply v).cause (IsFound v)
 row_tells t n table row work list (refuses c p e) =
-    refusal_told row_wrong c (omega arith) (row-refused _ c p (check_sentence limits t n table row work) e)
+    refusal_told (cause_number row_wrong) (cause_number c) (omega arith) (row-refused _ c p (check_sentence limits t n table row work) e)
 row_tells t n table row work list (no_tree G e a) = answer-told (inl (refl, refl))
 row_tells t n table row work list (several-trees G e a) = answer-told (inr (inr (refl, refl)))
 row_tells t n table row work list (one-tree G e rules a h) = answer-told (inr (inl (refl, refl)))
-row_tells t n table row work list (too_short G e rules a h) = refusal_told row_wrong buffer_too_short (omega arith) refl
+row_tells t n table row work list (too_short G e rules a h) = refusal_told (cause_number row_wrong) (cause_number buffer_too_short) (omega arith) refl
 
 trees-room_tells : (o : Answer ℕ) → Caused o → Tells (trees_room_reply (room_told o)).cause (room_told o ≡ Entries (trees_room_reply (room_told o)).entries)
 trees-room_tells (done e) h = tells_done refl
-trees-room_tells (refused c p) (cause h) = tells_refused c h
+trees-room_tells (refused c p) (cause h) = tells_refused (cause_number c) h
 
 -- of a row of the command set
 plan_tells : (row work list : List ℕ) (v : PlanRead) (work' list' : List ℕ) → ReadsPlan row work list v work' list' → RowTells (plan_reply v).cause (IsPlan v)
@@ -184,7 +185,7 @@ plan_tells row work list (plan.Refused c p) work' list' a =
     let t = row_tells commands.terminals commands.nonterminals table row work list a in
     record { known = t.known; zero = λ e. refused-found c p (t.zero e) }
   where
-    refused-found : (c p : ℕ) → IsFound (as_trees (plan.Refused c p)) → IsPlan (plan.Refused c p)
+    refused-found : (c : Cause) (p : ℕ) → IsFound (as_trees (plan.Refused c p)) → IsPlan (plan.Refused c p)
     refused-found c p (inl (e, q)) = let z : ◌≡◌ {A = ℕ} 0 1 = e in absurd (let o : ⊥ = omega arith in o)
     refused-found c p (inr (inl (e, q))) = let z : ◌≡◌ {A = ℕ} 0 2 = e in absurd (let o : ⊥ = omega arith in o)
     refused-found c p (inr (inr (e, q))) = let z : ◌≡◌ {A = ℕ} 0 3 = e in absurd (let o : ⊥ = omega arith in o)
@@ -192,23 +193,23 @@ plan_tells row work list (plan.Refused c p) work' list' a =
 -- of a draft
 begun_tells : (o : Answer (List ℕ)) → Caused o → Tells (draft_reply (answered o)).cause (answered o ≡ edit.Done)
 begun_tells (done row) h = tells_done refl
-begun_tells (refused c p) (cause h) = tells_refused c h
+begun_tells (refused c p) (cause h) = tells_refused (cause_number c) h
 
-draft-told : {X : Type 0} (c : ℕ) → is_cause_or not_present c ≡ true → DraftTells c X
-draft-told c = refusal_told not_present c (omega arith)
+draft-told : {X : Type 0} (c : ℕ) → is_cause_or (cause_number not_present) c ≡ true → DraftTells c X
+draft-told c = refusal_told (cause_number not_present) c (omega arith)
 
 edited_tells : (o : Answer (List ℕ)) → DraftCaused o → DraftTells (draft_reply (answered o)).cause (answered o ≡ edit.Done)
 edited_tells (done row) h = answer-told refl
-edited_tells (refused c p) (cause h) = draft-told c h
+edited_tells (refused c p) (cause h) = draft-told (cause_number c) h
 
 counted_tells : (o : Answer Draft) → DraftCaused o → DraftTells (draft_counts_reply (counted o)).cause (IsCounts (counted o))
 counted_tells (done d) h = answer-told refl
-counted_tells (refused c p) (cause h) = draft-told c h
+counted_tells (refused c p) (cause h) = draft-told (cause_number c) h
 
 placed_tells : (o : Answer Draft) → DraftCaused o → let v = placed o in
     DraftTells (draft_table_reply v).cause (v ≡ tablePlace.Stands (draft_table_reply v).start (draft_table_reply v).entries)
 placed_tells (done d) h = answer-told refl
-placed_tells (refused c p) (cause h) = draft-told c h
+placed_tells (refused c p) (cause h) = draft-told (cause_number c) h
 
 pub cause_theorems : CauseTheorems
 cause_theorems = record {

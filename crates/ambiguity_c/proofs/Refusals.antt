@@ -9,7 +9,7 @@ use borrow.Author.Tests.{leb-true, le-leb}
 use lib.Dec.{leb, eqb}
 use Rattle.grammar.specs.Limits.{Limits, limits}
 use Rattle.grammar.specs.Grammar.{Rule}
-use Rattle.grammar.specs.Refusal.{Answer, too_many_states, certificate_length, spare_bit, start_missing, end_present, successor_missing, buffer_too_short, witness_wrong, malformed, name_unknown, name_repeated, no_sentence, kinds_clash, too_many_callers, row_wrong, too_many_rules, not_present}
+use Rattle.grammar.specs.Refusal.{Answer, too_many_states, certificate_length, spare_bit, start_missing, end_present, successor_missing, buffer_too_short, witness_wrong, malformed, name_unknown, name_repeated, no_sentence, kinds_clash, too_many_callers, row_wrong, too_many_rules, not_present, cause_number}
 use Rattle.grammar.specs.TableCheck.{check_table}
 use Rattle.grammar.proofs.Answers.{and_both, both_and}
 use Rattle.grammar.proofs.Causes.{CausedBy, result, cause, unless, next, up_to, caused_more, stored_causes, next_causes}
@@ -35,22 +35,22 @@ use Rattle.text.proofs.Causes.{or_none, whole-line, gather_causes, text_causes, 
 
 -- the documents' causes
 abbrev pub is_cause : ℕ → Bool
-is_cause = up_to no_sentence
+is_cause = up_to (cause_number no_sentence)
 
 -- a result, or a refusal with one of the causes
 abbrev pub Caused : {A : Type 0} → Answer A → Type 0
 Caused o = CausedBy is_cause o
 
 -- the first ones are among them
-more : (last : ℕ) → last ≤ no_sentence → (c : ℕ) → up_to last c ≡ true → is_cause c ≡ true
+more : (last : ℕ) → last ≤ cause_number no_sentence → (c : ℕ) → up_to last c ≡ true → is_cause c ≡ true
 more last h c e =
     let b = and_both (leb 1 c) (leb c last) e in
     let low : c ≤ last = leb-true c last b.1 in
-    both_and (leb 1 c) (leb c no_sentence) b.0 (le-leb c no_sentence (omega arith))
+    both_and (leb 1 c) (leb c (cause_number no_sentence)) b.0 (le-leb c (cause_number no_sentence) (omega arith))
 
 pub check-table : (L : Limits) (t n : ℕ) (table : List ℕ) → Caused (check_table L t n table)
 unfolding check_table
-check-table L t n table = next _ _ (caused_more (more too_many_states (omega arith)) _ (stored_causes L t n table)) (λ G. unless no_sentence _ _ _ refl result)
+check-table L t n table = next _ _ (caused_more (more (cause_number too_many_states) (omega arith)) _ (stored_causes L t n table)) (λ G. unless no_sentence _ _ _ refl result)
 
 -- one other too
 abbrev pub is_cause_or : ℕ → ℕ → Bool
@@ -65,13 +65,13 @@ still other c e = ap (λ (b : Bool). b || eqb c other) e
 -- ---- with callers, where 21 is a cause too
 
 abbrev pub CallerCaused : {A : Type 0} → Answer A → Type 0
-CallerCaused o = CausedOr too_many_callers o
+CallerCaused o = CausedOr (cause_number too_many_callers) o
 
 -- the refusals up to 8
 check_with_lem : (L : Limits) (t n : ℕ) (table : List ℕ) (m : ℕ) → CallerCaused (check_with L t n table m)
 unfolding check_with check_callers
 check_with_lem L t n table m =
-    next _ _ (caused_more (still too_many_callers) _ (check-table L t n table)) (λ G. unless too_many_callers _ _ _ refl (unless too_many_states _ _ _ refl result))
+    next _ _ (caused_more (still (cause_number too_many_callers)) _ (check-table L t n table)) (λ G. unless too_many_callers _ _ _ refl (unless too_many_states _ _ _ refl result))
 
 pub nth-step : (L : Limits) (t n : ℕ) (table : List ℕ) (m f p q k : ℕ) → CallerCaused (nth_step L t n table m f p q k)
 unfolding nth_step
@@ -88,7 +88,7 @@ check-bytes M bytes =
 
 pub check-certificate : (L : Limits) (t n : ℕ) (table : List ℕ) (m : ℕ) (bytes : List ℕ) → CallerCaused (check_certificate L t n table m bytes)
 unfolding check_certificate
-check-certificate L t n table m bytes = next _ _ (check_with_lem L t n table m) (λ G. caused_more (still too_many_callers) _ (check-bytes (moves_with L G m) bytes))
+check-certificate L t n table m bytes = next _ _ (check_with_lem L t n table m) (λ G. caused_more (still (cause_number too_many_callers)) _ (check-bytes (moves_with L G m) bytes))
 
 check-on : (M : Moves) (i place : ℕ) (row : List ℕ) → Caused (check_on M i place row)
 unfolding check_on
@@ -102,11 +102,11 @@ check-row M (i ∷ is) = unless witness_wrong _ _ _ refl (check-on M i 1 is)
 
 pub check_witness_lem : (L : Limits) (t n : ℕ) (table : List ℕ) (m : ℕ) (row : List ℕ) → CallerCaused (check_witness L t n table m row)
 unfolding check_witness
-check_witness_lem L t n table m row = next _ _ (check_with_lem L t n table m) (λ G. caused_more (still too_many_callers) _ (check-row (moves_with L G m) row))
+check_witness_lem L t n table m row = next _ _ (check_with_lem L t n table m) (λ G. caused_more (still (cause_number too_many_callers)) _ (check-row (moves_with L G m) row))
 
 pub check-records : (L : Limits) (t n : ℕ) (table : List ℕ) (m : ℕ) (entries : List (ℕ × ℕ × ℕ)) → CallerCaused (check_witness_records L t n table m entries)
 unfolding check_witness_records
-check-records L t n table m entries = next _ _ (check_with_lem L t n table m) (λ G. caused_more (still too_many_callers) _ (check-row (moves_with L G m) _))
+check-records L t n table m entries = next _ _ (check_with_lem L t n table m) (λ G. caused_more (still (cause_number too_many_callers)) _ (check-row (moves_with L G m) _))
 
 pub search_asked : (L : Limits) (t n : ℕ) (table : List ℕ) (m : ℕ) (l : Lent) → CallerCaused (searchable L t n table m l)
 unfolding searchable
@@ -120,12 +120,12 @@ search_room_lem L t n table m = next _ _ (check_with_lem L t n table m) (λ G. r
 
 last_tests_lem : (L : Limits) (s : Source) → Caused (last_tests L s)
 unfolding last_tests
-last_tests_lem L s = next _ _ (caused_more (more name_repeated (omega arith)) _ (admit_causes L L.max_rules [] 0 s.rules)) (λ rules. unless no_sentence _ _ _ refl result)
+last_tests_lem L s = next _ _ (caused_more (more (cause_number name_repeated) (omega arith)) _ (admit_causes L L.max_rules [] 0 s.rules)) (λ rules. unless no_sentence _ _ _ refl result)
 
 pub check-text : (L : Limits) (text : List ℕ) → Caused (check_text L text)
 unfolding check_text
 check-text L text =
-    next _ _ (caused_more (more name_repeated (omega arith)) _ (text_causes L text)) (λ s. next _ _ (last_tests_lem L s) (λ G. result))
+    next _ _ (caused_more (more (cause_number name_repeated) (omega arith)) _ (text_causes L text)) (λ s. next _ _ (last_tests_lem L s) (λ G. result))
 
 pub read_into_lem : (L : Limits) (e s l : ℕ) (text : List ℕ) → Caused (read_into L e s l text)
 unfolding read_into
@@ -165,14 +165,14 @@ strings_into_lem L a b lines s = next _ _ (read_strings_lem L _ _ _ lines) (λ p
 -- ---- two texts, where 20 is a cause too
 
 abbrev pub JoinCaused : {A : Type 0} → Answer A → Type 0
-JoinCaused o = CausedOr kinds_clash o
+JoinCaused o = CausedOr (cause_number kinds_clash) o
 
 join_texts_lem : (L : Limits) (robot addon : List ℕ) → JoinCaused (join_texts L robot addon)
 unfolding join_texts refuse_clash
 join_texts_lem L robot addon =
-    next _ _ (caused_more (still kinds_clash) _ (check-text L robot)) (λ r.
-    next _ _ (caused_more (λ c h. still kinds_clash c (more name_repeated (omega arith) c h)) _ (module_causes L addon)) (λ m.
-    unless kinds_clash _ _ _ refl (unless kinds_clash _ _ _ refl (caused_more (still kinds_clash) _ (check-text L (joined_text L r m))))))
+    next _ _ (caused_more (still (cause_number kinds_clash)) _ (check-text L robot)) (λ r.
+    next _ _ (caused_more (λ c h. still (cause_number kinds_clash) c (more (cause_number name_repeated) (omega arith) c h)) _ (module_causes L addon)) (λ m.
+    unless kinds_clash _ _ _ refl (unless kinds_clash _ _ _ refl (caused_more (still (cause_number kinds_clash)) _ (check-text L (joined_text L r m))))))
 
 pub join_into : (L : Limits) (e : ℕ) (robot addon : List ℕ) → JoinCaused (joined_table_into L e robot addon)
 unfolding joined_table_into
@@ -184,10 +184,10 @@ joined_into L e robot addon = next _ _ (join_texts_lem L robot addon) (λ s. unl
 
 -- ---- a row of terminals, where 22 is a cause too
 
-pub check_sentence : (L : Limits) (t n : ℕ) (table row work : List ℕ) → CausedOr row_wrong (trees.check_row L t n table row work)
+pub check_sentence : (L : Limits) (t n : ℕ) (table row work : List ℕ) → CausedOr (cause_number row_wrong) (trees.check_row L t n table row work)
 unfolding trees.check_row
 check_sentence L t n table row work =
-    next _ _ (caused_more (still row_wrong) _ (check-table L t n table)) (λ G. unless row_wrong _ _ _ refl (unless buffer_too_short _ _ _ refl result))
+    next _ _ (caused_more (still (cause_number row_wrong)) _ (check-table L t n table)) (λ G. unless row_wrong _ _ _ refl (unless buffer_too_short _ _ _ refl result))
 
 pub trees-room : (L : Limits) (t n : ℕ) (table : List ℕ) → Caused (trees.trees_room L t n table)
 unfolding trees.trees_room
@@ -198,10 +198,10 @@ trees-room L t n table = next _ _ (check-table L t n table) (λ G. result)
 pub new-draft : (t n : ℕ) (table row : List ℕ) → Caused (new_row t n table row)
 unfolding new_row new_draft
 new-draft t n table row =
-    next _ _ (next _ _ (caused_more (more too_many_states (omega arith)) _ (stored_causes limits t n table)) (λ G. result)) (λ d. unless buffer_too_short _ _ _ refl result)
+    next _ _ (next _ _ (caused_more (more (cause_number too_many_states) (omega arith)) _ (stored_causes limits t n table)) (λ G. result)) (λ d. unless buffer_too_short _ _ _ refl result)
 
 abbrev pub DraftCaused : {A : Type 0} → Answer A → Type 0
-DraftCaused o = CausedOr not_present o
+DraftCaused o = CausedOr (cause_number not_present) o
 
 draft_or_lem : (row : List ℕ) (o : Option (List Rule)) → DraftCaused (draft_or row o)
 draft_or_lem row none = cause refl
@@ -219,7 +219,7 @@ edit_causes : (d : Draft) (s : Edit) → DraftCaused (taken limits d s)
 unfolding taken add_rule
 edit_causes d (add entries) =
     unless too_many_rules _ _ _ refl
-    (next _ _ (caused_more (λ c h. still not_present c (more too_many_states (omega arith) c h)) _ (next_causes limits _ _ _ d.rules _)) (λ k. result))
+    (next _ _ (caused_more (λ c h. still (cause_number not_present) c (more (cause_number too_many_states) (omega arith) c h)) _ (next_causes limits _ _ _ d.rules _)) (λ k. result))
 edit_causes d (withdraw i) = unless not_present _ _ _ refl result
 edit_causes d (mark k) = unless not_present _ _ _ refl result
 edit_causes d (return k) = unless not_present _ _ _ refl (restored_causes d k (kept d k))

@@ -1,7 +1,7 @@
 -- What the cause in a reply tells a caller: it is one of document 01's or document 02's 19 to 23, or 0, and then nothing is refused.
 -- proofs/Causes.antt has the value of the record. Assumes nothing.
 use Rattle.std.specs.Prelude.{ℕ, ◌≤◌, ◌≡◌, List, ◌⊎◌}
-use Rattle.grammar.specs.Refusal.{no_sentence, kinds_clash, too_many_callers, row_wrong, not_present}
+use Rattle.grammar.specs.Refusal.{cause_number, no_sentence, kinds_clash, too_many_callers, row_wrong, not_present}
 use Rattle.channels.specs.Promise.{ReadsPlan}
 use Rattle.channels.specs.declared.PlanRead.{PlanRead}
 use Rattle.channels.specs.declared.PlanRead.TheVariants as plan
@@ -55,26 +55,26 @@ use Rattle.ambiguity_c.specs.Replies.{table_reply, step_reply, check_reply, sear
 
 -- the cause is none that the documents do not have, and 0 tells that something is answered
 pub record Tells (cause : ℕ) (Answered : Type 0) : Type 0 where
-  pub known : cause ≤ no_sentence
+  pub known : cause ≤ cause_number no_sentence
   pub zero : cause ≡ 0 → Answered
 
 -- it may be one other too
 pub record TellsOr (other cause : ℕ) (Answered : Type 0) : Type 0 where
-  pub known : (cause ≤ no_sentence) ⊎ (cause ≡ other)
+  pub known : (cause ≤ cause_number no_sentence) ⊎ (cause ≡ other)
   pub zero : cause ≡ 0 → Answered
 
 -- over two texts 20, with callers 21, of a row of terminals 22, of a draft 23
 abbrev pub JoinTells : ℕ → Type 0 → Type 0
-JoinTells = TellsOr kinds_clash
+JoinTells = TellsOr (cause_number kinds_clash)
 
 abbrev pub CallerTells : ℕ → Type 0 → Type 0
-CallerTells = TellsOr too_many_callers
+CallerTells = TellsOr (cause_number too_many_callers)
 
 abbrev pub RowTells : ℕ → Type 0 → Type 0
-RowTells = TellsOr row_wrong
+RowTells = TellsOr (cause_number row_wrong)
 
 abbrev pub DraftTells : ℕ → Type 0 → Type 0
-DraftTells = TellsOr not_present
+DraftTells = TellsOr (cause_number not_present)
 
 -- the numbers of the reply are the answer
 abbrev pub IsRead : TextRead → Type 0

@@ -24,7 +24,7 @@ pub fn table_told(verdict: TableVerdict, states: usize) -> TableReply
             states: states as u64,
         },
         TableVerdict::Refused(cause, at) => TableReply {
-            cause: cause as u64,
+            cause: u8::from(cause) as u64,
             at: at as u64,
             states: 0,
         },
@@ -37,7 +37,7 @@ pub fn check_told(verdict: CheckVerdict) -> CheckReply
     match verdict {
         CheckVerdict::Accepted => CheckReply { cause: 0, at: 0 },
         CheckVerdict::Refused(cause, at) => CheckReply {
-            cause: cause as u64,
+            cause: u8::from(cause) as u64,
             at: at as u64,
         },
     }
@@ -112,7 +112,7 @@ pub fn step_told(answer: StepAnswer) -> StepReply
     match answer {
         StepAnswer::Record(step) => record_told(step),
         StepAnswer::NoMore => no_record(0, 0, 2),
-        StepAnswer::Refused(cause, at) => no_record(cause as u64, at as u64, 0),
+        StepAnswer::Refused(cause, at) => no_record(u8::from(cause) as u64, at as u64, 0),
     }
 }
 
@@ -135,7 +135,7 @@ pub fn search_told(answer: SearchVerdict) -> SearchReply
             looked: looked as u64,
         },
         SearchVerdict::Refused(cause, at) => SearchReply {
-            cause: cause as u64,
+            cause: u8::from(cause) as u64,
             at: at as u64,
             verdict: 0,
             count: 0,
@@ -162,7 +162,7 @@ pub fn read_told(answer: TextRead) -> ReadReply
             states: states as u64,
         },
         TextRead::Refused(cause, at) => ReadReply {
-            cause: cause as u64,
+            cause: u8::from(cause) as u64,
             at: at as u64,
             terminals: 0,
             nonterminals: 0,
@@ -182,7 +182,7 @@ pub fn write_told(answer: TextWritten) -> WriteReply
             length: length as u64,
         },
         TextWritten::Refused(cause, at) => WriteReply {
-            cause: cause as u64,
+            cause: u8::from(cause) as u64,
             at: at as u64,
             length: 0,
         },
@@ -207,7 +207,7 @@ pub fn room_told(answer: SearchRoom) -> RoomReply
             moves: moves as u64,
         },
         SearchRoom::Refused(cause, at) => RoomReply {
-            cause: cause as u64,
+            cause: u8::from(cause) as u64,
             at: at as u64,
             states: 0,
             certificate: 0,
@@ -227,7 +227,7 @@ pub fn length_told(answer: TextLength) -> LengthReply
             length: length as u64,
         },
         TextLength::Refused(cause, at) => LengthReply {
-            cause: cause as u64,
+            cause: u8::from(cause) as u64,
             at: at as u64,
             length: 0,
         },
@@ -244,7 +244,7 @@ pub fn report_told(answer: Reported) -> ReportReply
             length: length as u64,
         },
         Reported::Refused(cause, at) => ReportReply {
-            cause: cause as u64,
+            cause: u8::from(cause) as u64,
             at: at as u64,
             length: 0,
         },
@@ -263,14 +263,14 @@ pub fn back_told(answer: ReadBack) -> ReadBackReply
             right: right as u64,
         },
         ReadBack::GrammarRefused(cause, at) => ReadBackReply {
-            cause: cause as u64,
+            cause: u8::from(cause) as u64,
             at: at as u64,
             part: 1,
             left: 0,
             right: 0,
         },
         ReadBack::Refused(cause, at) => ReadBackReply {
-            cause: cause as u64,
+            cause: u8::from(cause) as u64,
             at: at as u64,
             part: 2,
             left: 0,
@@ -324,7 +324,7 @@ pub fn trees_told(answer: TreesFound) -> TreesReply
             count: 0,
         },
         TreesFound::Refused(cause, at) => TreesReply {
-            cause: cause as u64,
+            cause: u8::from(cause) as u64,
             at: at as u64,
             found: 0,
             count: 0,
@@ -342,7 +342,7 @@ pub fn trees_room_told(answer: TreesRoom) -> TreesRoomReply
             entries: entries as u64,
         },
         TreesRoom::Refused(cause, at) => TreesRoomReply {
-            cause: cause as u64,
+            cause: u8::from(cause) as u64,
             at: at as u64,
             entries: 0,
         },
@@ -355,7 +355,7 @@ pub fn draft_told(answer: DraftAnswer) -> DraftReply
     match answer {
         DraftAnswer::Done => DraftReply { cause: 0, at: 0 },
         DraftAnswer::Refused(cause, at) => DraftReply {
-            cause: cause as u64,
+            cause: u8::from(cause) as u64,
             at: at as u64,
         },
     }
@@ -381,7 +381,7 @@ pub fn draft_counts_told(answer: DraftCounts) -> DraftCountsReply
             states: states as u64,
         },
         DraftCounts::Refused(cause, at) => DraftCountsReply {
-            cause: cause as u64,
+            cause: u8::from(cause) as u64,
             at: at as u64,
             terminals: 0,
             nonterminals: 0,
@@ -403,7 +403,7 @@ pub fn draft_table_told(answer: TablePlace) -> DraftTableReply
             entries: entries as u64,
         },
         TablePlace::Refused(cause, at) => DraftTableReply {
-            cause: cause as u64,
+            cause: u8::from(cause) as u64,
             at: at as u64,
             start: 0,
             entries: 0,
@@ -428,7 +428,7 @@ pub fn plan_told(answer: PlanRead) -> PlanReply
             count: rules as u64,
         },
         PlanRead::Refused(cause, at) => PlanReply {
-            cause: cause as u64,
+            cause: u8::from(cause) as u64,
             at: at as u64,
             found: 0,
             count: 0,

@@ -9,6 +9,7 @@ use Rattle.grammar.specs.Limits.{limits}
 use Rattle.grammar.specs.Refusal.{buffer_too_short, row_wrong}
 use Rattle.grammar.specs.Tree.{Tree, HasTree}
 use Rattle.grammar.proofs.Lists.{lt_or_le}
+use Rattle.grammar.specs.declared.Cause.{Cause}
 use Rattle.trees.specs.Promise.{FindsTrees}
 use Rattle.trees.specs.declared.TreesFound.{TreesFound}
 use Rattle.trees.specs.declared.TreesFound.TheVariants as found
@@ -66,7 +67,7 @@ module _ (w work list : List ℕ) where
     one_of tree t = record { has = t; only = λ u s. one-tree w tree u t s }
 
     -- an answer is given for a row of terminals, and with a work row that is long enough
-    not-refused : ((cause at : ℕ) → ¬ (r ≡ Refused cause at)) → Answered
+    not-refused : ((cause : Cause) (at : ℕ) → ¬ (r ≡ Refused cause at)) → Answered
     not-refused n = elim T.rows [
       | inl (at, x) ↦ absurd (n row_wrong at (same r (Refused row_wrong at) (T.row-refused commands stored at x).0))
       | inr x ↦ elim (lt_or_le (length work) plan_room) [
@@ -75,7 +76,7 @@ module _ (w work list : List ℕ) where
       ]
     ]
 
-    no_cause : (cause at : ℕ) → RefusedFor commands.terminals commands.nonterminals table w work list work' list' cause at
+    no_cause : (cause : Cause) (at : ℕ) → RefusedFor commands.terminals commands.nonterminals table w work list work' list' cause at
         → (cause ≡ row_wrong) ⊎ (cause ≡ buffer_too_short)
     no_cause cause at (by-table c a d x y) =
         let p = ((front_page.tables commands.terminals commands.nonterminals table c a).passes commands stored).0 in
@@ -101,8 +102,8 @@ module _ (w work list : List ℕ) where
       determined = λ r₂ work₂ list₂ g. let y = T.determined (as_trees r₂) work₂ list₂ g in (same r r₂ y.0, y.1, y.2);
     }
       where
-        apart_none : r ≡ Nothing → (cause at : ℕ) → ¬ (r ≡ Refused cause at)
+        apart_none : r ≡ Nothing → (cause : Cause) (at : ℕ) → ¬ (r ≡ Refused cause at)
         apart_none e cause at d = absurd (let z : ◌≡◌ {A = ℕ} 0 1 = cc in omega arith)
 
-        apart_plan : (k : ℕ) → r ≡ Plan k → (cause at : ℕ) → ¬ (r ≡ Refused cause at)
+        apart_plan : (k : ℕ) → r ≡ Plan k → (cause : Cause) (at : ℕ) → ¬ (r ≡ Refused cause at)
         apart_plan k e cause at d = absurd (let z : ◌≡◌ {A = ℕ} 0 1 = cc in omega arith)

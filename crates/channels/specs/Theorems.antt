@@ -6,6 +6,7 @@ use Rattle.grammar.specs.Limits.{limits}
 use Rattle.grammar.specs.Grammar.{state_count}
 use Rattle.grammar.specs.Tree.{Tree, SameTree, HasTree}
 use Rattle.grammar.specs.Refusal.{buffer_too_short, row_wrong}
+use Rattle.grammar.specs.declared.Cause.{Cause}
 use Rattle.automaton.specs.Callers.{callers}
 use Rattle.triples.specs.Certificate.{AcceptableCertificate}
 use Rattle.triples.specs.Verdict.{CertificateAnswer}
@@ -58,7 +59,7 @@ module _ (w work list : List ℕ) where
     pub list_short : IsRow commands.terminals w → plan_room ≤ length work → (tree : Tree) → HasTree limits commands w tree
         → length list < length (rules_of tree) → (r ≡ Refused buffer_too_short 0) × (list' ≡ list)
     -- no other cause is given
-    pub causes : (cause at : ℕ) → r ≡ Refused cause at → (cause ≡ row_wrong) ⊎ (cause ≡ buffer_too_short)
+    pub causes : (cause : Cause) (at : ℕ) → r ≡ Refused cause at → (cause ≡ row_wrong) ⊎ (cause ≡ buffer_too_short)
     -- the work row's entries are 0 after every answer
     pub zeros : (r ≡ Nothing) ⊎ ((k : ℕ) × (r ≡ Plan k)) → work' ≡ cleared commands work
     -- the answer and both rows afterwards are determined

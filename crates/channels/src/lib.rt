@@ -12,6 +12,7 @@ ghost use Rattle.channels.specs.Promise.{ReadsPlan, plan_room};
 
 use ambiguity::{TreesFound, find_trees};
 pub use certificate::certificate_byte;
+use grammar::Cause;
 use trees::PLACES;
 
 const TERMINALS: usize = 8;
@@ -31,7 +32,7 @@ const TABLE: [u16; 30] = [
 pub enum PlanRead {
     Nothing,
     Plan(usize),
-    Refused(u8, usize),
+    Refused(Cause, usize),
 }
 
 // The trees of a row of the command set's terminals.

@@ -17,6 +17,7 @@ use Rattle.grammar.proofs.Answers.{unless_done, then-goes, then_stops}
 use Rattle.grammar.proofs.Rules.{decode-encode}
 use Rattle.grammar.proofs.Lists.{drop-next}
 use Rattle.grammar.proofs.Steps.{next-done, read_done}
+use Rattle.grammar.specs.declared.Cause.{Cause}
 use Rattle.table_check.proofs.RecordLaws.{encode-more}
 use Rattle.table_check.specs.Clauses.{next_or_full}
 use Rattle.drafts.specs.Draft.{Draft, add, with_rules, add_rule, taken}
@@ -54,7 +55,7 @@ add_reads : (d : Draft) (entries : List ℕ) → let table = encode d.rules ++ t
 add_reads d entries = sym (unread_longest limits d entries) ∙ table_reads d (take longest entries)
 
 -- a fault is the step's
-pub add_fault : (row : List ℕ) (end : ℕ) (entries : List ℕ) (c p : ℕ) → open_row row ≡ done end → add_read row entries ≡ refused c p → stepped row (add entries) ≡ refused c p
+pub add_fault : (row : List ℕ) (end : ℕ) (entries : List ℕ) (c : Cause) (p : ℕ) → open_row row ≡ done end → add_read row entries ≡ refused c p → stepped row (add entries) ≡ refused c p
 unfolding add_read taken
 add_fault row end entries c p e q =
     let o = open_done row end e in

@@ -16,11 +16,12 @@ use Rattle.grammar.specs.declared.CheckedGrammar.{CheckedGrammar}
 use Rattle.grammar.proofs.Answers.{unless_holds, unless_fails, then-goes, then_stops}
 use Rattle.grammar.proofs.Columns.{sizes}
 use Rattle.grammar.proofs.WellFormed.{room, stored-only}
+use Rattle.grammar.specs.declared.Cause.{Cause}
 use Rattle.table_check.proofs.RecordLaws.{offset-size}
 use Rattle.drafts.specs.Draft.{new_draft, marks_count}
 use Rattle.drafts.specs.Row.{draft_room, splice, emptied, new_row, table_room}
 
-pub new-refused : (t n : ℕ) (table row : List ℕ) (c p : ℕ) → stored_table limits t n table ≡ refused c p → new_row t n table row ≡ refused c p
+pub new-refused : (t n : ℕ) (table row : List ℕ) (c : Cause) (p : ℕ) → stored_table limits t n table ≡ refused c p → new_row t n table row ≡ refused c p
 unfolding new_row new_draft
 new-refused t n table row c p e = then_stops (new_draft limits t n table) _ c p (then_stops (stored_table limits t n table) _ c p e)
 

@@ -15,6 +15,7 @@ use Rattle.grammar.specs.Table.{encode}
 use Rattle.grammar.specs.Refusal.{Answer, done, refused, and_then, buffer_too_short, not_present}
 use Rattle.grammar.proofs.Answers.{unless_holds, unless_fails, unless_done, then-goes, then_stops, done_inj, no_answer, refused_as}
 use Rattle.grammar.proofs.Lists.{lt_or_le}
+use Rattle.grammar.specs.declared.Cause.{Cause}
 use Rattle.drafts.specs.Draft.{Draft, Edit, taken}
 use Rattle.drafts.specs.Row.{block_size, block_at, draft_room, block_of, end_of, rules_to, rules_in, draft_with, draft_or, draft_in, image, put, target, stepped}
 use Rattle.drafts.specs.Promise.{answered, row_after, Leaves, EditsDraft}
@@ -30,14 +31,14 @@ opened-told : (o : Answer ℕ) (e : ℕ) → opening o ≡ Opened e → o ≡ do
 opened-told (done d) e q = let z : d ≡ e = cc in ap done z
 opened-told (refused c p) e q = let z : ◌≡◌ {A = ℕ} 0 1 = cc in absurd (let o : ⊥ = omega arith in o)
 
-shut-told : (o : Answer ℕ) (c p : ℕ) → opening o ≡ Shut c p → o ≡ refused c p
+shut-told : (o : Answer ℕ) (c : Cause) (p : ℕ) → opening o ≡ Shut c p → o ≡ refused c p
 shut-told (done d) c p q = let z : ◌≡◌ {A = ℕ} 0 1 = cc in absurd (let o : ⊥ = omega arith in o)
 shut-told (refused d r) c p q = let x : d ≡ c = cc in let y : r ≡ p = cc in ap₂ (λ c p. refused c p) x y
 
 pub opened_at : (row : List ℕ) (f : FoundDraft) (end : ℕ) → f ≡ opening (open_row row) → f ≡ Opened end → open_row row ≡ done end
 opened_at row f end e q = opened-told (open_row row) end (sym e ∙ q)
 
-pub shut_at : (row : List ℕ) (f : FoundDraft) (c p : ℕ) → f ≡ opening (open_row row) → f ≡ Shut c p → open_row row ≡ refused c p
+pub shut_at : (row : List ℕ) (f : FoundDraft) (c : Cause) (p : ℕ) → f ≡ opening (open_row row) → f ≡ Shut c p → open_row row ≡ refused c p
 shut_at row f c p e q = shut-told (open_row row) c p (sym e ∙ q)
 
 -- ---- opening
@@ -95,7 +96,7 @@ open_done row end e =
     ended (some d) q = ap some (done_inj q)
 
 -- one that holds none refuses every step
-pub open_refused : (row : List ℕ) (c p : ℕ) → open_row row ≡ refused c p → draft_in row ≡ refused c p
+pub open_refused : (row : List ℕ) (c : Cause) (p : ℕ) → open_row row ≡ refused c p → draft_in row ≡ refused c p
 unfolding open_row draft_in
 open_refused row c p e = elim (lt_or_le (length row) draft_room) [
   | inl b ↦
@@ -110,7 +111,7 @@ open_refused row c p e = elim (lt_or_le (length row) draft_room) [
     go none q = refused_as q
     go (some d) q = no_answer (sym q)
 
-pub shut_steps : (row : List ℕ) (s : Edit) (c p : ℕ) → open_row row ≡ refused c p → stepped row s ≡ refused c p
+pub shut_steps : (row : List ℕ) (s : Edit) (c : Cause) (p : ℕ) → open_row row ≡ refused c p → stepped row s ≡ refused c p
 unfolding stepped
 shut_steps row s c p e = then_stops (draft_in row) (λ d. and_then (taken limits d s) (λ e. done (put row (target s) e.rules))) c p (open_refused row c p e)
 
@@ -123,17 +124,17 @@ open_steps row s d e = then-goes (draft_in row) (λ d. and_then (taken limits d 
 pub step-done : (row : List ℕ) (s : Edit) (d e : Draft) → draft_in row ≡ done d → taken limits d s ≡ done e → stepped row s ≡ done (put row (target s) e.rules)
 step-done row s d e h q = open_steps row s d h ∙ then-goes (taken limits d s) (λ e. done (put row (target s) e.rules)) e q
 
-pub step-refused : (row : List ℕ) (s : Edit) (d : Draft) (c p : ℕ) → draft_in row ≡ done d → taken limits d s ≡ refused c p → stepped row s ≡ refused c p
+pub step-refused : (row : List ℕ) (s : Edit) (d : Draft) (c : Cause) (p : ℕ) → draft_in row ≡ done d → taken limits d s ≡ refused c p → stepped row s ≡ refused c p
 step-refused row s d c p h q = open_steps row s d h ∙ then_stops (taken limits d s) (λ e. done (put row (target s) e.rules)) c p q
 
 -- ---- what an entry leaves
 
-pub leaves_refused : (o : Answer (List ℕ)) (row : List ℕ) (c p : ℕ) → o ≡ refused c p → Leaves o row (Refused c p) row
+pub leaves_refused : (o : Answer (List ℕ)) (row : List ℕ) (c : Cause) (p : ℕ) → o ≡ refused c p → Leaves o row (Refused c p) row
 leaves_refused o row c p e = record { answer = sym (ap answered e); leaves = sym (ap (row_after row) e) }
 
 pub leaves_done : (o : Answer (List ℕ)) (row after now : List ℕ) → o ≡ done after → now ≡ after → Leaves o row Done now
 leaves_done o row after now e q = record { answer = sym (ap answered e); leaves = q ∙ sym (ap (row_after row) e) }
 
 -- one that holds no draft refuses every edit
-pub leaves_shut : (row : List ℕ) (s : Edit) (f : FoundDraft) (c p : ℕ) → f ≡ opening (open_row row) → f ≡ Shut c p → EditsDraft row s (Refused c p) row
+pub leaves_shut : (row : List ℕ) (s : Edit) (f : FoundDraft) (c : Cause) (p : ℕ) → f ≡ opening (open_row row) → f ≡ Shut c p → EditsDraft row s (Refused c p) row
 leaves_shut row s f c p e q = leaves_refused (stepped row s) row c p (shut_steps row s c p (shut_at row f c p e q))

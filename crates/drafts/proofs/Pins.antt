@@ -8,7 +8,7 @@ use Rattle.grammar.specs.Limits.{Limits, limits}
 use Rattle.grammar.specs.Grammar.{Rule, state_count}
 use Rattle.grammar.specs.Live.{has, has_all, concluded, waiting, rounds, nonterminals_of, productive, has_sentence}
 use Rattle.grammar.specs.Table.{encode, decode_up_to}
-use Rattle.grammar.specs.Refusal.{Answer, refused, refuse_unless, and_then}
+use Rattle.grammar.specs.Refusal.{Answer, refused, refuse_unless, and_then, buffer_too_short}
 use Rattle.grammar.specs.TableCheck.{same_codes, is_among, declared_front, read_rule, next_rule, check_from, stored_table, check_table}
 use Rattle.drafts.specs.Draft.{Draft, Edit, add, withdraw, mark, return, without, new_draft, add_rule, taken, after}
 use Rattle.drafts.specs.Row.{walk, end_of, rules_in, draft_room, draft_in}
@@ -80,6 +80,6 @@ blocks : (rules_in (0 ∷ S ∷ 0 ∷ []) ≡ none) × (rules_in (1 ∷ 7 ∷ []
 unfolding end_of walk decode_up_to
 blocks = (refl, refl, refl, refl)
 
-short_row : (draft_room ≡ 12827) × (draft_in [] ≡ refused 14 0)
+short_row : (draft_room ≡ 12827) × (draft_in [] ≡ refused buffer_too_short 0)
 unfolding draft_in refuse_unless
 short_row = (refl, refl)

@@ -1,7 +1,7 @@
 -- New drafts, computed. Assumes nothing.
 use mathlib.Core.Path.{◌≡◌, refl}
 use mathlib.Core.List.{[], ◌∷◌}
-use Rattle.grammar.specs.Refusal.{done, refused}
+use Rattle.grammar.specs.Refusal.{done, refused, out_of_range, truncated}
 use Rattle.drafts.proofs.Pins.{S, rule, empty, draft, one, new}
 
 new-begins : new 2 1 (S ∷ 1 ∷ 1 ∷ []) ≡ done one
@@ -13,6 +13,6 @@ new-barren : (new 2 1 [] ≡ done (draft [] empty)) × (new 2 1 (S ∷ 1 ∷ S �
 unfolding new
 new-barren = (refl, refl)
 
-new-refused : (new 2001 1 [] ≡ refused 1 0) × (new 2 1 (S ∷ []) ≡ refused 2 0)
+new-refused : (new 2001 1 [] ≡ refused out_of_range 0) × (new 2 1 (S ∷ []) ≡ refused truncated 0)
 unfolding new
 new-refused = (refl, refl)

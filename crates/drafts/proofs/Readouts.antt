@@ -9,6 +9,7 @@ use Rattle.grammar.specs.Table.{encode}
 use Rattle.grammar.specs.Refusal.{done, refused, Answer}
 use Rattle.grammar.specs.Grammar.{Rule, state_count}
 use Rattle.grammar.proofs.Answers.{done_inj, no_answer}
+use Rattle.grammar.specs.declared.Cause.{Cause}
 use Rattle.drafts.specs.Row.{block_size, draft_room, draft_in, draft_with, table_at}
 use Rattle.drafts.specs.Edits.{open_row}
 use Rattle.drafts.specs.Reading.{table_or, counted, placed}
@@ -27,7 +28,7 @@ rest_of (suc end) (a ∷ xs) ys x e =
     let q : suc end - 1 ≡ end = omega arith in
     ap (λ (m : ℕ). take m xs) q ∙ (let z : take end xs ≡ ys = cc in z)
 
-pub table_none : (row : List ℕ) (c p : ℕ) → open_row row ≡ refused c p → table_or (draft_in row) ≡ []
+pub table_none : (row : List ℕ) (c : Cause) (p : ℕ) → open_row row ≡ refused c p → table_or (draft_in row) ≡ []
 table_none row c p e = ap table_or (open_refused row c p e)
 
 pub table-held : (row : List ℕ) (end : ℕ) → open_row row ≡ done end → take (2 + end - 3) (drop 3 row) ≡ table_or (draft_in row)

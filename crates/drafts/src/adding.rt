@@ -7,7 +7,7 @@ ghost use Rattle.table_check.specs.Clauses.{rule_read, next_or_full};
 ghost use Rattle.drafts.specs.Edits.{open_row, Leading, Led, Appendable, appended, add_read, entries_read};
 
 use super::edits::put_entries;
-use grammar::{MAX_LENGTH, MAX_RULES, MAX_STATES, RULE_REPEATED, TOO_MANY_RULES, TOO_MANY_STATES};
+use grammar::{Cause, MAX_LENGTH, MAX_RULES, MAX_STATES};
 use table_check::{RuleRead, read_rule, same_rule};
 
 // No rule has more entries: a left code, a length, the codes.
@@ -45,18 +45,18 @@ fn next_rule(table: &[u16], t: u16, n: u16, count: usize, at: usize) -> RuleRead
     ensures { result ≡ rule_read (next_or_full t n table.now count at) }
 {
     if MAX_RULES <= count {
-        return RuleRead::Fault(TOO_MANY_RULES, at);
+        return RuleRead::Fault(Cause::TooManyRules, at);
     }
     let read = read_rule(table, t, n, at);
     let RuleRead::Length(k) = read else {
         return read;
     };
     if stands_before(table, at, k) {
-        return RuleRead::Fault(RULE_REPEATED, at);
+        return RuleRead::Fault(Cause::RuleRepeated, at);
     }
     let states = at + 4 - count;
     if MAX_STATES < states + k + 1 {
-        return RuleRead::Fault(TOO_MANY_STATES, at);
+        return RuleRead::Fault(Cause::TooManyStates, at);
     }
     RuleRead::Length(k)
 }

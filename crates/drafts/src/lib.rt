@@ -13,7 +13,7 @@ ghost use Rattle.drafts.specs.Promise.{EditsDraft, BeginsDraft};
 use adding::{append, try_rule};
 use blocks::{BLOCK, DRAFT_ROOM, held};
 use edits::{begin, remove, rule_place};
-use grammar::{BUFFER_TOO_SHORT, NOT_PRESENT, TableVerdict};
+use grammar::{Cause, TableVerdict};
 use reading::open_draft;
 pub use reading::{draft_counts, draft_room, draft_table, table_place};
 use table_check::{RuleRead, check_up_to};
@@ -21,11 +21,11 @@ use table_check::{RuleRead, check_up_to};
 // Marks are 1 to 8.
 pub const MARKS: usize = 8;
 
-// Done, or refused with a cause's number and its position.
+// Done, or refused with a cause and its position.
 #[derive(Drop)]
 pub enum DraftAnswer {
     Done,
-    Refused(u8, usize),
+    Refused(Cause, usize),
 }
 
 // t, n, and how many rules, entries and states the draft has, or why the row holds none.
@@ -38,21 +38,21 @@ pub enum DraftCounts {
         entries: usize,
         states: usize,
     },
-    Refused(u8, usize),
+    Refused(Cause, usize),
 }
 
 // Where in the row the draft's table stands, or why the row holds none.
 #[derive(Drop)]
 pub enum TablePlace {
     Stands { start: usize, entries: usize },
-    Refused(u8, usize),
+    Refused(Cause, usize),
 }
 
 // Where the draft's rules end in its block, or why the row holds no draft.
 #[derive(Drop)]
 pub enum FoundDraft {
     Opened(usize),
-    Shut(u8, usize),
+    Shut(Cause, usize),
 }
 
 // Keeps the draft's rules under a mark.
@@ -66,7 +66,7 @@ pub fn set_mark(draft: &mut [u16], number: usize) -> DraftAnswer
         }
         FoundDraft::Opened(end) => {
             if number < 1 || MARKS < number {
-                return DraftAnswer::Refused(NOT_PRESENT, number);
+                return DraftAnswer::Refused(Cause::NotPresent, number);
             }
             let to = 2 + number * BLOCK;
             draft.copy_within(2..2 + end, to);
@@ -86,10 +86,10 @@ pub fn return_to_mark(draft: &mut [u16], number: usize) -> DraftAnswer
         }
         FoundDraft::Opened(_end) => {
             if number < 1 || MARKS < number {
-                return DraftAnswer::Refused(NOT_PRESENT, number);
+                return DraftAnswer::Refused(Cause::NotPresent, number);
             }
             let Some(end) = held(draft, number) else {
-                return DraftAnswer::Refused(NOT_PRESENT, number);
+                return DraftAnswer::Refused(Cause::NotPresent, number);
             };
             let from = 2 + number * BLOCK;
             draft.copy_within(from..from + end, 2);
@@ -110,7 +110,7 @@ pub fn withdraw_rule(draft: &mut [u16], number: usize) -> DraftAnswer
         FoundDraft::Opened(end) => {
             let cell = usize::from(draft[2]);
             if number < 1 || cell <= number {
-                return DraftAnswer::Refused(NOT_PRESENT, number);
+                return DraftAnswer::Refused(Cause::NotPresent, number);
             }
             let place = rule_place(draft, number - 1);
             remove(draft, 2 + place, end);
@@ -131,7 +131,7 @@ pub fn new_draft(t: usize, n: usize, table: &[u16], draft: &mut [u16]) -> DraftA
         }
         TableVerdict::Passed => {
             if draft.len() < DRAFT_ROOM {
-                return DraftAnswer::Refused(BUFFER_TOO_SHORT, 0);
+                return DraftAnswer::Refused(Cause::BufferTooShort, 0);
             }
             let g = checked.grammar;
             let cell = g.count + 1;

@@ -6,7 +6,7 @@ ghost use Rattle.drafts.specs.Reading.{ShowsTable, CountsDraft, PlacesTable};
 
 use super::blocks::{DRAFT_ROOM, held};
 use super::{DraftCounts, FoundDraft, TablePlace};
-use grammar::{BUFFER_TOO_SHORT, NOT_PRESENT};
+use grammar::Cause;
 
 // No row of a draft may be shorter.
 pub fn draft_room() -> usize
@@ -19,11 +19,11 @@ pub fn open_draft(draft: &[u16]) -> FoundDraft
     ensures { result ≡ opening (open_row draft.now) }
 {
     if draft.len() < DRAFT_ROOM {
-        return FoundDraft::Shut(BUFFER_TOO_SHORT, 0);
+        return FoundDraft::Shut(Cause::BufferTooShort, 0);
     }
     match held(draft, 0) {
         Some(end) => FoundDraft::Opened(end),
-        None => FoundDraft::Shut(NOT_PRESENT, 0),
+        None => FoundDraft::Shut(Cause::NotPresent, 0),
     }
 }
 

@@ -12,7 +12,7 @@ use lib.Dec.{eqb}
 use lib.ListN.{length}
 use borrow.Author.Tests.{eqb-true, eq-eqb, ne_eqb}
 use Rattle.grammar.specs.Basics.{choose, Mem}
-use Rattle.grammar.specs.Refusal.{done}
+use Rattle.grammar.specs.Refusal.{done, witness_wrong}
 use Rattle.grammar.proofs.Answers.{no_answer, unless_holds, unless_done}
 use Rattle.automaton.specs.Automaton.{Automaton}
 use Rattle.automaton.specs.Moves.{Moves, listed, Regular, Lists}
@@ -66,29 +66,29 @@ module _ (M : Moves) where
   -- what is accepted after i leads on from there to the goal, and the other way round; a row is accepted exactly if it leads from 0
   on_leads : (w : List ℕ) (i place : ℕ) → check_on M i place w ≡ done tt → Leads (successors M) goal i w
   unfolding check_on
-  on_leads [] i place e = eqb-true i goal (unless_done 15 place (eqb i goal) (done tt) tt e).0
+  on_leads [] i place e = eqb-true i goal (unless_done witness_wrong place (eqb i goal) (done tt) tt e).0
   on_leads (j ∷ w) i place e =
-      let a = unless_done 15 place (is_element j (successors M i)) (check_on M j (suc place) w) tt e in
+      let a = unless_done witness_wrong place (is_element j (successors M i)) (check_on M j (suc place) w) tt e in
       ((is_element_lem j (successors M i)).0 a.0, on_leads w j (suc place) a.1)
 
   leads_on : (w : List ℕ) (i place : ℕ) → Leads (successors M) goal i w → check_on M i place w ≡ done tt
   unfolding check_on
-  leads_on [] i place h = unless_holds 15 place _ (done tt) (eq-eqb i goal h)
+  leads_on [] i place h = unless_holds witness_wrong place _ (done tt) (eq-eqb i goal h)
   leads_on (j ∷ w) i place h =
-      unless_holds 15 place _ (check_on M j (suc place) w) ((is_element_lem j (successors M i)).1 h.0) ∙ leads_on w j (suc place) h.1
+      unless_holds witness_wrong place _ (check_on M j (suc place) w) ((is_element_lem j (successors M i)).1 h.0) ∙ leads_on w j (suc place) h.1
 
   pub accepted_leads : (row : List ℕ) → check_row M row ≡ done tt → (w : List ℕ) × (row ≡ 0 ∷ w) × Leads (successors M) goal 0 w
   unfolding check_row
   accepted_leads [] e = no_answer e
   accepted_leads (i ∷ w) e =
-      let a = unless_done 15 0 (eqb i (index M.states 0 0 0)) (check_on M i 1 w) tt e in
+      let a = unless_done witness_wrong 0 (eqb i (index M.states 0 0 0)) (check_on M i 1 w) tt e in
       let z : i ≡ 0 = eqb-true i (index M.states 0 0 0) a.0 ∙ index-zero M.states in
       (w, ap (λ (x : ℕ). x ∷ w) z, subst (λ (x : ℕ). Leads (successors M) goal x w) z (on_leads w i 1 a.1))
 
   pub leads_accepted : (w : List ℕ) → Leads (successors M) goal 0 w → check_row M (0 ∷ w) ≡ done tt
   unfolding check_row
   leads_accepted w h =
-      unless_holds 15 0 _ (check_on M 0 1 w) (eq-eqb 0 (index M.states 0 0 0) (sym (index-zero M.states))) ∙ leads_on w 0 1 h
+      unless_holds witness_wrong 0 _ (check_on M 0 1 w) (eq-eqb 0 (index M.states 0 0 0) (sym (index-zero M.states))) ∙ leads_on w 0 1 h
 
 module _ (M : Moves) (R : Regular M) where
   pub some-triples : 0 < triple_count M.states

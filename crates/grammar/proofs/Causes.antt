@@ -9,16 +9,17 @@ use Rattle.grammar.specs.Basics.{choose}
 use Rattle.grammar.specs.Limits.{Limits}
 use Rattle.grammar.specs.Grammar.{Rule}
 use Rattle.grammar.specs.Table.{rule_at}
-use Rattle.grammar.specs.Refusal.{Answer, done, refused, refuse_unless, and_then, out_of_range, truncated, left_undeclared, rule_too_long, code_undeclared, rule_repeated, too_many_rules, too_many_states}
+use Rattle.grammar.specs.Refusal.{Answer, done, refused, refuse_unless, and_then, out_of_range, truncated, left_undeclared, rule_too_long, code_undeclared, rule_repeated, too_many_rules, too_many_states, cause_number}
 use Rattle.grammar.specs.TableCheck.{read_rule, next_rule, check_from, stored_table}
+use Rattle.grammar.specs.declared.Cause.{Cause}
 
 -- a result, or a refusal with one of these causes
 pub data CausedBy (among : ℕ → Bool) {A : Type 0} : Answer A → Type 0 where
   result : {a : A} → CausedBy among (done a)
-  cause : {c p : ℕ} → among c ≡ true → CausedBy among (refused c p)
+  cause : {c : Cause} {p : ℕ} → among (cause_number c) ≡ true → CausedBy among (refused c p)
 
 module _ {among : ℕ → Bool} where
-  pub unless : {A : Type 0} (c p : ℕ) (b : Bool) (o : Answer A) → among c ≡ true → CausedBy among o → CausedBy among (refuse_unless c p b o)
+  pub unless : {A : Type 0} (c : Cause) (p : ℕ) (b : Bool) (o : Answer A) → among (cause_number c) ≡ true → CausedBy among o → CausedBy among (refuse_unless c p b o)
   unfolding refuse_unless
   unless c p true o h k = k
   unless c p false o h k = cause h
@@ -39,7 +40,7 @@ up_to last c = leb 1 c && leb c last
 -- other causes among which these are
 pub caused_more : {A : Type 0} {few more : ℕ → Bool} → ((c : ℕ) → few c ≡ true → more c ≡ true) → (o : Answer A) → CausedBy few o → CausedBy more o
 caused_more f (done a) result = result
-caused_more f (refused c p) (cause h) = cause (f c h)
+caused_more f (refused c p) (cause h) = cause (f (cause_number c) h)
 
 module _ (L : Limits) (t n : ℕ) (table : List ℕ) where
   read_causes : (at : ℕ) → CausedBy (up_to 8) (read_rule L t n table at)

@@ -17,3 +17,4 @@ pub mod Live
 pub mod Causes
 pub mod Sentence
 pub mod LivePins
+mod Numbers

@@ -9,12 +9,13 @@ use Rattle.grammar.specs.Limits.{Limits}
 use Rattle.grammar.specs.Grammar.{Grammar, WellFormed}
 use Rattle.grammar.specs.Table.{encode}
 use Rattle.grammar.specs.Live.{HasSentence, has_sentence}
-use Rattle.grammar.specs.Refusal.{Answer, done, refused, refuse_unless, no_sentence}
+use Rattle.grammar.specs.Refusal.{Answer, done, refused, refuse_unless, no_sentence, cause_number}
 use Rattle.grammar.specs.TableCheck.{stored_table, check_table}
 use Rattle.grammar.proofs.Answers.{no_bool, no_answer, done_inj, unless_holds, unless_fails, unless_done, then-done, then-goes, then_stops}
 use Rattle.grammar.proofs.Causes.{CausedBy, cause, up_to, stored_causes}
 use Rattle.grammar.proofs.WellFormed.{Taken, stores_all, stored-only}
 use Rattle.grammar.proofs.Live.{has_sentence_lem}
+use Rattle.grammar.specs.declared.Cause.{Cause}
 
 module _ (L : Limits) where
   -- the last test
@@ -40,7 +41,7 @@ module _ (L : Limits) where
     unfolding check_table
     without_sentence_lem G e h = then-goes (stored_table L t n table) sentenced G e ∙ unless_fails no_sentence 0 (has_sentence L G) (done G) h
 
-    pub not-stored : (c p : ℕ) → stored_table L t n table ≡ refused c p → check_table L t n table ≡ refused c p
+    pub not-stored : (c : Cause) (p : ℕ) → stored_table L t n table ≡ refused c p → check_table L t n table ≡ refused c p
     unfolding check_table
     not-stored c p e = then_stops (stored_table L t n table) sentenced c p e
 
@@ -91,4 +92,4 @@ module _ (L : Limits) (four : 4 ≤ L.max_states) where
         told (refused k at) q (cause h) e =
             let z : ◌≡◌ {A = Answer Grammar} (refused k at) (refused no_sentence p) = sym (not-stored L t n table k at q) ∙ e in
             let w : k ≡ no_sentence = cc in
-            no_bool (sym (subst (λ c. up_to 8 c ≡ true) w h))
+            no_bool (sym (subst (λ c. up_to 8 (cause_number c) ≡ true) w h))

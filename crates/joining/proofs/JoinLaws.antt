@@ -11,6 +11,7 @@ use Rattle.grammar.specs.Table.{encode}
 use Rattle.grammar.specs.Refusal.{Answer, done, refused, and_then}
 use Rattle.grammar.specs.TableCheck.{check_table}
 use Rattle.grammar.proofs.Answers.{done_inj, then-done, then-goes, then_stops}
+use Rattle.grammar.specs.declared.Cause.{Cause}
 use Rattle.text.specs.Read.{Source, symbol_names, grammar_of, read_text}
 use Rattle.text.specs.Rules.{last_tests, check_text, check_module}
 use Rattle.text.specs.Promise.{name_starts, name_lengths}
@@ -58,13 +59,13 @@ module-rules text s e =
 
 -- ---- what the last tests tell
 
-pub table-refused : (t n end : ℕ) (o : Answer Grammar) (x : TextRead) (c i : ℕ) → x ≡ table_read t n end o → x ≡ Refused c i → o ≡ refused c i
+pub table-refused : (t n end : ℕ) (o : Answer Grammar) (x : TextRead) (c : Cause) (i : ℕ) → x ≡ table_read t n end o → x ≡ Refused c i → o ≡ refused c i
 table-refused t n end (done G) x c i e f = absurd (let z : Read t n end (state_count G.rules) ≡ Refused c i = sym e ∙ f in let y : ◌≡◌ {A = ℕ} 0 1 = cc z in omega arith)
 table-refused t n end (refused d j) x c i e f =
     let z : Refused d j ≡ Refused c i = sym e ∙ f in
     let p : d ≡ c = cc z in
     let q : j ≡ i = cc z in
-    ap₂ (λ (c i : ℕ). refused c i) p q
+    ap₂ (λ (c : Cause) (i : ℕ). refused c i) p q
 
 pub record TablePassed (o : Answer Grammar) (end p q : ℕ) : Type 0 where
   pub grammar : Grammar
@@ -190,7 +191,7 @@ module _ {robot addon : List ℕ} {t n e u v d : ℕ} {row starts lengths table 
         let d = nonterminals-spelled addon ms addon-read u v mk.terminals mk.nonterminals ys ds ys_are ds_are in
         counts_are _ _ _ _ rs.terminals rs.nonterminals ms.terminals ms.nonterminals terminals nonterminals terminals' nonterminals' r a b c d w
 
-    pub names-refused : (r : Counts) {c i : ℕ} → r ≡ Fault c i → Told r → join_texts limits robot addon ≡ refused c i
+    pub names-refused : (r : Counts) {c : Cause} {i : ℕ} → r ≡ Fault c i → Told r → join_texts limits robot addon ≡ refused c i
     names-refused r {c} {i} g w =
         let k : Known (Fault c i) = subst Known g (told-known r w) in
         join-named robot addon rs ms rk.whole mk.whole ∙ k _
@@ -264,7 +265,7 @@ module _ {robot addon : List ℕ} {t n e u v d : ℕ} {row starts lengths table 
             ∙ names_pass rs.terminals rs.nonterminals ms.terminals ms.nonterminals _ counted.first_clear counted.second_clear few most
             ∙ ap (λ o. and_then o (λ G. done (joined limits rs ms))) (sym check_is)
 
-        pub last-refused : {x : TextRead} {c i : ℕ} → x ≡ table_read a b end (check_table limits a b (take end row')) → x ≡ Refused c i
+        pub last-refused : {x : TextRead} {c : Cause} {i : ℕ} → x ≡ table_read a b end (check_table limits a b (take end row')) → x ≡ Refused c i
             → join_texts limits robot addon ≡ refused c i
         last-refused {x} {c} {i} f g = answer_is ∙ then_stops _ _ c i (table-refused a b end _ x c i f g)
 
@@ -309,21 +310,21 @@ module _ {robot addon : List ℕ} {t n e u v d : ℕ} {row starts lengths table 
 
 -- ---- refusals of either text, and texts that are both read
 
-robot_stops : (robot addon : List ℕ) (c i : ℕ) → check_text limits robot ≡ refused c i → join_texts limits robot addon ≡ refused c i
+robot_stops : (robot addon : List ℕ) (c : Cause) (i : ℕ) → check_text limits robot ≡ refused c i → join_texts limits robot addon ≡ refused c i
 unfolding join_texts
 robot_stops robot addon c i e = then_stops _ _ c i e
 
-addon_stops : (robot addon : List ℕ) (r : Source) (c i : ℕ) → check_text limits robot ≡ done r → check_module limits addon ≡ refused c i
+addon_stops : (robot addon : List ℕ) (r : Source) (c : Cause) (i : ℕ) → check_text limits robot ≡ done r → check_module limits addon ≡ refused c i
     → join_texts limits robot addon ≡ refused c i
 unfolding join_texts
 addon_stops robot addon r c i e f = then-goes (check_text limits robot) _ r e ∙ then_stops _ _ c i f
 
-pub robot-refused : (robot addon : List ℕ) {row starts lengths : List ℕ} {x : TextRead} {c i : ℕ} → ChecksText robot x row starts lengths → x ≡ Refused c i
+pub robot-refused : (robot addon : List ℕ) {row starts lengths : List ℕ} {x : TextRead} {c : Cause} {i : ℕ} → ChecksText robot x row starts lengths → x ≡ Refused c i
     → join_texts limits robot addon ≡ refused c i
 robot-refused robot addon {row} {starts} {lengths} {x} {c} {i} h e =
     robot_stops robot addon c i (refuses_as (check_text limits robot) c i (sym e ∙ h.answer))
 
-pub addon-refused : (robot addon : List ℕ) {row starts lengths table firsts sizes : List ℕ} {x y : TextRead} {t n e q c i : ℕ} → ChecksText robot x row starts lengths
+pub addon-refused : (robot addon : List ℕ) {row starts lengths table firsts sizes : List ℕ} {x y : TextRead} {t n e q : ℕ} {c : Cause} {i : ℕ} → ChecksText robot x row starts lengths
     → x ≡ Read t n e q → ChecksModule addon y table firsts sizes → y ≡ Refused c i → join_texts limits robot addon ≡ refused c i
 addon-refused robot addon {row} {starts} {lengths} {table} {firsts} {sizes} {x} {y} {t} {n} {e} {q} {c} {i} h g k w =
     let a = read_as (check_text limits robot) t n e q (sym g ∙ h.answer) in

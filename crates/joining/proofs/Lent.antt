@@ -11,6 +11,7 @@ use Rattle.grammar.specs.Limits.{limits}
 use Rattle.grammar.specs.Table.{encode}
 use Rattle.grammar.specs.Refusal.{done, refused, refuse_unless, buffer_too_short}
 use Rattle.grammar.proofs.Answers.{unless_holds, unless_fails, then-goes, then_stops}
+use Rattle.grammar.specs.declared.Cause.{Cause}
 use Rattle.text.specs.Read.{Source}
 use Rattle.text.specs.Promise.{text_read, afterwards}
 use Rattle.text.specs.declared.TextRead.TheVariants.{Read, Refused}
@@ -23,7 +24,7 @@ use Rattle.joining.specs.declared.Join.TheVariants.{Joined as JoinJoined, Refuse
 
 module _ (robot addon row starts lengths firsts sizes terminals nonterminals : List ℕ) where
   -- what the answer tells
-  pub told-refused : (r : Join) (c i : ℕ) → r ≡ JoinRefused c i → JoinTold robot addon row starts lengths firsts sizes terminals nonterminals r
+  pub told-refused : (r : Join) (c : Cause) (i : ℕ) → r ≡ JoinRefused c i → JoinTold robot addon row starts lengths firsts sizes terminals nonterminals r
       → join_texts limits robot addon ≡ refused c i
   told-refused r c i e h = subst (λ (r : Join). JoinTold robot addon row starts lengths firsts sizes terminals nonterminals r) e h
 
@@ -32,14 +33,14 @@ module _ (robot addon row starts lengths firsts sizes terminals nonterminals : L
   told-joined r z e q g h = subst (λ (r : Join). JoinTold robot addon row starts lengths firsts sizes terminals nonterminals r) g h
 
 module _ (robot addon table : List ℕ) where
-  into_refused : (c i : ℕ) → joined_table_into limits (length table) robot addon ≡ refused c i → JoinsTexts robot addon table (Refused c i) table
+  into_refused : (c : Cause) (i : ℕ) → joined_table_into limits (length table) robot addon ≡ refused c i → JoinsTexts robot addon table (Refused c i) table
   into_refused c i e = record {
     answer = sym (ap text_read e);
     table-after = sym (ap (λ o. afterwards o (λ s. encode s.rules) table) e);
   }
 
   -- a refusal before 14
-  pub join-refused : (c i : ℕ) → join_texts limits robot addon ≡ refused c i → JoinsTexts robot addon table (Refused c i) table
+  pub join-refused : (c : Cause) (i : ℕ) → join_texts limits robot addon ≡ refused c i → JoinsTexts robot addon table (Refused c i) table
   unfolding joined_table_into
   join-refused c i e = into_refused c i (then_stops _ _ c i e)
 

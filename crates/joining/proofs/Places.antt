@@ -15,6 +15,7 @@ use Rattle.std.proofs.lemmas.List.Sums.{prefix_len-le-length}
 use Rattle.std.proofs.lemmas.List.Recursion.{is_position_or_len}
 use Rattle.grammar.specs.Basics.{choose}
 use Rattle.grammar.specs.Limits.{limits}
+use Rattle.grammar.specs.declared.Cause.{Cause}
 use Rattle.text.specs.Names.{place}
 use Rattle.text.specs.Read.{Source, symbol_names}
 use Rattle.text.specs.Promise.{name_starts, name_lengths}
@@ -248,6 +249,6 @@ module _ {robot addon : List ℕ} {z : ListSizes} {starts lengths firsts widths 
 
 module _ (robot addon row starts lengths firsts widths terminals nonterminals : List ℕ) (o : Join)
     (told : JoinTold robot addon row starts lengths firsts widths terminals nonterminals o) where
-  pub place-refused : (cause at i : ℕ) → o ≡ Refused cause at → Told limits robot addon i Neither
+  pub place-refused : (cause : Cause) (at i : ℕ) → o ≡ Refused cause at → Told limits robot addon i Neither
   place-refused cause at i h =
       (sym (shown-refused limits robot addon cause at (subst (JoinTold robot addon row starts lengths firsts widths terminals nonterminals) h told) i), tt)

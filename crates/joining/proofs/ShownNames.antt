@@ -11,6 +11,7 @@ use Rattle.grammar.specs.Limits.{Limits}
 use Rattle.grammar.specs.Refusal.{Answer, done, refused, and_then}
 use Rattle.grammar.proofs.Answers.{unless_done, then-goes}
 use Rattle.grammar.proofs.Lists.{lt_or_le}
+use Rattle.grammar.specs.declared.Cause.{Cause}
 use Rattle.text.specs.Names.{any, same_name}
 use Rattle.text.specs.Read.{Source, symbol_names, number_of, read_text}
 use Rattle.text.specs.Rules.{check_text, check_module}
@@ -50,7 +51,7 @@ module _ (L : Limits) (robot addon : List ℕ) where
       ∙ then-goes (join_texts L robot addon) (λ s. done (place_among r m (symbol_names s) i)) s g)
 
   -- texts that are refused
-  pub shown-refused : (cause at : ℕ) → join_texts L robot addon ≡ refused cause at → (i : ℕ) → shown L robot addon i ≡ Neither
+  pub shown-refused : (cause : Cause) (at : ℕ) → join_texts L robot addon ≡ refused cause at → (i : ℕ) → shown L robot addon i ≡ Neither
   unfolding shown place_in and_then
   shown-refused cause at e i = go (check_text L robot) (check_module L addon) (join_texts L robot addon) e
     where

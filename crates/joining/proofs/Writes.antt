@@ -10,6 +10,7 @@ use Rattle.grammar.specs.Limits.{limits}
 use Rattle.grammar.specs.Table.{encode}
 use Rattle.grammar.specs.Refusal.{Answer, done, refused}
 use Rattle.grammar.proofs.Answers.{then-goes, then_stops}
+use Rattle.grammar.specs.declared.Cause.{Cause}
 use Rattle.text.specs.Names.{all, is_name}
 use Rattle.text.specs.Read.{Source, symbol_names, grammar_of}
 use Rattle.text.specs.Rules.{check_text}
@@ -88,7 +89,7 @@ module _ {robot addon row starts lengths firsts widths terminals nonterminals : 
   }
 
 -- a join that is refused writes nothing
-pub joined-refused : (robot addon out : List ℕ) (cause at : ℕ) → join_texts limits robot addon ≡ refused cause at
+pub joined-refused : (robot addon out : List ℕ) (cause : Cause) (at : ℕ) → join_texts limits robot addon ≡ refused cause at
     → WritesJoined robot addon out (Refused cause at) out
 unfolding joined_text_into
 joined-refused robot addon out cause at e =

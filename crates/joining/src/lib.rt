@@ -13,7 +13,7 @@ mod writing;
 ghost use Rattle.std.specs.Prelude.{◌≡◌, length};
 ghost use Rattle.modules.specs.Promise.{JoinsTexts};
 
-use grammar::{BUFFER_TOO_SHORT, MAX_NAMES, MAX_NONTERMINALS, MAX_TERMINALS};
+use grammar::{Cause, MAX_NAMES, MAX_NONTERMINALS, MAX_TERMINALS};
 use joins::join_kept;
 pub use shown::{joined_name, joined_place};
 use text::TextRead;
@@ -27,7 +27,7 @@ pub enum Counts {
         terminals: usize,
         nonterminals: usize,
     },
-    Fault(u8, usize),
+    Fault(Cause, usize),
 }
 
 // How many names each list has: t and n of the robot, u and v of the module, and the joined ones.
@@ -49,7 +49,7 @@ pub enum Join {
         entries: usize,
         states: usize,
     },
-    Refused(u8, usize),
+    Refused(Cause, usize),
 }
 
 // The joined table: t, n, the number of its entries and Q, with the table at the front of the lent row; or the first refusal in the
@@ -84,7 +84,7 @@ pub fn join_texts(robot: &[u8], addon: &[u8], table: &mut [u16]) -> TextRead
             states,
         } => {
             if table.len() < entries {
-                return TextRead::Refused(BUFFER_TOO_SHORT, 0);
+                return TextRead::Refused(Cause::BufferTooShort, 0);
             }
             table[..entries].copy_from_slice(&row[..entries]);
             TextRead::Read {

@@ -9,7 +9,7 @@ ghost use Rattle.joining.specs.Numbers.{numbered};
 ghost use Rattle.joining.specs.Naming.{Numbering, Kind, KindTold, BothNamed, CountsTold};
 
 use super::Counts;
-use grammar::{KINDS_CLASH, MAX_NAMES, MAX_NONTERMINALS, MAX_TERMINALS, OUT_OF_RANGE};
+use grammar::{Cause, MAX_NAMES, MAX_NONTERMINALS, MAX_TERMINALS};
 
 // The number that the module's name i has among the robot's names, or how many these are.
 fn number_of(
@@ -128,16 +128,16 @@ fn count_kinds(
         terminals.old nonterminals.old terminals.new nonterminals.new result }
 {
     let Some(b) = match_kind(robot, ns, nl, addon, vs, vl, us, ul, nonterminals) else {
-        return Counts::Fault(KINDS_CLASH, 1);
+        return Counts::Fault(Cause::KindsClash, 1);
     };
     let Some(a) = match_kind(robot, ts, tl, addon, us, ul, vs, vl, terminals) else {
-        return Counts::Fault(KINDS_CLASH, 2);
+        return Counts::Fault(Cause::KindsClash, 2);
     };
     if MAX_TERMINALS < a {
-        return Counts::Fault(OUT_OF_RANGE, 1);
+        return Counts::Fault(Cause::OutOfRange, 1);
     }
     if MAX_NONTERMINALS < b {
-        return Counts::Fault(OUT_OF_RANGE, 2);
+        return Counts::Fault(Cause::OutOfRange, 2);
     }
     Counts::Names {
         terminals: a,

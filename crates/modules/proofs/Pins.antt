@@ -7,7 +7,7 @@ use Prim.Native.String.{String, [] as empty, ◌∷◌ as ◌then◌}
 use Rattle.grammar.specs.Limits.{Limits, byte_limits}
 use Rattle.grammar.specs.Grammar.{Rule, state_count}
 use Rattle.grammar.specs.Table.{encode}
-use Rattle.grammar.specs.Refusal.{Answer, done, refused, refuse_unless, and_then}
+use Rattle.grammar.specs.Refusal.{Answer, done, refused, refuse_unless, and_then, out_of_range, rule_repeated, too_many_rules, too_many_states, buffer_too_short, name_unknown, no_sentence, kinds_clash}
 use Rattle.grammar.specs.TableCheck.{same_codes, is_among}
 use Rattle.text.specs.Pieces.{split_on, led_by, join, ended_by}
 use Rattle.text.specs.Names.{is_name_byte, all, any, is_name, folded, same_name, has_double, place}
@@ -73,29 +73,29 @@ unfolding joins
 in-capitals = refl
 
 -- the robot's faults, 19 among them, the module's, which may lack sentences, 20 at the module's line
-orders : (joins "terminals=a\nnonterminals=S\nrule=S: b\n" "" ≡ refused 17 3)
-    × (joins "terminals=a\nnonterminals=S\n" "" ≡ refused 19 0)
-    × (joins "terminals=a\nnonterminals=S\nrule=S:\n" "terminals=S\nnonterminals=\n" ≡ refused 1 2)
-    × (joins "terminals=a\nnonterminals=S\nrule=S:\n" "terminals=S\nnonterminals=a\nrule=a:\nrule=a:\n" ≡ refused 6 2)
-    × (joins "terminals=a\nnonterminals=S\nrule=S:\n" "terminals=s\nnonterminals=A\n" ≡ refused 20 1)
-    × (joins "terminals=a\nnonterminals=S\nrule=S:\n" "terminals=b\nnonterminals=A\n" ≡ refused 20 2)
+orders : (joins "terminals=a\nnonterminals=S\nrule=S: b\n" "" ≡ refused name_unknown 3)
+    × (joins "terminals=a\nnonterminals=S\n" "" ≡ refused no_sentence 0)
+    × (joins "terminals=a\nnonterminals=S\nrule=S:\n" "terminals=S\nnonterminals=\n" ≡ refused out_of_range 2)
+    × (joins "terminals=a\nnonterminals=S\nrule=S:\n" "terminals=S\nnonterminals=a\nrule=a:\nrule=a:\n" ≡ refused rule_repeated 2)
+    × (joins "terminals=a\nnonterminals=S\nrule=S:\n" "terminals=s\nnonterminals=A\n" ≡ refused kinds_clash 1)
+    × (joins "terminals=a\nnonterminals=S\nrule=S:\n" "terminals=b\nnonterminals=A\n" ≡ refused kinds_clash 2)
     × (joins "terminals=a\nnonterminals=S\nrule=S:\n" "terminals=b\nnonterminals=H\n" ≡ done (source ("a" ∷ "b" ∷ []) ("S" ∷ "H" ∷ []) (rule 128 [] ∷ [])))
 unfolding joins
 orders = (refl, refl, refl, refl, refl, refl, refl)
 
 -- faults of the joined text: 1 at either line, 7 and 8 at the rule's offset in the joined table; a rule that is there counts once
-past-limits : (joins-few "terminals=a,b\nnonterminals=S\nrule=S:\n" "terminals=B,c\nnonterminals=S\n" ≡ refused 1 1)
-    × (joins-few "terminals=b\nnonterminals=S\nrule=S:\n" "terminals=c\nnonterminals=A,H\n" ≡ refused 1 2)
-    × (joins-few "terminals=a\nnonterminals=S\nrule=S:\nrule=S: a\n" "terminals=a\nnonterminals=S\nrule=S: S\n" ≡ refused 7 5)
-    × (joins-few "terminals=a\nnonterminals=S\nrule=S: a a\n" "terminals=a\nnonterminals=S\nrule=S: a S\n" ≡ refused 8 4)
+past-limits : (joins-few "terminals=a,b\nnonterminals=S\nrule=S:\n" "terminals=B,c\nnonterminals=S\n" ≡ refused out_of_range 1)
+    × (joins-few "terminals=b\nnonterminals=S\nrule=S:\n" "terminals=c\nnonterminals=A,H\n" ≡ refused out_of_range 2)
+    × (joins-few "terminals=a\nnonterminals=S\nrule=S:\nrule=S: a\n" "terminals=a\nnonterminals=S\nrule=S: S\n" ≡ refused too_many_rules 5)
+    × (joins-few "terminals=a\nnonterminals=S\nrule=S: a a\n" "terminals=a\nnonterminals=S\nrule=S: a S\n" ≡ refused too_many_states 4)
     × (joins-few "terminals=a\nnonterminals=S\nrule=S:\nrule=S: a\n" "terminals=A\nnonterminals=s\nrule=s: A\n"
     ≡ done (source ("a" ∷ []) ("S" ∷ []) (rule 128 [] ∷ rule 128 (1 ∷ []) ∷ [])))
 unfolding joins-few
 past-limits = (refl, refl, refl, refl, refl)
 
 -- 14 comes last: one entry, or one byte, too few
-too_short : (joins_into 1 ≡ refused 14 0) × (joins_into 2 ≡ done (source ("a" ∷ []) ("S" ∷ []) (rule 128 [] ∷ [])))
-    × (writes_into 34 ≡ refused 14 0) × (writes_into 35 ≡ done (bytes "terminals=a\nnonterminals=S\nrule=S:\n"))
+too_short : (joins_into 1 ≡ refused buffer_too_short 0) × (joins_into 2 ≡ done (source ("a" ∷ []) ("S" ∷ []) (rule 128 [] ∷ [])))
+    × (writes_into 34 ≡ refused buffer_too_short 0) × (writes_into 35 ≡ done (bytes "terminals=a\nnonterminals=S\nrule=S:\n"))
 unfolding joins_into writes_into bytes
 too_short = (refl, refl, refl, refl)
 

@@ -13,6 +13,7 @@ use Rattle.grammar.specs.TableCheck.{check_table}
 use Rattle.grammar.specs.declared.CheckedGrammar.{CheckedGrammar}
 use Rattle.grammar.specs.declared.TableVerdict.TheVariants.{Passed, Refused}
 use Rattle.grammar.proofs.Sentence.{passed-stored}
+use Rattle.grammar.specs.declared.Cause.{Cause}
 use Rattle.automaton.specs.Moves.{Moves}
 use Rattle.automaton.specs.PositionMoves.{moves_of}
 use Rattle.automaton.specs.Callers.{most_callers, check_callers}
@@ -33,17 +34,17 @@ use Rattle.prepared.specs.Prepared.{Sized, IsChecked, PreparesFor, Prepares}
 use Rattle.prepared.specs.declared.Prepared.{Prepared}
 
 -- a verdict is one of two, and tells its cause and position
-no_pass : {A : Type 0} {cause at : ℕ} → Refused cause at ≡ Passed → A
+no_pass : {A : Type 0} {cause : Cause} {at : ℕ} → Refused cause at ≡ Passed → A
 no_pass e = let z : ◌≡◌ {A = ℕ} 0 1 = cc in absurd (let o : ⊥ = omega arith in o)
 
-same_refusal : {A : Type 0} (cause at d q : ℕ) → Refused cause at ≡ Refused d q → ◌≡◌ {A = Answer A} (refused cause at) (refused d q)
+same_refusal : {A : Type 0} (cause : Cause) (at : ℕ) (d : Cause) (q : ℕ) → Refused cause at ≡ Refused d q → ◌≡◌ {A = Answer A} (refused cause at) (refused d q)
 same_refusal cause at d q e = let x : cause ≡ d = cc in let y : at ≡ q = cc in ap₂ (λ c p. refused c p) x y
 
 four_states : (w : Prepared) → w.states ≡ 4 → Sized w.states
 four_states w h = record { least = omega (arith, h); most = omega (arith, h) }
 
 -- 21 or 8
-pub stopped_for : (G : Grammar) (m : ℕ) (w : Prepared) (rows : Tables) (cause at : ℕ) → check_callers limits G m ≡ refused cause at
+pub stopped_for : (G : Grammar) (m : ℕ) (w : Prepared) (rows : Tables) (cause : Cause) (at : ℕ) → check_callers limits G m ≡ refused cause at
     → (w.verdict ≡ Refused cause at) × (w.states ≡ 4) → PreparesFor G m w rows
 stopped_for G m w rows cause at c h = record {
   sized = four_states w h.1;
@@ -52,7 +53,7 @@ stopped_for G m w rows cause at c h = record {
 }
 
 -- the table's refusal
-pub stopped_by : (t n : ℕ) (table : List ℕ) (m : ℕ) (w : Prepared) (rows : Tables) (cause at : ℕ) → check_table limits t n table ≡ refused cause at
+pub stopped_by : (t n : ℕ) (table : List ℕ) (m : ℕ) (w : Prepared) (rows : Tables) (cause : Cause) (at : ℕ) → check_table limits t n table ≡ refused cause at
     → (w.verdict ≡ Refused cause at) × (w.states ≡ 4) → Prepares t n table m w rows
 stopped_by t n table m w rows cause at c h = record {
   sized = four_states w h.1;

@@ -6,6 +6,7 @@ use Rattle.grammar.specs.Grammar.{Grammar}
 use Rattle.grammar.specs.Live.{is_live}
 use Rattle.grammar.specs.Refusal.{done, refused}
 use Rattle.grammar.specs.declared.TableVerdict.TheVariants.{Passed, Refused}
+use Rattle.grammar.specs.declared.Cause.{Cause}
 use Rattle.automaton.specs.Moves.{Moves, Regular}
 use Rattle.automaton.specs.Callers.{check_callers, check_with}
 use Rattle.automaton.specs.CallerMoves.{moves_with}
@@ -35,11 +36,11 @@ pub record IsChecked (G : Grammar) (t n q count used : ℕ) (lefts lengths codes
 -- 21 or 8, or the rows of a grammar with m callers
 pub record PreparesFor (G : Grammar) (m : ℕ) (w : Prepared) (rows : Tables) : Type 0 where
   pub sized : Sized w.states
-  pub refused_as : (cause at : ℕ) → w.verdict ≡ Refused cause at → check_callers limits G m ≡ refused cause at
+  pub refused_as : (cause : Cause) (at : ℕ) → w.verdict ≡ Refused cause at → check_callers limits G m ≡ refused cause at
   pub passed_as : w.verdict ≡ Passed → (check_callers limits G m ≡ done G) × RowsOf (moves_with limits G m) w rows
 
 -- a refusal up to [11]'s 8, or the rows of the table's grammar with m callers
 pub record Prepares (t n : ℕ) (table : List ℕ) (m : ℕ) (w : Prepared) (rows : Tables) : Type 0 where
   pub sized : Sized w.states
-  pub refused_as : (cause at : ℕ) → w.verdict ≡ Refused cause at → check_with limits t n table m ≡ refused cause at
+  pub refused_as : (cause : Cause) (at : ℕ) → w.verdict ≡ Refused cause at → check_with limits t n table m ≡ refused cause at
   pub passed_as : w.verdict ≡ Passed → (G : Grammar) × (check_with limits t n table m ≡ done G) × RowsOf (moves_with limits G m) w rows

@@ -11,9 +11,7 @@ ghost use Rattle.moves.specs.Tables.{tables};
 ghost use Rattle.caller_rows.specs.Rows.{Begun};
 ghost use Rattle.prepared.specs.Prepared.{IsChecked, PreparesFor, Prepares};
 
-use grammar::{
-    MAX_CALLERS, MAX_RULES, MAX_STATES, TOO_MANY_CALLERS, TOO_MANY_STATES, TableVerdict,
-};
+use grammar::{Cause, MAX_CALLERS, MAX_RULES, MAX_STATES, TableVerdict};
 use moves::CLASSES;
 
 // A refusal up to [11]'s 8, or that there is none, and then t, the number of closing classes and Q with so many callers; with a refusal 0,
@@ -26,7 +24,7 @@ pub struct Prepared {
     pub states: usize,
 }
 
-fn stopped(cause: u8, at: usize) -> Prepared
+fn stopped(cause: Cause, at: usize) -> Prepared
     ensures { (result.verdict ≡ Refused cause at) × (result.states ≡ 4) }
 {
     Prepared {
@@ -66,7 +64,7 @@ fn add_callers<'a>(
         targets, after,
     );
     if MAX_STATES < b.states {
-        return stopped(TOO_MANY_STATES, 0);
+        return stopped(Cause::TooManyStates, 0);
     }
     let kinds = b.kinds;
     let states = b.states;
@@ -103,7 +101,7 @@ fn prepare_rows<'a>(
         (tables ahead.new number.new member.new target.new first.new targets.new after.new) }
 {
     if MAX_CALLERS < callers {
-        return stopped(TOO_MANY_CALLERS, 0);
+        return stopped(Cause::TooManyCallers, 0);
     }
     moves::build(
         lefts, lengths, codes, count, used, n, q, ahead, number, member, target, first, targets,

@@ -6,7 +6,7 @@ use Prim.Native.Nat.{ℕ}
 use Prim.Native.Char.{code}
 use Prim.Native.String.{String, [] as empty, ◌∷◌ as ◌then◌}
 use Rattle.grammar.specs.Limits.{byte_limits}
-use Rattle.grammar.specs.Refusal.{Answer, done, refused, refuse_unless, and_then}
+use Rattle.grammar.specs.Refusal.{Answer, done, refused, refuse_unless, and_then, malformed, name_unknown}
 use Rattle.automaton.specs.Strings.{Letter, opening, closing, symbol}
 use Rattle.text.specs.Pieces.{split_on, join, led_by, ended_by}
 use Rattle.text.specs.Names.{is_name_byte, all, is_name, folded, same_name, place}
@@ -66,8 +66,8 @@ empty_strings = refl
 -- a name in another case is the same name, and is printed as it is declared; keys are no names
 other_case : (read "left=A s\nright=a\n" ≡ done (symbol 1 ∷ symbol 128 ∷ [], symbol 1 ∷ []))
     × (print (symbol 1 ∷ symbol 128 ∷ []) (symbol 1 ∷ []) ≡ bytes "left=a S\nright=a\n")
-    × (read "Left=a\nright=\n" ≡ refused 16 1)
-    × (read "left=a\nRight=\n" ≡ refused 16 2)
+    × (read "Left=a\nright=\n" ≡ refused malformed 1)
+    × (read "left=a\nRight=\n" ≡ refused malformed 2)
 unfolding read print
 other_case = (refl, refl, refl, refl)
 
@@ -88,73 +88,73 @@ unfolding print bytes
 two_digits = refl
 
 -- 16 at 1: no line, no end, another key, a leading zero, no digit, a rule that the grammar lacks, two spaces, a space at an end
-no_line : read "" ≡ refused 16 1
+no_line : read "" ≡ refused malformed 1
 unfolding read
 no_line = refl
 
-no_end : read "left=" ≡ refused 16 1
+no_end : read "left=" ≡ refused malformed 1
 unfolding read
 no_end = refl
 
-other_key : read "right=\nleft=\n" ≡ refused 16 1
+other_key : read "right=\nleft=\n" ≡ refused malformed 1
 unfolding read
 other_key = refl
 
-leading_zero : read "left=(01\nright=\n" ≡ refused 16 1
+leading_zero : read "left=(01\nright=\n" ≡ refused malformed 1
 unfolding read
 leading_zero = refl
 
-two_zeros : read "left=)00\nright=\n" ≡ refused 16 1
+two_zeros : read "left=)00\nright=\n" ≡ refused malformed 1
 unfolding read
 two_zeros = refl
 
-no_digit : read "left=(\nright=\n" ≡ refused 16 1
+no_digit : read "left=(\nright=\n" ≡ refused malformed 1
 unfolding read
 no_digit = refl
 
-no_rule : read "left=(3\nright=\n" ≡ refused 16 1
+no_rule : read "left=(3\nright=\n" ≡ refused malformed 1
 unfolding read
 no_rule = refl
 
-two_spaces : read "left=a  a\nright=\n" ≡ refused 16 1
+two_spaces : read "left=a  a\nright=\n" ≡ refused malformed 1
 unfolding read
 two_spaces = refl
 
-space-first : read "left= a\nright=\n" ≡ refused 16 1
+space-first : read "left= a\nright=\n" ≡ refused malformed 1
 unfolding read
 space-first = refl
 
 -- 17 at 1; within a line 16 comes before 17; line 1 comes before line 2
-unknown : read "left=b\nright=\n" ≡ refused 17 1
+unknown : read "left=b\nright=\n" ≡ refused name_unknown 1
 unfolding read
 unknown = refl
 
-malformed-first : read "left=b (\nright=\n" ≡ refused 16 1
+malformed-first : read "left=b (\nright=\n" ≡ refused malformed 1
 unfolding read
 malformed-first = refl
 
-line-one-first : read "left=b\nright=(\n" ≡ refused 17 1
+line-one-first : read "left=b\nright=(\n" ≡ refused name_unknown 1
 unfolding read
 line-one-first = refl
 
 -- line 2: missing, without its end, anything past it, then its words
-no_second : read "left=\n" ≡ refused 16 2
+no_second : read "left=\n" ≡ refused malformed 2
 unfolding read
 no_second = refl
 
-no_second-end : read "left=\nright=" ≡ refused 16 2
+no_second-end : read "left=\nright=" ≡ refused malformed 2
 unfolding read
 no_second-end = refl
 
-third_line : read "left=\nright=\n\n" ≡ refused 16 2
+third_line : read "left=\nright=\n\n" ≡ refused malformed 2
 unfolding read
 third_line = refl
 
-past-before_unknown : read "left=\nright=b\na" ≡ refused 16 2
+past-before_unknown : read "left=\nright=b\na" ≡ refused malformed 2
 unfolding read
 past-before_unknown = refl
 
-unknown_second : read "left=\nright=b\n" ≡ refused 17 2
+unknown_second : read "left=\nright=b\n" ≡ refused name_unknown 2
 unfolding read
 unknown_second = refl
 

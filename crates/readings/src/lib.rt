@@ -3,6 +3,8 @@
 
 #![tactic(auto)]
 
+use grammar::Cause;
+
 // An entry is this unit times the letter's kind, and its number: a rule's, or a symbol's code.
 pub const KIND_UNIT: u32 = 65536;
 
@@ -22,6 +24,6 @@ pub const CLOSES: u8 = 41;
 #[derive(Drop)]
 pub enum ReadBack {
     Read { left: usize, right: usize },
-    GrammarRefused(u8, usize),
-    Refused(u8, usize),
+    GrammarRefused(Cause, usize),
+    Refused(Cause, usize),
 }

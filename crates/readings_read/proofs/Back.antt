@@ -10,8 +10,9 @@ use lib.Dec.{leb}
 use lib.ListN.{length, length-map}
 use Rattle.grammar.specs.Basics.{over}
 use Rattle.grammar.specs.Limits.{limits}
-use Rattle.grammar.specs.Refusal.{done, refused, refuse_unless}
+use Rattle.grammar.specs.Refusal.{done, refused, refuse_unless, buffer_too_short}
 use Rattle.grammar.proofs.Answers.{and_false, both_and, unless_holds, unless_fails, then-goes, then_stops}
+use Rattle.grammar.specs.declared.Cause.{Cause}
 use Rattle.automaton.specs.Strings.{Letter}
 use Rattle.names.specs.Found.{part}
 use Rattle.readings.specs.Readings.{pieces_of, read_strings}
@@ -28,7 +29,7 @@ module _ (t count : ℕ) (names : List (List ℕ)) where
       omega (arith, s.counts, ap length s.entries, length-map (pieces_of v) (entry_at t count names), length-map u letter_number)
 
   module _ (lines left right : List ℕ) where
-    into_refused : (c p : ℕ) → lines_into t count names (length left) (length right) lines ≡ refused c p → BackTold t count names lines left right (Refused c p) left right
+    into_refused : (c : Cause) (p : ℕ) → lines_into t count names (length left) (length right) lines ≡ refused c p → BackTold t count names lines left right (Refused c p) left right
     into_refused c p e = record {
       answer = sym (ap (λ o. read_back (done o)) e);
       left_after = sym (ap (λ o. row_after (done o) (λ p. p.0) left) e);
@@ -36,25 +37,25 @@ module _ (t count : ℕ) (names : List (List ℕ)) where
     }
 
     -- a line is refused
-    pub back-refused : (c p : ℕ) → read_strings limits t count names lines ≡ refused c p → BackTold t count names lines left right (Refused c p) left right
+    pub back-refused : (c : Cause) (p : ℕ) → read_strings limits t count names lines ≡ refused c p → BackTold t count names lines left right (Refused c p) left right
     unfolding lines_into
     back-refused c p e = into_refused c p (then_stops _ _ c p e)
 
     module _ (a e k b f l : ℕ) (h : BothSaid t count names lines a e k b f l) where
       into_is : lines_into t count names (length left) (length right) lines
-          ≡ refuse_unless 14 0 (leb (length h.left) (length left) && leb (length h.right) (length right)) (done (h.left, h.right))
+          ≡ refuse_unless buffer_too_short 0 (leb (length h.left) (length left) && leb (length h.right) (length right)) (done (h.left, h.right))
       unfolding lines_into
       into_is = then-goes _ _ (h.left, h.right) h.read
 
       -- a row is too short
-      pub short-left : length left < k → BackTold t count names lines left right (Refused 14 0) left right
+      pub short-left : length left < k → BackTold t count names lines left right (Refused buffer_too_short 0) left right
       short-left s =
-          into_refused 14 0 (into_is ∙ unless_fails 14 0 _ _
+          into_refused buffer_too_short 0 (into_is ∙ unless_fails buffer_too_short 0 _ _
           (ap (λ b. b && leb (length h.right) (length right)) (lt-leb (length h.left) (length left) (omega (arith, h.left-says.counts)))))
 
-      pub short-right : length right < l → BackTold t count names lines left right (Refused 14 0) left right
+      pub short-right : length right < l → BackTold t count names lines left right (Refused buffer_too_short 0) left right
       short-right s =
-          into_refused 14 0 (into_is ∙ unless_fails 14 0 _ _
+          into_refused buffer_too_short 0 (into_is ∙ unless_fails buffer_too_short 0 _ _
           (ap (λ b. leb (length h.left) (length left) && b) (lt-leb (length h.right) (length right) (omega (arith, h.right-says.counts)))
           ∙ and_false (leb (length h.left) (length left))))
 
@@ -65,7 +66,7 @@ module _ (t count : ℕ) (names : List (List ℕ)) where
           → BackTold t count names lines left right (Read k l) left' right'
       both-written x y left' right' p q =
           let o : lines_into t count names (length left) (length right) lines ≡ done (h.left, h.right)
-          = into_is ∙ unless_holds 14 0 _ _ (both_and _ _ (le-leb (length h.left) (length left) (omega (arith, h.left-says.counts)))
+          = into_is ∙ unless_holds buffer_too_short 0 _ _ (both_and _ _ (le-leb (length h.left) (length left) (omega (arith, h.left-says.counts)))
           (le-leb (length h.right) (length right) (omega (arith, h.right-says.counts)))) in
           record {
             answer = ap₂ (λ m n. Read m n) h.left-says.counts h.right-says.counts ∙ sym (ap (λ o. read_back (done o)) o);

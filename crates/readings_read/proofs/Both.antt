@@ -11,8 +11,9 @@ use lib.Dec.{eqb}
 use lib.ListN.{length, drop, length-drop}
 use Rattle.grammar.specs.Basics.{choose}
 use Rattle.grammar.specs.Limits.{limits}
-use Rattle.grammar.specs.Refusal.{Answer, done, refused, and_then}
+use Rattle.grammar.specs.Refusal.{Answer, done, refused, and_then, malformed}
 use Rattle.grammar.proofs.Answers.{unless_holds, unless_fails, then-goes, then_stops}
+use Rattle.grammar.specs.declared.Cause.{Cause}
 use Rattle.automaton.specs.Strings.{Letter}
 use Rattle.text.specs.Pieces.{onto, split_on}
 use Rattle.text.specs.Keys.{value_of}
@@ -26,7 +27,7 @@ use Rattle.readings.specs.Readings.{left_key, right_key, at_end, read_words, rea
 use Rattle.readings_read.specs.Lines.{Says, line_of, SaysAt, read_second, FirstSaid, BothSaid}
 
 -- a refusal where there is no value, and then more
-none_then : {A B C : Type 0} (c p : ℕ) (o : Option A) (f : A → Answer B) (go : B → Answer C)
+none_then : {A B C : Type 0} (c : Cause) (p : ℕ) (o : Option A) (f : A → Answer B) (go : B → Answer C)
     → refuse_none c p o (λ a. and_then (f a) go) ≡ and_then (refuse_none c p o f) go
 unfolding refuse_none and_then
 none_then c p none f go = refl
@@ -53,7 +54,7 @@ module _ (t count : ℕ) (names : List (List ℕ)) where
 
   abbrev read_first : List ℕ → List (List ℕ) → Answer (List Letter × List Letter)
   read_first first more =
-      refuse_none 16 1 (value_of left_key first) (λ l.
+      refuse_none malformed 1 (value_of left_key first) (λ l.
       and_then (read_words limits t count names 1 l) (λ u. whole_line 2 more (read_second t count names u)))
 
   strings_whole : (lines : List ℕ) → read_strings limits t count names lines ≡ whole_line 1 (split_on 10 lines) read_first
@@ -61,7 +62,7 @@ module _ (t count : ℕ) (names : List (List ℕ)) where
   strings_whole lines = refl
 
   module _ (lines : List ℕ) (e : ℕ) (found : e ≡ 0 + index 10 (drop 0 lines)) where
-    pub first-missing : length lines ≤ e → read_strings limits t count names lines ≡ refused 16 1
+    pub first-missing : length lines ≤ e → read_strings limits t count names lines ≡ refused malformed 1
     unfolding whole_line
     first-missing h = strings_whole lines ∙ ap (λ ps. whole_line 1 ps read_first) (piece_last 10 lines 0 e (omega arith) found h)
 
@@ -72,9 +73,9 @@ module _ (t count : ℕ) (names : List (List ℕ)) where
       first_on =
           strings_whole lines ∙ ap (λ ps. whole_line 1 ps read_first) (piece_more 10 lines 0 e (omega arith) found inside)
           ∙ whole-step 1 (part 0 e lines) (split_on 10 (drop (e + 1) lines)) read_first (split_pos 10 _)
-          ∙ none_then 16 1 (value_of left_key (part 0 e lines)) _ _
+          ∙ none_then malformed 1 (value_of left_key (part 0 e lines)) _ _
 
-      pub first_fault : (c p : ℕ) → line_of t count names 1 left_key (part 0 e lines) ≡ refused c p → read_strings limits t count names lines ≡ refused c p
+      pub first_fault : (c : Cause) (p : ℕ) → line_of t count names 1 left_key (part 0 e lines) ≡ refused c p → read_strings limits t count names lines ≡ refused c p
       first_fault c p q = first_on ∙ then_stops _ _ c p q
 
       pub first_said : (start k : ℕ) → SaysAt t count names 1 left_key (part 0 e lines) start k → FirstSaid t count names lines start e k
@@ -94,7 +95,7 @@ module _ (t count : ℕ) (names : List (List ℕ)) where
   -- ---- the second line
 
   module _ (lines : List ℕ) (a e k : ℕ) (h : FirstSaid t count names lines a e k) (f : ℕ) (found : f ≡ e + 1 + index 10 (drop (e + 1) lines)) where
-    pub second-missing : length lines ≤ f → read_strings limits t count names lines ≡ refused 16 2
+    pub second-missing : length lines ≤ f → read_strings limits t count names lines ≡ refused malformed 2
     unfolding whole_line
     second-missing l =
         h.onward
@@ -108,16 +109,16 @@ module _ (t count : ℕ) (names : List (List ℕ)) where
           ∙ whole-step 2 (part (e + 1) f lines) (split_on 10 (drop (f + 1) lines)) (read_second t count names h.string) (split_pos 10 _)
 
       -- something stands past it
-      pub second_past : f + 1 < length lines → read_strings limits t count names lines ≡ refused 16 2
-      second_past l = second-on ∙ unless_fails 16 2 _ _ (end_later (drop (f + 1) lines) (omega (arith, length-drop (f + 1) lines)))
+      pub second_past : f + 1 < length lines → read_strings limits t count names lines ≡ refused malformed 2
+      second_past l = second-on ∙ unless_fails malformed 2 _ _ (end_later (drop (f + 1) lines) (omega (arith, length-drop (f + 1) lines)))
 
       module _ (last : length lines ≤ f + 1) where
         second-last : read_strings limits t count names lines ≡ and_then (line_of t count names 2 right_key (part (e + 1) f lines)) (λ v. done (h.string, v))
         unfolding line_of
-        second-last = second-on ∙ unless_holds 16 2 _ _ (end-here (drop (f + 1) lines) (omega (arith, length-drop (f + 1) lines)))
-            ∙ none_then 16 2 (value_of right_key (part (e + 1) f lines)) _ _
+        second-last = second-on ∙ unless_holds malformed 2 _ _ (end-here (drop (f + 1) lines) (omega (arith, length-drop (f + 1) lines)))
+            ∙ none_then malformed 2 (value_of right_key (part (e + 1) f lines)) _ _
 
-        pub second_fault : (c p : ℕ) → line_of t count names 2 right_key (part (e + 1) f lines) ≡ refused c p → read_strings limits t count names lines ≡ refused c p
+        pub second_fault : (c : Cause) (p : ℕ) → line_of t count names 2 right_key (part (e + 1) f lines) ≡ refused c p → read_strings limits t count names lines ≡ refused c p
         second_fault c p q = second-last ∙ then_stops _ _ c p q
 
         pub second-said : (start l : ℕ) → SaysAt t count names 2 right_key (part (e + 1) f lines) start l → BothSaid t count names lines a e k (e + 1 + start) f l

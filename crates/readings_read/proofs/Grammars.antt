@@ -11,6 +11,7 @@ use Rattle.grammar.specs.Refusal.{done}
 use Rattle.grammar.proofs.Answers.{then-goes, then_stops}
 use Rattle.grammar.proofs.WellFormed.{room}
 use Rattle.grammar.proofs.Sentence.{takes_only}
+use Rattle.grammar.specs.declared.Cause.{Cause}
 use Rattle.text.specs.Names.{has_double}
 use Rattle.text.specs.Rules.{check_text}
 use Rattle.text.specs.declared.TextRead.{TextRead}
@@ -40,7 +41,7 @@ pub record InGrammar (text : List ℕ) (t m e q : ℕ) (starts lengths : List �
 
 module _ (text : List ℕ) (r : TextRead) (starts lengths : List ℕ) (h : GrammarChecked text r starts lengths) where
   -- the text is refused
-  pub grammar-refused : (lines left right : List ℕ) (cause at : ℕ) → r ≡ reader.Refused cause at
+  pub grammar-refused : (lines left right : List ℕ) (cause : Cause) (at : ℕ) → r ≡ reader.Refused cause at
       → ReadsBack text lines left right (GrammarRefused cause at) left right
   unfolding read_back_into
   grammar-refused lines left right cause at e =

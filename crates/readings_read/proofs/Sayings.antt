@@ -9,8 +9,9 @@ use native.Mathlib.Omega.{arith}
 use lib.ListN.{length, length-map}
 use Rattle.grammar.specs.Basics.{choose}
 use Rattle.grammar.specs.Limits.{limits}
-use Rattle.grammar.specs.Refusal.{done, refused, refuse_unless}
+use Rattle.grammar.specs.Refusal.{done, refused, refuse_unless, malformed, name_unknown}
 use Rattle.grammar.proofs.Answers.{unless_holds, unless_fails}
+use Rattle.grammar.specs.declared.Cause.{Cause}
 use Rattle.automaton.specs.Strings.{Letter}
 use Rattle.text.specs.Names.{all}
 use Rattle.text.specs.Keys.{value_of}
@@ -37,14 +38,14 @@ module _ (t count : ℕ) (names : List (List ℕ)) where
       → SaysAt t count names at key line start k
   told-said at key line r start k e w = subst (λ (r : Line). LineTold t count names at key line r) e w
 
-  pub told_fault : (at : ℕ) (key line : List ℕ) (r : Line) (cause place : ℕ) → r ≡ LineFault cause place → LineTold t count names at key line r
+  pub told_fault : (at : ℕ) (key line : List ℕ) (r : Line) (cause : Cause) (place : ℕ) → r ≡ LineFault cause place → LineTold t count names at key line r
       → line_of t count names at key line ≡ refused cause place
   told_fault at key line r cause place e w = subst (λ (r : Line). LineTold t count names at key line r) e w
 
   pub told-both : (lines : List ℕ) (r : Lines) (a e k b f l : ℕ) → r ≡ Said a e k b f l → LinesTold t count names lines r → BothSaid t count names lines a e k b f l
   told-both lines r a e k b f l q w = subst (λ (r : Lines). LinesTold t count names lines r) q w
 
-  pub told-refused : (lines : List ℕ) (r : Lines) (cause place : ℕ) → r ≡ Fault cause place → LinesTold t count names lines r
+  pub told-refused : (lines : List ℕ) (r : Lines) (cause : Cause) (place : ℕ) → r ≡ Fault cause place → LinesTold t count names lines r
       → read_strings limits t count names lines ≡ refused cause place
   told-refused lines r cause place e w = subst (λ (r : Lines). LinesTold t count names lines r) e w
 
@@ -92,23 +93,23 @@ module _ (t count : ℕ) (names : List (List ℕ)) where
   never_malformed false e = let z = ap rank e in omega arith
 
   module _ (at : ℕ) (v : List ℕ) where
-    value-malformed : fault_of t count names (words_of count (pieces_of v)) ≡ Some Malformed → read_words limits t count names at v ≡ refused 16 at
+    value-malformed : fault_of t count names (words_of count (pieces_of v)) ≡ Some Malformed → read_words limits t count names at v ≡ refused malformed at
     unfolding read_words fault_of refuse_none
     value-malformed h = go (words_of count (pieces_of v)) h
       where
         go : (o : Option (List Word)) → fault_of t count names o ≡ Some Malformed
-            → refuse_none 16 at o (λ ws. refuse_unless 17 at (all (known_word limits t count names) ws) (done (map (letter_of limits t count names) ws))) ≡ refused 16 at
+            → refuse_none malformed at o (λ ws. refuse_unless name_unknown at (all (known_word limits t count names) ws) (done (map (letter_of limits t count names) ws))) ≡ refused malformed at
         go none h = refl
         go (some ws) h = absurd (never_malformed (all (known_word limits t count names) ws) h)
 
-    value_unknown : fault_of t count names (words_of count (pieces_of v)) ≡ Some Unknown → read_words limits t count names at v ≡ refused 17 at
+    value_unknown : fault_of t count names (words_of count (pieces_of v)) ≡ Some Unknown → read_words limits t count names at v ≡ refused name_unknown at
     unfolding read_words fault_of refuse_none
     value_unknown h = go (words_of count (pieces_of v)) h
       where
         go : (o : Option (List Word)) → fault_of t count names o ≡ Some Unknown
-            → refuse_none 16 at o (λ ws. refuse_unless 17 at (all (known_word limits t count names) ws) (done (map (letter_of limits t count names) ws))) ≡ refused 17 at
+            → refuse_none malformed at o (λ ws. refuse_unless name_unknown at (all (known_word limits t count names) ws) (done (map (letter_of limits t count names) ws))) ≡ refused name_unknown at
         go none h = absurd (let z = ap rank h in omega arith)
-        go (some ws) h = unless_fails 17 at _ _ (unknown_one (all (known_word limits t count names) ws) h)
+        go (some ws) h = unless_fails name_unknown at _ _ (unknown_one (all (known_word limits t count names) ws) h)
 
     value-known : (k : ℕ) → fault_of t count names (words_of count (pieces_of v)) ≡ None → k ≡ length (pieces_of v)
         → (u : List Letter) × (read_words limits t count names at v ≡ done u) × Says t count names v u k
@@ -117,7 +118,7 @@ module _ (t count : ℕ) (names : List (List ℕ)) where
       where
         go : (o : Option (List Word)) → words_of count (pieces_of v) ≡ o → fault_of t count names o ≡ None
             → (u : List Letter)
-            × (refuse_none 16 at o (λ ws. refuse_unless 17 at (all (known_word limits t count names) ws) (done (map (letter_of limits t count names) ws))) ≡ done u)
+            × (refuse_none malformed at o (λ ws. refuse_unless name_unknown at (all (known_word limits t count names) ws) (done (map (letter_of limits t count names) ws))) ≡ done u)
             × Says t count names v u k
         go none e h = absurd (let z = ap rank h in omega arith)
         go (some ws) e h =
@@ -125,7 +126,7 @@ module _ (t count : ℕ) (names : List (List ℕ)) where
             let u = map (letter_of limits t count names) ws in
             let q = entries-said (pieces_of v) ws e g in (
               u,
-              unless_holds 17 at _ _ g,
+              unless_holds name_unknown at _ _ g,
               record {
                 entries = q;
                 counts = omega (arith, n, ap length q, length-map (pieces_of v) (entry_at t count names), length-map u letter_number);
@@ -136,7 +137,7 @@ module _ (t count : ℕ) (names : List (List ℕ)) where
 
   module _ (at : ℕ) (key line : List ℕ) where
     -- no such key
-    pub line-none : value_of key line ≡ none → line_of t count names at key line ≡ refused 16 at
+    pub line-none : value_of key line ≡ none → line_of t count names at key line ≡ refused malformed at
     unfolding line_of refuse_none
     line-none e = rw e refl
 
@@ -147,11 +148,11 @@ module _ (t count : ℕ) (names : List (List ℕ)) where
 
       -- the words of its value are of some form
       pub line-malformed : fault_of t count names (words_of count (pieces_of (part start (length line) line))) ≡ Some Malformed
-          → line_of t count names at key line ≡ refused 16 at
+          → line_of t count names at key line ≡ refused malformed at
       line-malformed h = line_on ∙ value-malformed at (part start (length line) line) h
 
       pub line_unknown : fault_of t count names (words_of count (pieces_of (part start (length line) line))) ≡ Some Unknown
-          → line_of t count names at key line ≡ refused 17 at
+          → line_of t count names at key line ≡ refused name_unknown at
       line_unknown h = line_on ∙ value_unknown at (part start (length line) line) h
 
       pub line_known : (k : ℕ) → fault_of t count names (words_of count (pieces_of (part start (length line) line))) ≡ None

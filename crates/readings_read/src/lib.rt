@@ -16,7 +16,7 @@ ghost use Rattle.readings.specs.Promise.{ReadsBack};
 ghost use Rattle.readings_read.specs.Words.{Named};
 ghost use Rattle.readings_read.specs.Lines.{BackTold, GrammarChecked};
 
-use grammar::MAX_NAMES;
+use grammar::{Cause, MAX_NAMES};
 use readings::ReadBack;
 use text::TextRead;
 use text_read::{KEPT_ENTRIES, SMALL_TEXT};
@@ -36,7 +36,7 @@ pub enum WordFault {
 #[derive(Drop)]
 pub enum Line {
     Said { start: usize, count: usize },
-    Fault(u8, usize),
+    Fault(Cause, usize),
 }
 
 // Both lines: where their values stand, and how many letters they have.
@@ -50,7 +50,7 @@ pub enum Lines {
         second_end: usize,
         right: usize,
     },
-    Fault(u8, usize),
+    Fault(Cause, usize),
 }
 
 // The two lines in a grammar, whose names are planted first, so that each name of the lines is found by its bits.

@@ -5,7 +5,7 @@ ghost use Rattle.readings_read.specs.Lines.{StartTold, LineTold, FirstSaid, Line
 
 use super::values::{check_value, put_value};
 use super::{Line, Lines, WordFault};
-use grammar::{BUFFER_TOO_SHORT, MALFORMED, NAME_UNKNOWN};
+use grammar::Cause;
 use names::{EQUALS, LINE_END};
 use readings::ReadBack;
 
@@ -42,11 +42,11 @@ fn check_line(
     ensures { LineTold t count (spelled text.now starts.now lengths.now) at key.now line.now result }
 {
     let Some(start) = value_start(key, line) else {
-        return Line::Fault(MALFORMED, at);
+        return Line::Fault(Cause::Malformed, at);
     };
     match check_value(&line[start..], text, starts, lengths, links, t, count) {
-        Err(WordFault::Malformed) => Line::Fault(MALFORMED, at),
-        Err(WordFault::Unknown) => Line::Fault(NAME_UNKNOWN, at),
+        Err(WordFault::Malformed) => Line::Fault(Cause::Malformed, at),
+        Err(WordFault::Unknown) => Line::Fault(Cause::NameUnknown, at),
         Ok(count) => Line::Said { start, count },
     }
 }
@@ -70,10 +70,10 @@ fn second_line(
     let a = end + 1;
     let e = names::find(lines, a, LINE_END);
     if lines.len() <= e {
-        return Lines::Fault(MALFORMED, 2);
+        return Lines::Fault(Cause::Malformed, 2);
     }
     if e + 1 < lines.len() {
-        return Lines::Fault(MALFORMED, 2);
+        return Lines::Fault(Cause::Malformed, 2);
     }
     match check_line(
         2,
@@ -113,7 +113,7 @@ fn check_lines(
 {
     let e = names::find(lines, 0, LINE_END);
     if lines.len() <= e {
-        return Lines::Fault(MALFORMED, 1);
+        return Lines::Fault(Cause::Malformed, 1);
     }
     match check_line(
         1,
@@ -159,10 +159,10 @@ pub fn read_lines(
             right: n,
         } => {
             if left.len() < m {
-                return ReadBack::Refused(BUFFER_TOO_SHORT, 0);
+                return ReadBack::Refused(Cause::BufferTooShort, 0);
             }
             if right.len() < n {
-                return ReadBack::Refused(BUFFER_TOO_SHORT, 0);
+                return ReadBack::Refused(Cause::BufferTooShort, 0);
             }
             put_value(
                 &lines[first..first_end],

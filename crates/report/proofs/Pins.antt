@@ -7,7 +7,7 @@ use Prim.Native.Char.{code}
 use Prim.Native.String.{String, [] as empty, ◌∷◌ as ◌then◌}
 use lib.ListN.{replicate}
 use Rattle.grammar.specs.Grammar.{state_count}
-use Rattle.grammar.specs.Refusal.{Answer, done, refused, refuse_unless, and_then}
+use Rattle.grammar.specs.Refusal.{Answer, done, refused, refuse_unless, and_then, rule_repeated, buffer_too_short, malformed, no_sentence, cause_number}
 use Rattle.grammar.specs.TableCheck.{same_codes, is_among}
 use Rattle.grammar.specs.Basics.{each}
 use Rattle.grammar.specs.Grammar.{rule}
@@ -71,31 +71,31 @@ refusal = refl
 -- the cause, or 0
 abbrev cause : Answer Source → ℕ
 cause (done s) = 0
-cause (refused c p) = c
+cause (refused c p) = cause_number c
 
 -- 48 states pass, 49 do not, and a rule that stands twice comes before them
 states_48 : cause (judged "terminals=a\nnonterminals=S\nrule=S: a a a a a a a a a a a a\nrule=S: a a a a a a a a a a a\nrule=S: a a a a a a a a a a\nrule=S: a a a a a a a\n") ≡ 0
 unfolding judged
 states_48 = refl
 
-states_49 : judged "terminals=a\nnonterminals=S\nrule=S: a a a a a a a a a a a a\nrule=S: a a a a a a a a a a a\nrule=S: a a a a a a a a a a\nrule=S: a a a a a a a a\n" ≡ refused 14 0
+states_49 : judged "terminals=a\nnonterminals=S\nrule=S: a a a a a a a a a a a a\nrule=S: a a a a a a a a a a a\nrule=S: a a a a a a a a a a\nrule=S: a a a a a a a a\n" ≡ refused buffer_too_short 0
 unfolding judged
 states_49 = refl
 
-fault_first : judged "terminals=a\nnonterminals=S\nrule=S: a a a a a a a a a a a a\nrule=S: a a a a a a a a a a a\nrule=S: a a a a a a a a a a\nrule=S: a a a a a a a a\nrule=S: a a a a a a a a\n" ≡ refused 6 49
+fault_first : judged "terminals=a\nnonterminals=S\nrule=S: a a a a a a a a a a a a\nrule=S: a a a a a a a a a a a\nrule=S: a a a a a a a a a a\nrule=S: a a a a a a a a\nrule=S: a a a a a a a a\n" ≡ refused rule_repeated 49
 unfolding judged
 fault_first = refl
 
 -- 19 comes before them too
-sentence_first : judged "terminals=a\nnonterminals=S\nrule=S: S a a a a a a a a a a a\nrule=S: S a a a a a a a a a a\nrule=S: S a a a a a a a a a\nrule=S: S a a a a a a a\n" ≡ refused 19 0
+sentence_first : judged "terminals=a\nnonterminals=S\nrule=S: S a a a a a a a a a a a\nrule=S: S a a a a a a a a a a\nrule=S: S a a a a a a a a a\nrule=S: S a a a a a a a\n" ≡ refused no_sentence 0
 unfolding judged
 sentence_first = refl
 
 -- 4,096 bytes are read, 4,097 are not
-bytes_4096 : judge (replicate 4096 0) ≡ refused 16 1
+bytes_4096 : judge (replicate 4096 0) ≡ refused malformed 1
 unfolding judged
 bytes_4096 = refl
 
-bytes_4097 : judge (replicate 4097 0) ≡ refused 14 0
+bytes_4097 : judge (replicate 4097 0) ≡ refused buffer_too_short 0
 unfolding judged
 bytes_4097 = refl

@@ -14,6 +14,7 @@ use Rattle.grammar.specs.TableCheck.{check_table}
 use Rattle.grammar.proofs.Steps.{grammar_of}
 use Rattle.grammar.proofs.WellFormed.{room}
 use Rattle.grammar.proofs.Sentence.{takes_only}
+use Rattle.grammar.specs.declared.Cause.{Cause}
 use Rattle.text.specs.Names.{all, is_name}
 use Rattle.text.specs.Read.{symbol_names}
 use Rattle.text.specs.Spelled.{spelled}
@@ -22,7 +23,7 @@ use Rattle.report.specs.Report.{program_text, program_states, judge, grammar_lin
 use Rattle.report.specs.Clauses.{refused_lines, Tellable, table_lines}
 use Rattle.report.proofs.Told.{few-states}
 
-pub refused_report : (text : List ℕ) (cause at : ℕ) → judge text ≡ refused cause at → refused_lines cause at ≡ report_of text
+pub refused_report : (text : List ℕ) (cause : Cause) (at : ℕ) → judge text ≡ refused cause at → refused_lines cause at ≡ report_of text
 unfolding report_of
 refused_report text cause at e = sym (ap printed e)
 

@@ -13,10 +13,11 @@ use Rattle.grammar.specs.Basics.{choose, Mem, here, there}
 use Rattle.grammar.specs.Limits.{limits}
 use Rattle.grammar.specs.Grammar.{Rule, Grammar, WellFormed, state_count}
 use Rattle.grammar.specs.Table.{encode}
-use Rattle.grammar.specs.Refusal.{Answer, done, refused, refuse_unless, and_then, no_sentence}
+use Rattle.grammar.specs.Refusal.{Answer, done, refused, refuse_unless, and_then, no_sentence, buffer_too_short, cause_number, out_of_range, rule_too_long, rule_repeated, too_many_states, malformed, name_unknown, name_repeated}
 use Rattle.grammar.proofs.Answers.{then-done, unless_done, done_inj}
 use Rattle.grammar.proofs.WellFormed.{room}
 use Rattle.grammar.proofs.Sentence.{takes_only}
+use Rattle.grammar.specs.declared.Cause.{Cause}
 use Rattle.automaton.specs.Items.{states}
 use Rattle.automaton.specs.PositionMoves.{moves_of}
 use Rattle.triples.specs.Index.{triple_count}
@@ -46,14 +47,14 @@ use Rattle.automaton.specs.Moves.{Moves}
 -- a refusal has one of the documents' causes and a position that is at most b
 abbrev pub Small : {A : Type 0} → ℕ → Answer A → Type 0
 Small b (done a) = Unit {0}
-Small b (refused cause at) = (cause ≤ no_sentence) × (at ≤ b)
+Small b (refused cause at) = (cause_number cause ≤ cause_number no_sentence) × (at ≤ b)
 
-small_unless : {A : Type 0} (b cause at : ℕ) (t : Bool) (o : Answer A) → cause ≤ no_sentence → at ≤ b → Small b o → Small b (refuse_unless cause at t o)
+small_unless : {A : Type 0} (b : ℕ) (cause : Cause) (at : ℕ) (t : Bool) (o : Answer A) → cause_number cause ≤ cause_number no_sentence → at ≤ b → Small b o → Small b (refuse_unless cause at t o)
 unfolding refuse_unless
 small_unless b cause at true o h k s = s
 small_unless b cause at false o h k s = (h, k)
 
-small-none : {A B : Type 0} (b cause at : ℕ) (o : Option A) (go : A → Answer B) → cause ≤ no_sentence → at ≤ b → ((a : A) → Small b (go a))
+small-none : {A B : Type 0} (b : ℕ) (cause : Cause) (at : ℕ) (o : Option A) (go : A → Answer B) → cause_number cause ≤ cause_number no_sentence → at ≤ b → ((a : A) → Small b (go a))
     → Small b (refuse_none cause at o go)
 unfolding refuse_none
 small-none b cause at none go h k s = (h, k)
@@ -81,24 +82,24 @@ module _ (b : ℕ) where
   small-declaration : (at k lo hi : ℕ) (earlier : List (List ℕ)) (l : List ℕ) → at ≤ b → Small b (declaration at k lo hi earlier l)
   unfolding declaration
   small-declaration at k lo hi earlier l h =
-      small-none b 16 at (value_of (key k) l) _ (omega arith) h (λ v.
-      small_unless b 16 at (all is_name (names_of v)) _ (omega arith) h
-      (small_unless b 18 at (not (has_double (earlier ++ names_of v))) _ (omega arith) h
-      (small_unless b 1 at (within lo hi (length (names_of v))) _ (omega arith) h tt)))
+      small-none b malformed at (value_of (key k) l) _ (omega arith) h (λ v.
+      small_unless b malformed at (all is_name (names_of v)) _ (omega arith) h
+      (small_unless b name_repeated at (not (has_double (earlier ++ names_of v))) _ (omega arith) h
+      (small_unless b out_of_range at (within lo hi (length (names_of v))) _ (omega arith) h tt)))
 
   small-rule : (at t : ℕ) (names : List (List ℕ)) (l : List ℕ) → at ≤ b → Small b (rule_line limits at t names l)
   unfolding rule_line
   small-rule at t names l h =
-      small-none b 16 at (value_of (key 2) l) _ (omega arith) h (λ v.
-      small-none b 16 at (sides_of (split_on 58 v)) _ (omega arith) h (λ s.
-      small_unless b 16 at (is_name s.head && all is_name s.body) _ (omega arith) h
-      (small_unless b 17 at (is_known t names s.head && all (is_known 0 names) s.body) _ (omega arith) h
-      (small_unless b 4 at (leb (length s.body) 12) _ (omega arith) h tt))))
+      small-none b malformed at (value_of (key 2) l) _ (omega arith) h (λ v.
+      small-none b malformed at (sides_of (split_on 58 v)) _ (omega arith) h (λ s.
+      small_unless b malformed at (is_name s.head && all is_name s.body) _ (omega arith) h
+      (small_unless b name_unknown at (is_known t names s.head && all (is_known 0 names) s.body) _ (omega arith) h
+      (small_unless b rule_too_long at (leb (length s.body) 12) _ (omega arith) h tt))))
 
   small-rules : (at t : ℕ) (names ps : List (List ℕ)) → at + length ps ≤ suc b → 1 ≤ length ps → Small b (rule_lines limits at t names ps)
   unfolding rule_lines
   small-rules at t names [] h i = absurd (omega arith)
-  small-rules at t names (p ∷ []) h i = small_unless b 16 at (eqb (length p) 0) _ (omega arith) (omega arith) tt
+  small-rules at t names (p ∷ []) h i = small_unless b malformed at (eqb (length p) 0) _ (omega arith) (omega arith) tt
   small-rules at t names (p ∷ q ∷ qs) h i =
       small-then b (rule_line limits at t names p) _ (small-rule at t names p (omega arith)) (λ r e.
       small-then b (rule_lines limits (suc at) t names (q ∷ qs)) _ (small-rules (suc at) t names (q ∷ qs) (omega arith) (omega arith)) (λ rs f. tt))
@@ -126,8 +127,8 @@ module _ (b : ℕ) where
   small-admit zero earlier at (r ∷ rs) f h = (omega arith, omega arith)
   small-admit (suc m) earlier at (r ∷ rs) f h =
       let k = f r here in
-      small_unless b 6 at _ _ (omega arith) (omega arith)
-      (small_unless b 8 at _ _ (omega arith) (omega arith)
+      small_unless b rule_repeated at _ _ (omega arith) (omega arith)
+      (small_unless b too_many_states at _ _ (omega arith) (omega arith)
       (small-admit m _ (at + 2 + length r.right) rs (λ s i. f s (there i)) (omega arith)))
 
 -- no refusal of such a text has a position past this: a line of the text, or an offset in a table of all rules
@@ -139,7 +140,7 @@ small-text : (text : List ℕ) → length text ≤ program_text → Small farthe
 unfolding check_text read_text
 small-text text h =
     small-then farthest (read_text limits text) _
-    (small_unless farthest 16 0 _ _ (omega arith) (omega arith) (small-lines farthest (split_on 10 text) (omega (arith, pieces_most 10 text)) (omega arith)))
+    (small_unless farthest malformed 0 _ _ (omega arith) (omega arith) (small-lines farthest (split_on 10 text) (omega (arith, pieces_most 10 text)) (omega arith)))
     (λ s e. small-then farthest (last_tests limits s) _ (small_tests s e) (λ G f. tt))
   where
     small_tests : (s : Source) → read_text limits text ≡ done s → Small farthest (last_tests limits s)
@@ -152,7 +153,7 @@ small-text text h =
 -- ---- a text that is judged
 
 -- a test that holds may be used
-small-when : {A : Type 0} (b cause at : ℕ) (t : Bool) (o : Answer A) → cause ≤ no_sentence → at ≤ b → (t ≡ true → Small b o) → Small b (refuse_unless cause at t o)
+small-when : {A : Type 0} (b : ℕ) (cause : Cause) (at : ℕ) (t : Bool) (o : Answer A) → cause_number cause ≤ cause_number no_sentence → at ≤ b → (t ≡ true → Small b o) → Small b (refuse_unless cause at t o)
 unfolding refuse_unless
 small-when b cause at true o h k s = s refl
 small-when b cause at false o h k s = (h, k)
@@ -160,9 +161,9 @@ small-when b cause at false o h k s = (h, k)
 small-judge : (text : List ℕ) → Small farthest (judge text)
 unfolding judge
 small-judge text =
-    small-when farthest 14 0 (leb (length text) 4096) _ (omega arith) (omega arith) (λ e.
+    small-when farthest buffer_too_short 0 (leb (length text) 4096) _ (omega arith) (omega arith) (λ e.
     small-then farthest (check_text limits text) _ (small-text text (leb-true (length text) 4096 e)) (λ s f.
-    small_unless farthest 14 0 (leb (state_count s.rules) 48) _ (omega arith) (omega arith) tt))
+    small_unless farthest buffer_too_short 0 (leb (state_count s.rules) 48) _ (omega arith) (omega arith) tt))
 
 -- what is known of a text that is judged
 pub record JudgedText (text : List ℕ) (s : Source) : Type 0 where
@@ -174,9 +175,9 @@ pub record JudgedText (text : List ℕ) (s : Source) : Type 0 where
 pub judged_text : (text : List ℕ) (s : Source) → judge text ≡ done s → JudgedText text s
 unfolding judge
 judged_text text s e =
-    let a = unless_done 14 0 (leb (length text) program_text) _ s e in
+    let a = unless_done buffer_too_short 0 (leb (length text) program_text) _ s e in
     let b = then-done (check_text limits text) _ s a.1 in
-    let c = unless_done 14 0 (leb (state_count b.0.rules) program_states) (done b.0) s b.2 in
+    let c = unless_done buffer_too_short 0 (leb (state_count b.0.rules) program_states) (done b.0) s b.2 in
     let g : b.0 ≡ s = done_inj c.1 in
     let d : check_text limits text ≡ done s = b.1 ∙ ap (λ (s : Source). done s) g in
     let k = text-checked limits apart text s d in
@@ -237,14 +238,14 @@ grammar-most G W few names named many = go (is_potential M) refl
         )
 
 -- a refusal
-pub refused-most : (cause at : ℕ) → cause ≤ no_sentence → at ≤ farthest → length (refused_lines cause at) ≤ report_size
+pub refused-most : (cause : Cause) (at : ℕ) → cause_number cause ≤ cause_number no_sentence → at ≤ farthest → length (refused_lines cause at) ≤ report_size
 refused-most cause at h k =
     omega (
       arith,
-      length-append (line refused_is (decimal cause)) (line at_is (decimal at)),
-      line-size refused_is (decimal cause),
+      length-append (line refused_is (decimal (cause_number cause))) (line at_is (decimal at)),
+      line-size refused_is (decimal (cause_number cause)),
       line-size at_is (decimal at),
-      decimal-most 1 cause (omega (arith, h)),
+      decimal-most 1 (cause_number cause) (omega (arith, h)),
       decimal-most 3 at (omega (arith, k)),
     )
 

@@ -12,9 +12,10 @@ use lib.Seq.{take-append_seam}
 use Rattle.grammar.specs.Basics.{over}
 use Rattle.grammar.specs.Limits.{limits}
 use Rattle.grammar.specs.Grammar.{Grammar, state_count}
-use Rattle.grammar.specs.Refusal.{Answer, done, refused, refuse_unless, and_then}
+use Rattle.grammar.specs.Refusal.{Answer, done, refused, refuse_unless, and_then, buffer_too_short}
 use Rattle.grammar.proofs.Answers.{unless_holds, unless_fails, then-goes, then_stops}
 use Rattle.grammar.proofs.WellFormed.{room}
+use Rattle.grammar.specs.declared.Cause.{Cause}
 use Rattle.automaton.specs.Items.{states}
 use Rattle.automaton.specs.Moves.{Moves}
 use Rattle.automaton.specs.PositionMoves.{moves_of}
@@ -94,7 +95,7 @@ module _ (t n : ℕ) (table : List ℕ) (q : ℕ) (text starts lengths : List �
       go false d w = absurd (let z : ◌≡◌ {A = ℕ} 1 0 = ap kind_in (sym e ∙ w.verdict) in omega (arith, z))
 
   -- it never refuses
-  pub no_refusal : {A : Type 0} (c p : ℕ) → v ≡ search.Refused c p → A
+  pub no_refusal : {A : Type 0} (c : Cause) (p : ℕ) → v ≡ search.Refused c p → A
   no_refusal {A} c p e = go (is_potential M) told
     where
       go : (b : Bool) → Told b M before v after → A
@@ -105,29 +106,29 @@ module _ (t n : ℕ) (table : List ℕ) (q : ℕ) (text starts lengths : List �
 
 module _ (text : List ℕ) where
   abbrev rest : Source → Answer Source
-  rest s = refuse_unless 14 0 (leb (state_count s.rules) program_states) (done s)
+  rest s = refuse_unless buffer_too_short 0 (leb (state_count s.rules) program_states) (done s)
 
   -- a longer text is 14 at 0
-  pub long-text : program_text < length text → judge text ≡ refused 14 0
+  pub long-text : program_text < length text → judge text ≡ refused buffer_too_short 0
   unfolding judge
-  long-text h = unless_fails 14 0 (leb (length text) program_text) _ (lt-leb (length text) program_text h)
+  long-text h = unless_fails buffer_too_short 0 (leb (length text) program_text) _ (lt-leb (length text) program_text h)
 
   module _ (short : length text ≤ program_text) where
     judged : judge text ≡ and_then (check_text limits text) rest
     unfolding judge
-    judged = unless_holds 14 0 (leb (length text) program_text) _ (le-leb (length text) program_text short)
+    judged = unless_holds buffer_too_short 0 (leb (length text) program_text) _ (le-leb (length text) program_text short)
 
     -- the reader refuses
-    pub text-refused : (cause at : ℕ) → check_text limits text ≡ refused cause at → judge text ≡ refused cause at
+    pub text-refused : (cause : Cause) (at : ℕ) → check_text limits text ≡ refused cause at → judge text ≡ refused cause at
     text-refused cause at c = judged ∙ then_stops (check_text limits text) rest cause at c
 
     -- there are too many states, or not
-    pub many_states : (s : Source) → check_text limits text ≡ done s → program_states < state_count s.rules → judge text ≡ refused 14 0
+    pub many_states : (s : Source) → check_text limits text ≡ done s → program_states < state_count s.rules → judge text ≡ refused buffer_too_short 0
     many_states s c h =
         judged ∙ then-goes (check_text limits text) rest s c
-        ∙ unless_fails 14 0 (leb (state_count s.rules) program_states) _ (lt-leb (state_count s.rules) program_states h)
+        ∙ unless_fails buffer_too_short 0 (leb (state_count s.rules) program_states) _ (lt-leb (state_count s.rules) program_states h)
 
     pub few-states : (s : Source) → check_text limits text ≡ done s → state_count s.rules ≤ program_states → judge text ≡ done s
     few-states s c h =
         judged ∙ then-goes (check_text limits text) rest s c
-        ∙ unless_holds 14 0 (leb (state_count s.rules) program_states) (done s) (le-leb (state_count s.rules) program_states h)
+        ∙ unless_holds buffer_too_short 0 (leb (state_count s.rules) program_states) (done s) (le-leb (state_count s.rules) program_states h)

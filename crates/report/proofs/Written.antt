@@ -8,7 +8,7 @@ use lib.Dec.{leb}
 use lib.ListN.{length, take, drop}
 use lib.Seq.{take-append_seam}
 use Rattle.grammar.specs.Basics.{over}
-use Rattle.grammar.specs.Refusal.{Answer, done, refused}
+use Rattle.grammar.specs.Refusal.{Answer, done, refused, buffer_too_short}
 use Rattle.grammar.proofs.Answers.{unless_holds, unless_fails, unless_done, done_inj}
 use Rattle.text.specs.Promise.{afterwards}
 use Rattle.text_write.specs.Clauses.{Wrote}
@@ -24,17 +24,17 @@ front-written x old r new w =
 
 module _ (text out : List ℕ) where
   -- 14 at 0
-  pub report_short : (r : ℕ) → r ≡ length (report_of text) → length out < r → Reports text out (Refused 14 0) out
+  pub report_short : (r : ℕ) → r ≡ length (report_of text) → length out < r → Reports text out (Refused buffer_too_short 0) out
   unfolding report_into
   report_short r e h =
-      let q : report_into (length out) text ≡ refused 14 0
-      = unless_fails 14 0 (leb (length (report_of text)) (length out)) _ (lt-leb (length (report_of text)) (length out) (omega (arith, e))) in
+      let q : report_into (length out) text ≡ refused buffer_too_short 0
+      = unless_fails buffer_too_short 0 (leb (length (report_of text)) (length out)) _ (lt-leb (length (report_of text)) (length out) (omega (arith, e))) in
       record { answer = sym (ap reported q); out-after = sym (ap (λ o. afterwards o (λ l. l) out) q) }
 
   -- there is room
   pub report_done : length (report_of text) ≤ length out → report_into (length out) text ≡ done (report_of text)
   unfolding report_into
-  report_done h = unless_holds 14 0 (leb (length (report_of text)) (length out)) _ (le-leb (length (report_of text)) (length out) h)
+  report_done h = unless_holds buffer_too_short 0 (leb (length (report_of text)) (length out)) _ (le-leb (length (report_of text)) (length out) h)
 
   pub report_all : (r : ℕ) (x : List ℕ) (m : ℕ) (out' : List ℕ) → r ≡ length (report_of text) → x ≡ report_of text → r ≤ length out → Wrote 0 x out m out'
       → Reports text out (Written r) out'
@@ -55,7 +55,7 @@ module _ (text out : List ℕ) where
     where
       go : (o : Answer (List ℕ)) → report_into (length out) text ≡ o → Written n ≡ reported o → n ≤ length out
       go (done l) d w =
-          let u = unless_done 14 0 (leb (length (report_of text)) (length out)) (done (report_of text)) l d in
+          let u = unless_done buffer_too_short 0 (leb (length (report_of text)) (length out)) (done (report_of text)) l d in
           let q : n ≡ length l = cc in
           omega (arith, q, ap length (done_inj u.1), leb-true (length (report_of text)) (length out) u.0)
       go (refused cause at) d w = absurd (let z : ◌≡◌ {A = ℕ} 0 1 = cc in omega arith)

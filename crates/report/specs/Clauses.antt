@@ -2,7 +2,8 @@
 use Rattle.std.specs.Prelude.{ℕ, ◌+◌, ◌*◌, ◌≤◌, ◌≡◌, true, List, [], ◌++◌, length}
 use Rattle.grammar.specs.Limits.{limits}
 use Rattle.grammar.specs.Grammar.{Grammar}
-use Rattle.grammar.specs.Refusal.{Answer, done, refused}
+use Rattle.grammar.specs.Refusal.{Answer, done, refused, cause_number}
+use Rattle.grammar.specs.declared.Cause.{Cause}
 use Rattle.grammar.specs.TableCheck.{check_table}
 use Rattle.automaton.specs.Items.{states}
 use Rattle.automaton.specs.PositionMoves.{moves_of}
@@ -20,8 +21,8 @@ unambiguous_lines q reached = line states_is (decimal q) ++ (line verdict_is una
 abbrev pub potential_lines : ℕ → List ℕ
 potential_lines q = line states_is (decimal q) ++ line verdict_is potential
 
-abbrev pub refused_lines : ℕ → ℕ → List ℕ
-refused_lines cause at = line refused_is (decimal cause) ++ line at_is (decimal at)
+abbrev pub refused_lines : Cause → ℕ → List ℕ
+refused_lines cause at = line refused_is (decimal (cause_number cause)) ++ line at_is (decimal at)
 
 -- a table that passes, of q states, which are not too many for the program, with names for its symbols
 pub record Tellable (t n : ℕ) (table : List ℕ) (q : ℕ) (text starts lengths : List ℕ) : Type 0 where

@@ -4,7 +4,7 @@
 use Rattle.std.specs.Prelude.{ℕ, ◌+◌, ◌*◌, ◌≡◌, Bool, true, false, List, [], ◌∷◌, ◌++◌, leb, length}
 use Rattle.grammar.specs.Limits.{limits}
 use Rattle.grammar.specs.Grammar.{Grammar, state_count}
-use Rattle.grammar.specs.Refusal.{Answer, done, refused, refuse_unless, and_then, buffer_too_short}
+use Rattle.grammar.specs.Refusal.{Answer, done, refused, refuse_unless, and_then, buffer_too_short, cause_number}
 use Rattle.automaton.specs.Items.{states}
 use Rattle.automaton.specs.PositionMoves.{moves_of}
 use Rattle.triples.specs.Index.{triple_count}
@@ -87,7 +87,7 @@ grammar_lines G names =
 -- for a text: the lines of its grammar, or its refusal's number and position
 abbrev pub printed : Answer Source → List ℕ
 printed (done s) = grammar_lines (grammar_of s) (symbol_names s)
-printed (refused cause at) = line refused_is (decimal cause) ++ line at_is (decimal at)
+printed (refused cause at) = line refused_is (decimal (cause_number cause)) ++ line at_is (decimal at)
 
 unfoldable pub report_of : List ℕ → List ℕ
 report_of text = printed (judge text)

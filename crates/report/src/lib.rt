@@ -7,7 +7,7 @@ mod telling;
 
 ghost use Rattle.report.specs.Report.{Reports};
 
-use grammar::BUFFER_TOO_SHORT;
+use grammar::Cause;
 
 // The most bytes of text and the most states that the program takes; the length of an output that is never too short.
 pub const PROGRAM_TEXT: usize = 4096;
@@ -16,11 +16,11 @@ pub const PROGRAM_STATES: usize = 48;
 
 pub const REPORT_SIZE: usize = 2 * (16 * 2 * PROGRAM_STATES * PROGRAM_STATES) + 64;
 
-// How many bytes were written; or the refusal with its cause's number and its position.
+// How many bytes were written; or the refusal with its cause and its position.
 #[derive(Drop)]
 pub enum Reported {
     Written(usize),
-    Refused(u8, usize),
+    Refused(Cause, usize),
 }
 
 // Writes what the program prints for a text to the front of the output, if there is room.
@@ -30,7 +30,7 @@ pub fn report(text: &[u8], out: &mut [u8]) -> Reported
     let mut lines = [0u8; REPORT_SIZE];
     let end = telling::put_report(&mut lines, text);
     if out.len() < end {
-        return Reported::Refused(BUFFER_TOO_SHORT, 0);
+        return Reported::Refused(Cause::BufferTooShort, 0);
     }
     text_write::put_bytes(out, 0, &lines[..end]);
     Reported::Written(end)

@@ -5,6 +5,7 @@ ghost use Rattle.text.specs.Numbers.{decimal};
 ghost use Rattle.report.specs.Report.{line};
 ghost use Rattle.report.specs.Clauses.{unambiguous_lines, potential_lines, refused_lines};
 
+use grammar::Cause;
 use readings_write::put_number;
 use text_write::put_bytes;
 
@@ -48,10 +49,10 @@ pub fn put_potential(out: &mut [u8], states: usize) -> usize
 }
 
 // A refusal's number and position.
-pub fn put_refused(out: &mut [u8], cause: u8, at: usize) -> usize
+pub fn put_refused(out: &mut [u8], cause: Cause, at: usize) -> usize
     requires { length (refused_lines cause at) ≤ length out.old }
     ensures { Wrote 0 (refused_lines cause at) out.old result out.new }
 {
-    let a = put_count(out, 0, b"refused=", cause as usize);
+    let a = put_count(out, 0, b"refused=", u8::from(cause) as usize);
     put_count(out, a, b"at=", at)
 }

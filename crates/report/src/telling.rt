@@ -10,7 +10,7 @@ ghost use Rattle.report.specs.Clauses.{Tellable, Speakable, table_lines, sides_l
 
 use super::put::{put_potential, put_refused, put_unambiguous};
 use super::{PROGRAM_STATES, PROGRAM_TEXT};
-use grammar::{BUFFER_TOO_SHORT, MAX_ENTRIES, MAX_NAMES};
+use grammar::{Cause, MAX_ENTRIES, MAX_NAMES};
 use search::SearchVerdict;
 use text::TextRead;
 
@@ -101,7 +101,7 @@ pub fn put_report(out: &mut [u8], text: &[u8]) -> usize
     ensures { Wrote 0 (report_of text.now) out.old result out.new }
 {
     if PROGRAM_TEXT < text.len() {
-        return put_refused(out, BUFFER_TOO_SHORT, 0);
+        return put_refused(out, Cause::BufferTooShort, 0);
     }
     let mut table = [0u16; MAX_ENTRIES];
     let mut starts = [0u32; MAX_NAMES];
@@ -116,7 +116,7 @@ pub fn put_report(out: &mut [u8], text: &[u8]) -> usize
             states,
         } => {
             if PROGRAM_STATES < states {
-                return put_refused(out, BUFFER_TOO_SHORT, 0);
+                return put_refused(out, Cause::BufferTooShort, 0);
             }
             let m = terminals + nonterminals;
             put_table(

@@ -9,7 +9,7 @@ ghost use Rattle.plans.specs.Clauses.{SideFits, Fits};
 ghost use Rattle.rooms.specs.Clauses.{moves_at};
 ghost use Rattle.rooms.specs.Room.{RoomAnswer};
 
-use grammar::{MAX_STATES, TableVerdict};
+use grammar::{Cause, MAX_STATES, TableVerdict};
 use moves::CLASSES;
 
 // Q, the bytes of the certificate, the entries of each of the three rows, and the number of moves; or the table's first refusal.
@@ -21,7 +21,7 @@ pub enum SearchRoom {
         entries: usize,
         moves: usize,
     },
-    Refused(u8, usize),
+    Refused(Cause, usize),
 }
 
 // The number of a state's moves: the targets of its class, and the shift of a symbol ahead, terminal or nonterminal.

@@ -12,7 +12,7 @@ use lib.ListN.{length, get_or, take, drop, replicate}
 use lib.Seq.{length-take-le, get_or-take, take-suc, drop-cons}
 use borrow.Author.Tests.{eq-eqb}
 use Rattle.grammar.specs.Basics.{choose, Mem, over, Distinct, more as fresh}
-use Rattle.grammar.specs.Refusal.{done}
+use Rattle.grammar.specs.Refusal.{done, witness_wrong}
 use Rattle.grammar.proofs.Answers.{no_bool, unless_holds}
 use Rattle.automaton.specs.Moves.{Moves, Regular}
 use Rattle.triples.specs.Index.{index, triple_count}
@@ -215,14 +215,14 @@ module _ (M : Moves) (W : Regular M) (R : Rows) (targets : List ℕ) (t m Q : �
       → Ahead s.queue s.parents s.count place j is → check_on M (get_or s.queue j 0) n is ≡ done tt
   unfolding check_on
   ahead_accepted place n e here =
-      unless_holds 15 n _ (done tt) (eq-eqb (get_or s.queue place 0) (index M.states 1 1 1) (e ∙ ap (λ (q : ℕ). index q 1 1 1) p.size))
+      unless_holds witness_wrong n _ (done tt) (eq-eqb (get_or s.queue place 0) (index M.states 1 1 1) (e ∙ ap (λ (q : ℕ). index q 1 1 1) p.size))
   ahead_accepted place n e (back {j} {k} {is} h l q a) =
       let f = x.going.found k h l in
       let i : get_or s.queue f.from 0 ≡ get_or s.queue j 0 = ap (λ (k : ℕ). get_or s.queue k 0) (sym (q ∙ f.link)) in
       let o : Mem (get_or s.queue k 0) (successors M (get_or s.queue j 0))
       = subst (λ (i : ℕ). Mem (get_or s.queue k 0) (successors M i)) i
       (next-listed (get_or s.queue f.from 0) (get_or s.queue k 0) (queue_below f.from (omega (arith, f.earlier))) f.next) in
-      unless_holds 15 n _ (check_on M (get_or s.queue k 0) (suc n) is)
+      unless_holds witness_wrong n _ (check_on M (get_or s.queue k 0) (suc n) is)
       ((is_element_lem (get_or s.queue k 0) (successors M (get_or s.queue j 0))).1 o)
       ∙ ahead_accepted place (suc n) e a
 
@@ -231,7 +231,7 @@ module _ (M : Moves) (W : Regular M) (R : Rows) (targets : List ℕ) (t m Q : �
       → get_or s.queue place 0 ≡ index Q 1 1 1 → check_row M (get_or s.queue 0 0 ∷ rest) ≡ done tt
   unfolding check_row
   row_accepted place rest a e =
-      unless_holds 15 0 _ (check_on M (get_or s.queue 0 0) 1 rest)
+      unless_holds witness_wrong 0 _ (check_on M (get_or s.queue 0 0) 1 rest)
       (eq-eqb (get_or s.queue 0 0) (index M.states 0 0 0) (x.going.first ∙ sym (index-zero M.states)))
       ∙ ahead_accepted place 1 e a
 

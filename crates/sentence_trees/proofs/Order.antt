@@ -11,6 +11,7 @@ use Rattle.grammar.specs.Record.{record_of}
 use Rattle.grammar.specs.declared.CheckedGrammar.{CheckedGrammar}
 use Rattle.grammar.specs.Refusal.{done, refused, refuse_unless, and_then, buffer_too_short, row_wrong}
 use Rattle.grammar.specs.TableCheck.{check_table}
+use Rattle.grammar.specs.declared.Cause.{Cause}
 use Rattle.trees.specs.Trees.{row_fault, max_row, places, work_size, check_row, cleared}
 use Rattle.trees.specs.Promise.{FindsTrees, refuses, no_tree, several-trees, one-tree, too_short}
 use Rattle.trees.specs.declared.TreesFound.{TreesFound}
@@ -39,7 +40,7 @@ told (Ok Several) = found.Several
 told (Err e) = found.Refused buffer_too_short 0
 
 module _ (t n : ℕ) (table w work list : List ℕ) where
-  pub table-refused : (cause at : ℕ) → check_table limits t n table ≡ refused cause at
+  pub table-refused : (cause : Cause) (at : ℕ) → check_table limits t n table ≡ refused cause at
       → FindsTrees t n table w work list (found.Refused cause at) work list
   unfolding check_row and_then
   table-refused cause at e = refuses cause at (rw e refl)

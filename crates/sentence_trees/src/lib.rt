@@ -10,7 +10,7 @@ ghost use Rattle.trees.specs.Promise.{FindsTrees, TreesRoomAnswer};
 ghost use Rattle.sentence.specs.Answered.{Judges};
 
 use clearing::clear;
-use grammar::{BUFFER_TOO_SHORT, CheckedGrammar, ROW_WRONG, TableVerdict};
+use grammar::{Cause, CheckedGrammar, TableVerdict};
 use sentence::{ListTooShort, Outcome, judge};
 use trees::{MAX_ROW, PLACES, TreesFound, TreesRoom};
 
@@ -74,10 +74,10 @@ pub fn find_trees(
         TableVerdict::Passed => {
             let g = &checked.grammar;
             if let Some(fault) = row_fault(g.terminals, row) {
-                return TreesFound::Refused(ROW_WRONG, fault);
+                return TreesFound::Refused(Cause::RowWrong, fault);
             }
             if work.len() < PLACES * PLACES * g.states {
-                return TreesFound::Refused(BUFFER_TOO_SHORT, 0);
+                return TreesFound::Refused(Cause::BufferTooShort, 0);
             }
             match judge_in(g, row, work, list) {
                 Ok(Outcome::Nothing) => {
@@ -90,7 +90,7 @@ pub fn find_trees(
                     return TreesFound::Several;
                 }
                 Err(ListTooShort) => {
-                    return TreesFound::Refused(BUFFER_TOO_SHORT, 0);
+                    return TreesFound::Refused(Cause::BufferTooShort, 0);
                 }
             }
         }

@@ -8,7 +8,7 @@ use mathlib.Core.Option.{Option, none, some}
 use Rattle.grammar.specs.Limits.{byte_limits}
 use Rattle.grammar.specs.Grammar.{state_count, rule}
 use Rattle.grammar.specs.Table.{decode_up_to}
-use Rattle.grammar.specs.Refusal.{Answer, done, refused, refuse_unless, and_then}
+use Rattle.grammar.specs.Refusal.{Answer, done, refused, refuse_unless, and_then, truncated}
 use Rattle.grammar.specs.TableCheck.{same_codes, is_among, declared_front, read_rule, next_rule, check_from, stored_table, check_table}
 use Rattle.grammar.specs.Basics.{each}
 use Rattle.grammar.specs.Live.{has, has_all, concluded, waiting, rounds, nonterminals_of, productive, usable, reachable, has_sentence, is_live}
@@ -77,6 +77,6 @@ unfolding answer
 out_of_range_lem = (refl, refl, refl, refl)
 
 -- a fault of the table comes before a triple out of range
-fault_first : answer 1 (128 ∷ []) 2 6 6 0 ≡ refused 2 0
+fault_first : answer 1 (128 ∷ []) 2 6 6 0 ≡ refused truncated 0
 unfolding answer
 fault_first = refl

@@ -17,8 +17,8 @@ ghost use Rattle.table_check.specs.Clauses.{rule_read, ruleless, Before, next_or
 use earlier::repeats;
 pub use earlier::same_rule;
 use grammar::{
-    CheckedGrammar, MAX_NONTERMINALS, MAX_RULES, MAX_STATES, MAX_TERMINALS, NO_SENTENCE,
-    OUT_OF_RANGE, RULE_REPEATED, TOO_MANY_RULES, TOO_MANY_STATES, TableChecked, TableVerdict,
+    Cause, CheckedGrammar, MAX_NONTERMINALS, MAX_RULES, MAX_STATES, MAX_TERMINALS, TableChecked,
+    TableVerdict,
 };
 use live::has_sentence;
 pub use reading::read_rule;
@@ -27,7 +27,7 @@ pub use reading::read_rule;
 #[derive(Drop)]
 pub enum RuleRead {
     Length(usize),
-    Fault(u8, usize),
+    Fault(Cause, usize),
 }
 
 fn in_range(t: usize, n: usize) -> bool
@@ -57,17 +57,17 @@ fn next_rule<'a>(
     ensures { result ≡ rule_read (next_or_full t n table.now count at) }
 {
     if MAX_RULES <= count {
-        return RuleRead::Fault(TOO_MANY_RULES, at);
+        return RuleRead::Fault(Cause::TooManyRules, at);
     }
     let read = read_rule(table, t, n, at);
     let RuleRead::Length(k) = read else {
         return read;
     };
     if repeats(table, offsets, lefts, count, at, k) {
-        return RuleRead::Fault(RULE_REPEATED, at);
+        return RuleRead::Fault(Cause::RuleRepeated, at);
     }
     if MAX_STATES < states + k + 1 {
-        return RuleRead::Fault(TOO_MANY_STATES, at);
+        return RuleRead::Fault(Cause::TooManyStates, at);
     }
     RuleRead::Length(k)
 }
@@ -97,7 +97,7 @@ fn put_codes(codes: &mut [u16; MAX_STATES], used: usize, right: &[u16])
     codes[used..used + right.len()].copy_from_slice(right);
 }
 
-fn refuse(cause: u8, at: usize) -> TableChecked
+fn refuse(cause: Cause, at: usize) -> TableChecked
     ensures { result ≡ table_checked (refused cause at) }
 {
     let none = without_rules(0, 0);
@@ -114,7 +114,7 @@ pub fn check_up_to(t: usize, n: usize, table: &[u16], whole: bool) -> TableCheck
     ensures { result ≡ table_checked (choose whole (check_table limits t n table.now) (stored_table limits t n table.now)) }
 {
     if !in_range(t, n) {
-        return refuse(OUT_OF_RANGE, 0);
+        return refuse(Cause::OutOfRange, 0);
     }
     let terminals = t as u16;
     let nonterminals = n as u16;
@@ -154,7 +154,7 @@ pub fn check_up_to(t: usize, n: usize, table: &[u16], whole: bool) -> TableCheck
         let count = g.count;
         let used = g.used;
         if !has_sentence(&g.lefts, &g.lengths, &g.codes, count, used) {
-            return refuse(NO_SENTENCE, 0);
+            return refuse(Cause::NoSentence, 0);
         }
     }
     TableChecked {

@@ -16,6 +16,7 @@ use Rattle.grammar.proofs.Answers.{then_stops}
 use Rattle.grammar.proofs.Steps.{grammar_of}
 use Rattle.grammar.proofs.WellFormed.{room}
 use Rattle.grammar.proofs.Sentence.{takes_only}
+use Rattle.grammar.specs.declared.Cause.{Cause}
 use Rattle.text.specs.Read.{Source, symbol_names}
 use Rattle.text.specs.Rules.{check_text, read_into}
 use Rattle.text.specs.Promise.{name_starts, name_lengths, text_read, afterwards, ReadsText}
@@ -111,7 +112,7 @@ module _ (text table starts lengths : List ℕ) (enough : Enough (length table) 
   into : read_into limits (length table) (length starts) (length lengths) text ≡ check_text limits text
   into = enough-checked (length table) (length starts) (length lengths) text enough
 
-  pub rows-refused : (cause at : ℕ) → r ≡ Refused cause at → check_text limits text ≡ refused cause at
+  pub rows-refused : (cause : Cause) (at : ℕ) → r ≡ Refused cause at → check_text limits text ≡ refused cause at
   rows-refused cause at e = refuses_as (check_text limits text) cause at (sym e ∙ h.answer ∙ ap text_read into)
 
   pub read-rows : (t n e q : ℕ) → r ≡ Read t n e q → ReadRows text t n e q table' starts' lengths'

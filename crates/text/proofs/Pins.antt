@@ -17,7 +17,7 @@ use Rattle.grammar.specs.Limits.{Limits, byte_limits, limits}
 use Rattle.grammar.specs.Grammar.{Rule, state_count}
 use Rattle.grammar.specs.Table.{encode}
 use Rattle.grammar.proofs.Answers.{unless_holds, unless_fails}
-use Rattle.grammar.specs.Refusal.{Answer, done, refused, refuse_unless, and_then}
+use Rattle.grammar.specs.Refusal.{Answer, done, refused, refuse_unless, and_then, out_of_range, rule_too_long, code_undeclared, rule_repeated, too_many_rules, too_many_states, buffer_too_short, malformed, name_unknown, name_repeated, no_sentence}
 use Rattle.grammar.specs.TableCheck.{same_codes, is_among, declared_front, read_rule, next_rule, check_from, stored_table, check_table}
 use Rattle.grammar.specs.Live.{has, has_all, concluded, waiting, rounds, nonterminals_of, productive, has_sentence}
 use Rattle.text.specs.Pieces.{split_on, led_by, join, ended_by}
@@ -182,134 +182,134 @@ spans = (refl, refl, refl)
 -- ---- the reader's refusals
 
 -- 16 at a line that is missing, unended or blank, wherever it stands
-cause_16_lines : (read "" ≡ refused 16 1)
-    × (read "terminals=a" ≡ refused 16 1)
-    × (read "terminals=a\n" ≡ refused 16 2)
-    × (read "terminals=a\nnonterminals=S" ≡ refused 16 2)
-    × (read "terminals=a\nnonterminals=S\nrule=S: a" ≡ refused 16 3)
-    × (read "terminals=a\nnonterminals=S\n\n" ≡ refused 16 3)
-    × (read "terminals=a\nnonterminals=S\n\nrule=S: a\n" ≡ refused 16 3)
-    × (read "terminals=a\nnonterminals=S\nrule=S: a\n\n" ≡ refused 16 4)
-    × (read "\nnonterminals=S\n" ≡ refused 16 1)
+cause_16_lines : (read "" ≡ refused malformed 1)
+    × (read "terminals=a" ≡ refused malformed 1)
+    × (read "terminals=a\n" ≡ refused malformed 2)
+    × (read "terminals=a\nnonterminals=S" ≡ refused malformed 2)
+    × (read "terminals=a\nnonterminals=S\nrule=S: a" ≡ refused malformed 3)
+    × (read "terminals=a\nnonterminals=S\n\n" ≡ refused malformed 3)
+    × (read "terminals=a\nnonterminals=S\n\nrule=S: a\n" ≡ refused malformed 3)
+    × (read "terminals=a\nnonterminals=S\nrule=S: a\n\n" ≡ refused malformed 4)
+    × (read "\nnonterminals=S\n" ≡ refused malformed 1)
 unfolding read
 cause_16_lines = (refl, refl, refl, refl, refl, refl, refl, refl, refl)
 
 -- 16 at a line with another key, in another order, or without an equals sign; keys are no names, so their case counts
-cause_16_keys : (read "terminal=a\nnonterminals=S\n" ≡ refused 16 1)
-    × (read "nonterminals=S\nterminals=a\n" ≡ refused 16 1)
-    × (read "terminals\nnonterminals=S\n" ≡ refused 16 1)
-    × (read " terminals=a\nnonterminals=S\n" ≡ refused 16 1)
-    × (read "terminals=a\nterminals=S\n" ≡ refused 16 2)
-    × (read "terminals=a\nnonterminals=S\nrules=S: a\n" ≡ refused 16 3)
-    × (read "terminals=a\nnonterminals=S\nterminals=b\n" ≡ refused 16 3)
-    × (read "Terminals=a\nnonterminals=S\n" ≡ refused 16 1)
-    × (read "terminals=a\nnonTerminals=S\n" ≡ refused 16 2)
-    × (read "terminals=a\nnonterminals=S\nRule=S: a\n" ≡ refused 16 3)
+cause_16_keys : (read "terminal=a\nnonterminals=S\n" ≡ refused malformed 1)
+    × (read "nonterminals=S\nterminals=a\n" ≡ refused malformed 1)
+    × (read "terminals\nnonterminals=S\n" ≡ refused malformed 1)
+    × (read " terminals=a\nnonterminals=S\n" ≡ refused malformed 1)
+    × (read "terminals=a\nterminals=S\n" ≡ refused malformed 2)
+    × (read "terminals=a\nnonterminals=S\nrules=S: a\n" ≡ refused malformed 3)
+    × (read "terminals=a\nnonterminals=S\nterminals=b\n" ≡ refused malformed 3)
+    × (read "Terminals=a\nnonterminals=S\n" ≡ refused malformed 1)
+    × (read "terminals=a\nnonTerminals=S\n" ≡ refused malformed 2)
+    × (read "terminals=a\nnonterminals=S\nRule=S: a\n" ≡ refused malformed 3)
 unfolding read
 cause_16_keys = (refl, refl, refl, refl, refl, refl, refl, refl, refl, refl)
 
 -- 16 at a list with an empty or malformed name
-cause_16_names : (read "terminals=a,\nnonterminals=S\n" ≡ refused 16 1)
-    × (read "terminals=,a\nnonterminals=S\n" ≡ refused 16 1)
-    × (read "terminals=a, b\nnonterminals=S\n" ≡ refused 16 1)
-    × (read "terminals=a_b\nnonterminals=S\n" ≡ refused 16 1)
-    × (read "terminals=a\r\nnonterminals=S\n" ≡ refused 16 1)
-    × (read "terminals=a\nnonterminals=S,,T\n" ≡ refused 16 2)
-    × (read "terminals=a\nnonterminals=abcdefghijklmnop\n" ≡ refused 16 2)
+cause_16_names : (read "terminals=a,\nnonterminals=S\n" ≡ refused malformed 1)
+    × (read "terminals=,a\nnonterminals=S\n" ≡ refused malformed 1)
+    × (read "terminals=a, b\nnonterminals=S\n" ≡ refused malformed 1)
+    × (read "terminals=a_b\nnonterminals=S\n" ≡ refused malformed 1)
+    × (read "terminals=a\r\nnonterminals=S\n" ≡ refused malformed 1)
+    × (read "terminals=a\nnonterminals=S,,T\n" ≡ refused malformed 2)
+    × (read "terminals=a\nnonterminals=abcdefghijklmnop\n" ≡ refused malformed 2)
 unfolding read
 cause_16_names = (refl, refl, refl, refl, refl, refl, refl)
 
 -- 16 at a rule without or with two colons, without a space before a name, with a space at the end or two in a row, with a
 -- malformed name on the left or on the right
-cause_16_rules : (read "terminals=a\nnonterminals=S\nrule=S\n" ≡ refused 16 3)
-    × (read "terminals=a\nnonterminals=S\nrule=S: a:\n" ≡ refused 16 3)
-    × (read "terminals=a\nnonterminals=S\nrule=S:a\n" ≡ refused 16 3)
-    × (read "terminals=a\nnonterminals=S\nrule=S: a \n" ≡ refused 16 3)
-    × (read "terminals=a\nnonterminals=S\nrule=S: a  a\n" ≡ refused 16 3)
-    × (read "terminals=a\nnonterminals=S\nrule=S: \n" ≡ refused 16 3)
-    × (read "terminals=a\nnonterminals=S\nrule=: a\n" ≡ refused 16 3)
-    × (read "terminals=a\nnonterminals=S\nrule=S : a\n" ≡ refused 16 3)
-    × (read "terminals=a\nnonterminals=S\nrule=S: a\nrule=S: _\n" ≡ refused 16 4)
+cause_16_rules : (read "terminals=a\nnonterminals=S\nrule=S\n" ≡ refused malformed 3)
+    × (read "terminals=a\nnonterminals=S\nrule=S: a:\n" ≡ refused malformed 3)
+    × (read "terminals=a\nnonterminals=S\nrule=S:a\n" ≡ refused malformed 3)
+    × (read "terminals=a\nnonterminals=S\nrule=S: a \n" ≡ refused malformed 3)
+    × (read "terminals=a\nnonterminals=S\nrule=S: a  a\n" ≡ refused malformed 3)
+    × (read "terminals=a\nnonterminals=S\nrule=S: \n" ≡ refused malformed 3)
+    × (read "terminals=a\nnonterminals=S\nrule=: a\n" ≡ refused malformed 3)
+    × (read "terminals=a\nnonterminals=S\nrule=S : a\n" ≡ refused malformed 3)
+    × (read "terminals=a\nnonterminals=S\nrule=S: a\nrule=S: _\n" ≡ refused malformed 4)
 unfolding read
 cause_16_rules = (refl, refl, refl, refl, refl, refl, refl, refl, refl)
 
 -- 18 at the line that declares a name again, in whatever case
-cause_18 : (read "terminals=a,b,a\nnonterminals=S\n" ≡ refused 18 1)
-    × (read "terminals=a\nnonterminals=S,S\n" ≡ refused 18 2)
-    × (read "terminals=a,b\nnonterminals=S,b\n" ≡ refused 18 2)
-    × (read "terminals=a,A\nnonterminals=S\n" ≡ refused 18 1)
-    × (read "terminals=a\nnonterminals=S,s\n" ≡ refused 18 2)
-    × (read "terminals=a,Take\nnonterminals=S,tAKE\n" ≡ refused 18 2)
+cause_18 : (read "terminals=a,b,a\nnonterminals=S\n" ≡ refused name_repeated 1)
+    × (read "terminals=a\nnonterminals=S,S\n" ≡ refused name_repeated 2)
+    × (read "terminals=a,b\nnonterminals=S,b\n" ≡ refused name_repeated 2)
+    × (read "terminals=a,A\nnonterminals=S\n" ≡ refused name_repeated 1)
+    × (read "terminals=a\nnonterminals=S,s\n" ≡ refused name_repeated 2)
+    × (read "terminals=a,Take\nnonterminals=S,tAKE\n" ≡ refused name_repeated 2)
 unfolding read
 cause_18 = (refl, refl, refl, refl, refl, refl)
 
 -- 1 at the line with no nonterminal or with too many names
-cause_1 : (read "terminals=a\nnonterminals=\n" ≡ refused 1 2)
-    × (read_small "terminals=a,b,c\nnonterminals=S\n" ≡ refused 1 1)
-    × (read_small "terminals=\nnonterminals=S,T,U,V\n" ≡ refused 1 2)
+cause_1 : (read "terminals=a\nnonterminals=\n" ≡ refused out_of_range 2)
+    × (read_small "terminals=a,b,c\nnonterminals=S\n" ≡ refused out_of_range 1)
+    × (read_small "terminals=\nnonterminals=S,T,U,V\n" ≡ refused out_of_range 2)
     × (read_small "terminals=a,b\nnonterminals=S,T,U\n" ≡ done (source ("a" ∷ "b" ∷ []) ("S" ∷ "T" ∷ "U" ∷ []) []))
 unfolding read_small
 cause_1 = (refl, refl, refl, refl)
 
 -- 17 at a rule with an unknown name, or a terminal's on the left
-cause_17 : (read "terminals=a\nnonterminals=S\nrule=S: b\n" ≡ refused 17 3)
-    × (read "terminals=a\nnonterminals=S\nrule=T: a\n" ≡ refused 17 3)
-    × (read "terminals=a\nnonterminals=S\nrule=a: a\n" ≡ refused 17 3)
-    × (read "terminals=a\nnonterminals=S\nrule=S: S-\n" ≡ refused 17 3)
-    × (read "terminals=a\nnonterminals=S\nrule=S: a\nrule=S: aa\n" ≡ refused 17 4)
+cause_17 : (read "terminals=a\nnonterminals=S\nrule=S: b\n" ≡ refused name_unknown 3)
+    × (read "terminals=a\nnonterminals=S\nrule=T: a\n" ≡ refused name_unknown 3)
+    × (read "terminals=a\nnonterminals=S\nrule=a: a\n" ≡ refused name_unknown 3)
+    × (read "terminals=a\nnonterminals=S\nrule=S: S-\n" ≡ refused name_unknown 3)
+    × (read "terminals=a\nnonterminals=S\nrule=S: a\nrule=S: aa\n" ≡ refused name_unknown 4)
 unfolding read
 cause_17 = (refl, refl, refl, refl, refl)
 
 -- 4 at a rule of 13 names, not of 12
-cause_4 : (read "terminals=a\nnonterminals=S\nrule=S: a a a a a a a a a a a a a\n" ≡ refused 4 3)
+cause_4 : (read "terminals=a\nnonterminals=S\nrule=S: a a a a a a a a a a a a a\n" ≡ refused rule_too_long 3)
     × (read "terminals=a\nnonterminals=S\nrule=S: a a a a a a a a a a a a\n"
     ≡ done (source ("a" ∷ []) ("S" ∷ []) (rule 128 (replicate 12 1) ∷ [])))
 unfolding read
 cause_4 = (refl, refl)
 
 -- 16 at line 0 for a text of 46 bytes, not of 45
-too_long : (read_small "terminals=a\nnonterminals=S\nrule=S: aaaaaaaaa\n" ≡ refused 17 3)
-    × (read_small "terminals=a\nnonterminals=S\nrule=S: aaaaaaaaaa\n" ≡ refused 16 0)
+too_long : (read_small "terminals=a\nnonterminals=S\nrule=S: aaaaaaaaa\n" ≡ refused name_unknown 3)
+    × (read_small "terminals=a\nnonterminals=S\nrule=S: aaaaaaaaaa\n" ≡ refused malformed 0)
 unfolding read_small
 too_long = (refl, refl)
 
 -- in a line 16 before 18 before 1, and 16 before 17 before 4; the first line with a fault counts
-reader_order : (read "terminals=a,a,_\nnonterminals=S\n" ≡ refused 16 1)
-    × (read_small "terminals=a,b,a\nnonterminals=S\n" ≡ refused 18 1)
-    × (read "terminals=a\nnonterminals=S\nrule=T: b _\n" ≡ refused 16 3)
-    × (read "terminals=a\nnonterminals=S\nrule=S: a a a a a a a a a a a a b\n" ≡ refused 17 3)
-    × (read "terminals=a,a\nnonterminals=\nrule\n" ≡ refused 18 1)
-    × (read "terminals=a\nnonterminals=\nrule\n" ≡ refused 1 2)
-    × (read "terminals=a\nnonterminals=S\nrule=S: b\nrule" ≡ refused 17 3)
+reader_order : (read "terminals=a,a,_\nnonterminals=S\n" ≡ refused malformed 1)
+    × (read_small "terminals=a,b,a\nnonterminals=S\n" ≡ refused name_repeated 1)
+    × (read "terminals=a\nnonterminals=S\nrule=T: b _\n" ≡ refused malformed 3)
+    × (read "terminals=a\nnonterminals=S\nrule=S: a a a a a a a a a a a a b\n" ≡ refused name_unknown 3)
+    × (read "terminals=a,a\nnonterminals=\nrule\n" ≡ refused name_repeated 1)
+    × (read "terminals=a\nnonterminals=\nrule\n" ≡ refused out_of_range 2)
+    × (read "terminals=a\nnonterminals=S\nrule=S: b\nrule" ≡ refused name_unknown 3)
 unfolding read_small
 reader_order = (refl, refl, refl, refl, refl, refl, refl)
 
 -- 7, 6 and 8 at the rule's offset in the table, in this order, and after all lines; a rule in another case is the same rule
-rules_order : (check small "terminals=a\nnonterminals=S\nrule=S:\nrule=S:\n" ≡ refused 7 2)
-    × (check roomy "terminals=a\nnonterminals=S\nrule=S: a\nrule=S: a\n" ≡ refused 6 3)
-    × (check roomy "terminals=a\nnonterminals=S\nrule=S:\nrule=S: a\n" ≡ refused 8 2)
+rules_order : (check small "terminals=a\nnonterminals=S\nrule=S:\nrule=S:\n" ≡ refused too_many_rules 2)
+    × (check roomy "terminals=a\nnonterminals=S\nrule=S: a\nrule=S: a\n" ≡ refused rule_repeated 3)
+    × (check roomy "terminals=a\nnonterminals=S\nrule=S:\nrule=S: a\n" ≡ refused too_many_states 2)
     × (check roomy "terminals=a\nnonterminals=S\nrule=S: a\n" ≡ done (source ("a" ∷ []) ("S" ∷ []) (rule 10 (1 ∷ []) ∷ [])))
-    × (check byte_limits "terminals=a\nnonterminals=S\nrule=S: a\nrule=S:\nrule=S: a\n" ≡ refused 6 5)
-    × (check byte_limits "terminals=a\nnonterminals=S\nrule=S: a\nrule=S: a\nrule=S: b\n" ≡ refused 17 5)
-    × (check byte_limits "terminals=a\nnonterminals=S\nrule=S: a\nrule=s: A\n" ≡ refused 6 3)
+    × (check byte_limits "terminals=a\nnonterminals=S\nrule=S: a\nrule=S:\nrule=S: a\n" ≡ refused rule_repeated 5)
+    × (check byte_limits "terminals=a\nnonterminals=S\nrule=S: a\nrule=S: a\nrule=S: b\n" ≡ refused name_unknown 5)
+    × (check byte_limits "terminals=a\nnonterminals=S\nrule=S: a\nrule=s: A\n" ≡ refused rule_repeated 3)
 unfolding check
 rules_order = (refl, refl, refl, refl, refl, refl, refl)
 
 -- 19 at 0 where S has no finite tree, after 8 and before 14; one whose only sentence is empty passes
-cause_19 : (check byte_limits "terminals=a\nnonterminals=S\n" ≡ refused 19 0)
-    × (check byte_limits "terminals=a\nnonterminals=S,B\nrule=S: a B\nrule=B: S\n" ≡ refused 19 0)
-    × (check roomy "terminals=a\nnonterminals=S\nrule=S: S\nrule=S: S\n" ≡ refused 6 3)
-    × (into 0 0 0 "terminals=a\nnonterminals=S\nrule=S: S\n" ≡ refused 19 0)
+cause_19 : (check byte_limits "terminals=a\nnonterminals=S\n" ≡ refused no_sentence 0)
+    × (check byte_limits "terminals=a\nnonterminals=S,B\nrule=S: a B\nrule=B: S\n" ≡ refused no_sentence 0)
+    × (check roomy "terminals=a\nnonterminals=S\nrule=S: S\nrule=S: S\n" ≡ refused rule_repeated 3)
+    × (into 0 0 0 "terminals=a\nnonterminals=S\nrule=S: S\n" ≡ refused no_sentence 0)
     × (check byte_limits "terminals=\nnonterminals=S\nrule=S:\n" ≡ done (source [] ("S" ∷ []) (rule 128 [] ∷ [])))
 unfolding check into
 cause_19 = (refl, refl, refl, refl, refl)
 
 -- 14 at 0 where a lent row is short of 3 entries, 2 starts or 2 lengths, and after all else
 cause_14 : (into 3 2 2 "terminals=a\nnonterminals=S\nrule=S: a\n" ≡ done (source ("a" ∷ []) ("S" ∷ []) (rule 128 (1 ∷ []) ∷ [])))
-    × (into 2 2 2 "terminals=a\nnonterminals=S\nrule=S: a\n" ≡ refused 14 0)
-    × (into 3 1 2 "terminals=a\nnonterminals=S\nrule=S: a\n" ≡ refused 14 0)
-    × (into 3 2 1 "terminals=a\nnonterminals=S\nrule=S: a\n" ≡ refused 14 0)
-    × (into 0 0 0 "terminals=a\nnonterminals=S\nrule=S: a\nrule=S: a\n" ≡ refused 6 3)
+    × (into 2 2 2 "terminals=a\nnonterminals=S\nrule=S: a\n" ≡ refused buffer_too_short 0)
+    × (into 3 1 2 "terminals=a\nnonterminals=S\nrule=S: a\n" ≡ refused buffer_too_short 0)
+    × (into 3 2 1 "terminals=a\nnonterminals=S\nrule=S: a\n" ≡ refused buffer_too_short 0)
+    × (into 0 0 0 "terminals=a\nnonterminals=S\nrule=S: a\nrule=S: a\n" ≡ refused rule_repeated 3)
 unfolding into
 cause_14 = (refl, refl, refl, refl, refl)
 
@@ -318,7 +318,7 @@ cause_14 = (refl, refl, refl, refl, refl)
 -- names lent in any order, with room for 37 bytes; in 36 it is 14 at 0
 writes : (write 1 1 (128 ∷ 1 ∷ 1 ∷ []) "Sa" (1 ∷ 0 ∷ []) (1 ∷ 1 ∷ []) 37
     ≡ done (bytes "terminals=a\nnonterminals=S\nrule=S: a\n"))
-    × (write 1 1 (128 ∷ 1 ∷ 1 ∷ []) "Sa" (1 ∷ 0 ∷ []) (1 ∷ 1 ∷ []) 36 ≡ refused 14 0)
+    × (write 1 1 (128 ∷ 1 ∷ 1 ∷ []) "Sa" (1 ∷ 0 ∷ []) (1 ∷ 1 ∷ []) 36 ≡ refused buffer_too_short 0)
     × (write 0 1 (128 ∷ 0 ∷ []) "S" (0 ∷ 9 ∷ []) (1 ∷ 9 ∷ []) 100 ≡ done (bytes "terminals=\nnonterminals=S\nrule=S:\n"))
 unfolding write
 writes = (refl, refl, refl)
@@ -332,29 +332,29 @@ unfolding bytes name_at
 lent-names = (refl, refl, refl, refl)
 
 -- 16 at the symbol without a start, without a length, past the bytes, or with a malformed name
-writer_16 : (write 1 1 (128 ∷ 0 ∷ []) "aS" (0 ∷ []) (1 ∷ 1 ∷ []) 100 ≡ refused 16 1)
-    × (write 1 1 (128 ∷ 0 ∷ []) "aS" (0 ∷ 1 ∷ []) (1 ∷ []) 100 ≡ refused 16 1)
-    × (write 1 1 (128 ∷ 0 ∷ []) "aS" (0 ∷ 1 ∷ []) (1 ∷ 2 ∷ []) 100 ≡ refused 16 1)
-    × (write 1 1 (128 ∷ 0 ∷ []) "_S" (0 ∷ 1 ∷ []) (1 ∷ 1 ∷ []) 100 ≡ refused 16 0)
-    × (write 1 1 (128 ∷ 0 ∷ []) "aS" (0 ∷ 1 ∷ []) (0 ∷ 1 ∷ []) 100 ≡ refused 16 0)
+writer_16 : (write 1 1 (128 ∷ 0 ∷ []) "aS" (0 ∷ []) (1 ∷ 1 ∷ []) 100 ≡ refused malformed 1)
+    × (write 1 1 (128 ∷ 0 ∷ []) "aS" (0 ∷ 1 ∷ []) (1 ∷ []) 100 ≡ refused malformed 1)
+    × (write 1 1 (128 ∷ 0 ∷ []) "aS" (0 ∷ 1 ∷ []) (1 ∷ 2 ∷ []) 100 ≡ refused malformed 1)
+    × (write 1 1 (128 ∷ 0 ∷ []) "_S" (0 ∷ 1 ∷ []) (1 ∷ 1 ∷ []) 100 ≡ refused malformed 0)
+    × (write 1 1 (128 ∷ 0 ∷ []) "aS" (0 ∷ 1 ∷ []) (0 ∷ 1 ∷ []) 100 ≡ refused malformed 0)
 unfolding write
 writer_16 = (refl, refl, refl, refl, refl)
 
 -- 18 at the lowest symbol whose name an earlier one has, in whatever case; names are written as they are lent
-writer_18 : (write 2 2 (128 ∷ 0 ∷ []) "ab" (0 ∷ 1 ∷ 0 ∷ 1 ∷ []) (1 ∷ 1 ∷ 1 ∷ 1 ∷ []) 100 ≡ refused 18 2)
-    × (write 1 2 (128 ∷ 0 ∷ []) "ab" (1 ∷ 0 ∷ 0 ∷ []) (1 ∷ 1 ∷ 1 ∷ []) 100 ≡ refused 18 2)
-    × (write 1 1 (128 ∷ 0 ∷ []) "sS" (0 ∷ 1 ∷ []) (1 ∷ 1 ∷ []) 100 ≡ refused 18 1)
+writer_18 : (write 2 2 (128 ∷ 0 ∷ []) "ab" (0 ∷ 1 ∷ 0 ∷ 1 ∷ []) (1 ∷ 1 ∷ 1 ∷ 1 ∷ []) 100 ≡ refused name_repeated 2)
+    × (write 1 2 (128 ∷ 0 ∷ []) "ab" (1 ∷ 0 ∷ 0 ∷ []) (1 ∷ 1 ∷ 1 ∷ []) 100 ≡ refused name_repeated 2)
+    × (write 1 1 (128 ∷ 0 ∷ []) "sS" (0 ∷ 1 ∷ []) (1 ∷ 1 ∷ []) 100 ≡ refused name_repeated 1)
     × (write 1 1 (128 ∷ 1 ∷ 1 ∷ []) "TAKEs" (0 ∷ 4 ∷ []) (4 ∷ 1 ∷ []) 100
     ≡ done (bytes "terminals=TAKE\nnonterminals=s\nrule=s: TAKE\n"))
 unfolding write
 writer_18 = (refl, refl, refl, refl)
 
 -- table faults before 16 before 18 before 14
-writer_order : (write 1 0 [] "" [] [] 0 ≡ refused 1 0)
-    × (write 1 1 (128 ∷ 1 ∷ 2 ∷ []) "" [] [] 0 ≡ refused 5 2)
-    × (write 1 1 [] "" [] [] 0 ≡ refused 19 0)
-    × (write 2 1 (128 ∷ 0 ∷ []) "a_" (0 ∷ 0 ∷ 1 ∷ []) (1 ∷ 1 ∷ 1 ∷ []) 0 ≡ refused 16 2)
-    × (write 1 1 (128 ∷ 0 ∷ []) "a" (0 ∷ 0 ∷ []) (1 ∷ 1 ∷ []) 0 ≡ refused 18 1)
+writer_order : (write 1 0 [] "" [] [] 0 ≡ refused out_of_range 0)
+    × (write 1 1 (128 ∷ 1 ∷ 2 ∷ []) "" [] [] 0 ≡ refused code_undeclared 2)
+    × (write 1 1 [] "" [] [] 0 ≡ refused no_sentence 0)
+    × (write 2 1 (128 ∷ 0 ∷ []) "a_" (0 ∷ 0 ∷ 1 ∷ []) (1 ∷ 1 ∷ 1 ∷ []) 0 ≡ refused malformed 2)
+    × (write 1 1 (128 ∷ 0 ∷ []) "a" (0 ∷ 0 ∷ []) (1 ∷ 1 ∷ []) 0 ≡ refused name_repeated 1)
 unfolding write
 writer_order = (refl, refl, refl, refl, refl)
 
@@ -368,13 +368,13 @@ unfolding told_length
 told-lengths = (refl, refl, refl)
 
 -- the writer's refusals but 14, in its order: table faults, 19 the last of them, then 16, then 18
-told_refusals : (told_length 1 0 [] "" [] [] ≡ Refused 1 0)
-    × (told_length 1 1 (128 ∷ 1 ∷ 2 ∷ []) "" [] [] ≡ Refused 5 2)
-    × (told_length 1 1 [] "" [] [] ≡ Refused 19 0)
-    × (told_length 1 1 (128 ∷ 0 ∷ []) "aS" (0 ∷ 1 ∷ []) (1 ∷ []) ≡ Refused 16 1)
-    × (told_length 2 1 (128 ∷ 0 ∷ []) "a_" (0 ∷ 0 ∷ 1 ∷ []) (1 ∷ 1 ∷ 1 ∷ []) ≡ Refused 16 2)
-    × (told_length 1 1 (128 ∷ 0 ∷ []) "a" (0 ∷ 0 ∷ []) (1 ∷ 1 ∷ []) ≡ Refused 18 1)
-    × (told_length 1 1 (128 ∷ 0 ∷ []) "aA" (0 ∷ 1 ∷ []) (1 ∷ 1 ∷ []) ≡ Refused 18 1)
+told_refusals : (told_length 1 0 [] "" [] [] ≡ Refused out_of_range 0)
+    × (told_length 1 1 (128 ∷ 1 ∷ 2 ∷ []) "" [] [] ≡ Refused code_undeclared 2)
+    × (told_length 1 1 [] "" [] [] ≡ Refused no_sentence 0)
+    × (told_length 1 1 (128 ∷ 0 ∷ []) "aS" (0 ∷ 1 ∷ []) (1 ∷ []) ≡ Refused malformed 1)
+    × (told_length 2 1 (128 ∷ 0 ∷ []) "a_" (0 ∷ 0 ∷ 1 ∷ []) (1 ∷ 1 ∷ 1 ∷ []) ≡ Refused malformed 2)
+    × (told_length 1 1 (128 ∷ 0 ∷ []) "a" (0 ∷ 0 ∷ []) (1 ∷ 1 ∷ []) ≡ Refused name_repeated 1)
+    × (told_length 1 1 (128 ∷ 0 ∷ []) "aA" (0 ∷ 1 ∷ []) (1 ∷ 1 ∷ []) ≡ Refused name_repeated 1)
 unfolding told_length
 told_refusals = (refl, refl, refl, refl, refl, refl, refl)
 
@@ -388,12 +388,12 @@ wide-codes = (refl, refl)
 
 -- 16 at line 0 for a text of 262,145 bytes; one of 262,144 bytes is read by its lines
 wide_texts : (text : List ℕ)
-    → (length text ≡ 262145 → read_text limits text ≡ refused 16 0)
+    → (length text ≡ 262145 → read_text limits text ≡ refused malformed 0)
     × (length text ≡ 262144 → read_text limits text ≡ read_lines limits (split_on 10 text))
 unfolding read_text
 wide_texts text =
     let m = limits.max_text in
     let test = leb (length text) m in (
-      λ e. unless_fails 16 0 test (read_lines limits (split_on 10 text)) (lt-leb (length text) m (omega (arith, e))),
-      λ e. unless_holds 16 0 test (read_lines limits (split_on 10 text)) (le-leb (length text) m (omega (arith, e))),
+      λ e. unless_fails malformed 0 test (read_lines limits (split_on 10 text)) (lt-leb (length text) m (omega (arith, e))),
+      λ e. unless_holds malformed 0 test (read_lines limits (split_on 10 text)) (le-leb (length text) m (omega (arith, e))),
     )

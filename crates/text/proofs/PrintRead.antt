@@ -15,6 +15,7 @@ use Rattle.grammar.specs.Limits.{Limits}
 use Rattle.grammar.specs.Grammar.{Terminal, Nonterminal, Rule, start}
 use Rattle.grammar.specs.Refusal.{Answer, done}
 use Rattle.grammar.proofs.Answers.{and_both, no_answer, done_inj, unless_done, then-done}
+use Rattle.grammar.specs.declared.Cause.{Cause}
 use Rattle.text.specs.Pieces.{split_on, led_by, join, ended_by}
 use Rattle.text.specs.Names.{all, is_name, has_double}
 use Rattle.text.specs.Keys.{key_table, key_lengths, key, value_of}
@@ -30,7 +31,7 @@ use Rattle.text.proofs.WellNamed.{RuleFits, WellNamedSource, mem_each, mem_none}
 -- ---- what a result says of its parts
 
 -- there is a value, and the rest has the result
-pub none_done : {A B : Type 0} (c p : ℕ) (m : Option A) (go : A → Answer B) (b : B) → refuse_none c p m go ≡ done b
+pub none_done : {A B : Type 0} (c : Cause) (p : ℕ) (m : Option A) (go : A → Answer B) (b : B) → refuse_none c p m go ≡ done b
     → (a : A) × (m ≡ some a) × (go a ≡ done b)
 unfolding refuse_none
 none_done c p none go b e = no_answer e

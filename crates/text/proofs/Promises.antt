@@ -12,6 +12,7 @@ use Rattle.grammar.specs.Grammar.{state_count}
 use Rattle.grammar.specs.Table.{encode, decode}
 use Rattle.grammar.specs.Refusal.{Answer, done, refused}
 use Rattle.grammar.proofs.Rules.{decode-encode}
+use Rattle.grammar.specs.declared.Cause.{Cause}
 use Rattle.text.specs.Read.{Source, symbol_names}
 use Rattle.text.specs.Rules.{check_text, read_into}
 use Rattle.text.specs.Spelling.{spelled_text}
@@ -43,7 +44,7 @@ read_as (done s) t n e q h = record { source = s; whole = refl; terminals = cc; 
 read_as (refused c p) t n e q h = absurd (let z : ◌≡◌ {A = ℕ} 0 1 = cc in omega arith)
 
 -- an answer that refuses has that refusal
-pub refuses_as : (o : Answer Source) (c p : ℕ) → Refused c p ≡ text_read o → o ≡ refused c p
+pub refuses_as : (o : Answer Source) (c : Cause) (p : ℕ) → Refused c p ≡ text_read o → o ≡ refused c p
 refuses_as (done s) c p h = absurd (let z : ◌≡◌ {A = ℕ} 0 1 = cc in omega arith)
 refuses_as (refused d q) c p h = cc
 
@@ -57,7 +58,7 @@ pub told_as : (o : Answer (List ℕ)) (m : ℕ) → Bytes m ≡ text_length o �
 told_as (done text) m h = (text, refl, cc)
 told_as (refused c p) m h = absurd (let z : ◌≡◌ {A = ℕ} 0 1 = cc in omega arith)
 
-pub told-refused : (o : Answer (List ℕ)) (c p : ℕ) → LengthRefused c p ≡ text_length o → o ≡ refused c p
+pub told-refused : (o : Answer (List ℕ)) (c : Cause) (p : ℕ) → LengthRefused c p ≡ text_length o → o ≡ refused c p
 told-refused (done text) c p h = absurd (let z : ◌≡◌ {A = ℕ} 0 1 = cc in omega arith)
 told-refused (refused d q) c p h = cc
 

@@ -20,6 +20,7 @@ use Rattle.grammar.proofs.Answers.{done_inj, unless_holds, unless_fails, unless_
 use Rattle.grammar.proofs.Steps.{grammar_of}
 use Rattle.grammar.proofs.WellFormed.{room}
 use Rattle.grammar.proofs.Sentence.{passed-stored, takes_all, takes_only}
+use Rattle.grammar.specs.declared.Cause.{Cause}
 use Rattle.text.specs.Names.{all, is_name, has_double}
 use Rattle.text.specs.Read.{Source, symbol_names, read_text}
 use Rattle.text.specs.Rules.{check_text, read_into}
@@ -65,14 +66,14 @@ module _ (L : Limits) where
       rw (c, g, eq-eqb (first_double [] names) (length names) f)
 
   -- the faults of the table come first
-  pub table-refuses : (t n : ℕ) (table bytes starts lengths : List ℕ) (c p : ℕ) → check_table L t n table ≡ refused c p
+  pub table-refuses : (t n : ℕ) (table bytes starts lengths : List ℕ) (c : Cause) (p : ℕ) → check_table L t n table ≡ refused c p
       → text_from L t n table bytes starts lengths ≡ refused c p
   unfolding text_from
   table-refuses t n table bytes starts lengths c p e = then_stops (check_table L t n table) _ c p e
 
   module _ (t n : ℕ) (table bytes starts lengths : List ℕ) (room : ℕ) where
     -- where there is none, the writer refuses for the same cause
-    pub into_refused : (c p : ℕ) → text_from L t n table bytes starts lengths ≡ refused c p
+    pub into_refused : (c : Cause) (p : ℕ) → text_from L t n table bytes starts lengths ≡ refused c p
         → write_into L t n table bytes starts lengths room ≡ refused c p
     unfolding write_into
     into_refused c p e = then_stops _ _ c p e

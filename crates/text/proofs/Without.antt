@@ -10,7 +10,7 @@ use Rattle.grammar.specs.Limits.{Limits}
 use Rattle.grammar.specs.Grammar.{Grammar, WellFormed}
 use Rattle.grammar.specs.Live.{HasSentence}
 use Rattle.grammar.specs.Table.{encode, decode}
-use Rattle.grammar.specs.Refusal.{Answer, done, refused, and_then, name_repeated, no_sentence}
+use Rattle.grammar.specs.Refusal.{Answer, done, refused, and_then, name_repeated, no_sentence, cause_number}
 use Rattle.grammar.proofs.Answers.{no_bool, no_answer, then-goes, then_stops, refused_as}
 use Rattle.grammar.proofs.Causes.{CausedBy, cause, up_to}
 use Rattle.grammar.proofs.Rules.{decode-encode}
@@ -20,6 +20,7 @@ use Rattle.text.specs.Read.{Source, grammar_of, read_text}
 use Rattle.text.specs.Rules.{last_tests, check_text}
 use Rattle.text.proofs.Admit.{read_tests}
 use Rattle.text.proofs.Causes.{text_causes}
+use Rattle.grammar.specs.declared.Cause.{Cause}
 
 -- it is read, and its grammar is well formed and has no sentence
 abbrev pub Barren : Limits → List ℕ → Type 0
@@ -60,10 +61,10 @@ module _ (L : Limits) (four : 4 ≤ L.max_states) (apart : L.max_terminals < L.n
           let g = same-grammar s x.1.0 x.1.1 in
           (x.0, (s, r, subst (WellFormed L) g x.1.1.well_formed, subst (λ (G : Grammar). ¬ HasSentence L G) g x.1.2))
 
-      told : (o : Answer Source) → read_text L text ≡ o → CausedBy (up_to name_repeated) o → and_then (read_text L text) rest ≡ refused no_sentence at
+      told : (o : Answer Source) → read_text L text ≡ o → CausedBy (up_to (cause_number name_repeated)) o → and_then (read_text L text) rest ≡ refused no_sentence at
           → (at ≡ 0) × Barren L text
       told (done s) r c e = last s r (last_tests L s) refl e
       told (refused k p) r (cause h) e =
           let z : ◌≡◌ {A = Answer Source} (refused k p) (refused no_sentence at) = sym (then_stops (read_text L text) rest k p r) ∙ e in
           let w : k ≡ no_sentence = cc in
-          no_bool (sym (subst (λ (c : ℕ). up_to name_repeated c ≡ true) w h))
+          no_bool (sym (subst (λ (c : Cause). up_to (cause_number name_repeated) (cause_number c) ≡ true) w h))

@@ -9,8 +9,9 @@ use native.Mathlib.Nat.{zero-add}
 use lib.ListN.{length, take, drop, length-drop}
 use lib.Seq.{drop-drop, length-take-le, take-take}
 use Rattle.grammar.specs.Limits.{limits}
-use Rattle.grammar.specs.Refusal.{Answer, refused, and_then}
+use Rattle.grammar.specs.Refusal.{Answer, refused, and_then, malformed}
 use Rattle.grammar.proofs.Answers.{then-goes, then_stops}
+use Rattle.grammar.specs.declared.Cause.{Cause}
 use Rattle.text.specs.Pieces.{split_on}
 use Rattle.text.specs.Keys.{key, value_of}
 use Rattle.text.specs.Read.{names_of, declaration, whole_line, read_lines}
@@ -28,7 +29,7 @@ module _ (at k lo hi : ℕ) (earlier : List (List ℕ)) (text : List ℕ) (a e :
   pub told_names : (b count : ℕ) → r ≡ Names b count → DeclaredTold at k lo hi earlier text a e r → NamesAt at k lo hi earlier text a e b count
   told_names b count q t = subst (λ (r : Declared). DeclaredTold at k lo hi earlier text a e r) q t
 
-  pub told_fault : (cause place : ℕ) → r ≡ Fault cause place → DeclaredTold at k lo hi earlier text a e r
+  pub told_fault : (cause : Cause) (place : ℕ) → r ≡ Fault cause place → DeclaredTold at k lo hi earlier text a e r
       → declaration at k lo hi earlier (part a e text) ≡ refused cause place
   told_fault cause place q t = subst (λ (r : Declared). DeclaredTold at k lo hi earlier text a e r) q t
 
@@ -38,7 +39,7 @@ told-held text e from starts lengths starts' lengths' links' r b count q t =
     subst (λ (r : Declared). DeclaredHeld text e from starts lengths starts' lengths' links' r) q t
 
 -- one that lacks its byte 10 is refused
-whole-last : {B : Type 0} (at : ℕ) (p : List ℕ) (go : List ℕ → List (List ℕ) → Answer B) → whole_line at (p ∷ []) go ≡ refused 16 at
+whole-last : {B : Type 0} (at : ℕ) (p : List ℕ) (go : List ℕ → List (List ℕ) → Answer B) → whole_line at (p ∷ []) go ≡ refused malformed at
 unfolding whole_line
 whole-last at p go = refl
 
@@ -72,7 +73,7 @@ line-value k text a e start end l m h =
 -- ---- the first line
 
 module _ (text : List ℕ) (e : ℕ) (found : e ≡ 0 + index 10 (drop 0 text)) where
-  pub first-missing : length text ≤ e → read_lines limits (split_on 10 text) ≡ refused 16 1
+  pub first-missing : length text ≤ e → read_lines limits (split_on 10 text) ≡ refused malformed 1
   unfolding read_lines
   first-missing h = ap (read_lines limits) (piece_last 10 text 0 e (omega arith) found h) ∙ whole-last 1 (part 0 e text) _
 
@@ -83,7 +84,7 @@ module _ (text : List ℕ) (e : ℕ) (found : e ≡ 0 + index 10 (drop 0 text)) 
     first_on = ap (read_lines limits) (piece_more 10 text 0 e (omega arith) found inside)
         ∙ whole-step 1 (part 0 e text) (split_on 10 (drop (e + 1) text)) _ (split_pos 10 _)
 
-    pub first_fault : (c p : ℕ) → declaration 1 0 0 limits.max_terminals [] (part 0 e text) ≡ refused c p
+    pub first_fault : (c : Cause) (p : ℕ) → declaration 1 0 0 limits.max_terminals [] (part 0 e text) ≡ refused c p
         → read_lines limits (split_on 10 text) ≡ refused c p
     first_fault c p q = first_on ∙ then_stops _ _ c p q
 
@@ -101,7 +102,7 @@ module _ (text : List ℕ) (e : ℕ) (found : e ≡ 0 + index 10 (drop 0 text)) 
 -- ---- the second line
 
 module _ (text : List ℕ) (a e t : ℕ) (h : FirstHead text a e t) (f : ℕ) (found : f ≡ e + 1 + index 10 (drop (e + 1) text)) where
-  pub second-missing : length text ≤ f → read_lines limits (split_on 10 text) ≡ refused 16 2
+  pub second-missing : length text ≤ f → read_lines limits (split_on 10 text) ≡ refused malformed 2
   second-missing k =
       h.lines
       ∙ ap (λ ls. whole_line 2 ls (read_second (names_of (part a e text)))) (piece_last 10 text (e + 1) f (omega (arith, h.ends)) found k)
@@ -115,7 +116,7 @@ module _ (text : List ℕ) (a e t : ℕ) (h : FirstHead text a e t) (f : ℕ) (f
         ∙ ap (λ ls. whole_line 2 ls (read_second (names_of (part a e text)))) (piece_more 10 text (e + 1) f (omega (arith, h.ends)) found inside)
         ∙ whole-step 2 (part (e + 1) f text) (split_on 10 (drop (f + 1) text)) (read_second (names_of (part a e text))) (split_pos 10 _)
 
-    pub second_fault : (c p : ℕ) → declaration 2 1 1 limits.max_nonterminals (names_of (part a e text)) (part (e + 1) f text) ≡ refused c p
+    pub second_fault : (c : Cause) (p : ℕ) → declaration 2 1 1 limits.max_nonterminals (names_of (part a e text)) (part (e + 1) f text) ≡ refused c p
         → read_lines limits (split_on 10 text) ≡ refused c p
     second_fault c p q = second-on ∙ then_stops _ _ c p q
 

@@ -15,8 +15,9 @@ use Rattle.grammar.specs.Basics.{choose}
 use Rattle.grammar.specs.Limits.{limits}
 use Rattle.grammar.specs.Grammar.{Rule}
 use Rattle.grammar.specs.Table.{encode}
-use Rattle.grammar.specs.Refusal.{Answer, done, refused, refuse_unless, and_then}
+use Rattle.grammar.specs.Refusal.{Answer, done, refused, refuse_unless, and_then, rule_too_long, malformed, name_unknown}
 use Rattle.grammar.proofs.Answers.{then-goes, then_stops}
+use Rattle.grammar.specs.declared.Cause.{Cause}
 use Rattle.text.specs.Pieces.{split_on}
 use Rattle.text.specs.Names.{all, same_name, place}
 use Rattle.text.specs.Keys.{key, value_of}
@@ -35,17 +36,17 @@ module _ (at t : ℕ) (names : List (List ℕ)) (v : List ℕ) (colon count : �
   unfolding rule_value shaped refuse_none refuse_unless
   shape-value = rw (h.cut, h.named)
 
-  pub value-left : is_known t names h.sides.head ≡ false → rule_value at t names v ≡ refused 17 at
+  pub value-left : is_known t names h.sides.head ≡ false → rule_value at t names v ≡ refused name_unknown at
   unfolding known_rule refuse_unless
   value-left k = shape-value ∙ rw k
 
   module _ (k : is_known t names h.sides.head ≡ true) where
-    pub value-right : all (is_known 0 names) h.sides.body ≡ false → rule_value at t names v ≡ refused 17 at
+    pub value-right : all (is_known 0 names) h.sides.body ≡ false → rule_value at t names v ≡ refused name_unknown at
     unfolding known_rule refuse_unless
     value-right b = shape-value ∙ rw (k, b)
 
     module _ (b : all (is_known 0 names) h.sides.body ≡ true) where
-      pub value_many : 12 < count → rule_value at t names v ≡ refused 4 at
+      pub value_many : 12 < count → rule_value at t names v ≡ refused rule_too_long at
       unfolding known_rule refuse_unless
       value_many m = let l : 12 < length h.sides.body = omega (arith, h.counts) in shape-value ∙ rw (k, b, lt-leb (length h.sides.body) 12 l)
 
@@ -127,7 +128,7 @@ rule-kept o t names s left count k end body row row' b e l n m h room f bytes z 
 -- ---- one line
 
 module _ (at t : ℕ) (names : List (List ℕ)) where
-  pub line-none : (line : List ℕ) → value_of (key 2) line ≡ none → rule_line limits at t names line ≡ refused 16 at
+  pub line-none : (line : List ℕ) → value_of (key 2) line ≡ none → rule_line limits at t names line ≡ refused malformed at
   unfolding rule_line refuse_none
   line-none line o = rw o
 
@@ -135,8 +136,8 @@ module _ (at t : ℕ) (names : List (List ℕ)) where
   unfolding rule_line rule_value shaped known_rule refuse_none
   line-value line start end h = rw h.value
 
-  pub value_shapeless : (v : List ℕ) → ((at : ℕ) (go : Sides → Answer Rule) → shaped at (sides_of (split_on 58 v)) go ≡ refused 16 at)
-      → rule_value at t names v ≡ refused 16 at
+  pub value_shapeless : (v : List ℕ) → ((at : ℕ) (go : Sides → Answer Rule) → shaped at (sides_of (split_on 58 v)) go ≡ refused malformed at)
+      → rule_value at t names v ≡ refused malformed at
   unfolding rule_value
   value_shapeless v h = h at (known_rule at t names)
 
@@ -158,7 +159,7 @@ module _ (o : Answer Rule) (k end bytes : ℕ) (row row' : List ℕ) where
   pub told-kept : (r : Kept) (next : ℕ) → r ≡ Entries next → KeptTold o k end bytes row row' r → RuleKept o k end bytes row row' next
   told-kept r next e t = subst (λ (r : Kept). KeptTold o k end bytes row row' r) e t
 
-  pub told_fault : (r : Kept) (c p : ℕ) → r ≡ Fault c p → KeptTold o k end bytes row row' r → o ≡ refused c p
+  pub told_fault : (r : Kept) (c : Cause) (p : ℕ) → r ≡ Fault c p → KeptTold o k end bytes row row' r → o ≡ refused c p
   told_fault r c p e t = subst (λ (r : Kept). KeptTold o k end bytes row row' r) e t
 
   -- told of a part of a line, it is told of the line
@@ -251,7 +252,7 @@ module _ (o : Answer (List Rule)) (text : List ℕ) (t : ℕ) (names : List (Lis
     }
 
     -- a last line without its byte 10
-    pub passed_open : (p : List ℕ) → split_on 10 (drop a text) ≡ p ∷ [] → (length p ≡ 0 → ⊥) → o ≡ refused 16 (k + 3)
+    pub passed_open : (p : List ℕ) → split_on 10 (drop a text) ≡ p ∷ [] → (length p ≡ 0 → ⊥) → o ≡ refused malformed (k + 3)
     unfolding rule_lines refuse_unless after and_then
     passed_open p q l = lines-on (p ∷ []) q ∙ rw (ne_eqb (length p) 0 l)
 
@@ -267,7 +268,7 @@ module _ (o : Answer (List Rule)) (text : List ℕ) (t : ℕ) (names : List (Lis
           go (x ∷ qs) l = refl
 
       -- a line with a fault
-      pub passed_fault : (c i : ℕ) → rule_line limits (k + 3) t names p ≡ refused c i → o ≡ refused c i
+      pub passed_fault : (c : Cause) (i : ℕ) → rule_line limits (k + 3) t names p ≡ refused c i → o ≡ refused c i
       unfolding after and_then
       passed_fault c i z =
           lines-on (p ∷ qs) q ∙ ap (after h.rules) (lines-first ∙ then_stops _ _ c i z)

@@ -11,7 +11,7 @@ use lib.Dec.{eqb}
 use lib.ListN.{length, take, drop, get_or}
 use Rattle.grammar.specs.Basics.{choose}
 use Rattle.grammar.specs.Grammar.{Rule}
-use Rattle.grammar.specs.Refusal.{Answer, refused, refuse_unless}
+use Rattle.grammar.specs.Refusal.{Answer, refused, refuse_unless, malformed}
 use Rattle.grammar.proofs.Answers.{both_and}
 use Rattle.text.specs.Pieces.{onto, split_on, led_by, join}
 use Rattle.text.specs.Names.{all, is_name}
@@ -26,33 +26,33 @@ use Rattle.text_read.specs.Lines.{shaped, ShapeAt}
 use Rattle.text_read.proofs.Values.{count_bad, count_all}
 
 module _ (at : ℕ) (go : Sides → Answer Rule) where
-  head_bad : (l : List ℕ) (ps : List (List ℕ)) → is_name l ≡ false → shaped at (body_of l ps) go ≡ refused 16 at
+  head_bad : (l : List ℕ) (ps : List (List ℕ)) → is_name l ≡ false → shaped at (body_of l ps) go ≡ refused malformed at
   unfolding shaped refuse_none refuse_unless body_of
   head_bad l [] g = refl
   head_bad l ([] ∷ names) g = rw g
   head_bad l ((b ∷ p) ∷ names) g = refl
 
-  sides_head : (l : List ℕ) (qs : List (List ℕ)) → is_name l ≡ false → shaped at (sides_of (l ∷ qs)) go ≡ refused 16 at
+  sides_head : (l : List ℕ) (qs : List (List ℕ)) → is_name l ≡ false → shaped at (sides_of (l ∷ qs)) go ≡ refused malformed at
   unfolding shaped refuse_none sides_of
   sides_head l [] g = refl
   sides_head l (r ∷ []) g = head_bad l (split_on 32 r) g
   sides_head l (r ∷ q ∷ qs) g = refl
 
-  body_bad : (l : List ℕ) (ps : List (List ℕ)) → is_name l ≡ true → body_counted ps ≡ None → shaped at (body_of l ps) go ≡ refused 16 at
+  body_bad : (l : List ℕ) (ps : List (List ℕ)) → is_name l ≡ true → body_counted ps ≡ None → shaped at (body_of l ps) go ≡ refused malformed at
   unfolding shaped refuse_none refuse_unless body_of body_counted
   body_bad l [] g h = refl
   body_bad l ([] ∷ names) g h = rw (g, count_bad 0 names h)
   body_bad l ((b ∷ p) ∷ names) g h = refl
 
   sides-body : (l r : List ℕ) (qs : List (List ℕ)) → is_name l ≡ true → body_counted (split_on 32 r) ≡ None → join 58 qs ≡ r
-      → shaped at (sides_of (l ∷ qs)) go ≡ refused 16 at
+      → shaped at (sides_of (l ∷ qs)) go ≡ refused malformed at
   unfolding shaped refuse_none sides_of join led_by
   sides-body l r [] g h e = refl
   sides-body l r (p ∷ []) g h e =
       body_bad l (split_on 32 p) g (ap (λ w. body_counted (split_on 32 w)) (sym (append-nil p) ∙ e) ∙ h)
   sides-body l r (p ∷ q ∷ qs) g h e = refl
 
-  sides-none : (v : List ℕ) → shaped at (sides_of (v ∷ [])) go ≡ refused 16 at
+  sides-none : (v : List ℕ) → shaped at (sides_of (v ∷ [])) go ≡ refused malformed at
   unfolding shaped refuse_none sides_of
   sides-none v = refl
 
@@ -76,7 +76,7 @@ unfolding sides_of body_of
 sides_good l r names e f = rw (split_free 58 r f, e)
 
 module _ (v : List ℕ) (e : ℕ) (found : e ≡ 0 + index 58 (drop 0 v)) where
-  pub shape-none : length v ≤ e → (at : ℕ) (go : Sides → Answer Rule) → shaped at (sides_of (split_on 58 v)) go ≡ refused 16 at
+  pub shape-none : length v ≤ e → (at : ℕ) (go : Sides → Answer Rule) → shaped at (sides_of (split_on 58 v)) go ≡ refused malformed at
   shape-none h at go =
       ap (λ ps. shaped at (sides_of ps) go) (piece_last 58 v 0 e (omega arith) found h) ∙ sides-none at go (part 0 e v)
 
@@ -85,12 +85,12 @@ module _ (v : List ℕ) (e : ℕ) (found : e ≡ 0 + index 58 (drop 0 v)) where
     cut = piece_more 58 v 0 e (omega arith) found inside
 
     pub shape-head : is_name (part 0 e v) ≡ false → (at : ℕ) (go : Sides → Answer Rule)
-        → shaped at (sides_of (split_on 58 v)) go ≡ refused 16 at
+        → shaped at (sides_of (split_on 58 v)) go ≡ refused malformed at
     shape-head g at go =
         ap (λ ps. shaped at (sides_of ps) go) cut ∙ sides_head at go (part 0 e v) (split_on 58 (drop (e + 1) v)) g
 
     pub shape-body : is_name (part 0 e v) ≡ true → body_counted (split_on 32 (drop (e + 1) v)) ≡ None
-        → (at : ℕ) (go : Sides → Answer Rule) → shaped at (sides_of (split_on 58 v)) go ≡ refused 16 at
+        → (at : ℕ) (go : Sides → Answer Rule) → shaped at (sides_of (split_on 58 v)) go ≡ refused malformed at
     shape-body g h at go =
         ap (λ ps. shaped at (sides_of ps) go) cut
         ∙ sides-body at go (part 0 e v) (drop (e + 1) v) (split_on 58 (drop (e + 1) v)) g h (join-split 58 (drop (e + 1) v))

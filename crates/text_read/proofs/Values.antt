@@ -13,7 +13,7 @@ use lib.Dec.{eqb, leb}
 use lib.ListN.{length, take, drop, get_or, drop_of_length-le, length-drop}
 use lib.Seq.{drop-cons, take_all}
 use Rattle.grammar.specs.Basics.{choose}
-use Rattle.grammar.specs.Refusal.{refused, done, refuse_unless}
+use Rattle.grammar.specs.Refusal.{refused, done, refuse_unless, out_of_range, malformed, name_repeated}
 use Rattle.text.specs.Pieces.{onto, split_on}
 use Rattle.text.specs.Names.{within, all, is_name, has_double}
 use Rattle.text.specs.Keys.{key, value_of}
@@ -160,32 +160,32 @@ within-above lo hi n h = rw (lt-leb n hi h) (go (leb lo n))
     go false = refl
 
 module _ (at k lo hi : ℕ) (earlier : List (List ℕ)) (line : List ℕ) where
-  pub decl_none : value_of (key k) line ≡ none → declaration at k lo hi earlier line ≡ refused 16 at
+  pub decl_none : value_of (key k) line ≡ none → declaration at k lo hi earlier line ≡ refused malformed at
   unfolding declaration refuse_none
   decl_none o = rw o
 
   module _ (v : List ℕ) (h : value_of (key k) line ≡ some v) where
-    pub decl_bad : all is_name (names_of v) ≡ false → declaration at k lo hi earlier line ≡ refused 16 at
+    pub decl_bad : all is_name (names_of v) ≡ false → declaration at k lo hi earlier line ≡ refused malformed at
     unfolding declaration refuse_none refuse_unless
     decl_bad g = rw (h, g)
 
     module _ (g : all is_name (names_of v) ≡ true) where
-      pub decl_double : has_double (earlier ++ names_of v) ≡ true → declaration at k lo hi earlier line ≡ refused 18 at
+      pub decl_double : has_double (earlier ++ names_of v) ≡ true → declaration at k lo hi earlier line ≡ refused name_repeated at
       unfolding declaration refuse_none refuse_unless
       decl_double t = rw (h, g, t)
 
-      decl_out : has_double (earlier ++ names_of v) ≡ false → within lo hi (length (names_of v)) ≡ false → declaration at k lo hi earlier line ≡ refused 1 at
+      decl_out : has_double (earlier ++ names_of v) ≡ false → within lo hi (length (names_of v)) ≡ false → declaration at k lo hi earlier line ≡ refused out_of_range at
       unfolding declaration refuse_none refuse_unless
       decl_out t w = rw (h, g, t, w)
 
-      pub decl_many : hi < length (names_of v) → declaration at k lo hi earlier line ≡ refused (choose (has_double (earlier ++ names_of v)) 18 1) at
+      pub decl_many : hi < length (names_of v) → declaration at k lo hi earlier line ≡ refused (choose (has_double (earlier ++ names_of v)) name_repeated out_of_range) at
       decl_many l = go (has_double (earlier ++ names_of v)) refl
         where
-          go : (t : Bool) → has_double (earlier ++ names_of v) ≡ t → declaration at k lo hi earlier line ≡ refused (choose t 18 1) at
+          go : (t : Bool) → has_double (earlier ++ names_of v) ≡ t → declaration at k lo hi earlier line ≡ refused (choose t name_repeated out_of_range) at
           go true t = decl_double t
           go false t = decl_out t (within-above lo hi _ l)
 
-      pub decl_few : length (names_of v) < lo → lo ≤ 1 → has_double earlier ≡ false → declaration at k lo hi earlier line ≡ refused 1 at
+      pub decl_few : length (names_of v) < lo → lo ≤ 1 → has_double earlier ≡ false → declaration at k lo hi earlier line ≡ refused out_of_range at
       decl_few l m t = decl_out (ap has_double (no_more (names_of v) (omega arith)) ∙ t) (within-below lo hi _ l)
         where
           no_more : (ns : List (List ℕ)) → length ns ≡ 0 → earlier ++ ns ≡ earlier

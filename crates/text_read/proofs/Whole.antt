@@ -13,13 +13,14 @@ use Rattle.grammar.specs.Basics.{Mem, here, there}
 use Rattle.grammar.specs.Limits.{Limits, limits}
 use Rattle.grammar.specs.Grammar.{Rule, Grammar, state_count}
 use Rattle.grammar.specs.Table.{encode}
-use Rattle.grammar.specs.Refusal.{Answer, done, refused, refuse_unless, and_then, no_sentence}
+use Rattle.grammar.specs.Refusal.{Answer, done, refused, refuse_unless, and_then, no_sentence, rule_repeated, too_many_states, malformed}
 use Rattle.grammar.specs.Live.{has_sentence}
 use Rattle.grammar.specs.Record.{record_of}
 use Rattle.grammar.specs.TableCheck.{is_among, stored_table, check_table, table_checked}
 use Rattle.grammar.specs.declared.TableChecked.{TableChecked}
 use Rattle.grammar.specs.declared.TableVerdict.TheVariants.{Passed, Refused as TableRefused}
 use Rattle.grammar.proofs.Answers.{no_answer, done_inj, unless_holds, unless_fails, unless_done, then-done, then-goes, then_stops}
+use Rattle.grammar.specs.declared.Cause.{Cause}
 use Rattle.text.specs.Pieces.{split_on, join, ended_by}
 use Rattle.text.specs.Keys.{key}
 use Rattle.text.specs.Read.{Source, symbol_names, grammar_of, names_of, rule_lines, read_lines, read_text}
@@ -57,7 +58,7 @@ admit-first L zero earlier at [] = refl
 admit-first L zero earlier at (r ∷ rs) = refl
 admit-first L (suc m) earlier at [] = refl
 admit-first L (suc m) earlier at (r ∷ rs) =
-    ap (λ o. refuse_unless 6 at (not (is_among r earlier)) (refuse_unless 8 at (leb (state_count earlier + (length r.right + 1)) L.max_states) o))
+    ap (λ o. refuse_unless rule_repeated at (not (is_among r earlier)) (refuse_unless too_many_states at (leb (state_count earlier + (length r.right + 1)) L.max_states) o))
     (admit-first L m (earlier ++ (r ∷ [])) (at + 2 + length r.right) rs)
 
 -- rules that pass are not too many
@@ -227,25 +228,25 @@ module _ (text : List ℕ) (s : Source) (read : read_text limits text ≡ done s
 -- ---- refusals before the last tests
 
 -- the rows of a text that does not pass need not have names
-pub refused-names : (o : Answer Source) (c i : ℕ) (starts lengths : List ℕ) → o ≡ refused c i → NamesTold o starts lengths
+pub refused-names : (o : Answer Source) (c : Cause) (i : ℕ) (starts lengths : List ℕ) → o ≡ refused c i → NamesTold o starts lengths
 refused-names o c i starts lengths e = record { starts-front = λ s w. no_answer (sym e ∙ w); lengths-front = λ s w. no_answer (sym e ∙ w) }
 
-pub text-long : (text : List ℕ) → limits.max_text < length text → read_text limits text ≡ refused 16 0
+pub text-long : (text : List ℕ) → limits.max_text < length text → read_text limits text ≡ refused malformed 0
 unfolding read_text
-text-long text h = unless_fails 16 0 (leb (length text) limits.max_text) (read_lines limits (split_on 10 text)) (lt-leb (length text) limits.max_text h)
+text-long text h = unless_fails malformed 0 (leb (length text) limits.max_text) (read_lines limits (split_on 10 text)) (lt-leb (length text) limits.max_text h)
 
 module _ (text : List ℕ) (short : length text ≤ limits.max_text) where
   read-lines : read_text limits text ≡ read_lines limits (split_on 10 text)
   unfolding read_text
-  read-lines = unless_holds 16 0 (leb (length text) limits.max_text) (read_lines limits (split_on 10 text)) (le-leb (length text) limits.max_text short)
+  read-lines = unless_holds malformed 0 (leb (length text) limits.max_text) (read_lines limits (split_on 10 text)) (le-leb (length text) limits.max_text short)
 
-  pub lines-refused : (c i : ℕ) → read_lines limits (split_on 10 text) ≡ refused c i → read_text limits text ≡ refused c i
+  pub lines-refused : (c : Cause) (i : ℕ) → read_lines limits (split_on 10 text) ≡ refused c i → read_text limits text ≡ refused c i
   lines-refused c i e = read-lines ∙ e
 
   -- ---- the rule lines, after both declaring lines
 
   module _ (a e b f t n : ℕ) (h : HeadsAt text a e b f t n) where
-    pub rules-refused : (c i : ℕ)
+    pub rules-refused : (c : Cause) (i : ℕ)
         → rule_lines limits 3 (length (names_of (part a e text))) (names_of (part a e text) ++ names_of (part b f text)) (split_on 10 (drop (f + 1) text)) ≡ refused c i
         → read_text limits text ≡ refused c i
     rules-refused c i q = lines-refused c i (h.lines ∙ then_stops _ _ c i q)
@@ -303,7 +304,7 @@ module _ (text : List ℕ) (short : length text ≤ limits.max_text) where
 
 -- ---- from the table check's answer to the reader's
 
-pub checked_refused : (t n end : ℕ) (o : Answer Grammar) (x : TableChecked) (c i : ℕ) → x ≡ table_checked o → x.verdict ≡ TableRefused c i
+pub checked_refused : (t n end : ℕ) (o : Answer Grammar) (x : TableChecked) (c : Cause) (i : ℕ) → x ≡ table_checked o → x.verdict ≡ TableRefused c i
     → Refused c i ≡ table_read t n end o
 checked_refused t n end (done G) x c i e v =
     let z : Passed ≡ TableRefused c i = sym (ap (λ (x : TableChecked). x.verdict) e) ∙ v in
@@ -343,7 +344,7 @@ module _ (text : List ℕ) (from t n : ℕ) (starts lengths links row : List ℕ
       let z = p.begins in
       λ d. rule_lines limits 3 (x d) (y d) (split_on 10 (drop (z d) text))
 
-  pub ready_refused : (c i : ℕ)
+  pub ready_refused : (c : Cause) (i : ℕ)
       → rule_lines limits 3 t (spelled text (take (t + n) starts) (take (t + n) lengths)) (split_on 10 (drop from text)) ≡ refused c i
       → read_text limits text ≡ refused c i
   ready_refused c i q = rules-refused text p.short p.a p.e p.b p.f t n p.heads c i (sym ready_lines ∙ q)
@@ -367,7 +368,7 @@ module _ (text : List ℕ) (from t n : ℕ) (starts lengths links row : List ℕ
 pub told-rules : (o : Answer (List Rule)) (row : List ℕ) (r : Kept) (end : ℕ) → r ≡ Entries end → RulesTold o row r → RulesKept o row end
 told-rules o row r end e t = subst (λ (r : Kept). RulesTold o row r) e t
 
-pub told_fault : (o : Answer (List Rule)) (row : List ℕ) (r : Kept) (c i : ℕ) → r ≡ Fault c i → RulesTold o row r → o ≡ refused c i
+pub told_fault : (o : Answer (List Rule)) (row : List ℕ) (r : Kept) (c : Cause) (i : ℕ) → r ≡ Fault c i → RulesTold o row r → o ≡ refused c i
 told_fault o row r c i e t = subst (λ (r : Kept). RulesTold o row r) e t
 
 -- and of the two declaring lines
@@ -375,7 +376,7 @@ pub told_heads : (text starts lengths links : List ℕ) (r : Heads) (f t n : ℕ
     → HeadsRead text starts lengths links f t n
 told_heads text starts lengths links r f t n q h = subst (λ (r : Heads). HeadsTold text starts lengths links r) q h
 
-pub told_headless : (text starts lengths links : List ℕ) (r : Heads) (c i : ℕ) → r ≡ H.Fault c i → HeadsTold text starts lengths links r
+pub told_headless : (text starts lengths links : List ℕ) (r : Heads) (c : Cause) (i : ℕ) → r ≡ H.Fault c i → HeadsTold text starts lengths links r
     → read_lines limits (split_on 10 text) ≡ refused c i
 told_headless text starts lengths links r c i q h = subst (λ (r : Heads). HeadsTold text starts lengths links r) q h
 
@@ -418,7 +419,7 @@ kept-within text row (K.Rules t n end) h = h.inside
 
 -- a fault of the lines is one of every way of testing
 module _ (text row starts lengths : List ℕ) (names : NamesTold (read_text limits text) starts lengths) where
-  fault_told : (o : Answer Source) (c i : ℕ) (r : TextRead) → o ≡ refused c i → r ≡ Refused c i → Checks o r row starts lengths
+  fault_told : (o : Answer Source) (c : Cause) (i : ℕ) (r : TextRead) → o ≡ refused c i → r ≡ Refused c i → Checks o r row starts lengths
   fault_told o c i r h e = record { answer = e ∙ sym (ap text_read h); table = λ s w. no_answer (sym h ∙ w); names = refused-names o c i starts lengths h }
 
   -- a text that was read has these names

@@ -12,8 +12,9 @@ use lib.Seq.{take_all}
 use Rattle.grammar.specs.Basics.{over}
 use Rattle.grammar.specs.Limits.{limits}
 use Rattle.grammar.specs.Table.{encode}
-use Rattle.grammar.specs.Refusal.{Answer, done, refused, refuse_unless}
+use Rattle.grammar.specs.Refusal.{Answer, done, refused, refuse_unless, buffer_too_short}
 use Rattle.grammar.proofs.Answers.{both_and, unless_holds, unless_fails, then-goes, then_stops, and_false}
+use Rattle.grammar.specs.declared.Cause.{Cause}
 use Rattle.text.specs.Read.{Source, symbol_names}
 use Rattle.text.specs.Rules.{check_text, read_into}
 use Rattle.text.specs.Promise.{name_starts, name_lengths, text_read, afterwards, ReadsText}
@@ -83,7 +84,7 @@ checked-rows text row ks kl r h t n e q g =
 -- ---- a refusal
 
 module _ (text table starts lengths : List ℕ) where
-  into_refused : (r : TextRead) (c i : ℕ) → r ≡ Refused c i
+  into_refused : (r : TextRead) (c : Cause) (i : ℕ) → r ≡ Refused c i
       → read_into limits (length table) (length starts) (length lengths) text ≡ refused c i
       → ReadsText text table starts lengths r table starts lengths
   into_refused r c i e q = record {
@@ -95,7 +96,7 @@ module _ (text table starts lengths : List ℕ) where
 
   module _ (row ks kl : List ℕ) (r : TextRead) (h : ChecksText text r row ks kl) where
     -- the tests before 14 refuse
-    pub read-refused : (c i : ℕ) → r ≡ Refused c i → ReadsText text table starts lengths r table starts lengths
+    pub read-refused : (c : Cause) (i : ℕ) → r ≡ Refused c i → ReadsText text table starts lengths r table starts lengths
     unfolding read_into
     read-refused c i e =
         into_refused r c i e (then_stops _ _ c i (refuses_as (check_text limits text) c i (sym e ∙ h.answer)))
@@ -111,23 +112,23 @@ module _ (text table starts lengths : List ℕ) where
       room = leb (length (encode k.source.rules)) (length table)
           && (leb (length (symbol_names k.source)) (length starts) && leb (length (symbol_names k.source)) (length lengths))
 
-      into_is : read_into limits (length table) (length starts) (length lengths) text ≡ refuse_unless 14 0 room (done k.source)
+      into_is : read_into limits (length table) (length starts) (length lengths) text ≡ refuse_unless buffer_too_short 0 room (done k.source)
       unfolding read_into
       into_is = then-goes _ _ k.source k.whole
 
-      no_room : room ≡ false → ReadsText text table starts lengths (Refused 14 0) table starts lengths
-      no_room z = into_refused (Refused 14 0) 14 0 refl (into_is ∙ unless_fails 14 0 room _ z)
+      no_room : room ≡ false → ReadsText text table starts lengths (Refused buffer_too_short 0) table starts lengths
+      no_room z = into_refused (Refused buffer_too_short 0) buffer_too_short 0 refl (into_is ∙ unless_fails buffer_too_short 0 room _ z)
 
       -- 14 for each row
-      pub short-table : length table < e → ReadsText text table starts lengths (Refused 14 0) table starts lengths
+      pub short-table : length table < e → ReadsText text table starts lengths (Refused buffer_too_short 0) table starts lengths
       short-table l = no_room (rw (lt-leb (length (encode k.source.rules)) (length table) (omega (arith, k.entries))))
 
-      pub short-starts : length starts < t + n → ReadsText text table starts lengths (Refused 14 0) table starts lengths
+      pub short-starts : length starts < t + n → ReadsText text table starts lengths (Refused buffer_too_short 0) table starts lengths
       short-starts l =
           no_room (rw (lt-leb (length (symbol_names k.source)) (length starts) (omega (arith, many)))
           (and_false (leb (length (encode k.source.rules)) (length table))))
 
-      pub short_lengths : length lengths < t + n → ReadsText text table starts lengths (Refused 14 0) table starts lengths
+      pub short_lengths : length lengths < t + n → ReadsText text table starts lengths (Refused buffer_too_short 0) table starts lengths
       short_lengths l =
           no_room (rw (
             lt-leb (length (symbol_names k.source)) (length lengths) (omega (arith, many)),
@@ -145,7 +146,7 @@ module _ (text table starts lengths : List ℕ) where
           = both_and _ _ (le-leb (length (encode s.rules)) (length table) (omega (arith, k.entries)))
           (both_and _ _ (le-leb (length (symbol_names s)) (length starts) (omega (arith, many)))
           (le-leb (length (symbol_names s)) (length lengths) (omega (arith, many)))) in
-          let o : read_into limits (length table) (length starts) (length lengths) text ≡ done s = into_is ∙ unless_holds 14 0 room _ b in
+          let o : read_into limits (length table) (length starts) (length lengths) text ≡ done s = into_is ∙ unless_holds buffer_too_short 0 room _ b in
           record {
             answer = sym g ∙ h.answer ∙ ap text_read (w ∙ sym o);
             table-after = xs ∙ ap (λ xs. over xs table) (ap (λ m. take m row) (sym k.entries) ∙ h.table s w)

@@ -8,7 +8,7 @@ use Rattle.grammar.specs.Basics.{choose}
 use Rattle.grammar.specs.Limits.{limits}
 use Rattle.grammar.specs.Grammar.{Rule}
 use Rattle.grammar.specs.Table.{encode}
-use Rattle.grammar.specs.Refusal.{Answer, done, refused, refuse_unless}
+use Rattle.grammar.specs.Refusal.{Answer, done, refused, refuse_unless, rule_too_long, malformed, name_unknown}
 use Rattle.text.specs.Pieces.{split_on}
 use Rattle.text.specs.Names.{all, is_name}
 use Rattle.text.specs.Read.{refuse_none, Sides, sides_of, number_of, is_known, code_of, rule_of}
@@ -22,13 +22,13 @@ use Rattle.text_read.specs.declared.Kept.TheVariants.{Entries, Fault}
 
 -- sides and well formed names: 16; then the rest
 unfoldable pub shaped : ℕ → Option Sides → (Sides → Answer Rule) → Answer Rule
-shaped at o go = refuse_none 16 at o (λ s. refuse_unless 16 at (is_name s.head && all is_name s.body) (go s))
+shaped at o go = refuse_none malformed at o (λ s. refuse_unless malformed at (is_name s.head && all is_name s.body) (go s))
 
 -- then 17, 4
 unfoldable pub known_rule : ℕ → ℕ → List (List ℕ) → Sides → Answer Rule
 known_rule at t names s =
-    refuse_unless 17 at (is_known t names s.head && all (is_known 0 names) s.body)
-    (refuse_unless 4 at (leb (length s.body) 12)
+    refuse_unless name_unknown at (is_known t names s.head && all (is_known 0 names) s.body)
+    (refuse_unless rule_too_long at (leb (length s.body) 12)
     (done (rule_of limits t names s)))
 
 -- the value of a rule's line
@@ -49,7 +49,7 @@ pub record ShapeAt (v : List ℕ) (colon count : ℕ) : Type 0 where
 
 -- the shape of a value; none where it is malformed
 abbrev pub ShapeTold : List ℕ → P.Option Shape → Type 0
-ShapeTold v r = MatchOption r ((at : ℕ) (go : Sides → Answer Rule) → shaped at (sides_of (split_on 58 v)) go ≡ refused 16 at)
+ShapeTold v r = MatchOption r ((at : ℕ) (go : Sides → Answer Rule) → shaped at (sides_of (split_on 58 v)) go ≡ refused malformed at)
     (λ s. ShapeAt v s.colon s.count)
 
 -- ---- its entries

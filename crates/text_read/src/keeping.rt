@@ -8,7 +8,7 @@ ghost use Rattle.text_read.specs.Texts.{table_read, Ready, Rows, LinesTold, Name
 use super::declaring::check_heads;
 use super::rules::read_rules;
 use super::{Heads, Kept, TextKept};
-use grammar::{MALFORMED, MAX_NAMES, MAX_TEXT, TableVerdict};
+use grammar::{Cause, MAX_NAMES, MAX_TEXT, TableVerdict};
 use text::TextRead;
 
 // Two links for each name.
@@ -79,7 +79,7 @@ pub fn keep_text(text: &[u8], row: &mut [u16], starts: &mut [u32], lengths: &mut
     ensures names { NamesTold (read_text limits text.now) starts.new lengths.new }
 {
     if MAX_TEXT < text.len() {
-        return TextKept::Fault(MALFORMED, 0);
+        return TextKept::Fault(Cause::Malformed, 0);
     }
     let mut links = [0u16; LINKS];
     keep_lines(text, row, starts, lengths, &mut links)

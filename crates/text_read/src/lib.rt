@@ -15,7 +15,7 @@ ghost use Rattle.text.specs.Promise.{ReadsText};
 ghost use Rattle.text_read.specs.Lines.{kept_entries};
 ghost use Rattle.text_read.specs.Texts.{Rows, TextIn};
 
-use grammar::{BUFFER_TOO_SHORT, MAX_LENGTH, MAX_NAMES, MAX_RULES};
+use grammar::{Cause, MAX_LENGTH, MAX_NAMES, MAX_RULES};
 use keeping::{check_kept, keep_text};
 pub use keeping::{check_module, check_text, last_tests};
 pub use symbols::code_of;
@@ -38,7 +38,7 @@ pub enum Split {
 #[derive(Drop)]
 pub enum Declared {
     Names { start: usize, count: usize },
-    Fault(u8, usize),
+    Fault(Cause, usize),
 }
 
 // What the two declaring lines give: where the second ends, t and n.
@@ -49,7 +49,7 @@ pub enum Heads {
         terminals: usize,
         nonterminals: usize,
     },
-    Fault(u8, usize),
+    Fault(Cause, usize),
 }
 
 // The shape of a rule's value: where its colon stands, and how many names follow.
@@ -63,7 +63,7 @@ pub struct Shape {
 #[derive(Drop)]
 pub enum Kept {
     Entries(usize),
-    Fault(u8, usize),
+    Fault(Cause, usize),
 }
 
 // What the lines of a text give: t, n, and how many entries of the local table are in use.
@@ -74,7 +74,7 @@ pub enum TextKept {
         nonterminals: usize,
         entries: usize,
     },
-    Fault(u8, usize),
+    Fault(Cause, usize),
 }
 
 // The reader, after the lines of a text: the last tests, 14, and what is kept goes to the lent rows.
@@ -103,13 +103,13 @@ fn read_in(
     };
     let count = terminals + nonterminals;
     if table.len() < entries {
-        return TextRead::Refused(BUFFER_TOO_SHORT, 0);
+        return TextRead::Refused(Cause::BufferTooShort, 0);
     }
     if starts.len() < count {
-        return TextRead::Refused(BUFFER_TOO_SHORT, 0);
+        return TextRead::Refused(Cause::BufferTooShort, 0);
     }
     if lengths.len() < count {
-        return TextRead::Refused(BUFFER_TOO_SHORT, 0);
+        return TextRead::Refused(Cause::BufferTooShort, 0);
     }
     table[..entries].copy_from_slice(&row[..entries]);
     starts[..count].copy_from_slice(&begins[..count]);

@@ -9,7 +9,7 @@ ghost use Rattle.text_read.specs.Lines.{rule_value, ShapeAt, CodesFit, CodesTake
 use super::symbols::code_of;
 use super::value::{key_split, rule_shape};
 use super::{Kept, Shape, Split};
-use grammar::{MALFORMED, MAX_LENGTH, MAX_RULES, NAME_UNKNOWN, RULE_TOO_LONG};
+use grammar::{Cause, MAX_LENGTH, MAX_RULES};
 use names::{LINE_END, RULE, SPACE};
 
 // One rule more than a grammar has: the table check refuses it, so the rules after it need not be kept.
@@ -82,18 +82,18 @@ fn take_rule(
 {
     let left = lexicon::find(text, starts, lengths, links, &v[0..colon]);
     if left < t {
-        return Kept::Fault(NAME_UNKNOWN, at);
+        return Kept::Fault(Cause::NameUnknown, at);
     }
     if starts.len() <= left {
-        return Kept::Fault(NAME_UNKNOWN, at);
+        return Kept::Fault(Cause::NameUnknown, at);
     }
     let a = colon + 1;
     let n = v.len();
     if !take_codes(&v[a..n], text, starts, lengths, links, t, row, end + 2) {
-        return Kept::Fault(NAME_UNKNOWN, at);
+        return Kept::Fault(Cause::NameUnknown, at);
     }
     if MAX_LENGTH < count {
-        return Kept::Fault(RULE_TOO_LONG, at);
+        return Kept::Fault(Cause::RuleTooLong, at);
     }
     if KEPT_RULES <= k {
         return Kept::Entries(end);
@@ -120,11 +120,11 @@ fn rule_line(
     ensures { KeptTold (rule_line limits at t (spelled text.now starts.now lengths.now) line.now) k end (length line.now) row.old row.new result }
 {
     let Split::Value { start, end: stop } = key_split(line, RULE) else {
-        return Kept::Fault(MALFORMED, at);
+        return Kept::Fault(Cause::Malformed, at);
     };
     let v = &line[start..stop];
     let Some(Shape { colon, count }) = rule_shape(v) else {
-        return Kept::Fault(MALFORMED, at);
+        return Kept::Fault(Cause::Malformed, at);
     };
     take_rule(
         at, k, v, colon, count, text, starts, lengths, links, t, row, end,
@@ -152,7 +152,7 @@ pub fn read_rules(
         let e = names::find(text, a, LINE_END);
         if n <= e {
             if a < n {
-                return Kept::Fault(MALFORMED, k + 3);
+                return Kept::Fault(Cause::Malformed, k + 3);
             }
             return Kept::Entries(end);
         }

@@ -12,7 +12,7 @@ use lib.Dec.{ltb, leb}
 use lib.ListN.{length, take, drop, get_or, length-drop}
 use lib.Seq.{get_or-take, length-take-le, ext_get_or}
 use Rattle.grammar.specs.Basics.{choose}
-use Rattle.grammar.specs.Refusal.{Answer, done, refused, refuse_unless, and_then}
+use Rattle.grammar.specs.Refusal.{Answer, done, refused, refuse_unless, and_then, malformed}
 use Rattle.grammar.proofs.Answers.{no_answer, no_bool, and_both, refused_as}
 use Rattle.text.specs.Names.{all, is_name}
 use Rattle.text.specs.Read.{refuse_none}
@@ -23,6 +23,7 @@ use Rattle.text.specs.Spelled.{spelled}
 use Rattle.text.proofs.Spans.{length-spelled, spelled_at}
 use Rattle.text.proofs.Gather.{name-at, gathered}
 use Rattle.text_write.specs.Clauses.{is_well, stops_at, Rows}
+use Rattle.grammar.specs.declared.Cause.{Cause}
 
 -- ---- the names of rows
 
@@ -89,7 +90,7 @@ module _ (bytes starts lengths : List ℕ) (i : ℕ) where
 
 -- what one name decides
 gather-by : (m i : ℕ) (name : Option (List ℕ)) (b : Bool) (o : Answer (List (List ℕ))) → is_well name ≡ b
-    → stops_at m (refuse_none 16 i name (λ x. refuse_unless 16 i (is_name x) (and_then o (λ xs. done (x ∷ xs)))))
+    → stops_at m (refuse_none malformed i name (λ x. refuse_unless malformed i (is_name x) (and_then o (λ xs. done (x ∷ xs)))))
     ≡ choose b (stops_at m o) i
 unfolding refuse_none refuse_unless and_then
 gather-by m i none true o e = no_bool (sym e)
@@ -97,7 +98,7 @@ gather-by m i none false o e = refl
 gather-by m i (some x) b o e = go (is_name x) b e o
   where
     go : (c b : Bool) → c ≡ b → (o : Answer (List (List ℕ)))
-        → stops_at m (refuse_unless 16 i c (and_then o (λ xs. done (x ∷ xs)))) ≡ choose b (stops_at m o) i
+        → stops_at m (refuse_unless malformed i c (and_then o (λ xs. done (x ∷ xs)))) ≡ choose b (stops_at m o) i
     go true true e (done xs) = refl
     go true true e (refused c p) = refl
     go true false e o = no_bool e
@@ -129,30 +130,30 @@ module _ (bytes starts lengths : List ℕ) (m i : ℕ) where
   gather-ends h = let q : m - i ≡ 0 = omega arith in rw q
 
 -- a refusal is 16 at one of the names
-pub gather-refused : (bytes starts lengths : List ℕ) (i m c p : ℕ) → gather bytes starts lengths i m ≡ refused c p
-    → (c ≡ 16) × (p < i + m)
+pub gather-refused : (bytes starts lengths : List ℕ) (i m : ℕ) (c : Cause) (p : ℕ) → gather bytes starts lengths i m ≡ refused c p
+    → (c ≡ malformed) × (p < i + m)
 unfolding gather refuse_none refuse_unless and_then
 gather-refused bytes starts lengths i zero c p e = no_answer (sym e)
 gather-refused bytes starts lengths i (suc m) c p e =
     go (name_at bytes starts lengths i) (gather bytes starts lengths (suc i) m) e (λ h. gather-refused bytes starts lengths (suc i) m c p h)
   where
-    first : ◌≡◌ {A = Answer (List (List ℕ))} (refused 16 i) (refused c p) → (c ≡ 16) × (p < i + suc m)
-    first e = let x : 16 ≡ c = cc in let y : i ≡ p = cc in (sym x, omega arith)
+    first : ◌≡◌ {A = Answer (List (List ℕ))} (refused malformed i) (refused c p) → (c ≡ malformed) × (p < i + suc m)
+    first e = let x : malformed ≡ c = cc in let y : i ≡ p = cc in (sym x, omega arith)
 
     further : (x : List ℕ) (o : Answer (List (List ℕ))) → and_then o (λ xs. done (x ∷ xs)) ≡ refused c p
-        → (o ≡ refused c p → (c ≡ 16) × (p < suc i + m)) → (c ≡ 16) × (p < i + suc m)
+        → (o ≡ refused c p → (c ≡ malformed) × (p < suc i + m)) → (c ≡ malformed) × (p < i + suc m)
     further x (done xs) e again = no_answer (sym e)
     further x (refused d q) e again = let r = again (refused_as e) in (r.0, omega (arith, r.1))
 
-    tested : (b : Bool) (x : List ℕ) (o : Answer (List (List ℕ))) → refuse_unless 16 i b (and_then o (λ xs. done (x ∷ xs)))
+    tested : (b : Bool) (x : List ℕ) (o : Answer (List (List ℕ))) → refuse_unless malformed i b (and_then o (λ xs. done (x ∷ xs)))
         ≡ refused c p
-        → (o ≡ refused c p → (c ≡ 16) × (p < suc i + m)) → (c ≡ 16) × (p < i + suc m)
+        → (o ≡ refused c p → (c ≡ malformed) × (p < suc i + m)) → (c ≡ malformed) × (p < i + suc m)
     tested true x o e again = further x o e again
     tested false x o e again = first e
 
     go : (name : Option (List ℕ)) (o : Answer (List (List ℕ)))
-        → refuse_none 16 i name (λ x. refuse_unless 16 i (is_name x) (and_then o (λ xs. done (x ∷ xs)))) ≡ refused c p
-        → (o ≡ refused c p → (c ≡ 16) × (p < suc i + m)) → (c ≡ 16) × (p < i + suc m)
+        → refuse_none malformed i name (λ x. refuse_unless malformed i (is_name x) (and_then o (λ xs. done (x ∷ xs)))) ≡ refused c p
+        → (o ≡ refused c p → (c ≡ malformed) × (p < suc i + m)) → (c ≡ malformed) × (p < i + suc m)
     go none o e again = first e
     go (some x) o e again = tested (is_name x) x o e again
 

@@ -18,6 +18,7 @@ use Rattle.grammar.specs.TableCheck.{check_table, table_checked}
 use Rattle.grammar.specs.declared.TableChecked.{TableChecked}
 use Rattle.grammar.specs.declared.TableVerdict.TheVariants.{Refused as TableRefused}
 use Rattle.grammar.proofs.Answers.{unless_holds, unless_fails, then-goes, then_stops}
+use Rattle.grammar.specs.declared.Cause.{Cause}
 use Rattle.text.specs.Names.{all, any, is_name, same_name}
 use Rattle.text.specs.Print.{gather, first_double, text_from, write_into}
 use Rattle.text.specs.Promise.{text_written, text_length, afterwards, WritesText, LengthAnswer}
@@ -62,7 +63,7 @@ module _ (t : ℕ) (names : List (List ℕ)) (rules : List Rule) where
 -- ---- table faults and 16
 
 module _ (t n : ℕ) (table bytes starts lengths : List ℕ) where
-  pub length-table : (c p : ℕ) → check_table limits t n table ≡ refused c p
+  pub length-table : (c : Cause) (p : ℕ) → check_table limits t n table ≡ refused c p
       → LengthAnswer t n table bytes starts lengths (told.Refused c p)
   unfolding text_from
   length-table c p e = sym (ap text_length (then_stops _ _ c p e))
@@ -168,14 +169,14 @@ module _ (t n : ℕ) (table bytes starts lengths : List ℕ) where
       }
 
   module _ (out : List ℕ) where
-    refuses : (c p : ℕ) → write_into limits t n table bytes starts lengths (length out) ≡ refused c p
+    refuses : (c : Cause) (p : ℕ) → write_into limits t n table bytes starts lengths (length out) ≡ refused c p
         → WritesText t n table bytes starts lengths out (Refused c p) out
     refuses c p e = record {
       answer = sym (ap text_written e);
       out-after = sym (ap (λ (o : Answer (List ℕ)). afterwards o (λ text. text) out) e);
     }
 
-    pub write-refused : (c p : ℕ) → LengthAnswer t n table bytes starts lengths (told.Refused c p)
+    pub write-refused : (c : Cause) (p : ℕ) → LengthAnswer t n table bytes starts lengths (told.Refused c p)
         → WritesText t n table bytes starts lengths out (Refused c p) out
     write-refused c p e =
         refuses c p (into_refused limits t n table bytes starts lengths (length out) c p (told-refused _ c p e))
@@ -203,7 +204,7 @@ module _ (t n : ℕ) (table bytes starts lengths : List ℕ) where
 
 -- ---- what the table check's verdict says
 
-pub check-refused : (t n : ℕ) (table : List ℕ) (x : TableChecked) (c p : ℕ) → x ≡ table_checked (check_table limits t n table)
+pub check-refused : (t n : ℕ) (table : List ℕ) (x : TableChecked) (c : Cause) (p : ℕ) → x ≡ table_checked (check_table limits t n table)
     → x.verdict ≡ TableRefused c p → check_table limits t n table ≡ refused c p
 check-refused t n table x c p e h = go (check_table limits t n table) refl (ap (λ (x : TableChecked). x.verdict) (sym e) ∙ h)
   where

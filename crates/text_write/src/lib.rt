@@ -13,7 +13,7 @@ ghost use Rattle.text.specs.Promise.{WritesText, LengthAnswer};
 ghost use Rattle.text.specs.Spelled.{spelled};
 ghost use Rattle.text_write.specs.Clauses.{Checked, Ready, NamedAnswer};
 
-use grammar::{BUFFER_TOO_SHORT, MALFORMED, NAME_REPEATED, TableVerdict};
+use grammar::{Cause, TableVerdict};
 pub use put::{put_byte, put_bytes, put_name};
 pub use size::symbol;
 use text::{TextLength, TextWritten};
@@ -33,7 +33,7 @@ fn named_length(
     let m = starts.len();
     let double = lent::first_double(bytes, starts, lengths);
     if double < m {
-        return TextLength::Refused(NAME_REPEATED, double);
+        return TextLength::Refused(Cause::NameRepeated, double);
     }
     TextLength::Bytes(size::text_length(table, t, lengths))
 }
@@ -53,7 +53,7 @@ fn checked_length(
     let m = t + n;
     let bad = lent::first_bad(m, bytes, starts, lengths);
     if bad < m {
-        return TextLength::Refused(MALFORMED, bad);
+        return TextLength::Refused(Cause::Malformed, bad);
     }
     named_length(t, table, bytes, &starts[..m], &lengths[..m])
 }
@@ -96,7 +96,7 @@ pub fn write_text(
         TextLength::Refused(cause, at) => TextWritten::Refused(cause, at),
         TextLength::Bytes(size) => {
             if out.len() < size {
-                return TextWritten::Refused(BUFFER_TOO_SHORT, 0);
+                return TextWritten::Refused(Cause::BufferTooShort, 0);
             }
             let m = t + n;
             let end = lines::put_text(out, table, t, bytes, &starts[..m], &lengths[..m]);

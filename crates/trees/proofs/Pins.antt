@@ -8,10 +8,11 @@ use lib.ListN.{replicate}
 use Rattle.grammar.specs.Limits.{limits}
 use Rattle.grammar.specs.Grammar.{Grammar, rule, state_count}
 use Rattle.grammar.specs.Tree.{Tree, node, Trees, none, child, HasTree, DerivationTree, Children, SameTree, SameTrees, row, row_below, before, after}
-use Rattle.grammar.specs.Refusal.{done, refused, refuse_unless, and_then}
+use Rattle.grammar.specs.Refusal.{done, refused, refuse_unless, and_then, code_undeclared, buffer_too_short, no_sentence, row_wrong}
 use Rattle.grammar.proofs.Answers.{no_answer, done_inj}
 use Rattle.grammar.specs.TableCheck.{same_codes, is_among, declared_front, read_rule, next_rule, check_from, stored_table, check_table}
 use Rattle.grammar.specs.Live.{has_sentence, has, productive, rounds, concluded, waiting, has_all, nonterminals_of}
+use Rattle.grammar.specs.declared.Cause.{Cause}
 use Rattle.trees.specs.Trees.{rules_of, one, several, Agrees, count_1, count_2, row_fault, check_row, trees_room, max_row, work_size, cleared}
 use Rattle.trees.specs.Promise.{FindsTrees, refuses, too_short}
 use Rattle.trees.specs.declared.TreesFound.TheVariants.{Refused}
@@ -55,20 +56,20 @@ unfolding row_fault
 no_terminals = refl
 
 -- a table fault first, here a code that is not declared; then, of S → a, the row, then the work row
-pub table-first : check_row limits 1 1 (32768 ∷ 1 ∷ 7 ∷ []) (7 ∷ []) [] ≡ refused 5 2
+pub table-first : check_row limits 1 1 (32768 ∷ 1 ∷ 7 ∷ []) (7 ∷ []) [] ≡ refused code_undeclared 2
 unfolding check_row row_fault check_table stored_table has_sentence has productive rounds concluded has_all nonterminals_of check_from next_rule read_rule declared_front is_among same_codes state_count refuse_unless and_then
 table-first = refl
 
-pub row_next : check_row limits 1 1 (32768 ∷ 1 ∷ 1 ∷ []) (1 ∷ 2 ∷ []) [] ≡ refused 22 1
+pub row_next : check_row limits 1 1 (32768 ∷ 1 ∷ 1 ∷ []) (1 ∷ 2 ∷ []) [] ≡ refused row_wrong 1
 unfolding check_row row_fault check_table stored_table has_sentence has productive rounds concluded has_all nonterminals_of check_from next_rule read_rule declared_front is_among same_codes state_count refuse_unless and_then
 row_next = refl
 
-pub work_last : check_row limits 1 1 (32768 ∷ 1 ∷ 1 ∷ []) (1 ∷ []) (0 ∷ []) ≡ refused 14 0
+pub work_last : check_row limits 1 1 (32768 ∷ 1 ∷ 1 ∷ []) (1 ∷ []) (0 ∷ []) ≡ refused buffer_too_short 0
 unfolding check_row row_fault check_table stored_table has_sentence has productive rounds concluded has_all nonterminals_of check_from next_rule read_rule declared_front is_among same_codes state_count refuse_unless and_then
 work_last = refl
 
 -- S → S has no sentence: 19 comes before the row and the work row
-pub sentence_first : check_row limits 1 1 (32768 ∷ 1 ∷ 32768 ∷ []) (7 ∷ []) [] ≡ refused 19 0
+pub sentence_first : check_row limits 1 1 (32768 ∷ 1 ∷ 32768 ∷ []) (7 ∷ []) [] ≡ refused no_sentence 0
 unfolding check_row row_fault check_table stored_table has_sentence has productive rounds concluded waiting has_all nonterminals_of check_from next_rule read_rule declared_front is_among same_codes state_count refuse_unless and_then
 sentence_first = refl
 
@@ -141,11 +142,11 @@ empty-one = count_1 (node 1 none) record { derives = DerivationTree.applies {i =
 
 -- a refusal leaves the list as it was, the second 14 too; after that one the work row's entries are 0
 module _ (t n : ℕ) (table w work list : List ℕ) where
-  pub refused_list : (cause at : ℕ) (work' list' : List ℕ) → FindsTrees t n table w work list (Refused cause at) work' list' → list' ≡ list
+  pub refused_list : (cause : Cause) (at : ℕ) (work' list' : List ℕ) → FindsTrees t n table w work list (Refused cause at) work' list' → list' ≡ list
   refused_list cause at work' list' (refuses c p e) = refl
   refused_list cause at work' list' (too_short G e rules a l) = refl
 
-  pub used-row : (G : Grammar) → check_row limits t n table w work ≡ done G → (cause at : ℕ) (work' list' : List ℕ)
+  pub used-row : (G : Grammar) → check_row limits t n table w work ≡ done G → (cause : Cause) (at : ℕ) (work' list' : List ℕ)
       → FindsTrees t n table w work list (Refused cause at) work' list' → work' ≡ cleared G work
   used-row G e cause at work' list' (refuses c p d) = no_answer (sym d ∙ e)
   used-row G e cause at work' list' (too_short H d rules a l) = let q : H ≡ G = done_inj (sym d ∙ e) in ap (λ K. cleared K work) q

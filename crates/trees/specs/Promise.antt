@@ -4,6 +4,7 @@ use Rattle.grammar.specs.Basics.{over}
 use Rattle.grammar.specs.Limits.{limits}
 use Rattle.grammar.specs.Grammar.{Grammar}
 use Rattle.grammar.specs.Refusal.{Answer, done, refused, buffer_too_short}
+use Rattle.grammar.specs.declared.Cause.{Cause}
 use Rattle.trees.specs.Trees.{nothing, one, several, Agrees, check_row, cleared, trees_room}
 use Rattle.trees.specs.declared.TreesFound.{TreesFound}
 use Rattle.trees.specs.declared.TreesFound.TheVariants as found
@@ -14,7 +15,7 @@ use Rattle.trees.specs.declared.TreesRoom.TheVariants as room
 -- the list afterwards
 pub data FindsTrees (t n : ℕ) (table w work list : List ℕ) : TreesFound → List ℕ → List ℕ → Type 0 where
   -- a refusal before the answer leaves both unchanged
-  refuses : (cause at : ℕ) → check_row limits t n table w work ≡ refused cause at → FindsTrees t n table w work list (found.Refused cause at) work list
+  refuses : (cause : Cause) (at : ℕ) → check_row limits t n table w work ≡ refused cause at → FindsTrees t n table w work list (found.Refused cause at) work list
   -- none and several leave the list untouched
   no_tree : (G : Grammar) → check_row limits t n table w work ≡ done G → Agrees limits G w nothing
       → FindsTrees t n table w work list found.Nothing (cleared G work) list

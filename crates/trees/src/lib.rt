@@ -3,24 +3,26 @@
 
 #![tactic(auto)]
 
+use grammar::Cause;
+
 // The most terminals of a row: document 02, [12]; specs/Trees.antt has the same number.
 pub const MAX_ROW: usize = 64;
 
 // The gaps before, between and after so many terminals.
 pub const PLACES: usize = MAX_ROW + 1;
 
-// None, one with the number of its rules, or several; or a refusal with a cause's number and its position.
+// None, one with the number of its rules, or several; or a refusal with a cause and its position.
 #[derive(Drop)]
 pub enum TreesFound {
     Nothing,
     One(usize),
     Several,
-    Refused(u8, usize),
+    Refused(Cause, usize),
 }
 
 // The entries of the work row; or the table's first refusal.
 #[derive(Drop)]
 pub enum TreesRoom {
     Entries(usize),
-    Refused(u8, usize),
+    Refused(Cause, usize),
 }

@@ -13,6 +13,7 @@ use Rattle.grammar.proofs.Answers.{then-done, then_stops, then-goes, unless_hold
 use Rattle.grammar.proofs.Sentence.{takes_only}
 use Rattle.automaton.specs.Callers.{spots, most_callers, check_callers, check_with}
 use Rattle.triple_laws.proofs.CallerZero.{zero-states}
+use Rattle.grammar.specs.declared.Cause.{Cause}
 
 -- without callers nothing more is refused
 zero-callers : (L : Limits) (G : Grammar) → WellFormed L G → check_callers L G 0 ≡ done G
@@ -62,7 +63,7 @@ module _ (L : Limits) (G : Grammar) (m : ℕ) where
       done_is q = cc
 
 -- the table's refusal is that of the check with callers
-pub table_stops : (L : Limits) (t n : ℕ) (table : List ℕ) (m cause at : ℕ) → check_table L t n table ≡ refused cause at → check_with L t n table m ≡ refused cause at
+pub table_stops : (L : Limits) (t n : ℕ) (table : List ℕ) (m : ℕ) (cause : Cause) (at : ℕ) → check_table L t n table ≡ refused cause at → check_with L t n table m ≡ refused cause at
 unfolding check_with
 table_stops L t n table m cause at e = then_stops (check_table L t n table) (λ G. check_callers L G m) cause at e
 

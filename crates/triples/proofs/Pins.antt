@@ -10,7 +10,7 @@ use lib.ListN.{length, replicate}
 use Rattle.grammar.specs.Limits.{byte_limits}
 use Rattle.grammar.specs.Grammar.{Grammar, rule, state_count}
 use Rattle.grammar.specs.Table.{decode_up_to, decode}
-use Rattle.grammar.specs.Refusal.{Answer, done, refused, refuse_unless, and_then}
+use Rattle.grammar.specs.Refusal.{Answer, done, refused, refuse_unless, and_then, out_of_range, truncated, certificate_length, spare_bit, start_missing, end_present, successor_missing, witness_wrong, no_sentence}
 use Rattle.grammar.specs.TableCheck.{same_codes, is_among, declared_front, read_rule, next_rule, check_from, stored_table, check_table}
 use Rattle.grammar.specs.Basics.{each}
 use Rattle.grammar.specs.Live.{has, has_all, concluded, waiting, rounds, nonterminals_of, productive, usable, reachable, has_sentence, is_live}
@@ -167,9 +167,9 @@ abbrev barren : Tables
 barren = tables 1 3 (128 ∷ 1 ∷ 1 ∷ 128 ∷ 2 ∷ 129 ∷ 130 ∷ 129 ∷ 1 ∷ 1 ∷ 130 ∷ 1 ∷ 130 ∷ [])
 
 -- all with a sentence pass the table check, with the grammar that is taken here; the two without are 19 at 0
-all_pass : (check_rules bare ≡ refused 19 0) × (check_rules empty ≡ done (grammar empty))
+all_pass : (check_rules bare ≡ refused no_sentence 0) × (check_rules empty ≡ done (grammar empty))
     × (check_rules single ≡ done (grammar single)) × (check_rules leftward ≡ done (grammar leftward))
-    × (check_rules nested ≡ done (grammar nested)) × (check_rules circle ≡ refused 19 0)
+    × (check_rules nested ≡ done (grammar nested)) × (check_rules circle ≡ refused no_sentence 0)
     × (check_rules looped ≡ done (grammar looped)) × (check_rules circular ≡ done (grammar circular))
     × (check_rules palindromes ≡ done (grammar palindromes)) × (check_rules twice ≡ done (grammar twice))
     × (check_rules counted ≡ done (grammar counted)) × (check_rules spreading ≡ done (grammar spreading))
@@ -356,58 +356,58 @@ smallest_cases : (check_bits empty (certificate empty) ≡ done tt)
     × (check_bits nested (certificate nested) ≡ done tt)
     × (check_bits counted (certificate counted) ≡ done tt)
     × (check_bits course (certificate course) ≡ done tt)
-    × (check_bits looped (certificate looped) ≡ refused 12 57)
-    × (check_bits twice (certificate twice) ≡ refused 12 111)
+    × (check_bits looped (certificate looped) ≡ refused end_present 57)
+    × (check_bits twice (certificate twice) ≡ refused end_present 111)
 unfolding check_bits
 smallest_cases = (refl, refl, refl, refl, refl, refl)
 
 -- without a sentence no certificate is looked at: neither that of the smallest set, nor one over all rules, nor one of a wrong length
-bare_cases : (check_bits bare (1 ∷ 0 ∷ 0 ∷ 0 ∷ []) ≡ refused 19 0)
-    × (check_bits bare (0x05 ∷ 0x85 ∷ 0 ∷ 0 ∷ []) ≡ refused 19 0)
-    × (check_bits bare [] ≡ refused 19 0)
-    × (check_bits circle (certificate circle) ≡ refused 19 0)
+bare_cases : (check_bits bare (1 ∷ 0 ∷ 0 ∷ 0 ∷ []) ≡ refused no_sentence 0)
+    × (check_bits bare (0x05 ∷ 0x85 ∷ 0 ∷ 0 ∷ []) ≡ refused no_sentence 0)
+    × (check_bits bare [] ≡ refused no_sentence 0)
+    × (check_bits circle (certificate circle) ≡ refused no_sentence 0)
 unfolding check_bits
 bare_cases = (refl, refl, refl, refl)
 
 -- document 01's cases for S → a: the right one; its first eight bytes, one byte more, no byte; all 0; all 0xFF; only bit 0
 single_cases : (check_bits single single-bytes ≡ done tt)
-    × (check_bits single (0x15 ∷ 0x50 ∷ 0x21 ∷ 0x15 ∷ 0x08 ∷ 0 ∷ 0 ∷ 0 ∷ []) ≡ refused 9 0)
-    × (check_bits single (single-bytes ++ (0 ∷ [])) ≡ refused 9 0)
-    × (check_bits single [] ≡ refused 9 0)
-    × (check_bits single (replicate 9 0) ≡ refused 11 0)
-    × (check_bits single (replicate 9 0xff) ≡ refused 12 43)
-    × (check_bits single (1 ∷ replicate 8 0) ≡ refused 13 0)
+    × (check_bits single (0x15 ∷ 0x50 ∷ 0x21 ∷ 0x15 ∷ 0x08 ∷ 0 ∷ 0 ∷ 0 ∷ []) ≡ refused certificate_length 0)
+    × (check_bits single (single-bytes ++ (0 ∷ [])) ≡ refused certificate_length 0)
+    × (check_bits single [] ≡ refused certificate_length 0)
+    × (check_bits single (replicate 9 0) ≡ refused start_missing 0)
+    × (check_bits single (replicate 9 0xff) ≡ refused end_present 43)
+    × (check_bits single (1 ∷ replicate 8 0) ≡ refused successor_missing 0)
 unfolding check_bits
 single_cases = (refl, refl, refl, refl, refl, refl, refl)
 
 -- a larger one: with (1,1,4), which has no successor; with (1,3,4) and without its successor (1,1,4), at (1,3,4)
 larger_cases : (check_bits single (0x15 ∷ 0x50 ∷ 0x21 ∷ 0x15 ∷ 0x08 ∷ 0x40 ∷ 0 ∷ 0 ∷ 0 ∷ []) ≡ done tt)
-    × (check_bits single (0x15 ∷ 0x50 ∷ 0x21 ∷ 0x15 ∷ 0x08 ∷ 0 ∷ 0 ∷ 0x04 ∷ 0 ∷ []) ≡ refused 13 58)
+    × (check_bits single (0x15 ∷ 0x50 ∷ 0x21 ∷ 0x15 ∷ 0x08 ∷ 0 ∷ 0 ∷ 0x04 ∷ 0 ∷ []) ≡ refused successor_missing 58)
 unfolding check_bits
 larger_cases = (refl, refl)
 
 -- a smaller one: without (0,4,4), at the lower of the two that lack it; without (0,5,5), at (0,4,4)
-smaller_cases : (check_bits single (0x15 ∷ 0x50 ∷ 0x21 ∷ 0x05 ∷ 0x08 ∷ 0 ∷ 0 ∷ 0 ∷ 0 ∷ []) ≡ refused 13 16)
-    × (check_bits single (0x15 ∷ 0x50 ∷ 0x21 ∷ 0x15 ∷ 0 ∷ 0 ∷ 0 ∷ 0 ∷ 0 ∷ []) ≡ refused 13 28)
+smaller_cases : (check_bits single (0x15 ∷ 0x50 ∷ 0x21 ∷ 0x05 ∷ 0x08 ∷ 0 ∷ 0 ∷ 0 ∷ 0 ∷ []) ≡ refused successor_missing 16)
+    × (check_bits single (0x15 ∷ 0x50 ∷ 0x21 ∷ 0x15 ∷ 0 ∷ 0 ∷ 0 ∷ 0 ∷ 0 ∷ []) ≡ refused successor_missing 28)
 unfolding check_bits
 smaller_cases = (refl, refl)
 
 -- Q of 9: the right one; bit 162, the last bit, the lower of two past 2Q²; bit 161 is a triple's
 spare_cases : (check_bits leftward (leftward-front ++ (0 ∷ [])) ≡ done tt)
-    × (check_bits leftward (leftward-front ++ (0x04 ∷ [])) ≡ refused 10 162)
-    × (check_bits leftward (leftward-front ++ (0x80 ∷ [])) ≡ refused 10 167)
-    × (check_bits leftward (leftward-front ++ (0x90 ∷ [])) ≡ refused 10 164)
-    × (check_bits leftward (leftward-front ++ (0x02 ∷ [])) ≡ refused 13 161)
+    × (check_bits leftward (leftward-front ++ (0x04 ∷ [])) ≡ refused spare_bit 162)
+    × (check_bits leftward (leftward-front ++ (0x80 ∷ [])) ≡ refused spare_bit 167)
+    × (check_bits leftward (leftward-front ++ (0x90 ∷ [])) ≡ refused spare_bit 164)
+    × (check_bits leftward (leftward-front ++ (0x02 ∷ [])) ≡ refused successor_missing 161)
 unfolding check_bits
 spare_cases = (refl, refl, refl, refl, refl)
 
 -- the order, each refusal before the next: a table fault, 9, 10, 11, 12, 13
-certificate_order : (check_bits (tables 128 1 []) [] ≡ refused 1 0)
-    × (check_bits (tables 1 1 (128 ∷ [])) [] ≡ refused 2 0)
-    × (check_bits leftward (replicate 22 0xff) ≡ refused 9 0)
-    × (check_bits leftward (replicate 20 0 ++ (0x04 ∷ [])) ≡ refused 10 162)
-    × (check_bits single (0 ∷ 0 ∷ 0 ∷ 0 ∷ 0 ∷ 0x08 ∷ 0 ∷ 0 ∷ 0 ∷ []) ≡ refused 11 0)
-    × (check_bits single (1 ∷ 0 ∷ 0 ∷ 0 ∷ 0 ∷ 0x08 ∷ 0 ∷ 0 ∷ 0 ∷ []) ≡ refused 12 43)
+certificate_order : (check_bits (tables 128 1 []) [] ≡ refused out_of_range 0)
+    × (check_bits (tables 1 1 (128 ∷ [])) [] ≡ refused truncated 0)
+    × (check_bits leftward (replicate 22 0xff) ≡ refused certificate_length 0)
+    × (check_bits leftward (replicate 20 0 ++ (0x04 ∷ [])) ≡ refused spare_bit 162)
+    × (check_bits single (0 ∷ 0 ∷ 0 ∷ 0 ∷ 0 ∷ 0x08 ∷ 0 ∷ 0 ∷ 0 ∷ []) ≡ refused start_missing 0)
+    × (check_bits single (1 ∷ 0 ∷ 0 ∷ 0 ∷ 0 ∷ 0x08 ∷ 0 ∷ 0 ∷ 0 ∷ []) ≡ refused end_present 43)
 unfolding check_bits
 certificate_order = (refl, refl, refl, refl, refl, refl)
 
@@ -419,16 +419,16 @@ right_paths = (refl, refl)
 
 -- no entry; another first entry, alone and before a right rest; another entry in the middle, one of 2Q²; the end cut off, all
 -- but the first cut off; an entry after (1,1,1); a table fault first; of S → S, which has no sentence, no row is looked at
-wrong_paths : (check_path looped [] ≡ refused 15 0)
-    × (check_path looped (57 ∷ []) ≡ refused 15 0)
-    × (check_path looped (14 ∷ 16 ∷ 30 ∷ 38 ∷ 71 ∷ 57 ∷ []) ≡ refused 15 0)
-    × (check_path looped (0 ∷ 14 ∷ 16 ∷ 38 ∷ 71 ∷ 57 ∷ []) ≡ refused 15 3)
-    × (check_path looped (0 ∷ 14 ∷ 98 ∷ 30 ∷ 38 ∷ 71 ∷ 57 ∷ []) ≡ refused 15 2)
-    × (check_path looped (0 ∷ 14 ∷ 16 ∷ 30 ∷ 38 ∷ 71 ∷ []) ≡ refused 15 6)
-    × (check_path looped (0 ∷ []) ≡ refused 15 1)
-    × (check_path looped (0 ∷ 14 ∷ 16 ∷ 30 ∷ 38 ∷ 71 ∷ 57 ∷ 57 ∷ []) ≡ refused 15 7)
-    × (check_path (tables 0 0 []) [] ≡ refused 1 0)
-    × (check_path circle (0 ∷ 12 ∷ 14 ∷ 26 ∷ 33 ∷ 55 ∷ 43 ∷ []) ≡ refused 19 0)
+wrong_paths : (check_path looped [] ≡ refused witness_wrong 0)
+    × (check_path looped (57 ∷ []) ≡ refused witness_wrong 0)
+    × (check_path looped (14 ∷ 16 ∷ 30 ∷ 38 ∷ 71 ∷ 57 ∷ []) ≡ refused witness_wrong 0)
+    × (check_path looped (0 ∷ 14 ∷ 16 ∷ 38 ∷ 71 ∷ 57 ∷ []) ≡ refused witness_wrong 3)
+    × (check_path looped (0 ∷ 14 ∷ 98 ∷ 30 ∷ 38 ∷ 71 ∷ 57 ∷ []) ≡ refused witness_wrong 2)
+    × (check_path looped (0 ∷ 14 ∷ 16 ∷ 30 ∷ 38 ∷ 71 ∷ []) ≡ refused witness_wrong 6)
+    × (check_path looped (0 ∷ []) ≡ refused witness_wrong 1)
+    × (check_path looped (0 ∷ 14 ∷ 16 ∷ 30 ∷ 38 ∷ 71 ∷ 57 ∷ 57 ∷ []) ≡ refused witness_wrong 7)
+    × (check_path (tables 0 0 []) [] ≡ refused out_of_range 0)
+    × (check_path circle (0 ∷ 12 ∷ 14 ∷ 26 ∷ 33 ∷ 55 ∷ 43 ∷ []) ≡ refused no_sentence 0)
 unfolding check_path
 wrong_paths = (refl, refl, refl, refl, refl, refl, refl, refl, refl, refl)
 
@@ -440,9 +440,9 @@ entries = (refl, refl, refl, refl, refl, refl)
 -- the same of records: a right row; for (0,2,0) the record (0,1,7), for (1,1,1) the record (0,8,1), of equal index; a layer of 2
 record_paths :
     (check_entries looped ((0, 0, 0) ∷ (0, 2, 0) ∷ (0, 2, 2) ∷ (0, 4, 2) ∷ (0, 5, 3) ∷ (1, 3, 1) ∷ (1, 1, 1) ∷ []) ≡ done tt)
-    × (check_entries looped ((0, 0, 0) ∷ (0, 1, 7) ∷ (0, 2, 2) ∷ (0, 4, 2) ∷ (0, 5, 3) ∷ (1, 3, 1) ∷ (1, 1, 1) ∷ []) ≡ refused 15 1)
-    × (check_entries looped ((0, 0, 0) ∷ (0, 2, 0) ∷ (0, 2, 2) ∷ (0, 4, 2) ∷ (0, 5, 3) ∷ (1, 3, 1) ∷ (0, 8, 1) ∷ []) ≡ refused 15 6)
-    × (check_entries looped ((0, 0, 0) ∷ (2, 2, 0) ∷ []) ≡ refused 15 1)
-    × (check_entries looped [] ≡ refused 15 0)
+    × (check_entries looped ((0, 0, 0) ∷ (0, 1, 7) ∷ (0, 2, 2) ∷ (0, 4, 2) ∷ (0, 5, 3) ∷ (1, 3, 1) ∷ (1, 1, 1) ∷ []) ≡ refused witness_wrong 1)
+    × (check_entries looped ((0, 0, 0) ∷ (0, 2, 0) ∷ (0, 2, 2) ∷ (0, 4, 2) ∷ (0, 5, 3) ∷ (1, 3, 1) ∷ (0, 8, 1) ∷ []) ≡ refused witness_wrong 6)
+    × (check_entries looped ((0, 0, 0) ∷ (2, 2, 0) ∷ []) ≡ refused witness_wrong 1)
+    × (check_entries looped [] ≡ refused witness_wrong 0)
 unfolding check_entries
 record_paths = (refl, refl, refl, refl, refl)

@@ -8,6 +8,7 @@ use Rattle.grammar.specs.Refusal.{Answer, done, refused}
 use Rattle.grammar.specs.declared.TableVerdict.{TableVerdict}
 use Rattle.grammar.specs.declared.TableVerdict.TheVariants.{Passed, Refused}
 use Rattle.grammar.proofs.Answers.{no_answer, done_inj}
+use Rattle.grammar.specs.declared.Cause.{Cause}
 use Rattle.automaton.specs.Callers.{check_with}
 use Rattle.automaton.specs.CallerMoves.{moves_with}
 use Rattle.moves.specs.Tables.{Tables}
@@ -16,12 +17,12 @@ use Rattle.prepared.specs.Prepared.{Prepares}
 use Rattle.witness_check.specs.Clauses.{Ready}
 use Rattle.witness_check.proofs.ReadyLaws.{ready_of}
 
-same-cause : {A : Type 0} (c p d q : ℕ) → ◌≡◌ {A = Answer A} (refused c p) (refused d q) → Refused c p ≡ Refused d q
+same-cause : {A : Type 0} (c : Cause) (p : ℕ) (d : Cause) (q : ℕ) → ◌≡◌ {A = Answer A} (refused c p) (refused d q) → Refused c p ≡ Refused d q
 same-cause c p d q e = let x : c ≡ d = cc in let y : p ≡ q = cc in ap (λ c. Refused c p) x ∙ ap (λ p. Refused d p) y
 
 module _ (t n : ℕ) (table : List ℕ) (m : ℕ) (w : Prepared) (rows : Tables) (P : Prepares t n table m w rows) where
   -- a table that is refused has its refusal for a verdict
-  pub stops_as : (c p : ℕ) → check_with limits t n table m ≡ refused c p → w.verdict ≡ Refused c p
+  pub stops_as : (c : Cause) (p : ℕ) → check_with limits t n table m ≡ refused c p → w.verdict ≡ Refused c p
   stops_as c p e = go w.verdict refl
     where
       go : (v : TableVerdict) → w.verdict ≡ v → w.verdict ≡ Refused c p

@@ -12,9 +12,10 @@ use lib.ListN.{length, get_or, drop}
 use borrow.Author.Tests.{le-leb, lt-leb, eq-eqb, ne_eqb}
 use Rattle.grammar.specs.Limits.{limits}
 use Rattle.grammar.specs.Grammar.{Grammar}
-use Rattle.grammar.specs.Refusal.{Answer, done, refused, and_then}
+use Rattle.grammar.specs.Refusal.{Answer, done, refused, and_then, witness_wrong}
 use Rattle.grammar.specs.declared.TableVerdict.TheVariants as checked
 use Rattle.grammar.proofs.Answers.{then-goes, then_stops}
+use Rattle.grammar.specs.declared.Cause.{Cause}
 use Rattle.automaton.specs.Moves.{Moves}
 use Rattle.automaton.specs.Callers.{check_with}
 use Rattle.automaton.specs.CallerMoves.{moves_with}
@@ -86,19 +87,19 @@ module _ (M : Moves) (w : Board) (R : ReadyFor M w) (row : List ℕ) (last place
 
   -- no entry follows: the place is that of the first wrong one
   pub wrong : (j : ℕ) → j ≡ get_or row place 0 → place < length row → Stands M w row last place
-      → (found : Option ℕ) → found ≡ after w last place j → ((x : ℕ) → found ≡ Some x → ⊥) → Refused 15 place ≡ check_verdict (check_row M row)
+      → (found : Option ℕ) → found ≡ after w last place j → ((x : ℕ) → found ≡ Some x → ⊥) → Refused witness_wrong place ≡ check_verdict (check_row M row)
   wrong j q h s found f n = elim s [
     | inl z ↦
         let other : get_or row 0 0 ≡ 0 → ⊥ = λ e.
         let o : j ≡ 0 = q ∙ ap (λ (k : ℕ). get_or row k 0) z.0 ∙ e in
         n 0 (f ∙ sym (after_first w last place j (omega (arith, many)) z.0 o)) in
-        ap (λ (k : ℕ). Refused 15 k) z.0
+        ap (λ (k : ℕ). Refused witness_wrong k) z.0
         ∙ ap check_verdict (walk_first M w.ahead w.after w.number w.member w.target w.terminals w.opening w.states R row (some_entry h) other)
     | inr x ↦ later x (dec_lt j (triple_count w.states)) (follows w last j) refl
   ]
     where
       later : (1 ≤ place) × (last < triple_count w.states) × (check_on M last place (drop place row) ≡ check_row M row) → Dec (j < triple_count w.states)
-          → (b : Bool) → follows w last j ≡ b → Refused 15 place ≡ check_verdict (check_row M row)
+          → (b : Bool) → follows w last j ≡ b → Refused witness_wrong place ≡ check_verdict (check_row M row)
       later x (no k) b e =
           ap check_verdict (walk-beyond M w.ahead w.after w.number w.member w.target w.terminals w.opening w.states R row last place h x.1 (omega (arith, k, q)) ∙ x.2)
       later x (yes k) true e = absurd (n j (f ∙ sym (after_next w last place j k (λ z. omega (arith, x.0, z)) e)))
@@ -152,7 +153,7 @@ module _ (M : Moves) (w : Board) (R : ReadyFor M w) (row : List ℕ) (last place
         let short : length row ≡ 0 = sym h ∙ z.0 in
         let other : last ≡ w.states * w.states + w.states + 1 → ⊥ = λ e. omega (arith, z.1, e) in
         simp (ne_eqb last (w.states * w.states + w.states + 1) other)
-        (ap (λ (n : ℕ). Refused 15 n) short ∙ ap check_verdict (walk-empty M w.ahead w.after w.number w.member w.target w.terminals w.opening w.states R row short))
+        (ap (λ (n : ℕ). Refused witness_wrong n) short ∙ ap check_verdict (walk-empty M w.ahead w.after w.number w.member w.target w.terminals w.opening w.states R row short))
     | inr x ↦ last_one x (ℕ_discrete last (index w.states 1 1 1))
   ]
     where
@@ -163,7 +164,7 @@ module _ (M : Moves) (w : Board) (R : ReadyFor M w) (row : List ℕ) (last place
           (ap check_verdict (walk_ends M w.ahead w.after w.number w.member w.target w.terminals w.opening w.states R row last place (omega (arith, h)) e ∙ x.2))
       last_one x (no e) =
           simp (ne_eqb last (w.states * w.states + w.states + 1) (λ z. e (z ∙ sym (index-end w.states))))
-          (ap (λ (n : ℕ). Refused 15 n) (sym h) ∙ ap check_verdict (walk-short M w.ahead w.after w.number w.member w.target w.terminals w.opening w.states R row last place (omega (arith, h)) e ∙ x.2))
+          (ap (λ (n : ℕ). Refused witness_wrong n) (sym h) ∙ ap check_verdict (walk-short M w.ahead w.after w.number w.member w.target w.terminals w.opening w.states R row last place (omega (arith, h)) e ∙ x.2))
 
 -- the answer is the definition's
 module _ (t n : ℕ) (table : List ℕ) (m : ℕ) (w : Board) (es : List TripleRecord) (b : Begun t n table m w) where
@@ -171,7 +172,7 @@ module _ (t n : ℕ) (table : List ℕ) (m : ℕ) (w : Board) (es : List TripleR
   then G = check_row (moves_with limits G m) (map (entry_of (moves_with limits G m).states) (triples es))
 
   -- of a table that passed
-  pub passed-answer : ((c p : ℕ) → w.verdict ≡ checked.Refused c p → ⊥) → (v : CheckVerdict)
+  pub passed-answer : ((c : Cause) (p : ℕ) → w.verdict ≡ checked.Refused c p → ⊥) → (v : CheckVerdict)
       → ((M : Moves) → ReadyFor M w → v ≡ check_verdict (check_row M (map (entry_of w.states) (triples es))))
       → v ≡ check_verdict (check_witness_records limits t n table m (triples es))
   unfolding check_witness_records
@@ -186,7 +187,7 @@ module _ (t n : ℕ) (table : List ℕ) (m : ℕ) (w : Board) (es : List TripleR
       go (refused c p) e = absurd (other c p (b.stops c p e))
 
   -- of one that is refused
-  pub refused-answer : (c p : ℕ) → w.verdict ≡ checked.Refused c p → Refused c p ≡ check_verdict (check_witness_records limits t n table m (triples es))
+  pub refused-answer : (c : Cause) (p : ℕ) → w.verdict ≡ checked.Refused c p → Refused c p ≡ check_verdict (check_witness_records limits t n table m (triples es))
   unfolding check_witness_records
   refused-answer c p r = go (check_with limits t n table m) refl
     where

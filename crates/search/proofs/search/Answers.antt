@@ -5,8 +5,9 @@ use mathlib.Core.Path.{◌≡◌, refl, sym, subst}
 use mathlib.Core.Bool.{false}
 use Rattle.plans.specs.Clauses.{most_square}
 use Rattle.grammar.specs.Grammar.{Grammar}
-use Rattle.grammar.specs.Refusal.{Answer, done, refused}
+use Rattle.grammar.specs.Refusal.{Answer, done, refused, buffer_too_short}
 use Rattle.grammar.specs.Limits.{limits}
+use Rattle.grammar.specs.declared.Cause.{Cause}
 use Rattle.automaton.specs.Callers.{check_with}
 use Rattle.automaton.specs.CallerMoves.{moves_with}
 use Rattle.moves.specs.Tables.{Tables, tables}
@@ -43,7 +44,7 @@ abbrev prepared : Place-After-prepare → Tables
 prepared c = tables c.prepare-w.new.ahead c.prepare-w.new.number c.prepare-w.new.member c.prepare-w.new.target c.prepare-w.new.first c.prepare-w.new.targets c.prepare-w.new.after
 
 -- a refusal of the definition, with all that is lent unchanged
-refused_as : (e : Start) (s : Answer Grammar) (cause at : ℕ) → s ≡ refused cause at → Answers limits e.args.callers s (before e) (Refused cause at) (before e)
+refused_as : (e : Start) (s : Answer Grammar) (cause : Cause) (at : ℕ) → s ≡ refused cause at → Answers limits e.args.callers s (before e) (Refused cause at) (before e)
 refused_as e s cause at q = subst (λ (x : Answer Grammar). Answers limits e.args.callers x (before e) (Refused cause at) (before e)) (sym q) (refl, refl)
 
 -- the table passes, and the rows are its grammar's
@@ -56,7 +57,7 @@ few c = let h = c.prepare-w.ensures.sized.most in product_le _ _ h h
 
 -- what is lent is too short
 short : (c : Place-Past-After-enum_told) → is_enough c.prepare-w.result.states (before c.before.before.before.before.before.before.before.before.before.before.before.before.before.before) ≡ false
-    → Answers limits c.args.callers (searchable limits c.args.t c.args.n c.args.table.now c.args.callers (before c.before.before.before.before.before.before.before.before.before.before.before.before.before.before)) (before c.before.before.before.before.before.before.before.before.before.before.before.before.before.before) (Refused 14 0) (before c.before.before.before.before.before.before.before.before.before.before.before.before.before.before)
+    → Answers limits c.args.callers (searchable limits c.args.t c.args.n c.args.table.now c.args.callers (before c.before.before.before.before.before.before.before.before.before.before.before.before.before.before)) (before c.before.before.before.before.before.before.before.before.before.before.before.before.before.before) (Refused buffer_too_short 0) (before c.before.before.before.before.before.before.before.before.before.before.before.before.before.before)
 short c s =
     let p = passed c in
     refused_as c.before.before.before.before.before.before.before.before.before.before.before.before.before.before _ _ _ (search_short c.args.t c.args.n c.args.table.now c.args.callers (before c.before.before.before.before.before.before.before.before.before.before.before.before.before.before) p.0 p.1

@@ -19,6 +19,7 @@ use Rattle.grammar.proofs.Plain.{in_range_lem}
 use Rattle.grammar.proofs.Steps.{grammar_of, table-out}
 use Rattle.grammar.proofs.WellFormed as formed
 use Rattle.grammar.proofs.Sentence.{with_sentence, without_sentence_lem, not-stored}
+use Rattle.grammar.specs.declared.Cause.{Cause}
 use Rattle.live.specs.Lent.{ColumnsOf}
 use Rattle.live.proofs.ColumnLaws.{lent_of}
 use Rattle.table_check.specs.Clauses.{next_or_full}
@@ -46,7 +47,7 @@ abbrev answer : (t n : ℕ) (table : List ℕ) → Bool → Answer Grammar
 answer t n table whole = choose whole (check_table limits t n table) (stored_table limits t n table)
 
 -- a table that stores no grammar is refused either way
-either : (t n : ℕ) (table : List ℕ) (whole : Bool) (cause at : ℕ) → stored_table limits t n table ≡ refused cause at → answer t n table whole ≡ refused cause at
+either : (t n : ℕ) (table : List ℕ) (whole : Bool) (cause : Cause) (at : ℕ) → stored_table limits t n table ≡ refused cause at → answer t n table whole ≡ refused cause at
 either t n table true cause at e = not-stored limits t n table cause at e
 either t n table false cause at e = e
 

@@ -6,6 +6,7 @@ use native.Mathlib.Nat.{mul-le-mul}
 use mathlib.Core.List.{List, [], ◌∷◌}
 use lib.ListN.{length}
 use Rattle.grammar.specs.Limits.{limits}
+use Rattle.grammar.specs.Refusal.{witness_wrong}
 use Rattle.triples.specs.Verdict.{check_verdict}
 use Rattle.triples.specs.declared.CheckVerdict.TheVariants.{Refused}
 use Rattle.witness_check.proofs.WalkLaws.{walk-empty, walk_first, walk_start, walk-beyond, walk_wrong, walk_more, walk-short, walk_ends}
@@ -57,7 +58,7 @@ loop-place-preserved c = let a = c.args in
 pub returns-then-last-index_of : goal.returns-then-last-index_of
 returns-then-last-index_of c = let a = c.args in
     let e : c.loop-place.place ≡ length a.row.now = omega (arith, c.loop-place.invariant.1, c.loop-place-test.false) in
-    λ G R. ap (λ (n : ℕ). Refused 15 n) (sym e) ∙ ap check_verdict (walk-short G a.ahead.now a.after.now a.number.now a.member.now a.target.now a.t a.m a.q R a.row.now c.loop-place.last c.loop-place.place c.loop-place-test.false
+    λ G R. ap (λ (n : ℕ). Refused witness_wrong n) (sym e) ∙ ap check_verdict (walk-short G a.ahead.now a.after.now a.number.now a.member.now a.target.now a.t a.m a.q R a.row.now c.loop-place.last c.loop-place.place c.loop-place-test.false
     (λ e. c.if-last-index_of.true (e ∙ sym c.index_of.ensures)) ∙ c.loop-place.invariant.3 G R)
 
 pub returns : goal.returns

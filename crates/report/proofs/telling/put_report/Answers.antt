@@ -5,7 +5,8 @@ use Prim.Native.Nat.{ℕ, ◌+◌, ◌≤◌, ◌<◌}
 use lib.ListN.{length, replicate, length-replicate}
 use lib.Seq.{length-take-le}
 use Rattle.grammar.specs.Limits.{limits}
-use Rattle.grammar.specs.Refusal.{refused}
+use Rattle.grammar.specs.Refusal.{refused, buffer_too_short}
+use Rattle.grammar.specs.declared.Cause.{Cause}
 use Rattle.text.proofs.Enough.{Enough, rows-refused, ReadRows, read-rows}
 use Rattle.text_write.proofs.Filling.{wrote_as}
 use Rattle.report.specs.Report.{judge, report_of}
@@ -49,13 +50,13 @@ short : (k : Place-After-read_text) → length k.args.text.now ≤ 4096
 short k = omega (arith, k.if-text-gt-PROGRAM_TEXT.false)
 
 -- a refusal's lines, which have room
-told : (s : Start) (cause at : ℕ) → judge s.args.text.now ≡ refused cause at → refused_lines cause at ≡ report_of s.args.text.now
+told : (s : Start) (cause : Cause) (at : ℕ) → judge s.args.text.now ≡ refused cause at → refused_lines cause at ≡ report_of s.args.text.now
 told s cause at e = refused_report s.args.text.now cause at e
 
-has_room : (s : Start) (cause at : ℕ) → judge s.args.text.now ≡ refused cause at → length (refused_lines cause at) ≤ length s.args.out.now
+has_room : (s : Start) (cause : Cause) (at : ℕ) → judge s.args.text.now ≡ refused cause at → length (refused_lines cause at) ≤ length s.args.out.now
 has_room s cause at e = omega (arith, ap length (told s cause at e), never_short s.args.text.now, s.requires)
 
-too_long : (s : Start) → 4096 < length s.args.text.now → judge s.args.text.now ≡ refused 14 0
+too_long : (s : Start) → 4096 < length s.args.text.now → judge s.args.text.now ≡ refused buffer_too_short 0
 too_long s h = long-text s.args.text.now h
 
 -- the reader's refusal
@@ -83,25 +84,25 @@ rows c =
     read-rows _ _ _ _ suffice c.read_text-read.result c.read_text-read.new.table c.read_text-read.new.starts c.read_text-read.new.lengths c.read_text-read.ensures
     (terminals c) (nonterminals c) (entries c) (states c) c.in-Read.is
 
-many : (c : Place-Past-After-known_told2) → 48 < states c → judge c.args.text.now ≡ refused 14 0
+many : (c : Place-Past-After-known_told2) → 48 < states c → judge c.args.text.now ≡ refused buffer_too_short 0
 many c h =
     let r = rows c in
     many_states c.args.text.now (short c.before.before.before.before) r.source r.checked (omega (arith, r.states, h))
 
 pub put_refused-requires : goal.put_refused-requires
-put_refused-requires c = has_room c.before.before.before.before.before 14 0 (too_long c.before.before.before.before.before (omega (arith, c.if-text-gt-PROGRAM_TEXT.true)))
+put_refused-requires c = has_room c.before.before.before.before.before buffer_too_short 0 (too_long c.before.before.before.before.before (omega (arith, c.if-text-gt-PROGRAM_TEXT.true)))
 
 pub returns-then-text-gt-PROGRAM_TEXT : goal.returns-then-text-gt-PROGRAM_TEXT
-returns-then-text-gt-PROGRAM_TEXT c = wrote_as (told c.before.before.before.before.before.before.before.before 14 0 (too_long c.before.before.before.before.before.before.before.before (omega (arith, c.if-text-gt-PROGRAM_TEXT.true)))) c.put_refused.ensures
+returns-then-text-gt-PROGRAM_TEXT c = wrote_as (told c.before.before.before.before.before.before.before.before buffer_too_short 0 (too_long c.before.before.before.before.before.before.before.before (omega (arith, c.if-text-gt-PROGRAM_TEXT.true)))) c.put_refused.ensures
 
 pub put_refused-requires-in-Refused : goal.put_refused-requires-in-Refused
 put_refused-requires-in-Refused c = has_room c.before.before.before.before.before.before.before.before.before.before.before.before.before _ _ (stops c.before.before)
 
 pub put_refused-requires-then-states-gt-PROGRAM_STATES : goal.put_refused-requires-then-states-gt-PROGRAM_STATES
-put_refused-requires-then-states-gt-PROGRAM_STATES c = has_room c.before.before.before.before.before.before.before.before.before.before.before.before.before.before 14 0 (many c.before.before.before c.if-states-gt-PROGRAM_STATES.true)
+put_refused-requires-then-states-gt-PROGRAM_STATES c = has_room c.before.before.before.before.before.before.before.before.before.before.before.before.before.before buffer_too_short 0 (many c.before.before.before c.if-states-gt-PROGRAM_STATES.true)
 
 pub returns-then-states-gt-PROGRAM_STATES : goal.returns-then-states-gt-PROGRAM_STATES
-returns-then-states-gt-PROGRAM_STATES c = wrote_as (told c.before.before.before.before.before.before.before.before.before.before.before.before.before.before.before.before.before 14 0 (many c.before.before.before.before.before.before c.if-states-gt-PROGRAM_STATES.true)) c.put_refused-then-states-gt-PROGRAM_STATES.ensures
+returns-then-states-gt-PROGRAM_STATES c = wrote_as (told c.before.before.before.before.before.before.before.before.before.before.before.before.before.before.before.before.before buffer_too_short 0 (many c.before.before.before.before.before.before c.if-states-gt-PROGRAM_STATES.true)) c.put_refused-then-states-gt-PROGRAM_STATES.ensures
 
 pub overflow_add-m : goal.overflow_add-m
 overflow_add-m c = let r = rows c.before.before in

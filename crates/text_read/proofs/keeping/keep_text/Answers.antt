@@ -6,11 +6,12 @@ use Rattle.lexicon.proofs.Tree.{no_links}
 use Rattle.text_read.specs.Values.{all_names}
 use Rattle.text_read.proofs.Whole.{text-long, refused-names}
 use Rattle.text_read.proofs.keeping.keep_text.Goals as goal
+use Rattle.grammar.specs.Refusal.{malformed}
 
 pub returns-then-text-gt-MAX_TEXT : goal.returns-then-text-gt-MAX_TEXT
 returns-then-text-gt-MAX_TEXT c = let a = c.args in
     let r = text-long a.text.now c.if-text-gt-MAX_TEXT.true in
-    record { told = r; names = refused-names _ 16 0 a.starts.now a.lengths.now r }
+    record { told = r; names = refused-names _ malformed 0 a.starts.now a.lengths.now r }
 
 pub keep_lines-requires : goal.keep_lines-requires
 keep_lines-requires c = let p = c.requires in
