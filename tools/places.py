@@ -65,14 +65,19 @@ def loops():
 
 
 def counted():
-    """3: those among them that step a variable of their condition by one."""
+    """3: those among them that step the variable of their test by one, over a range that their body doesn't change."""
     found = []
     for path, text in SOURCES.items():
-        for loop in re.finditer(r"^( *)(?:'\w+: )?(?:while ([^\n]*)|loop) \{\n(.*?)^\1\}", text, re.M | re.S):
-            for step in re.finditer(r"\b(\w+) [+-]= 1;", loop.group(3)):
-                if loop.group(2) is None or re.search(rf"\b{step.group(1)}\b", loop.group(2)):
-                    number = text[: loop.start()].count("\n") + 1
-                    found.append(f"{path}:{number}: {step.group(1)} in {(loop.group(2) or 'loop').strip()}")
+        for loop in re.finditer(r"^( *)(?:'\w+: )?while ([^\n]*) \{\n(.*?)^\1\}", text, re.M | re.S):
+            test, body = loop.group(2), loop.group(3)
+            for step in re.finditer(r"\b(\w+) [+-]= 1;", body):
+                name = step.group(1)
+                bound = re.fullmatch(rf"{name}(?: \+ 1)? (?:<|<=|!=) (.*)|(.*) (?:<|<=) {name}", test)
+                if bound is None:
+                    continue
+                others = re.findall(r"\b[a-z_]\w*\b", bound.group(1) or bound.group(2))
+                if not any(re.search(rf"\b{other} [+-]?= ", body) for other in others):
+                    found.append(f"{path}:{text[: loop.start()].count(chr(10)) + 1}: {name} in {test}")
                     break
     return found
 
