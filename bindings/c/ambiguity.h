@@ -20,7 +20,7 @@
  * - Six functions take `callers`, how many callers a state of the automaton remembers: 0, 1 or 2. A paragraph before them says what
  *   that costs, and when to try 1 or 2; 0 is the usual number.
  * - There is no state, no allocation and no lock: every function is re-entrant, and calls may run at the same time.
- * - The archive needs memcpy, memmove and memset and nothing else. It is for x86-64 with the System V calling convention.
+ * - The archive needs memcpy and memset and nothing else. It is for x86-64 with the System V calling convention.
  */
 #ifndef AMBIGUITY_H
 #define AMBIGUITY_H

@@ -109,5 +109,5 @@ pub fn pass_widths<'a>(widths: &'a [u16], count: usize, below: &mut [u16])
     requires { (count ≤ length widths.now) × (count ≤ length below.old) }
     ensures { Filled below.old below.new count (λ i. get_or widths.now i 0) }
 {
-    below[..count].copy_from_slice(&widths[..count]);
+    copying::copy(&mut below[..count], &widths[..count]);
 }

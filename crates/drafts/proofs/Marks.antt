@@ -15,7 +15,7 @@ use Rattle.grammar.specs.Refusal.{done, refused, not_present}
 use Rattle.grammar.proofs.Answers.{both_and, and_false, unless_holds, unless_fails}
 use Rattle.drafts.specs.Draft.{mark, return, with_mark, with_rules, kept, restored, taken, marks_count, is_mark}
 use Rattle.drafts.specs.Row.{block_size, block_at, block_of, end_of, rules_in, marks_from, draft_with, image, stepped}
-use Rattle.drafts.specs.Edits.{open_row}
+use Rattle.drafts.specs.Edits.{Apart, open_row}
 use Rattle.drafts.proofs.Walks.{held_none}
 use Rattle.drafts.proofs.Copies.{pasted}
 use Rattle.drafts.proofs.Opens.{in_block, open_done, step-done, step-refused}
@@ -96,21 +96,20 @@ return-done row end k last e l h q =
     (unless_holds not_present k (is_mark k) (restored d k (kept d k)) (known k l h) ∙ ap (restored d k) (kept_at row rs k l h ∙ b.found))
     ∙ ap done (sym (pasted row (drop (block_at k) row) (image b.rules) 2 last (omega (arith, length-drop (block_at k) row, r, f, h)) b.front))
 
--- ---- what is copied, and where it goes, lies in the row
+-- ---- what is copied lies apart from where it goes
 
-pub mark_fits : (row : List ℕ) (end k : ℕ) → open_row row ≡ done end → k ≤ marks_count → (2 + end ≤ length row) × (2 + k * block_size + end ≤ length row)
-mark_fits row end k e h =
+pub mark_apart : (row : List ℕ) (end k : ℕ) → open_row row ≡ done end → 1 ≤ k → k ≤ marks_count → Apart 2 (2 + k * block_size) end (length row)
+mark_apart row end k e l h =
     let o = open_done row end e in
     let r = o.room in
     let f = o.block.few in
-    (omega (arith, r, f), omega (arith, r, f, h))
+    record { source = omega (arith, r, f); goal = omega (arith, r, f, h); order = inr (omega (arith, f, l)) }
 
-pub return_fits : (row : List ℕ) (end k last : ℕ) → open_row row ≡ done end → k ≤ marks_count → end_of (block_of row k) ≡ some last
-    → (2 + k * block_size + last ≤ length row) × (2 + last ≤ length row)
-return_fits row end k last e h q =
+pub return_apart : (row : List ℕ) (end k last : ℕ) → open_row row ≡ done end → k ≤ marks_count → end_of (block_of row k) ≡ some last → Apart (2 + k * block_size) 2 last (length row)
+return_apart row end k last e h q =
     let r = (open_done row end e).room in
     let f = (in_block row k last (omega (arith, r, h)) q).few in
-    (omega (arith, r, f, h), omega (arith, r, f))
+    record { source = omega (arith, r, f, h); goal = omega (arith, r, f); order = inl (omega arith) }
 
 pub open_holds : (row : List ℕ) (end k : ℕ) → open_row row ≡ done end → k ≤ marks_count → 2 + k * block_size + block_size ≤ length row
 open_holds row end k e h = let r = (open_done row end e).room in omega (arith, r, h)

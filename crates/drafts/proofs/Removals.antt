@@ -17,11 +17,32 @@ use Rattle.grammar.proofs.Answers.{both_and, and_false, unless_holds, unless_fai
 use Rattle.grammar.proofs.Rules.{reads}
 use Rattle.drafts.specs.Draft.{withdraw, without, with_rules, taken}
 use Rattle.drafts.specs.Row.{block_size, block_of, walk, draft_with, splice, image, put, stepped}
-use Rattle.drafts.specs.Edits.{Reaches, Removable, removed, open_row}
+use Rattle.drafts.specs.Edits.{Apart, Reaches, Removable, removed, open_row}
 use Rattle.drafts.proofs.Walks.{walk-along, some_inj}
+use Rattle.drafts.proofs.Copies.{below-kept}
 use Rattle.drafts.proofs.Opens.{Open, open_done, step-done, step-refused}
 
 -- ---- a rule taken out
+
+pub remove_apart : (row : List ℕ) (from end k : ℕ) → Removable row from end → k ≡ length_at row from → Apart (from + 2 + k) from (2 + end - (from + 2 + k)) (length row)
+remove_apart row from end k r e =
+    let w = r.whole in
+    let i = r.within in
+    record { source = omega (arith, w, i, e); goal = omega (arith, w, i, e); order = inl (omega arith) }
+
+pub remove_cell : (row now : List ℕ) (from end k n : ℕ) → Removable row from end → now ≡ paste row from (drop (from + 2 + k) row) n → get_or now 2 0 ≡ get_or row 2 0
+remove_cell row now from end k n r e =
+    let p = r.past in
+    let w = r.whole in
+    let i = r.within in
+    ap (λ (l : List ℕ). get_or l 2 0) e ∙ below-kept row (drop (from + 2 + k) row) from n 2 (omega (arith, p)) (omega (arith, w, i))
+
+pub remove_row : (row now : List ℕ) (from end k : ℕ) → Removable row from end → k ≡ length_at row from
+    → now ≡ paste row from (drop (from + 2 + k) row) (2 + end - (from + 2 + k)) → set now 2 (get_or now 2 0 - 1) ≡ removed row from end
+remove_row row now from end k r e q =
+    ap (λ (c : ℕ). set now 2 (c - 1)) (remove_cell row now from end k (2 + end - (from + 2 + k)) r q)
+    ∙ ap (λ (l : List ℕ). set l 2 (get_or row 2 0 - 1)) q
+    ∙ ap (λ (k : ℕ). set (paste row from (drop (from + 2 + k) row) (2 + end - (from + 2 + k))) 2 (get_or row 2 0 - 1)) e
 
 -- the rules before and after one, and the rule itself
 record Cut (m : ℕ) (rs : List Rule) : Type 0 where

@@ -1,5 +1,5 @@
 -- What the inner functions of an edit ask and leave. Assumes nothing.
-use Rattle.std.specs.Prelude.{ℕ, ◌+◌, ◌-◌, ◌≤◌, ◌≡◌, List, [], ◌∷◌, ◌++◌, length, get_or, set, take, drop, leb, ltb}
+use Rattle.std.specs.Prelude.{ℕ, ◌+◌, ◌-◌, ◌≤◌, ◌≡◌, ◌⊎◌, List, [], ◌∷◌, ◌++◌, length, get_or, set, take, drop, leb, ltb}
 use Rattle.std.proofs.Math.Option.{Option, none, some}
 use Rattle.std.proofs.Math.Seq.{paste}
 use Rattle.grammar.specs.Basics.{choose}
@@ -13,6 +13,12 @@ use Rattle.drafts.specs.Row.{stepped, table_room, draft_room, block_of, walk, en
 use Rattle.drafts.specs.Promise.{row_after}
 use Rattle.drafts.specs.declared.FoundDraft.{FoundDraft}
 use Rattle.drafts.specs.declared.FoundDraft.TheVariants.{Opened, Shut}
+
+-- both parts lie in the row, and none that is still to be read is written
+pub record Apart (from to n size : ℕ) : Type 0 where
+  pub source : from + n ≤ size
+  pub goal : to + n ≤ size
+  pub order : (to ≤ from) ⊎ (from + n ≤ to)
 
 -- where the draft's rules end in its block, or why the row holds none
 abbrev pub end_or : Option ℕ → Answer ℕ

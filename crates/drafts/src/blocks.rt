@@ -1,7 +1,9 @@
-// The blocks of a row: where the rules of one end.
-ghost use Rattle.std.specs.Prelude.{◌≡◌, ◌+◌, ◌≤◌, length, MatchOption};
+// The blocks of a row: where the rules of one end, and entries copied within the row.
+ghost use Rattle.std.specs.Prelude.{◌≡◌, ◌+◌, ◌≤◌, length, drop, MatchOption};
 ghost use Rattle.std.proofs.Math.Option.{none, some};
+ghost use Rattle.std.proofs.Math.Seq.{paste};
 ghost use Rattle.drafts.specs.Row.{block_at, block_size, block_of, end_of};
+ghost use Rattle.drafts.specs.Edits.{Apart};
 
 use grammar::{MAX_RULES, MAX_STATES};
 
@@ -43,4 +45,14 @@ pub fn held(row: &[u16], j: usize) -> Option<usize>
     let from = 2 + j * BLOCK;
     let to = from + BLOCK;
     block_end(&row[from..to])
+}
+
+// Copies n entries from a place to another, the lowest first.
+pub fn copy_within(row: &mut [u16], from: usize, to: usize, n: usize)
+    requires { Apart from to n (length row.old) }
+    ensures { row.new ≡ paste row.old to (drop from row.old) n }
+{
+    for i in 0..n {
+        row[to + i] = row[from + i];
+    }
 }

@@ -7,7 +7,7 @@ ghost use Rattle.drafts.specs.Draft.{marks_count};
 ghost use Rattle.drafts.specs.Edits.{Reaches, Removable, removed};
 
 use super::MARKS;
-use super::blocks::BLOCK;
+use super::blocks::{BLOCK, copy_within};
 
 // Where the rule after so many rules begins.
 fn place_in(block: &[u16], m: usize) -> usize
@@ -36,7 +36,7 @@ pub fn remove(row: &mut [u16], from: usize, end: usize)
     ensures { row.new ≡ removed row.old from end }
 {
     let next = from + 2 + usize::from(row[from + 1]);
-    row.copy_within(next..2 + end, from);
+    copy_within(row, next, from, 2 + end - next);
     row[2] = row[2] - 1;
 }
 
@@ -45,7 +45,7 @@ pub fn put_entries(row: &mut [u16], at: usize, entries: &[u16], m: usize)
     requires { (at + m ≤ length row.old) × (m ≤ length entries.now) }
     ensures { row.new ≡ paste row.old at entries.now m }
 {
-    row[at..at + m].copy_from_slice(&entries[..m]);
+    copying::copy(&mut row[at..at + m], &entries[..m]);
 }
 
 fn empty_marks(row: &mut [u16])

@@ -11,7 +11,7 @@ ghost use Rattle.drafts.specs.Draft.{mark, return, withdraw, add};
 ghost use Rattle.drafts.specs.Promise.{EditsDraft, BeginsDraft};
 
 use adding::{append, try_rule};
-use blocks::{BLOCK, DRAFT_ROOM, held};
+use blocks::{BLOCK, DRAFT_ROOM, copy_within, held};
 use edits::{begin, remove, rule_place};
 use grammar::{Cause, TableVerdict};
 use reading::open_draft;
@@ -69,7 +69,7 @@ pub fn set_mark(draft: &mut [u16], number: usize) -> DraftAnswer
                 return DraftAnswer::Refused(Cause::NotPresent, number);
             }
             let to = 2 + number * BLOCK;
-            draft.copy_within(2..2 + end, to);
+            copy_within(draft, 2, to, end);
             return DraftAnswer::Done;
         }
     }
@@ -92,7 +92,7 @@ pub fn return_to_mark(draft: &mut [u16], number: usize) -> DraftAnswer
                 return DraftAnswer::Refused(Cause::NotPresent, number);
             };
             let from = 2 + number * BLOCK;
-            draft.copy_within(from..from + end, 2);
+            copy_within(draft, from, 2, end);
             return DraftAnswer::Done;
         }
     }

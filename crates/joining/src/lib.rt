@@ -86,7 +86,7 @@ pub fn join_texts(robot: &[u8], addon: &[u8], table: &mut [u16]) -> TextRead
             if table.len() < entries {
                 return TextRead::Refused(Cause::BufferTooShort, 0);
             }
-            table[..entries].copy_from_slice(&row[..entries]);
+            copying::copy(&mut table[..entries], &row[..entries]);
             TextRead::Read {
                 terminals: sizes.terminals,
                 nonterminals: sizes.nonterminals,

@@ -94,7 +94,7 @@ fn put_codes(codes: &mut [u16; MAX_STATES], used: usize, right: &[u16])
     requires { (length codes.old ≡ limits.max_states) × (used + length right.now ≤ limits.max_states) }
     ensures { codes.new ≡ paste codes.old used right.now (length right.now) }
 {
-    codes[used..used + right.len()].copy_from_slice(right);
+    copying::copy(&mut codes[used..used + right.len()], right);
 }
 
 fn refuse(cause: Cause, at: usize) -> TableChecked

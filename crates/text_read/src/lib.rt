@@ -111,9 +111,9 @@ fn read_in(
     if lengths.len() < count {
         return TextRead::Refused(Cause::BufferTooShort, 0);
     }
-    table[..entries].copy_from_slice(&row[..entries]);
-    starts[..count].copy_from_slice(&begins[..count]);
-    lengths[..count].copy_from_slice(&sizes[..count]);
+    copying::copy(&mut table[..entries], &row[..entries]);
+    copying::copy(&mut starts[..count], &begins[..count]);
+    copying::copy(&mut lengths[..count], &sizes[..count]);
     read
 }
 

@@ -14,7 +14,7 @@ pub fn put_bytes(out: &mut [u8], at: usize, src: &[u8]) -> usize
     ensures { Wrote at src.now out.old result out.new }
 {
     let end = at + src.len();
-    out[at..end].copy_from_slice(src);
+    copying::copy(&mut out[at..end], src);
     end
 }
 

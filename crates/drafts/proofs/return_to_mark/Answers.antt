@@ -9,7 +9,7 @@ use Rattle.grammar.specs.Refusal.{not_present}
 use Rattle.drafts.specs.Draft.{return}
 use Rattle.drafts.specs.Row.{block_size, stepped}
 use Rattle.drafts.proofs.Opens.{opened_at, leaves_shut, leaves_refused, leaves_done}
-use Rattle.drafts.proofs.Marks.{return_unknown, return-nothing, return-done, return_fits, open_holds}
+use Rattle.drafts.proofs.Marks.{return_unknown, return-nothing, return-done, return_apart, open_holds}
 use Rattle.drafts.proofs.return_to_mark.Goals as goal
 
 pub returns-in-Shut : goal.returns-in-Shut
@@ -28,21 +28,12 @@ returns-in_default c = let row = c.args.draft.now in
     let k = c.args.number in
     leaves_refused (stepped row (return k)) row not_present k (return-nothing row _ k (opened_at _ _ _ c.open_draft-opened.ensures c.in-Opened.is) (omega arith) (omega arith) c.in_default.ensures)
 
-pub overflow_add-from-in-Opened : goal.overflow_add-from-in-Opened
-overflow_add-from-in-Opened c = let f = return_fits c.args.draft.now _ c.args.number _ (opened_at _ _ _ c.open_draft-opened.ensures c.in-Opened.is) (omega arith) c.in-Some.ensures in omega (arith, f.0)
-
-pub copy_within-requires-clause-in_bounds : goal.copy_within-requires-clause-in_bounds
-copy_within-requires-clause-in_bounds c = (return_fits c.args.draft.now _ c.args.number _ (opened_at _ _ _ c.open_draft-opened.ensures c.in-Opened.is) (omega arith) c.in-Some.ensures).0
-
-pub copy_within-requires-clause-dest_in_bounds : goal.copy_within-requires-clause-dest_in_bounds
-copy_within-requires-clause-dest_in_bounds c = let f = return_fits c.args.draft.now _ c.args.number _ (opened_at _ _ _ c.open_draft-opened.ensures c.in-Opened.is) (omega arith) c.in-Some.ensures in omega (arith, f.1)
+pub copy_within-requires : goal.copy_within-requires
+copy_within-requires c = return_apart c.args.draft.now _ c.args.number _ (opened_at _ _ _ c.open_draft-opened.ensures c.in-Opened.is) (omega arith) c.in-Some.ensures
 
 pub returns-in-Opened : goal.returns-in-Opened
 returns-in-Opened c = let row = c.args.draft.now in
     let k = c.args.number in
-    let from = 2 + k * block_size in
-    let end = c.in-Some.end in
-    let z : from + end - from ≡ end = omega arith in
     leaves_done (stepped row (return k)) row _ _
-    (return-done row _ k end (opened_at _ _ _ c.open_draft-opened.ensures c.in-Opened.is) (omega arith) (omega arith) c.in-Some.ensures)
-    (c.copy_within.ensures.after ∙ ap (paste row 2 (drop from row)) z)
+    (return-done row _ k c.in-Some.end (opened_at _ _ _ c.open_draft-opened.ensures c.in-Opened.is) (omega arith) (omega arith) c.in-Some.ensures)
+    c.copy_within.ensures

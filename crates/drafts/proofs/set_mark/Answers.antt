@@ -9,7 +9,7 @@ use Rattle.grammar.specs.Refusal.{not_present}
 use Rattle.drafts.specs.Draft.{mark}
 use Rattle.drafts.specs.Row.{block_size, stepped}
 use Rattle.drafts.proofs.Opens.{opened_at, leaves_shut, leaves_refused, leaves_done}
-use Rattle.drafts.proofs.Marks.{mark_unknown, mark-done, mark_fits}
+use Rattle.drafts.proofs.Marks.{mark_unknown, mark-done, mark_apart}
 use Rattle.drafts.proofs.set_mark.Goals as goal
 
 pub returns-in-Shut : goal.returns-in-Shut
@@ -20,20 +20,12 @@ returns-then-number-lt1 c = let row = c.args.draft.now in
     let k = c.args.number in
     leaves_refused (stepped row (mark k)) row not_present k (mark_unknown row _ k (opened_at _ _ _ c.open_draft-opened.ensures c.in-Opened.is) c.then-number-lt1.either)
 
-pub overflow_add-end : goal.overflow_add-end
-overflow_add-end c = let f = mark_fits c.args.draft.now _ c.args.number (opened_at _ _ _ c.open_draft-opened.ensures c.in-Opened.is) (omega arith) in omega (arith, f.0)
-
-pub copy_within-requires-clause-in_bounds : goal.copy_within-requires-clause-in_bounds
-copy_within-requires-clause-in_bounds c = (mark_fits c.args.draft.now _ c.args.number (opened_at _ _ _ c.open_draft-opened.ensures c.in-Opened.is) (omega arith)).0
-
-pub copy_within-requires-clause-dest_in_bounds : goal.copy_within-requires-clause-dest_in_bounds
-copy_within-requires-clause-dest_in_bounds c = let f = mark_fits c.args.draft.now _ c.args.number (opened_at _ _ _ c.open_draft-opened.ensures c.in-Opened.is) (omega arith) in omega (arith, f.1)
+pub copy_within-requires : goal.copy_within-requires
+copy_within-requires c = mark_apart c.args.draft.now _ c.args.number (opened_at _ _ _ c.open_draft-opened.ensures c.in-Opened.is) (omega arith) (omega arith)
 
 pub returns-in-Opened : goal.returns-in-Opened
 returns-in-Opened c = let row = c.args.draft.now in
     let k = c.args.number in
-    let end = c.in-Opened.end in
-    let z : 2 + end - 2 ≡ end = omega arith in
     leaves_done (stepped row (mark k)) row _ _
-    (mark-done row end k (opened_at _ _ _ c.open_draft-opened.ensures c.in-Opened.is) (omega arith) (omega arith))
-    (c.copy_within.ensures.after ∙ ap (paste row (2 + k * block_size) (drop 2 row)) z)
+    (mark-done row _ k (opened_at _ _ _ c.open_draft-opened.ensures c.in-Opened.is) (omega arith) (omega arith))
+    c.copy_within.ensures

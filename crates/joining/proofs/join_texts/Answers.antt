@@ -23,4 +23,4 @@ pub returns-else-table-entries : goal.returns-else-table-entries
 returns-else-table-entries c =
     let h = told-joined c.args.robot.now c.args.addon.now _ _ _ _ _ _ _ c.join_kept.result c.in-Joined.sizes c.in-Joined.entries c.in-Joined.states c.in-Joined.is c.join_kept.ensures in
     join_written c.args.robot.now c.args.addon.now c.args.table.now _ _ _ _ _ _ _ c.in-Joined.sizes c.in-Joined.entries c.in-Joined.states h (omega (arith, c.if-table-entries.false)) _
-    (copied _ _ c.args.table.now c.in-Joined.entries c.copy_from_slice.ensures.after (h.entries ∙ sym (ap length h.table-front)))
+    (copied _ _ c.args.table.now c.in-Joined.entries c.copy.ensures (h.entries ∙ sym (ap length h.table-front)))

@@ -41,20 +41,20 @@ pub returns-then-lengths-count : goal.returns-then-lengths-count
 returns-then-lengths-count c = short_lengths c.args.text.now c.args.table.now c.args.starts.now c.args.lengths.now c.args.row.now c.args.begins.now c.args.sizes.now c.check_kept-read.result
     (checked c.args.text.now c.args.row.now c.args.begins.now c.args.sizes.now c.args.kept c.check_kept-read.result c.requires c.check_kept-read.ensures) c.in-Read.terminals c.in-Read.nonterminals c.in-Read.entries c.in-Read.states c.in-Read.is c.if-lengths-count.true
 
-pub slice_bounds-copy_from_slice-end-6 : goal.slice_bounds-copy_from_slice-end-6
-slice_bounds-copy_from_slice-end-6 c = sym (length-take-le _ _ (starts-kept (check_text limits c.args.text.now) c.args.row.now c.args.begins.now c.args.sizes.now c.check_kept-read.result
+pub slice_bounds-copy-end-6 : goal.slice_bounds-copy-end-6
+slice_bounds-copy-end-6 c = sym (length-take-le _ _ (starts-kept (check_text limits c.args.text.now) c.args.row.now c.args.begins.now c.args.sizes.now c.check_kept-read.result
     (checked c.args.text.now c.args.row.now c.args.begins.now c.args.sizes.now c.args.kept c.check_kept-read.result c.requires c.check_kept-read.ensures) c.in-Read.terminals c.in-Read.nonterminals c.in-Read.entries c.in-Read.states c.in-Read.is))
 
-pub copy_from_slice-requires-2 : goal.copy_from_slice-requires-2
-copy_from_slice-requires-2 c = length-take-le _ _ c.if-starts-count.false ∙ sym (length-take-le _ _ (starts-kept (check_text limits c.args.text.now) c.args.row.now c.args.begins.now c.args.sizes.now c.check_kept-read.result
+pub copy-requires-2 : goal.copy-requires-2
+copy-requires-2 c = length-take-le _ _ c.if-starts-count.false ∙ sym (length-take-le _ _ (starts-kept (check_text limits c.args.text.now) c.args.row.now c.args.begins.now c.args.sizes.now c.check_kept-read.result
     (checked c.args.text.now c.args.row.now c.args.begins.now c.args.sizes.now c.args.kept c.check_kept-read.result c.requires c.check_kept-read.ensures) c.in-Read.terminals c.in-Read.nonterminals c.in-Read.entries c.in-Read.states c.in-Read.is))
 
-pub slice_bounds-copy_from_slice-end-9 : goal.slice_bounds-copy_from_slice-end-9
-slice_bounds-copy_from_slice-end-9 c = sym (length-take-le _ _ (lengths-kept (check_text limits c.args.text.now) c.args.row.now c.args.begins.now c.args.sizes.now c.check_kept-read.result
+pub slice_bounds-copy-end-9 : goal.slice_bounds-copy-end-9
+slice_bounds-copy-end-9 c = sym (length-take-le _ _ (lengths-kept (check_text limits c.args.text.now) c.args.row.now c.args.begins.now c.args.sizes.now c.check_kept-read.result
     (checked c.args.text.now c.args.row.now c.args.begins.now c.args.sizes.now c.args.kept c.check_kept-read.result c.requires c.check_kept-read.ensures) c.in-Read.terminals c.in-Read.nonterminals c.in-Read.entries c.in-Read.states c.in-Read.is))
 
-pub copy_from_slice-requires-3 : goal.copy_from_slice-requires-3
-copy_from_slice-requires-3 c = length-take-le _ _ c.if-lengths-count.false ∙ sym (length-take-le _ _ (lengths-kept (check_text limits c.args.text.now) c.args.row.now c.args.begins.now c.args.sizes.now c.check_kept-read.result
+pub copy-requires-3 : goal.copy-requires-3
+copy-requires-3 c = length-take-le _ _ c.if-lengths-count.false ∙ sym (length-take-le _ _ (lengths-kept (check_text limits c.args.text.now) c.args.row.now c.args.begins.now c.args.sizes.now c.check_kept-read.result
     (checked c.args.text.now c.args.row.now c.args.begins.now c.args.sizes.now c.args.kept c.check_kept-read.result c.requires c.check_kept-read.ensures) c.in-Read.terminals c.in-Read.nonterminals c.in-Read.entries c.in-Read.states c.in-Read.is))
 
 pub returns : goal.returns
@@ -62,9 +62,9 @@ returns c = read_all c.args.text.now c.args.table.now c.args.starts.now c.args.l
     (checked c.args.text.now c.args.row.now c.args.begins.now c.args.sizes.now c.args.kept c.check_kept-read.result c.requires c.check_kept-read.ensures) c.in-Read.terminals c.in-Read.nonterminals c.in-Read.entries c.in-Read.states c.in-Read.is
     c.if-table-entries.false c.if-starts-count.false c.if-lengths-count.false
     _ _ _
-    (copied _ _ c.args.table.now c.in-Read.entries c.copy_from_slice.ensures.after (sym (length-take-le _ _ (entries-kept (check_text limits c.args.text.now) c.args.row.now c.args.begins.now c.args.sizes.now c.check_kept-read.result
+    (copied _ _ c.args.table.now c.in-Read.entries c.copy.ensures (sym (length-take-le _ _ (entries-kept (check_text limits c.args.text.now) c.args.row.now c.args.begins.now c.args.sizes.now c.check_kept-read.result
     (checked c.args.text.now c.args.row.now c.args.begins.now c.args.sizes.now c.args.kept c.check_kept-read.result c.requires c.check_kept-read.ensures) c.in-Read.terminals c.in-Read.nonterminals c.in-Read.entries c.in-Read.states c.in-Read.is))))
-    (copied _ _ c.args.starts.now (c.in-Read.terminals + c.in-Read.nonterminals) c.copy_from_slice-2.ensures.after (sym (length-take-le _ _ (starts-kept (check_text limits c.args.text.now) c.args.row.now c.args.begins.now c.args.sizes.now c.check_kept-read.result
+    (copied _ _ c.args.starts.now (c.in-Read.terminals + c.in-Read.nonterminals) c.copy-2.ensures (sym (length-take-le _ _ (starts-kept (check_text limits c.args.text.now) c.args.row.now c.args.begins.now c.args.sizes.now c.check_kept-read.result
     (checked c.args.text.now c.args.row.now c.args.begins.now c.args.sizes.now c.args.kept c.check_kept-read.result c.requires c.check_kept-read.ensures) c.in-Read.terminals c.in-Read.nonterminals c.in-Read.entries c.in-Read.states c.in-Read.is))))
-    (copied _ _ c.args.lengths.now (c.in-Read.terminals + c.in-Read.nonterminals) c.copy_from_slice-3.ensures.after (sym (length-take-le _ _ (lengths-kept (check_text limits c.args.text.now) c.args.row.now c.args.begins.now c.args.sizes.now c.check_kept-read.result
+    (copied _ _ c.args.lengths.now (c.in-Read.terminals + c.in-Read.nonterminals) c.copy-3.ensures (sym (length-take-le _ _ (lengths-kept (check_text limits c.args.text.now) c.args.row.now c.args.begins.now c.args.sizes.now c.check_kept-read.result
     (checked c.args.text.now c.args.row.now c.args.begins.now c.args.sizes.now c.args.kept c.check_kept-read.result c.requires c.check_kept-read.ensures) c.in-Read.terminals c.in-Read.nonterminals c.in-Read.entries c.in-Read.states c.in-Read.is))))
