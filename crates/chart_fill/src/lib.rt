@@ -81,7 +81,11 @@ fn column(work: &mut [u32], rows: &GrammarRows, marks: &[u8; MAX_STATES], j: usi
 fn ends(ahead: &[u16; MAX_STATES]) -> [u8; MAX_STATES]
     ensures { (p : ℕ) → p < limits.max_states → get_or ahead.now p 0 ≡ 0 → get_or result p 0 ≡ 1 }
 {
-    ahead.map(|x| u8::from(x == 0))
+    let mut marks = [0u8; MAX_STATES];
+    for (p, mark) in marks.iter_mut().enumerate() {
+        *mark = u8::from(ahead[p] == 0);
+    }
+    marks
 }
 
 // All spans of a row.
