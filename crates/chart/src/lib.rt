@@ -16,7 +16,7 @@ ghost use Rattle.chart.specs.Filling.{width, SpanIn, made_in, Looks};
 
 use counts::{plus, ways};
 use grammar::{MAX_STATES, NONTERMINAL_BASE};
-pub use rows::{ENDS, GrammarRows};
+pub use rows::{ENDS, GrammarRows, TreeRows};
 
 // How many flags share a byte that says whether one of them may be set.
 pub const BLOCK: usize = 32;

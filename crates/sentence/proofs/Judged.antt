@@ -1,6 +1,6 @@
 -- From the rows of a grammar and a row of 0 to its complete chart. Assumes nothing.
 use Prim.Native.Nat.{ℕ, zero, suc, ◌+◌, ◌≤◌, ◌<◌}
-use mathlib.Core.Path.{refl}
+use mathlib.Core.Path.{◌≡◌, refl, ap₂, ◌∙◌}
 use mathlib.Core.List.{List}
 use native.Mathlib.Omega.{arith}
 use lib.ListN.{get_or, replicate}
@@ -14,6 +14,12 @@ use Rattle.chart_start.specs.Sown.{Columned}
 use Rattle.chart_rows.specs.Wiring.{Zeros}
 use Rattle.chart_rows.specs.Preparing.{Showing}
 use Rattle.tree_walk.specs.Charted.{rows, Charted}
+
+-- rows that are the same one by one
+pub same_rows : {Q R : ℕ} {a b l m n o h k w v : List ℕ} → Q ≡ R → a ≡ b → l ≡ m → n ≡ o → h ≡ k → w ≡ v
+    → rows Q a l n h w ≡ rows R b m o k v
+same_rows {R = R} {b = b} {l} {m} {n} {o} {h} {k} {w} Q a e f g i =
+    ap₂ (λ Q a. rows Q a l n h w) Q a ∙ ap₂ (λ l n. rows R b l n h w) e f ∙ ap₂ (λ h w. rows R b m o h w) g i
 
 pub zeros : (n : ℕ) → Zeros (replicate n 0)
 zeros zero k = refl

@@ -9,7 +9,7 @@ ghost use Rattle.chart_rows.specs.Wiring.{Zeros};
 ghost use Rattle.tree_walk.specs.Charted.{rows_of, Roomy};
 ghost use Rattle.sentence.specs.Answered.{HasChart, Answers, Judges};
 
-use chart::GrammarRows;
+use chart::{GrammarRows, TreeRows};
 use chart_fill::fill;
 use chart_rows::prepare;
 use chart_start::sow;
@@ -29,11 +29,7 @@ pub enum Outcome {
 pub struct ListTooShort;
 
 // The answer that a complete chart holds.
-pub fn answer(
-    work: &mut [u32],
-    rows: &GrammarRows,
-    list: &mut [u16],
-) -> Result<Outcome, ListTooShort>
+pub fn answer(work: &mut [u32], rows: &TreeRows, list: &mut [u16]) -> Result<Outcome, ListTooShort>
     requires has_chart { HasChart (rows_of rows.now) work.old }
     requires roomy { Roomy (rows_of rows.now) work.old }
     ensures { Answers (rows_of rows.now) work.old list.old list.new result }
@@ -95,5 +91,6 @@ pub fn judge(
     };
     sow(work, &rows, g);
     fill(work, &rows);
-    answer(work, &rows, list)
+    let tree = rows.tree();
+    answer(work, &tree, list)
 }

@@ -11,10 +11,9 @@ use Rattle.tree_laws.specs.Chart.{Places}
 use Rattle.tree_laws.specs.Walk.{Walk}
 use Rattle.tree_laws.proofs.Spans.{spans_rise, spans_within}
 use Rattle.tree_laws.proofs.Walk.{walk-leaf, walk-back, walk-done}
-use Rattle.chart.specs.Filling.{Sheet, SpanIn}
-use Rattle.chart.specs.declared.rows.GrammarRows.{GrammarRows}
+use Rattle.chart.specs.Filling.{Sheet}
 use Rattle.chart.proofs.Reading.{either, some-code, end-code, no_code}
-use Rattle.tree_walk.specs.Charted.{Rows, rows_of, width, Roomy}
+use Rattle.tree_walk.specs.Charted.{Rows, width, SpanIn, Roomy}
 use Rattle.tree_walk.specs.Walking.{frame, decode, stack_of, Course, chart, WalkAt, Walks}
 use Rattle.tree_walk.specs.declared.Walker.{Walker}
 use Rattle.tree_walk.proofs.Stack.{stack_length, stack_last, stack_none}
@@ -110,5 +109,5 @@ module _ {R : Rows} {row : List ℕ} {w : Walker} (x : Walks R row w) where
   walks_deep = deep R x.course x.out row w.p w.i w.j w.depth x.at
 
 -- a span of the work row
-pub span_in : {row : List ℕ} {i j : ℕ} (R : GrammarRows) → Roomy (rows_of R) row → i ≤ j → j < width (rows_of R) → SpanIn R row i j
+pub span_in : {row : List ℕ} {i j : ℕ} (R : Rows) → Roomy R row → i ≤ j → j < width R → SpanIn R row i j
 span_in R r h g = record { cells = r.cells; small = omega (arith, r.small); rises = h; inside = g }

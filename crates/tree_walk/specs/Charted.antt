@@ -5,9 +5,9 @@ use Rattle.grammar.specs.Grammar.{Grammar, IsRule}
 use Rattle.trees.specs.Trees.{max_row}
 use Rattle.tree_laws.specs.Chart.{Places}
 use Rattle.counts.specs.Counts.{item_cell, whole_cell}
-use Rattle.chart.specs.Rows.{plane_of, Ready}
+use Rattle.chart.specs.Rows.{plane_of, Ready, Span}
 use Rattle.chart.specs.Filling.{Sheet, Complete}
-use Rattle.chart.specs.declared.rows.GrammarRows.{GrammarRows}
+use Rattle.chart.specs.declared.rows.TreeRows.{TreeRows}
 
 -- the rows of a grammar that the walk reads, and the row of terminals
 pub record Rows : Type 0 where
@@ -21,13 +21,17 @@ pub record Rows : Type 0 where
 abbrev pub rows : ℕ → List ℕ → List ℕ → List ℕ → List ℕ → List ℕ → Rows
 rows Q ahead lead number home w = record { states = Q; ahead = ahead; lead = lead; number = number; home = home; sentence = w }
 
--- those of a grammar's rows
-abbrev pub rows_of : GrammarRows → Rows
-rows_of G = rows G.states G.ahead.now G.lead.now G.number.now G.home.now G.sentence.now
+-- those that the code is lent
+abbrev pub rows_of : TreeRows → Rows
+rows_of T = rows T.states T.ahead.now T.lead.now T.number.now T.home.now T.sentence.now
 
 -- the places before, between and after the terminals
 abbrev pub width : Rows → ℕ
 width R = length R.sentence + 1
+
+-- a span of a work row that has cells for all states and places
+abbrev pub SpanIn : Rows → (row : List ℕ) (i j : ℕ) → Type 0
+SpanIn R row i j = Span row R.states (width R) i j
 
 -- the work row has so many entries squared for each state, and there are no more terminals than may be
 pub record Roomy (R : Rows) (row : List ℕ) : Type 0 where

@@ -9,7 +9,7 @@ ghost use Rattle.std.specs.Prelude.{◌≡◌, ◌^◌, ◌<◌};
 ghost use Rattle.tree_walk.specs.Charted.{rows_of, Roomy};
 ghost use Rattle.tree_walk.specs.Walking.{Starts, Fits, Counts, Lists};
 
-use chart::GrammarRows;
+use chart::TreeRows;
 use grammar::MAX_NONTERMINALS;
 use step::next_rule;
 
@@ -35,7 +35,7 @@ fn root(n: usize) -> Walker
 }
 
 // Counts the rules of the tree, at most one past the limit.
-pub fn count_rules(work: &mut [u32], rows: &GrammarRows, limit: usize) -> usize
+pub fn count_rules(work: &mut [u32], rows: &TreeRows, limit: usize) -> usize
     requires starts { Starts (rows_of rows.now) work.old }
     requires roomy { Roomy (rows_of rows.now) work.old }
     requires limit_bound { limit < 2 ^ 63 }
@@ -52,7 +52,7 @@ pub fn count_rules(work: &mut [u32], rows: &GrammarRows, limit: usize) -> usize
 }
 
 // Writes the rules of the tree into the front of the list, which has room for them.
-pub fn write_rules(work: &mut [u32], rows: &GrammarRows, list: &mut [u16])
+pub fn write_rules(work: &mut [u32], rows: &TreeRows, list: &mut [u16])
     requires fits { Fits (rows_of rows.now) work.old list.old }
     requires roomy { Roomy (rows_of rows.now) work.old }
     ensures { Lists (rows_of rows.now) work.old list.old list.new }

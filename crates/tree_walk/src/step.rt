@@ -9,7 +9,7 @@ ghost use Rattle.tree_walk.specs.Walking.{Walks, Opens, Finds};
 
 use super::Walker;
 use super::shown::{first_of, split};
-use chart::GrammarRows;
+use chart::TreeRows;
 use grammar::{MAX_NONTERMINALS, NONTERMINAL_BASE};
 
 // The place that waits in entry d.
@@ -39,7 +39,7 @@ fn wait(work: &mut [u32], d: usize, f: usize)
 // each nonterminal: subtrees without a terminal, of which there may be very many, have the same rule each time.
 fn open(
     work: &mut [u32],
-    rows: &GrammarRows,
+    rows: &TreeRows,
     walker: &mut Walker,
     found: &mut [u16; MAX_NONTERMINALS],
 ) -> u16
@@ -71,7 +71,7 @@ fn open(
 // Goes on to the next rule and into it, and tells its number; or to the end of the tree.
 pub fn next_rule(
     work: &mut [u32],
-    rows: &GrammarRows,
+    rows: &TreeRows,
     walker: &mut Walker,
     found: &mut [u16; MAX_NONTERMINALS],
 ) -> Option<u16>

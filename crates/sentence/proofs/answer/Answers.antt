@@ -24,11 +24,13 @@ short all (inr y) h = y.1
 
 pub offset_bounds-work-at : goal.offset_bounds-work-at
 offset_bounds-work-at c = let r = c.args.rows.now in
-    omega (arith, c.cell-at.ensures, item_few {i = 0} {j = length r.sentence.now} (span_in r c.requires.roomy (omega arith) (omega arith)) 2 (omega (arith, r.wired.ready.four)) r.wired.ready.few)
+    let q = c.requires.has_chart.charted.ready in
+    omega (arith, c.cell-at.ensures, item_few {i = 0} {j = length r.sentence.now} (span_in (rows_of r) c.requires.roomy (omega arith) (omega arith)) 2 (omega (arith, q.four)) q.few)
 
 pub bounds-work-at : goal.bounds-work-at
 bounds-work-at c = let r = c.args.rows.now in
-    omega (arith, c.cell-at.ensures, item_fits {i = 0} {j = length r.sentence.now} (span_in r c.requires.roomy (omega arith) (omega arith)) 2 (omega (arith, r.wired.ready.four)))
+    let q = c.requires.has_chart.charted.ready in
+    omega (arith, c.cell-at.ensures, item_fits {i = 0} {j = length r.sentence.now} (span_in (rows_of r) c.requires.roomy (omega arith) (omega arith)) 2 (omega (arith, q.four)))
 
 pub returns-then-c-eq0 : goal.returns-then-c-eq0
 returns-then-c-eq0 c = λ G P X.

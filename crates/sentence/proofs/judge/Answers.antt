@@ -1,7 +1,10 @@
 -- judge meets its contract: the rows are prepared, the chart is begun and filled, and the answer is read off it.
 use native.Mathlib.Omega.{arith}
+use mathlib.Core.Path.{sym, subst}
 use Rattle.grammar.specs.Limits.{limits}
-use Rattle.sentence.proofs.Judged.{zeros, sow_asks, charted_of}
+use Rattle.tree_walk.specs.Charted.{Charted, Roomy}
+use Rattle.sentence.specs.Answered.{Answered}
+use Rattle.sentence.proofs.Judged.{zeros, same_rows, sow_asks, charted_of}
 use Rattle.sentence.proofs.judge.Goals as goal
 
 pub prepare-requires : goal.prepare-requires
@@ -23,18 +26,27 @@ fill-requires c = record { cells = omega (arith, c.requires.row_in_bounds, c.sow
 pub answer-requires : goal.answer-requires
 answer-requires c = let g = c.requires.fact in
     let p = c.prepare.new in
-    let S = c.prepare.ensures g.grammar g.well_formed g.same in record {
+    let S = c.prepare.ensures g.grammar g.well_formed g.same in
+    let t = c.tree-tree.ensures in
+    let same = sym (same_rows t.states t.ahead t.lead t.number t.home t.sentence) in record {
       has_chart = record {
         grammar = g.grammar;
         places = S.places;
-        charted = charted_of g.grammar c.args.g.now p.ahead p.number p.lead p.next p.head p.home S c.args.row.now c.args.work.now c.sow.new.work c.fill.new.work c.requires.zeros c.sow.ensures c.fill.ensures;
+        charted =
+            subst (λ R. Charted g.grammar S.places R c.fill.new.work) same
+            (charted_of g.grammar c.args.g.now p.ahead p.number p.lead p.next p.head p.home S c.args.row.now c.args.work.now c.sow.new.work c.fill.new.work c.requires.zeros c.sow.ensures c.fill.ensures);
       };
-      roomy = record { cells = omega (arith, c.requires.row_in_bounds, c.sow.auto.work, c.fill.auto.work); small = omega (arith, c.requires.row_in_bounds.1) };
+      roomy =
+          subst (λ R. Roomy R c.fill.new.work) same
+          (record { cells = omega (arith, c.requires.row_in_bounds, c.sow.auto.work, c.fill.auto.work); small = omega (arith, c.requires.row_in_bounds.1) });
     }
 
 pub returns : goal.returns
 returns c = λ G W s.
     let p = c.prepare.new in
     let S = c.prepare.ensures G W s in
-    c.answer.ensures G S.places
-    (charted_of G c.args.g.now p.ahead p.number p.lead p.next p.head p.home S c.args.row.now c.args.work.now c.sow.new.work c.fill.new.work c.requires.zeros c.sow.ensures c.fill.ensures)
+    let t = c.tree-tree.ensures in
+    subst (λ w. Answered G w c.args.list.now c.answer.new.list c.answer.result) t.sentence
+    (c.answer.ensures G S.places
+    (subst (λ R. Charted G S.places R c.fill.new.work) (sym (same_rows t.states t.ahead t.lead t.number t.home t.sentence))
+    (charted_of G c.args.g.now p.ahead p.number p.lead p.next p.head p.home S c.args.row.now c.args.work.now c.sow.new.work c.fill.new.work c.requires.zeros c.sow.ensures c.fill.ensures)))

@@ -11,8 +11,8 @@ use Rattle.tree_walk.proofs.shown.both.Goals as goal
 pub counted-requires : goal.counted-requires
 counted-requires c = let a = c.args in
     let s = c.requires.span in
-    let b = c.requires.in_bounds in
-    omega (arith, c.cell.ensures, whole_fits (span_at s refl b.2 (omega (arith, s.inside))) a.h b.0)
+    let b = c.requires.states_le_max_states in
+    omega (arith, c.cell.ensures, whole_fits (span_at s refl b.3 (omega (arith, s.inside))) a.h b.1)
 
 pub returns-then-not-counted : goal.returns-then-not-counted
 returns-then-not-counted c = record {
@@ -22,8 +22,8 @@ returns-then-not-counted c = record {
 
 pub counted-requires-2 : goal.counted-requires-2
 counted-requires-2 c = let a = c.args in
-    let b = c.requires.in_bounds in
-    omega (arith, c.cell-2.ensures, item_fits (span_at c.requires.span refl b.3 c.requires.span.inside) a.z b.1)
+    let b = c.requires.states_le_max_states in
+    omega (arith, c.cell-2.ensures, item_fits (span_at c.requires.span refl b.4 c.requires.span.inside) a.z b.2)
 
 pub returns : goal.returns
 returns c = let at = λ (n : ℕ). get_or c.args.work.now n 0 % 4 in record {

@@ -3,8 +3,7 @@ use native.Mathlib.Omega.{arith}
 use native.Mathlib.Decide.{ℕ_discrete}
 use mathlib.Core.Path.{subst}
 use Prim.Native.Nat.{◌-◌}
-use Rattle.chart.specs.Filling.{width}
-use Rattle.tree_walk.specs.Charted.{Begins}
+use Rattle.tree_walk.specs.Charted.{rows_of, width, Begins}
 use Rattle.tree_walk.proofs.shown.first_of.Goals as goal
 
 pub returns-then-begins : goal.returns-then-begins
@@ -17,16 +16,16 @@ pub loop-s-preserved : goal.loop-s-preserved
 loop-s-preserved c = let a = c.args in
     let r = a.rows.now in
     λ s o x. elim (ℕ_discrete s c.loop-s.s) [
-      | yes f ↦ c.begins-in-loop-s.ensures.fact c.if-begins-2.false (subst (Begins a.work.now r.ahead.now r.lead.now (width r) a.b a.i a.k) f x)
+      | yes f ↦ c.begins-in-loop-s.ensures.fact c.if-begins-2.false (subst (Begins a.work.now r.ahead.now r.lead.now (width (rows_of r)) a.b a.i a.k) f x)
       | no f ↦ c.loop-s.invariant s (omega arith) x
     ]
 
 pub returns : goal.returns
 returns c = let a = c.args in
     let r = a.rows.now in record {
-      upper_bound = omega (arith, r.wired.ready.four);
+      upper_bound = omega (arith, c.requires.states_le_max_states);
       by_index = λ s o x. elim (ℕ_discrete s (r.states - 1)) [
-        | yes f ↦ subst (Begins a.work.now r.ahead.now r.lead.now (width r) a.b a.i a.k) f x
+        | yes f ↦ subst (Begins a.work.now r.ahead.now r.lead.now (width (rows_of r)) a.b a.i a.k) f x
         | no f ↦ absurd (c.loop-s.invariant s (omega arith) x)
       ];
     }

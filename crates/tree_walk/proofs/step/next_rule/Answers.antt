@@ -8,25 +8,25 @@ pub loop-walker-init : goal.loop-walker-init
 loop-walker-init c = (c.requires.walks, λ g out W. W)
 
 pub offset_bounds-rows-walker : goal.offset_bounds-rows-walker
-offset_bounds-rows-walker c = omega (arith, c.loop-walker.invariant.0.at.here, c.args.rows.now.wired.ready.few)
+offset_bounds-rows-walker c = omega (arith, c.loop-walker.invariant.0.at.here, c.loop-walker.invariant.0.at.charted.ready.few)
 
 pub bounds-rows-walker : goal.bounds-rows-walker
-bounds-rows-walker c = omega (arith, c.loop-walker.invariant.0.at.here, c.args.rows.now.wired.ready.few)
+bounds-rows-walker c = omega (arith, c.loop-walker.invariant.0.at.here, c.loop-walker.invariant.0.at.charted.ready.few)
 
 pub offset_bounds-rows-walker-in-loop-walker : goal.offset_bounds-rows-walker-in-loop-walker
-offset_bounds-rows-walker-in-loop-walker c = omega (arith, c.loop-walker.invariant.0.at.here, c.args.rows.now.wired.ready.few)
+offset_bounds-rows-walker-in-loop-walker c = omega (arith, c.loop-walker.invariant.0.at.here, c.loop-walker.invariant.0.at.charted.ready.few)
 
 pub bounds-rows-walker-in-loop-walker : goal.bounds-rows-walker-in-loop-walker
-bounds-rows-walker-in-loop-walker c = omega (arith, c.loop-walker.invariant.0.at.here, c.args.rows.now.wired.ready.few)
+bounds-rows-walker-in-loop-walker c = omega (arith, c.loop-walker.invariant.0.at.here, c.loop-walker.invariant.0.at.charted.ready.few)
 
 pub overflow_add-walker : goal.overflow_add-walker
-overflow_add-walker c = omega (arith, c.loop-walker.invariant.0.at.here, c.args.rows.now.wired.ready.few)
+overflow_add-walker c = omega (arith, c.loop-walker.invariant.0.at.here, c.loop-walker.invariant.0.at.charted.ready.few)
 
 pub overflow_add-walker-then-rows-walker-ne0 : goal.overflow_add-walker-then-rows-walker-ne0
 overflow_add-walker-then-rows-walker-ne0 c = omega (arith, walks_inside c.loop-walker.invariant.0, c.requires.roomy.small)
 
 pub loop-walker-smaller-then-rows-walker-ne0 : goal.loop-walker-smaller-then-rows-walker-ne0
-loop-walker-smaller-then-rows-walker-ne0 c = omega (arith, c.loop-walker.invariant.0.at.here, c.args.rows.now.wired.ready.few)
+loop-walker-smaller-then-rows-walker-ne0 c = omega (arith, c.loop-walker.invariant.0.at.here, c.loop-walker.invariant.0.at.charted.ready.few)
 
 pub loop-walker-preserved-then-rows-walker-ne0 : goal.loop-walker-preserved-then-rows-walker-ne0
 loop-walker-preserved-then-rows-walker-ne0 c = let w = c.loop-walker.walker in

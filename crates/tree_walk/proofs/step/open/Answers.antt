@@ -14,24 +14,26 @@ use Rattle.tree_walk.proofs.Opening.{Chosen, walks_past, open_room, opened}
 use Rattle.tree_walk.proofs.step.open.Goals as goal
 
 pub plane-z-requires : goal.plane-z-requires
-plane-z-requires c = omega (arith, walks_past c.requires.walks c.requires.limits_bound, c.args.rows.now.wired.ready.few)
+plane-z-requires c = omega (arith, walks_past c.requires.walks c.requires.limits_bound, c.requires.walks.at.charted.ready.few)
 
 pub split-k-requires-clause-span : goal.split-k-requires-clause-span
-split-k-requires-clause-span c = let x = walks_inside c.requires.walks in span_in c.args.rows.now c.requires.roomy x.0 x.1
+split-k-requires-clause-span c = let x = walks_inside c.requires.walks in span_in (rows_of c.args.rows.now) c.requires.roomy x.0 x.1
 
-pub split-k-requires-clause-in_bounds : goal.split-k-requires-clause-in_bounds
-split-k-requires-clause-in_bounds c = let r = c.args.rows.now in
-    let p = c.args.walker.now.p in (
-      omega (arith, c.home_of-h.ensures, home_in r.home.now (get_or r.ahead.now p 0) r.states r.wired.ready.homes (omega (arith, r.wired.ready.four))),
-      omega (arith, c.plane-z.ensures, plane_in r.ahead.now (p + 1) r.states (omega (arith, walks_past c.requires.walks c.requires.limits_bound)) r.wired.ready.four),
+pub split-k-requires-clause-states_le_max_states : goal.split-k-requires-clause-states_le_max_states
+split-k-requires-clause-states_le_max_states c = let r = c.args.rows.now in
+    let p = c.args.walker.now.p in
+    let q = c.requires.walks.at.charted.ready in (
+      q.few,
+      omega (arith, c.home_of-h.ensures, home_in r.home.now (get_or r.ahead.now p 0) r.states q.homes (omega (arith, q.four))),
+      omega (arith, c.plane-z.ensures, plane_in r.ahead.now (p + 1) r.states (omega (arith, walks_past c.requires.walks c.requires.limits_bound)) q.four),
     )
 
 pub first_of-s-requires : goal.first_of-s-requires
-first_of-s-requires c = let k = c.split-k.ensures.lower_bound in record { span = span_in c.args.rows.now c.requires.roomy k.0 (omega (arith, walks_inside c.requires.walks, k)) }
+first_of-s-requires c = let k = c.split-k.ensures.lower_bound in record { span = span_in (rows_of c.args.rows.now) c.requires.roomy k.0 (omega (arith, walks_inside c.requires.walks, k)); states_le_max_states = (c.requires.walks.at.charted.ready.few, c.requires.walks.at.charted.ready.four) }
 
 pub cell-f-requires-clause-in_bounds : goal.cell-f-requires-clause-in_bounds
 cell-f-requires-clause-in_bounds c = let x = walks_inside c.requires.walks in (
-  omega (arith, walks_past c.requires.walks c.requires.limits_bound, c.args.rows.now.wired.ready.few),
+  omega (arith, walks_past c.requires.walks c.requires.limits_bound, c.requires.walks.at.charted.ready.few),
   omega (arith, x, c.split-k.ensures.lower_bound),
   omega (arith, x),
 )
@@ -46,7 +48,7 @@ wait-requires c = let x = c.requires.walks in
       omega (
         arith,
         c.cell-f.ensures,
-        item_few (span_in c.args.rows.now c.requires.roomy k.1 (walks_inside x).1) (w.p + 1) (omega (arith, walks_past x c.requires.limits_bound)) c.args.rows.now.wired.ready.few,
+        item_few (span_in (rows_of c.args.rows.now) c.requires.roomy k.1 (walks_inside x).1) (w.p + 1) (omega (arith, walks_past x c.requires.limits_bound)) c.requires.walks.at.charted.ready.few,
       ),
     )
 

@@ -2,7 +2,7 @@
 use mathlib.Core.Path.{refl}
 use borrow.Author.Tests.{eq-eqb, ne_eqb}
 use Rattle.chart.specs.Rows.{plane_of}
-use Rattle.chart.proofs.rows.GrammarRows.plane.Goals as goal
+use Rattle.chart.proofs.rows.TreeRows.plane.Goals as goal
 
 pub returns-then-self-p-eq0 : goal.returns-then-self-p-eq0
 unfolding plane_of

@@ -4,7 +4,7 @@ use borrow.Author.Tests.{le-leb}
 use Rattle.grammar.specs.Limits.{limits}
 use Rattle.grammar.specs.Grammar.{start}
 use Rattle.chart.specs.Rows.{home_of}
-use Rattle.chart.proofs.rows.GrammarRows.home_of.Goals as goal
+use Rattle.chart.proofs.rows.TreeRows.home_of.Goals as goal
 
 pub returns : goal.returns
 unfolding home_of
