@@ -4,7 +4,7 @@ pub use drafts::{
     DraftAnswer, DraftCounts, TablePlace, add_rule, draft_counts, draft_room, draft_table,
     new_draft, return_to_mark, set_mark, table_place, withdraw_rule,
 };
-pub use grammar::{CheckedGrammar, TableChecked, TableVerdict};
+pub use grammar::{Cause, CheckedGrammar, TableChecked, TableVerdict};
 pub use joining::{join_texts, joined_name, joined_place, write_joined};
 pub use modules::Place;
 pub use readings::ReadBack;

@@ -12,7 +12,7 @@ ghost use Rattle.channels.specs.Promise.{ReadsPlan, plan_room};
 
 use ambiguity::{TreesFound, find_trees};
 pub use certificate::certificate_byte;
-use grammar::Cause;
+pub use grammar::Cause;
 use trees::PLACES;
 
 const TERMINALS: usize = 8;
