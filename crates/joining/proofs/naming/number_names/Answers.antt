@@ -28,7 +28,7 @@ loop-i-preserved c = let l = c.loop-i in
     elim c.if-k-n.branch [
       | then-k-n w ↦
           let x = counted_known names xs l.i h a.numbers.now l.numbers n l.next k.result room q l.invariant.1 l.invariant.2 k.ensures w.if-k-n.true in
-          (omega (arith, w.next-is, l.invariant.0), w.next-is ∙ x.0, w.numbers-is ∙ x.1)
+          (omega (arith, w.next-is, l.invariant.0), omega (arith, w.next-is, x.0), w.numbers-is ∙ x.1)
       | else-k-n w ↦
           let x = counted_added names xs l.i h a.numbers.now l.numbers n l.next k.result room q l.invariant.1 l.invariant.2 k.ensures w.if-k-n.false in
           (omega (arith, w.next-is, l.invariant.0), w.next-is ∙ x.0, w.numbers-is ∙ x.1)
